@@ -1,0 +1,137 @@
+-- The things that a history opens, and where each stands.
+use Rattle.std.specs.Prelude.{ℕ, ◌-◌, Bool, true, false, ◌&&◌, ◌||◌, List, [], ◌∷◌, ◌++◌, Option, Some, None, if◌then◌else◌, eqb, bytes_eq, is_none, is_some, slice_get}
+use Rattle.wh_events.specs.declared.event.Event.{Event}
+use Rattle.wh_events.specs.declared.place.Status.{Status}
+use Rattle.wh_events.specs.declared.place.Status.TheVariants.{Open, Started, Cancelling, Closed}
+use Rattle.wh_events.specs.Kinds.{Role, role_of}
+use Rattle.wh_events.specs.declared.place.Thing.{Thing}
+use Rattle.wh_events.specs.declared.place.Thing.TheVariants.{Activity, Timer, Child, CancelRequest, SignalRequest}
+use Rattle.wh_events.specs.Kinds.Effect.{Starts, Cancels, Closes}
+use Rattle.wh_events.specs.Kinds.Role.{Opens, Refers, CancelsChild, Plain}
+
+abbrev pub same_thing : Thing → Thing → Bool
+same_thing Activity Activity = true
+same_thing Timer Timer = true
+same_thing Child Child = true
+same_thing CancelRequest CancelRequest = true
+same_thing SignalRequest SignalRequest = true
+same_thing _ _ = false
+
+-- what the event opens, if anything
+abbrev pub opened_thing : Role → Option Thing
+opened_thing (Opens thing _) = Some thing
+opened_thing (CancelsChild _) = Some CancelRequest
+opened_thing _ = None
+
+-- the id that an event opens a thing under
+abbrev pub opened_id : Role → List ℕ
+opened_id (Opens _ id) = id
+opened_id (CancelsChild workflow_id) = workflow_id
+opened_id _ = []
+
+abbrev pub opens_under : Thing → List ℕ → Role → Bool
+opens_under thing id (Opens other other_id) = same_thing thing other && bytes_eq id other_id
+opens_under _ _ _ = false
+
+abbrev pub closes_number : ℕ → Role → Bool
+closes_number number (Refers _ other Closes) = eqb number other
+closes_number _ _ = false
+
+abbrev pub starts_number : ℕ → Role → Bool
+starts_number number (Refers _ other Starts) = eqb number other
+starts_number _ _ = false
+
+-- the event opens such a thing under the id
+abbrev pub opens : Thing → List ℕ → Event → Bool
+opens thing id event = opens_under thing id (role_of event.body)
+
+-- the event closes what the event of the number opened
+abbrev pub closes : ℕ → Event → Bool
+closes number event = closes_number number (role_of event.body)
+
+-- the event says that what the event of the number opened has started
+abbrev pub starts : ℕ → Event → Bool
+starts number event = starts_number number (role_of event.body)
+
+-- the number of the event that closes what the event of the number opened
+abbrev pub closed_by : ℕ → List Event → Option ℕ
+closed_by number [] = None
+closed_by number (event ∷ rest) = if closes number event then Some event.number else closed_by number rest
+
+abbrev pub is_open : List Event → ℕ → Bool
+is_open events number = is_none (closed_by number events)
+
+abbrev pub open_among : List Event → Thing → List ℕ → List Event → Option ℕ
+open_among events thing id [] = None
+open_among events thing id (event ∷ rest) = if opens thing id event && is_open events event.number then Some event.number else open_among events thing id rest
+
+-- the number of the open thing of a kind and an id
+abbrev pub open_named : List Event → Thing → List ℕ → Option ℕ
+open_named events thing id = open_among events thing id events
+
+abbrev pub or_else : {A : Type 0} → Option A → Option A → Option A
+or_else None other = other
+or_else (Some x) other = Some x
+
+-- the number of the last thing that was opened of a kind under an id
+abbrev pub last_named : List Event → Thing → List ℕ → Option ℕ
+last_named [] thing id = None
+last_named (event ∷ rest) thing id = or_else (last_named rest thing id) (if opens thing id event then Some event.number else None)
+
+abbrev pub is_number : ℕ → Option ℕ → Bool
+is_number number None = false
+is_number number (Some other) = eqb number other
+
+abbrev pub cancels_number : List Event → ℕ → Role → Bool
+cancels_number before number (Refers _ other Cancels) = eqb number other
+cancels_number before number (CancelsChild workflow_id) = is_number number (open_named before Child workflow_id)
+cancels_number before number _ = false
+
+-- one of the events, of which the first follows those before, asks for the thing to be cancelled
+abbrev pub cancelled_after : List Event → ℕ → List Event → Bool
+cancelled_after before number [] = false
+cancelled_after before number (event ∷ rest) = cancels_number before number (role_of event.body) || cancelled_after (before ++ event ∷ []) number rest
+
+abbrev pub is_cancelling : List Event → ℕ → Bool
+is_cancelling events number = cancelled_after [] number events
+
+abbrev pub is_started : List Event → ℕ → Bool
+is_started [] number = false
+is_started (event ∷ rest) number = starts number event || is_started rest number
+
+abbrev pub status_by : Option ℕ → Bool → Bool → Status
+status_by (Some by) cancelling started = Closed by
+status_by None true started = Cancelling
+status_by None false true = Started
+status_by None false false = Open
+
+-- where the thing that the event of the number opened stands
+abbrev pub status_of : List Event → ℕ → Status
+status_of events number = status_by (closed_by number events) (is_cancelling events number) (is_started events number)
+
+abbrev pub role_in : Option Event → Role
+role_in None = Plain
+role_in (Some event) = role_of event.body
+
+-- what the event of a number does
+abbrev pub role_at : List Event → ℕ → Role
+role_at events number = role_in (slice_get events (number - 1))
+
+-- the status of what the event of the number opened, if it opened anything
+abbrev pub status_at : List Event → ℕ → Option Status
+status_at events number = if is_some (opened_thing (role_at events number)) then Some (status_of events number) else None
+
+-- a thing of a history: the number of the event that opened it, and where it stands
+pub record Machine : Type 0 where
+  pub number : ℕ
+  pub status : Status
+
+-- the machines of a history that these of its events opened
+abbrev pub machines_among : List Event → List Event → List Machine
+machines_among events [] = []
+machines_among events (event ∷ rest) =
+    if is_some (opened_thing (role_of event.body)) then record { number = event.number; status = status_of events event.number } ∷ machines_among events rest else machines_among events rest
+
+-- the machines of a history: each opening event with its status, in their order
+abbrev pub machines_of : List Event → List Machine
+machines_of events = machines_among events events

@@ -1,0 +1,47 @@
+-- What the calls that make a run answer.
+use Rattle.std.specs.Prelude.{◌≡◌, ℕ, true, false, List, length, ◌++◌, Result, Ok, Err, IsOk}
+use Rattle.wh_events.specs.declared.event.Event.{Event}
+use Rattle.wh_events.specs.declared.key.RunKey.{RunKey}
+use Rattle.wh_workflow.specs.Counting.{risen}
+use Rattle.wh_workflow.specs.Law.{Program}
+use Rattle.wh_replay.specs.declared.fault.Fault.{Fault}
+use Rattle.wh_replay.specs.declared.fault.RunFault.{RunFault}
+use Rattle.wh_replay.specs.declared.fault.RunFault.TheVariants.{Fault as Faulty, OutOfMemory}
+use Rattle.wh_replay.specs.declared.run.AdvanceFault.{AdvanceFault}
+use Rattle.wh_replay.specs.declared.run.AdvanceFault.TheVariants.{NotATask as NoTaskEnds, Gap, Fault as AdvanceFaulty, OutOfMemory as NoMemory}
+use Rattle.wh_replay.specs.declared.run.Answer.{Answer}
+use Rattle.wh_replay.specs.declared.run.Answer.TheVariants.{Complete, Fail}
+use Rattle.wh_replay.specs.Replays.{Replayed, ends_in_task}
+use Rattle.wh_replay.specs.Runs.{Held, follows, run_of, advance_steps}
+
+-- the new events are joined to the held ones: they end in a started task and begin behind them
+pub record IsJoined (held new : List Event) : Type 0 where
+  pub ends : ends_in_task new ≡ true
+  pub begins : follows (length held) new ≡ true
+
+module _ {S : Type 0} where
+  -- a run of the key and the history, or the fault of its replay; want of memory only where the history ends in a started task
+  abbrev pub Begins : Program S → RunKey → List Event → Result Held RunFault → Type 0
+  Begins program key events (Ok run) = (run ≡ record { key = key; events = events }) × IsOk (run_of program events)
+  Begins program key events (Err (Faulty fault)) = run_of program events ≡ Err fault
+  Begins program key events (Err OutOfMemory) = ends_in_task events ≡ true
+
+  -- a run that is handed back unchanged because the new events don't join it, and else what the joined history begins
+  abbrev pub Advances : {W : Type 0} → Program S → Held → List Event → Result Held (AdvanceFault W S) → Type 0
+  Advances program run new (Ok next) = IsJoined run.events new × Begins program run.key (run.events ++ new) (Ok next)
+  Advances program run new (Err (NoTaskEnds back)) = (ends_in_task new ≡ false) × (back ≡ run)
+  Advances program run new (Err (Gap back)) = (ends_in_task new ≡ true) × (follows (length run.events) new ≡ false) × (back ≡ run)
+  Advances program run new (Err (AdvanceFaulty fault)) = IsJoined run.events new × Begins program run.key (run.events ++ new) (Err (Faulty fault))
+  Advances program run new (Err NoMemory) = IsJoined run.events new × Begins program run.key (run.events ++ new) (Err OutOfMemory)
+
+  -- the meter rises by the steps of the new cuts alone where the new events confirm the held ones, else by those of all cuts; it stays where the run is handed back
+  abbrev pub Counts : {W : Type 0} → Program S → Held → List Event → ℕ → ℕ → Result Held (AdvanceFault W S) → Type 0
+  Counts program run new before after (Ok next) = after ≡ risen before (advance_steps program run.events new)
+  Counts program run new before after (Err (NoTaskEnds back)) = after ≡ before
+  Counts program run new before after (Err (Gap back)) = after ≡ before
+  Counts program run new before after (Err _) = Unit {0}
+
+  -- what is answered for a replay
+  abbrev pub answered : Result (Replayed S) Fault → Answer
+  answered (Ok replayed) = Complete replayed.unsent
+  answered (Err fault) = Fail fault

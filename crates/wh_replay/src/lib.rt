@@ -1,0 +1,22 @@
+//! Replay of a workflow's history.
+#![tactic(auto)]
+
+mod activation;
+mod checking;
+mod continuing;
+mod cut;
+mod cuts;
+mod fault;
+mod jobs;
+pub mod laws;
+mod machines;
+mod names;
+mod places;
+mod run;
+mod scripts;
+mod versions;
+
+pub use checking::check;
+pub use fault::{Checked, Fault, RunFault};
+pub use run::{AdvanceFault, Answer, Run};
+pub use versions::Versions;

@@ -1,0 +1,183 @@
+ghost use Rattle.std.specs.Prelude.{◌≡◌, ℕ, is_some};
+ghost use Rattle.wh_events.specs.Kinds.{role_of};
+ghost use Rattle.wh_events.specs.Machines.{same_thing, opens, closes, closed_by, is_open, open_named, open_among, last_named, cancels_number, is_cancelling, starts, is_started, status_of, status_at, opened_thing, role_at};
+
+use wh_events::{Event, EventKind, EventNo, Status, Thing};
+
+/// Whether the event opens such a thing under the id.
+pub(crate) fn opens(thing: Thing, id: &str, event: &Event) -> bool
+    ensures { result ≡ opens thing id.now event.now }
+{
+    match (thing, &event.body) {
+        (Thing::Activity, EventKind::ActivityTaskScheduled { id: other, .. })
+        | (Thing::Timer, EventKind::TimerStarted { id: other }) => id == other.get(),
+        (
+            Thing::Child,
+            EventKind::StartChildWorkflowExecutionInitiated {
+                workflow_id: other,
+                ..
+            },
+        )
+        | (
+            Thing::SignalRequest,
+            EventKind::SignalExternalWorkflowExecutionInitiated {
+                workflow_id: other,
+                ..
+            },
+        ) => id == other.get(),
+        _ => false,
+    }
+}
+
+/// Whether the event closes what the event of the number opened.
+pub(crate) fn closes(number: u64, event: &Event) -> bool
+    ensures { result ≡ closes number event.now }
+{
+    match &event.body {
+        EventKind::TimerCanceled { started } | EventKind::TimerFired { started } => {
+            *started == number
+        }
+        EventKind::ActivityTaskCompleted { scheduled, .. }
+        | EventKind::ActivityTaskFailed { scheduled }
+        | EventKind::ActivityTaskTimedOut { scheduled }
+        | EventKind::ActivityTaskCanceled { scheduled } => *scheduled == number,
+        EventKind::ChildWorkflowExecutionCompleted { initiated, .. }
+        | EventKind::ChildWorkflowExecutionFailed { initiated }
+        | EventKind::ChildWorkflowExecutionCanceled { initiated }
+        | EventKind::ChildWorkflowExecutionTimedOut { initiated }
+        | EventKind::ChildWorkflowExecutionTerminated { initiated }
+        | EventKind::StartChildWorkflowExecutionFailed { initiated }
+        | EventKind::ExternalWorkflowExecutionCancelRequested { initiated }
+        | EventKind::RequestCancelExternalWorkflowExecutionFailed { initiated }
+        | EventKind::ExternalWorkflowExecutionSignaled { initiated }
+        | EventKind::SignalExternalWorkflowExecutionFailed { initiated } => *initiated == number,
+        _ => false,
+    }
+}
+
+/// The number of the event that closes what the event of the number opened.
+pub(crate) fn closed_by(number: u64, events: &[Event]) -> Option<EventNo>
+    ensures { result ≡ closed_by number events.now }
+{
+    for event in events {
+        if closes(number, event) {
+            return Some(event.number);
+        }
+    }
+    None
+}
+
+/// The number of the open thing of a kind and an id.
+pub(crate) fn open_named(events: &[Event], thing: Thing, id: &str) -> Option<EventNo>
+    ensures { result ≡ open_named events.now thing id.now }
+{
+    for event in events {
+        if opens(thing, id, event) && closed_by(event.number.get(), events).is_none() {
+            return Some(event.number);
+        }
+    }
+    None
+}
+
+/// The number of the last thing that was opened of a kind under an id.
+pub(crate) fn last_named(events: &[Event], thing: Thing, id: &str) -> Option<EventNo>
+    ensures { result ≡ last_named events.now thing id.now }
+{
+    let mut last = None;
+    for event in events {
+        if opens(thing, id, event) {
+            last = Some(event.number);
+        }
+    }
+    last
+}
+
+/// Whether the event asks for the thing that the event of the number opened to be cancelled.
+fn cancels(before: &[Event], number: u64, event: &Event) -> bool
+    ensures { result ≡ cancels_number before.now number (role_of event.now.body) }
+{
+    match &event.body {
+        EventKind::ActivityTaskCancelRequested { scheduled } => *scheduled == number,
+        EventKind::RequestCancelExternalWorkflowExecutionInitiated { workflow_id } => {
+            match open_named(before, Thing::Child, workflow_id.get()) {
+                Some(open) => open.get() == number,
+                None => false,
+            }
+        }
+        _ => false,
+    }
+}
+
+/// Whether one of the events asks for the thing that the event of the number opened to be cancelled.
+pub(crate) fn is_cancelling(events: &[Event], number: u64) -> bool
+    ensures { result ≡ is_cancelling events.now number }
+{
+    for (place, event) in events.iter().enumerate() {
+        if cancels(&events[..place], number, event) {
+            return true;
+        }
+    }
+    false
+}
+
+/// Whether one of the events says that the thing that the event of the number opened has started.
+fn is_started(events: &[Event], number: u64) -> bool
+    ensures { result ≡ is_started events.now number }
+{
+    for event in events {
+        if starts(number, event) {
+            return true;
+        }
+    }
+    false
+}
+
+/// Whether the event says that the thing that the event of the number opened has started.
+fn starts(number: u64, event: &Event) -> bool
+    ensures { result ≡ starts number event.now }
+{
+    match &event.body {
+        EventKind::ActivityTaskStarted { scheduled } => *scheduled == number,
+        EventKind::ChildWorkflowExecutionStarted { initiated } => *initiated == number,
+        _ => false,
+    }
+}
+
+/// Where the thing that the event of the number opened stands.
+fn status_of(events: &[Event], number: u64) -> Status
+    ensures { result ≡ status_of events.now number }
+{
+    if let Some(by) = closed_by(number, events) {
+        Status::Closed { by }
+    } else if is_cancelling(events, number) {
+        Status::Cancelling
+    } else if is_started(events, number) {
+        Status::Started
+    } else {
+        Status::Open
+    }
+}
+
+/// Whether the kind of event opens something.
+fn opens_any(kind: &EventKind) -> bool
+    ensures { result ≡ is_some (opened_thing (role_of kind.now)) }
+{
+    matches!(
+        kind,
+        EventKind::ActivityTaskScheduled { .. }
+            | EventKind::TimerStarted { .. }
+            | EventKind::StartChildWorkflowExecutionInitiated { .. }
+            | EventKind::RequestCancelExternalWorkflowExecutionInitiated { .. }
+            | EventKind::SignalExternalWorkflowExecutionInitiated { .. }
+    )
+}
+
+/// The status of what the event of the number opened, if it opened anything.
+pub(crate) fn status_at(events: &[Event], number: u64) -> Option<Status>
+    ensures { result ≡ status_at events.now number }
+{
+    match events.get(number.saturating_sub(1) as usize) {
+        Some(event) if opens_any(&event.body) => Some(status_of(events, number)),
+        _ => None,
+    }
+}

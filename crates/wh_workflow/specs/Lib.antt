@@ -1,0 +1,9 @@
+pub mod Counting
+pub mod Law
+pub mod Pairs
+pub mod Jobs
+pub mod Names
+pub mod Scripts
+pub mod Activations
+pub mod ActivationScripts
+pub mod Rules

@@ -1,0 +1,17 @@
+//! Workflows: what they are told, what they answer, and the law that each keeps.
+#![tactic(auto)]
+
+mod command;
+mod fault;
+mod job;
+pub mod laws;
+mod meter;
+mod pair;
+mod workflow;
+
+pub use command::Command;
+pub use fault::{Mismatch, WorkflowFault};
+pub use job::{ActivityEnd, ChildEnd, Job};
+pub use meter::Meter;
+pub use pair::{Either, Pair};
+pub use workflow::Workflow;
