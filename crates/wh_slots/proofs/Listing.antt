@@ -1,10 +1,9 @@
 -- What each accepted call keeps, and so each list of them.
-use Rattle.std.proofs.Common.{◌≡◌, ℕ, zero, suc, ◌+◌, true, List, [], ◌∷◌, length, Some, None, refl, sym, ap, ◌∙◌, subst, arith}
-use Rattle.std.specs.Prelude.{slice_get, slice_set}
+use Rattle.std.proofs.Common.{◌≡◌, zero, suc, ◌+◌, [], ◌∷◌, length, sym, ap, ◌∙◌, subst, arith}
 use Rattle.std.proofs.lemmas.List.{length-set}
 use Rattle.std.proofs.lemmas.Option.{same_Some, none-some}
 use Rattle.wh_slots.specs.Table.{Table, IsTable}
-use Rattle.wh_slots.specs.Calls.{Call, Does, DoesAll, numbers_given, CallsKeepTables, CallsKeepPlaces, NumbersRunUpwards}
+use Rattle.wh_slots.specs.Calls.{Call, Does, CallsKeepTables, CallsKeepPlaces, NumbersRunUpwards}
 use Rattle.wh_slots.specs.Calls.Call.{reserve, use_slot, free, release, drain}
 use Rattle.wh_slots.proofs.Steps.{Reserves-keeps, Uses-keeps, Frees-keeps, Releases-keeps, drain-keeps}
 
