@@ -3,6 +3,7 @@ pub mod Cuts
 pub mod Machines
 pub mod Places
 pub mod InPlace
+pub mod Tasks
 pub mod Statuses
 pub mod Names
 pub mod Keys

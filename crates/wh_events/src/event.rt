@@ -7,15 +7,17 @@ use crate::memory::OutOfMemory;
 use crate::number::EventNo;
 use std::alloc::AllocError;
 
-/// A value as it was sent: how it is encoded, and its bytes.
+/// A value as it was sent (Temporal documentation, "Payload").
 #[derive(Debug, Drop)]
 pub struct Payload {
+    /// The name of the encoding, such as `json/plain`; empty where none was given.
     pub encoding: Items<u8>,
+    /// The bytes of the value in that encoding.
     pub content: Items<u8>,
 }
 
 impl Payload {
-    /// A copy with the same content.
+    /// A copy with the same content. `OutOfMemory` where no room was found for it.
     pub fn try_copy(&self) -> Result<Self, OutOfMemory>
         ensures { IfOk result (λ copy. copy ≡ self.now) }
     {
@@ -34,36 +36,40 @@ impl Clone for Payload {
     }
 }
 
-/// One event of a history. The time is in nanoseconds from the start of 1970.
+/// One event of a history (Temporal documentation, "Event History").
 #[derive(Debug, Drop)]
 pub struct Event {
+    /// Its number in the history, which counts from 1.
     pub number: EventNo,
+    /// When it happened, in nanoseconds since 1970-01-01T00:00:00Z; below 0 before that.
     pub time: i128,
+    /// What happened.
     pub body: EventKind,
 }
 
 impl Event {
+    /// What the event is to a worker.
     pub fn class(&self) -> Class
         ensures { result ≡ class_of self.now.body }
     {
         self.body.class()
     }
 
-    /// Whether the run is over with this event.
+    /// Whether the run is over with this event: completed, failed, cancelled, continued as new, timed out or terminated.
     pub fn closes_run(&self) -> bool
         ensures { result ≡ closes_run_of self.now.body }
     {
         self.body.closes_run()
     }
 
-    /// The number of the event that this one refers to, if it names one by number and the number is in range.
+    /// The number of the event that this one refers to. `None` where it names none, as one that names a child by its workflow id, and where the number is 0 or above `EventNo::LAST`.
     pub fn refers_to(&self) -> Option<EventNo>
         ensures { result ≡ reference_of self.now.body }
     {
         self.body.refers_to()
     }
 
-    /// A copy with the same content.
+    /// A copy with the same content. `OutOfMemory` where no room was found for it.
     pub fn try_copy(&self) -> Result<Self, OutOfMemory>
         ensures { IfOk result (λ copy. copy ≡ self.now) }
     {

@@ -6,15 +6,17 @@ use crate::lists::Text;
 use crate::memory::OutOfMemory;
 use std::hash::{Hash, Hasher};
 
-/// The name of one run of a workflow: the workflow's id, and the id of this run of it. Keys are compared and hashed by their texts.
+/// The name of one run of a workflow (Temporal documentation, "Workflow Id and Run Id"). Keys are compared and hashed by their texts.
 #[derive(Debug, Drop)]
 pub struct RunKey {
+    /// The id of the workflow, which its runs share.
     pub workflow_id: Text,
+    /// The id of this run of it.
     pub run_id: Text,
 }
 
 impl RunKey {
-    /// A copy with the same content. `OutOfMemory` where no room was found for it; the key stays as it is.
+    /// A copy with the same content. `OutOfMemory` where no room was found for it.
     pub fn try_copy(&self) -> Result<Self, OutOfMemory>
         ensures { IfOk result (λ copy. copy ≡ self.now) }
     {

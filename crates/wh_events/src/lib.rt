@@ -1,4 +1,4 @@
-//! The events of a workflow's history.
+//! The events of a workflow's history: what they are, when a history is in place, and what it says of the things that it opens and of its workflow tasks. `laws` says what holds of all histories.
 #![tactic(auto)]
 
 mod event;
@@ -17,3 +17,6 @@ pub use lists::{Items, Text};
 pub use memory::OutOfMemory;
 pub use number::EventNo;
 pub use place::{OpenKind, PlaceFault, Status, Thing};
+
+#[cfg(test)]
+mod tests;
