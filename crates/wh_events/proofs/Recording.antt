@@ -1,11 +1,11 @@
 -- The record of a cut is what stands between two completed tasks.
-use Rattle.std.proofs.Common.{◌≡◌, ℕ, ◌↔◌, ◌⊎◌, Bool, true, false, cond, List, [], ◌∷◌, ◌++◌, refl, sym, ap, subst, ◌∙◌, inl, inr, filter}
+use Rattle.std.proofs.Common.{◌≡◌, ◌↔◌, Bool, true, false, cond, List, [], ◌∷◌, ◌++◌, refl, sym, ap, subst, ◌∙◌, inl, inr, filter}
 use Rattle.std.proofs.lemmas.List.Elements.{All-nil, All-cons, All-head, All-tail}
 use Rattle.std.proofs.lemmas.List.{append-nil}
 use Rattle.wh_events.specs.declared.event.Event.{Event}
 use Rattle.wh_events.specs.declared.kind.EventKind.TheVariants.{WorkflowTaskCompleted}
 use Rattle.wh_events.specs.Cuts.{is_task_completed_kind, is_task_completed, is_commanded, until_completed, after_completed, commanded, record_of}
-use Rattle.wh_events.specs.Tasks.{CompletesNone, EndsOrCompletes, IsBetweenTasks, IsRecord}
+use Rattle.wh_events.specs.Tasks.{CompletesNone, EndsOrCompletes, IsRecord}
 use Rattle.wh_events.proofs.Placing.{bool_cases}
 use Rattle.wh_events.proofs.Cutting.{completes_kind}
 
