@@ -1,11 +1,11 @@
 -- The mismatch of commands and a record is their first difference.
-use Rattle.std.proofs.Common.{◌≡◌, ℕ, zero, suc, ◌+◌, ◌<◌, ◌↔◌, ◌⊎◌, Bool, true, false, cond, List, [], ◌∷◌, length, take, Option, Some, None, refl, sym, ap, subst, ◌∙◌, inl, inr, arith, slice_get, IsTrue}
+use Rattle.std.proofs.Common.{◌≡◌, ℕ, zero, suc, ◌+◌, ◌<◌, ◌⊎◌, Bool, true, false, cond, List, [], ◌∷◌, length, take, Some, None, refl, sym, ap, subst, ◌∙◌, inl, inr, arith, slice_get, IsTrue}
 use Rattle.wh_events.specs.declared.event.Event.{Event}
 use Rattle.wh_events.proofs.Placing.{bool_cases}
 use Rattle.wh_workflow.specs.declared.command.Command.{Command}
 use Rattle.wh_workflow.specs.declared.fault.Mismatch.{Mismatch}
 use Rattle.wh_workflow.specs.declared.fault.Mismatch.TheVariants.{Different, CommandMissing, CommandExtra}
-use Rattle.wh_workflow.specs.Names.{names, mismatch_from, mismatch}
+use Rattle.wh_workflow.specs.Names.{names, mismatch_from}
 use Rattle.wh_workflow.specs.Differences.{AreNamedAlike, IsMatch, IsFirstDifference, FirstDifferenceDecides}
 
 module _ (history : List Event) where

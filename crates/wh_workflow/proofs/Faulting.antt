@@ -1,21 +1,19 @@
 -- The fault of a command is the least row of the table that applies to it.
-use Rattle.std.proofs.Common.{slice_get, ◌≡◌, ℕ, zero, suc, ◌<◌, ◌≤◌, ◌↔◌, ◌⊎◌, Bool, true, false, not, ◌&&◌, ◌||◌, List, [], ◌∷◌, ◌++◌, length, Option, Some, None, refl, sym, ap, subst, ◌∙◌, inl, inr, arith, eqb, leb, is_some, bytes_eq, IsTrue, T, ℤ, pos, negsuc}
+use Rattle.std.proofs.Common.{slice_get, ◌≡◌, ℕ, zero, suc, ◌+◌, ◌≤◌, ◌⊎◌, Bool, true, false, not, ◌&&◌, ◌||◌, List, [], ◌∷◌, ◌++◌, length, Option, Some, None, refl, sym, ap, subst, ◌∙◌, inl, inr, arith, eqb, leb, is_some, bytes_eq, IsTrue, T, ℤ, pos, negsuc}
 use Rattle.std.specs.Prelude.{int_lt, ◌<ℤ◌}
 use Rattle.std.specs.Int.Signed.{lt_z_yes}
 use Rattle.std.specs.Bool.{Decides}
-use Rattle.std.proofs.lemmas.Bool.Decides.{Decides-eqb, Decides-not, Decides-and, Decides-or, Decides-at, Decides-like, nat_tests}
+use Rattle.std.proofs.lemmas.Bool.Decides.{Decides-eqb, Decides-not, Decides-and, Decides-or, Decides-like, nat_tests}
 use Rattle.std.proofs.lemmas.Slice.Eq.{bytes_eq-Decides}
 use Rattle.wh_events.specs.declared.event.Event.{Event}
-use Rattle.wh_events.specs.declared.place.Status.{Status}
 use Rattle.wh_events.specs.declared.place.Status.TheVariants.{Cancelling as CancellingStatus, Closed}
 use Rattle.wh_events.specs.declared.place.Thing.{Thing}
 use Rattle.wh_events.specs.declared.place.Thing.TheVariants.{Activity, Timer, Child, CancelRequest, SignalRequest}
 use Rattle.wh_events.specs.Cuts.{is_outside}
-use Rattle.wh_events.specs.Machines.{same_thing, open_named, last_named, closes, closed_by, is_cancelling, is_started, status_by, status_of, or_else}
+use Rattle.wh_events.specs.Machines.{same_thing, open_named, last_named, closes, closed_by, is_cancelling, is_started, status_by, or_else}
 use Rattle.wh_events.specs.InPlace.{InPlace, IsAt, HasOpen}
 use Rattle.wh_events.specs.Places.{is_named}
-use Rattle.wh_events.specs.Names.{IsOpenUnder, IsLastUnder}
-use Rattle.wh_events.proofs.Placing.{or_cases, or_left, or_right, bool_cases, leb_cases, same_decides, has_decides, closed_decides, some_decides, at_index, index_of}
+use Rattle.wh_events.proofs.Placing.{or_cases, or_left, or_right, leb_cases, same_decides, has_decides, closed_decides, some_decides, at_index, index_of}
 use Rattle.wh_events.proofs.Standing.{same_event}
 use Rattle.wh_events.proofs.Saying.{some_or_none, status_is_said}
 use Rattle.wh_events.proofs.Naming.{open_unclosed, last_last}
@@ -117,14 +115,14 @@ still_decides place earlier thing id =
     (Decides-not stopped (Decides-and (is_timer thing) (some_act (act_cancels thing id) earlier) (timer_decides thing) (some_cancels thing id earlier))))
 
 -- places in a list that stands in a longer one
-at_left : (xs ys : List Event) (k : ℕ) (e : Event) → slice_get xs k ≡ Some e → slice_get (xs ++ ys) k ≡ Some e
+pub at_left : (xs ys : List Event) (k : ℕ) (e : Event) → slice_get xs k ≡ Some e → slice_get (xs ++ ys) k ≡ Some e
 at_left [] ys k e h = cc
 at_left (x ∷ xs) ys zero e h = h
 at_left (x ∷ xs) ys (suc k) e h = at_left xs ys k e h
 
-at_right : (xs ys : List Event) (k : ℕ) (e : Event) → slice_get ys k ≡ Some e → (j : ℕ) × (slice_get (xs ++ ys) j ≡ Some e)
-at_right [] ys k e h = (k, h)
-at_right (x ∷ xs) ys k e h = let r = at_right xs ys k e h in (suc r.0, r.1)
+pub at_right : (xs ys : List Event) (k : ℕ) (e : Event) → slice_get ys k ≡ Some e → (j : ℕ) × (j ≡ length xs + k) × (slice_get (xs ++ ys) j ≡ Some e)
+at_right [] ys k e h = (k, omega arith, h)
+at_right (x ∷ xs) ys k e h = let r = at_right xs ys k e h in (suc r.0, (let same = r.1 in omega arith), r.2)
 
 -- an event between the cuts is one of the history
 in_history : (place : Place) → IsOfCut place → (i : ℕ) (e : Event) → IsAt place.between i e → (j : ℕ) × IsAt place.seen j e
@@ -132,7 +130,7 @@ in_history place of_cut i e h =
     let ends = of_cut.ends in
     let k = index_of place.between i e h in
     let r = at_right ends.0 (place.between ++ ends.1 ∷ []) k.0 e (at_left place.between (ends.1 ∷ []) k.0 e k.2) in
-    (suc r.0, at_index place.seen r.0 e (ap (λ l. slice_get l r.0) ends.2 ∙ r.1))
+    (suc r.0, at_index place.seen r.0 e (ap (λ l. slice_get l r.0) ends.2 ∙ r.2))
 
 status_closes : (o : Option ℕ) (cancelling started : Bool) (by : ℕ) → status_by o cancelling started ≡ Closed by → o ≡ Some by
 status_closes (Some other) cancelling started by h = cc

@@ -1,14 +1,13 @@
 -- All the issued commands but the dropped ones are sent, in their order.
-use Rattle.std.proofs.Common.{◌≡◌, ℕ, suc, ◌↔◌, ◌⊎◌, Bool, true, false, not, ◌&&◌, ◌||◌, cond, List, [], ◌∷◌, ◌++◌, length, Option, Some, refl, sym, ap, subst, ◌∙◌, inl, inr, slice_get, append_assoc}
+use Rattle.std.proofs.Common.{◌≡◌, suc, Bool, true, false, not, ◌&&◌, ◌||◌, cond, List, [], ◌∷◌, ◌++◌, length, Some, refl, sym, ap, subst, ◌∙◌, inl, slice_get, append_assoc}
 use Rattle.std.specs.Bool.{Decides}
 use Rattle.std.proofs.lemmas.Bool.Decides.{Decides-at, Decides-or}
 use Rattle.std.proofs.lemmas.List.{append-nil}
-use Rattle.wh_events.specs.declared.place.Thing.{Thing}
 use Rattle.wh_workflow.specs.declared.command.Command.{Command}
-use Rattle.wh_workflow.specs.Scripts.{Place, Act, act_of, act_cancels, some_act, left_open, is_late, is_sent_act, sent_after, reduced}
+use Rattle.wh_workflow.specs.Scripts.{Place, Act, act_of, act_cancels, some_act, left_open, is_late, is_sent_act, sent_after}
 use Rattle.wh_workflow.specs.Scripts.Act.{Opening, Cancelling, Closing, Asking, Other}
-use Rattle.wh_workflow.specs.CommandFaults.{IsOfCut, Does}
-use Rattle.wh_workflow.specs.Sent.{IsDropped, marked, SendsTheRest, SendsAllButDropped, DropsPairs}
+use Rattle.wh_workflow.specs.CommandFaults.{IsOfCut}
+use Rattle.wh_workflow.specs.Sent.{IsDropped, marked, SendsAllButDropped, DropsPairs}
 use Rattle.wh_workflow.proofs.Faulting.{some_cancels, left_decides, late_decides}
 
 not_twice : (b : Bool) → not (not b) ≡ b

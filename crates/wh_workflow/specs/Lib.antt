@@ -10,3 +10,4 @@ pub mod Rules
 pub mod CommandFaults
 pub mod Sent
 pub mod Differences
+pub mod JobRules

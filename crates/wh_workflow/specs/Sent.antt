@@ -1,5 +1,5 @@
 -- What is sent of the commands that an activation issues, said of each with those before and after it.
-use Rattle.std.specs.Prelude.{◌≡◌, ℕ, ◌↔◌, ◌⊎◌, Bool, true, false, List, [], ◌∷◌, ◌++◌, length, Some, if◌then◌else◌, slice_get}
+use Rattle.std.specs.Prelude.{◌≡◌, ℕ, ◌↔◌, ◌⊎◌, Bool, false, List, [], ◌∷◌, ◌++◌, length, Some, if◌then◌else◌, slice_get}
 use Rattle.wh_events.specs.declared.place.Thing.{Thing}
 use Rattle.wh_workflow.specs.declared.command.Command.{Command}
 use Rattle.wh_workflow.specs.Scripts.{Place, Act, act_of, reduced}
