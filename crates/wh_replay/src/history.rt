@@ -44,6 +44,7 @@ impl<W: Workflow> ReplayedHistory<W> {
     ) -> Result<Self, RunFault>
         ensures history { GivesHistory W.program events.items result }
         ensures meter { OnOk result (meter.new ≡ risen meter.old (steps W.program events.items)) }
+        ensures never_lowered { meter.old ≤ meter.new }
     {
         if !ends_in_task(events.as_slice()) {
             return Err(RunFault::Fault(Fault::NotATask));
@@ -64,6 +65,7 @@ impl<W: Workflow> ReplayedHistory<W> {
         requires ends { ends_in_task events.items ≡ true }
         ensures history { GivesHistory W.program (self ++ events.items) result }
         ensures meter { OnOk result (meter.new ≡ risen meter.old (advance_steps W.program self events.items)) }
+        ensures never_lowered { meter.old ≤ meter.new }
     {
         let ReplayedHistory {
             events: mut history,

@@ -81,6 +81,7 @@ impl<W: Workflow> Run<W> {
     ) -> Result<Self, RunFault>
         ensures run { Begins W.program key events.items result }
         ensures meter { OnOk result (meter.new ≡ risen meter.old (steps W.program events.items)) }
+        ensures never_lowered { meter.old ≤ meter.new }
     {
         let history = ReplayedHistory::<W>::from_first(alloc, events, meter)?;
         Ok(Run { key, history })
@@ -95,6 +96,7 @@ impl<W: Workflow> Run<W> {
     ) -> Result<Self, AdvanceFault<W>>
         ensures run { Advances W.program self events.items result }
         ensures meter { Counts W.program self events.items meter.old meter.new result }
+        ensures never_lowered { meter.old ≤ meter.new }
     {
         if !ends_in_task(events.as_slice()) {
             return Err(AdvanceFault::NotATask(self));

@@ -34,7 +34,7 @@ returns-in_err-outcome-clause-history g c =
     let p = err_from_is_err_and c.from_residual-in_err-outcome.result c.from_residual-in_err-outcome.ensures.1 in
     let fault = c.in_err-outcome.field-0.0 in
     let P : List Event → Type 0 = λ l. GivesHistory program (l ++ new) (Err fault) in
-    rw (p.1, p.2) (subst P c.self.view_is (longer_err program lawful before new joined held meter kept.state kept.versions kept.unsent.items fault _ _ longer refl c.in_err-outcome.ensures))
+    rw (p.1, p.2) (subst P c.self.view_is (longer_err program lawful before new joined held meter kept.state kept.versions kept.unsent.items fault _ _ longer refl c.in_err-outcome.ensures.advanced))
 
 pub invariant_of-result : goal.invariant_of-result
 invariant_of-result g c =
@@ -57,7 +57,7 @@ invariant_of-result g c =
       below = omega (arith, c.count-before.ensures, c.count-before.type_inv);
     } in
     let P : List Event → Type 0 = λ l. IsRun program l value.state value.settled value.unsent in
-    subst P (sym c.in_ok-append.ensures.items) (longer_run program lawful before new joined held meter kept.state kept.versions kept.unsent.items value longer c.in_ok-outcome.ensures)
+    subst P (sym c.in_ok-append.ensures.items) (longer_run program lawful before new joined held meter kept.state kept.versions kept.unsent.items value longer c.in_ok-outcome.ensures.advanced)
 
 pub returns-clause-history : goal.returns-clause-history
 returns-clause-history g c =
@@ -79,7 +79,7 @@ returns-clause-history g c =
       count = search rules;
       below = omega (arith, c.count-before.ensures, c.count-before.type_inv);
     } in
-    let run = longer_run program lawful before new joined held meter kept.state kept.versions kept.unsent.items value longer c.in_ok-outcome.ensures in (
+    let run = longer_run program lawful before new joined held meter kept.state kept.versions kept.unsent.items value longer c.in_ok-outcome.ensures.advanced in (
       c.in_ok-append.ensures.items ∙ ap (λ l. l ++ new) c.self.view_is,
       ap (λ l. is_ok (run_of program (l ++ new))) (sym c.self.view_is) ∙ run_ok program (before ++ new) value.state value.settled value.unsent run,
     )
@@ -104,5 +104,5 @@ returns-clause-meter g c =
       count = search rules;
       below = omega (arith, c.count-before.ensures, c.count-before.type_inv);
     } in
-    longer_counts program lawful before new joined held meter kept.state kept.versions kept.unsent.items value longer c.in_ok-outcome.ensures
+    longer_counts program lawful before new joined held meter kept.state kept.versions kept.unsent.items value longer c.in_ok-outcome.ensures.advanced
     ∙ ap (λ l. risen meter (advance_steps program l new)) c.self.view_is

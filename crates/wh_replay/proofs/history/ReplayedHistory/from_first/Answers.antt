@@ -14,7 +14,7 @@ returns-in_err-outcome-clause-history g c =
     let below : c.args.meter.now ≤ top = omega (arith, c.count-before.ensures, c.count-before.type_inv) in
     let ends : ends_in_task events ≡ true = ap ends_in_task (sym c.as_slice.ensures.value) ∙ (sym c.ends_in_task.ensures ∙ c.if-not-ends_in_task.false) in
     let p = err_from_is_err_and c.from_residual.result c.from_residual.ensures.1 in
-    rw (p.1, p.2) (begins_err program events c.args.meter.now c.in_err-outcome.field-0.0 _ _ (ap (λ l. replay program l c.args.meter.now) (sym c.as_slice-2.ensures.value)) below ends c.in_err-outcome.ensures)
+    rw (p.1, p.2) (begins_err program events c.args.meter.now c.in_err-outcome.field-0.0 _ _ (ap (λ l. replay program l c.args.meter.now) (sym c.as_slice-2.ensures.value)) below ends c.in_err-outcome.ensures.replayed)
 
 pub invariant_of-result : goal.invariant_of-result
 invariant_of-result g c =
@@ -24,7 +24,7 @@ invariant_of-result g c =
     let ends : ends_in_task events ≡ true = ap ends_in_task (sym c.as_slice.ensures.value) ∙ (sym c.ends_in_task.ensures ∙ c.if-not-ends_in_task.false) in
     let outcome = c.in_ok-outcome.outcome in
     let value = replayed outcome.state outcome.versions outcome.unsent.items c.replay.new.meter in
-    replayed_run program events c.args.meter.now value ends below (ap (λ l. replay program l c.args.meter.now) (sym c.as_slice-2.ensures.value) ∙ c.in_ok-outcome.ensures)
+    replayed_run program events c.args.meter.now value ends below (ap (λ l. replay program l c.args.meter.now) (sym c.as_slice-2.ensures.value) ∙ c.in_ok-outcome.ensures.replayed)
 
 pub returns-clause-history : goal.returns-clause-history
 returns-clause-history g c =
@@ -37,7 +37,7 @@ returns-clause-history g c =
     (
       refl,
       run_ok program events value.state value.settled value.unsent
-      (replayed_run program events c.args.meter.now value ends below (ap (λ l. replay program l c.args.meter.now) (sym c.as_slice-2.ensures.value) ∙ c.in_ok-outcome.ensures)),
+      (replayed_run program events c.args.meter.now value ends below (ap (λ l. replay program l c.args.meter.now) (sym c.as_slice-2.ensures.value) ∙ c.in_ok-outcome.ensures.replayed)),
     )
 
 pub returns-clause-meter : goal.returns-clause-meter
@@ -47,4 +47,4 @@ returns-clause-meter g c =
     let below : c.args.meter.now ≤ top = omega (arith, c.count-before.ensures, c.count-before.type_inv) in
     let outcome = c.in_ok-outcome.outcome in
     let value = replayed outcome.state outcome.versions outcome.unsent.items c.replay.new.meter in
-    replayed_counts program events c.args.meter.now value below (ap (λ l. replay program l c.args.meter.now) (sym c.as_slice-2.ensures.value) ∙ c.in_ok-outcome.ensures)
+    replayed_counts program events c.args.meter.now value below (ap (λ l. replay program l c.args.meter.now) (sym c.as_slice-2.ensures.value) ∙ c.in_ok-outcome.ensures.replayed)
