@@ -1,5 +1,5 @@
 -- The steps of a replay are the pairs of its cuts' scripts.
-use Rattle.std.proofs.Common.{◌≡◌, ℕ, ◌+◌, ◌≤◌, List, [], ◌∷◌, ◌++◌, length, Option, Some, None, Result, Ok, Err, refl, sym, ap, ◌∙◌, arith, min}
+use Rattle.std.proofs.Common.{◌≡◌, ℕ, ◌+◌, ◌≤◌, List, [], ◌∷◌, ◌++◌, length, Option, Some, None, Ok, sym, ap, ◌∙◌, arith, min}
 use Rattle.wh_events.specs.declared.event.Event.{Event}
 use Rattle.wh_events.specs.Cuts.{is_cut}
 use Rattle.wh_workflow.specs.declared.fault.WorkflowFault.{WorkflowFault}
@@ -14,9 +14,8 @@ use Rattle.wh_workflow.specs.ActivationScripts.{Pair, fault_in, ok_unless, outco
 use Rattle.wh_workflow.proofs.Following.{whole_meets}
 use Rattle.wh_workflow.proofs.Scripting.{longest_in_words}
 use Rattle.wh_workflow.proofs.Plain.{jobs_plain}
-use Rattle.wh_replay.specs.declared.fault.Fault.{Fault}
-use Rattle.wh_replay.specs.Replays.{Replayed, place_at, begin_at, reached, close_task, task, replay_after, replay, start, workflow_of, unless_mismatch}
-use Rattle.wh_replay.specs.Runs.{counted, steps, going_on, new_steps}
+use Rattle.wh_replay.specs.Replays.{Replayed, place_at, begin_at, reached, close_task, task, replay_after, start, workflow_of, unless_mismatch}
+use Rattle.wh_replay.specs.Runs.{counted, going_on}
 use Rattle.wh_replay.specs.Laws.{pair_count, HasScripts, ended, passed, ran, StepsArePairs, NewStepsArePairs}
 use Rattle.wh_replay.proofs.Settling.{and_then_ok, ok_same}
 use Rattle.wh_replay.proofs.Advancing.{task_parts}
@@ -69,8 +68,7 @@ module _ {S : Type 0} where
       let script = whole_meets program lawful place jobs current.state current.settled current.meter (jobs_plain seen between event) below in
       let rises : first.0.meter ≡ risen current.meter (length script.0)
       = close_meter (before ++ event ∷ rest) place event.number place.recorded parts.0 first.0 parts.2 ∙ outcome_meter program place current.state current.settled current.meter script.0 parts.0 (sym script.3 ∙ parts.1) in
-      let later = counts program lawful seen [] rest first.0 left (below_risen first.0.meter current.meter (length script.0) rises) first.2 in
-      (
+      let later = counts program lawful seen [] rest first.0 left (below_risen first.0.meter current.meter (length script.0) rises) first.2 in (
         script.0 ∷ later.0,
         ran before between event rest current first.0 script.0 later.0 c (longest_in_words program place jobs current.state current.settled script.0 script.1) first.1 later.1,
         later.2 ∙ (ap (λ m. risen m (pair_count later.0)) rises ∙ risen_twice current.meter (length script.0) (pair_count later.0)),

@@ -1,5 +1,5 @@
 -- A live and a recorded activation have one longest script: a workflow that also logs its pairs leaves one log in both.
-use Rattle.std.proofs.Common.{◌≡◌, ℕ, List, [], ◌∷◌, ◌++◌, length, Option, Some, None, Result, Ok, Err, ℤ, refl, sym, ap, subst, ◌∙◌, append_assoc, IsTrue, arith}
+use Rattle.std.proofs.Common.{◌≡◌, List, [], ◌∷◌, ◌++◌, length, Option, Some, None, Ok, refl, sym, ap, subst, ◌∙◌, append_assoc, arith}
 use Rattle.wh_events.specs.declared.event.Event.{Event}
 use Rattle.wh_workflow.specs.declared.command.Command.{Command}
 use Rattle.wh_workflow.specs.declared.job.Job.{Job}
@@ -9,12 +9,12 @@ use Rattle.wh_workflow.specs.Jobs.{jobs_of}
 use Rattle.wh_workflow.specs.Counting.{risen}
 use Rattle.wh_workflow.specs.Scripts.{Place, Settled}
 use Rattle.wh_workflow.specs.Activations.{Progress, activate}
-use Rattle.wh_workflow.specs.ActivationScripts.{Pair, IsLongest, commands_in, settled_from, settled_after, first_fault, issued_in, fault_in, ok_unless, state_after, outcome}
+use Rattle.wh_workflow.specs.ActivationScripts.{Pair, IsLongest, commands_in, settled_from, settled_after, first_fault, issued_in, fault_in, ok_unless, state_after}
 use Rattle.wh_workflow.proofs.Judging.{up_to_fault, neither, all_stand, same_fault}
 use Rattle.wh_workflow.proofs.Following.{state_last, IsScriptBy, IsLongestBy, whole_meets}
 use Rattle.wh_workflow.proofs.Scripting.{longest_in_words, one_is_longest}
 use Rattle.wh_workflow.proofs.Plain.{jobs_plain}
-use Rattle.wh_replay.specs.Views.{progress, script}
+use Rattle.wh_replay.specs.Views.{progress}
 use Rattle.wh_replay.specs.Laws.{live_place, recorded_place, ScriptsEqual}
 use Rattle.wh_replay.proofs.Settling.{ok_same}
 use Rattle.wh_replay.proofs.Confirming.{Known, Covers, activate_same}

@@ -16,7 +16,8 @@ use wh_workflow::{Command, Meter, Workflow};
 /// The most events that a history may have: Temporal ends a run whose history grows beyond them.
 pub const MOST_EVENTS: usize = 51_200;
 
-/// A history that ends in a started task, with what its replay left. Contracts see the events.
+/// A history that ends in a started workflow task, with what its replay left. Contracts see the
+/// events.
 #[derive(Drop)]
 pub struct ReplayedHistory<W: Workflow> {
     events: Vec<Event>,
@@ -82,7 +83,7 @@ impl<W: Workflow> ReplayedHistory<W> {
         })
     }
 
-    /// The number of events.
+    /// The number of events. Its contract says what holds of every replayed history.
     pub fn len(&self) -> usize
         ensures len { result ≡ length self.now }
         ensures most { result ≤ MOST_EVENTS }

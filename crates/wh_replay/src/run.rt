@@ -14,7 +14,10 @@ use std::marker::Model;
 use wh_events::{Event, EventNo, Items, OutOfMemory, RunKey, Status};
 use wh_workflow::{Command, Meter, Workflow};
 
-/// A run of a workflow, as far as its history was replayed.
+/// A run of a workflow, as far as its history was replayed: a key, a history that ends in a started
+/// workflow task, and the state, versions and unsent commands that its replay leaves. Contracts see
+/// the key and the held events; the machines of a run are those of its held events, each event that
+/// opened something with its status.
 #[derive(Drop)]
 pub struct Run<W: Workflow> {
     key: RunKey,
@@ -29,19 +32,25 @@ impl<W: Workflow> Model for Run<W> {
     ghost view = { λ run. record { key = run.key; events = run.history } };
 }
 
-/// Why a run does not advance. The first two hand it back.
+/// Why a run does not advance. The first two hand it back unchanged, the others spend it.
 #[derive(Drop)]
 pub enum AdvanceFault<W: Workflow> {
+    /// The new events don't end in a started workflow task.
     NotATask(Run<W>),
+    /// The first new event does not have the number after the last held one.
     Gap(Run<W>),
+    /// Replay of the held events and the new ones has a fault.
     Fault(Fault),
+    /// An allocation was refused. It may come in place of any fault.
     OutOfMemory,
 }
 
-/// What is answered for a task.
+/// What is answered for a workflow task.
 #[derive(Debug, Drop)]
 pub enum Answer {
+    /// The task is completed with these commands.
     Complete(Items<Command>),
+    /// The task failed by this fault.
     Fail(Fault),
 }
 
@@ -57,7 +66,7 @@ fn copy_commands(alloc: Global, commands: &[Command]) -> Result<Vec<Command>, Ou
 }
 
 impl Answer {
-    /// An equal answer.
+    /// An equal answer. `OutOfMemory` where an allocation was refused.
     pub fn try_copy(&self, alloc: Global) -> Result<Self, OutOfMemory>
         ensures { IfOk result (λ copy. copy ≡ self.now) }
     {
@@ -72,7 +81,8 @@ impl Answer {
 }
 
 impl<W: Workflow> Run<W> {
-    /// Replays a history that ends in a started task.
+    /// Replays a history that ends in a started task, and raises the meter by the steps of all its
+    /// tasks. On an error the events are given up, and the meter may have risen.
     pub fn from_first(
         alloc: Global,
         key: RunKey,
@@ -87,7 +97,10 @@ impl<W: Workflow> Run<W> {
         Ok(Run { key, history })
     }
 
-    /// Goes on with new events. Where they confirm the held ones only the new tasks are stepped.
+    /// Goes on with new events, as if the whole history were replayed from its first event. Where they
+    /// complete the last task with the commands that it left unsent, only the new tasks are stepped,
+    /// as sticky execution does (Temporal documentation). On `Fault` and `OutOfMemory` the run is given
+    /// up, and the meter may have risen.
     pub fn advance(
         self,
         alloc: Global,
@@ -134,7 +147,7 @@ impl<W: Workflow> Run<W> {
         &self.key
     }
 
-    /// The number of held events.
+    /// The number of held events. Its contract says what holds of every run.
     pub fn held_len(&self) -> usize
         ensures len { result ≡ length self.now.events }
         ensures most { result ≤ MOST_EVENTS }
@@ -143,14 +156,14 @@ impl<W: Workflow> Run<W> {
         self.history.len()
     }
 
-    /// The event of a number.
+    /// The held event of a number.
     pub fn event(&self, number: EventNo) -> Option<&Event>
         ensures { option_map (λ event. event.now) result ≡ slice_get self.now.events (number - 1) }
     {
         self.history.events().get((number.get() - 1) as usize)
     }
 
-    /// Where the thing that the event of a number opened stands, if it opened one.
+    /// Where the thing stands that the held event of a number opened, if it opened one.
     pub fn status(&self, number: EventNo) -> Option<Status>
         ensures { result ≡ status_at self.now.events number }
     {
@@ -164,21 +177,21 @@ impl<W: Workflow> Run<W> {
         self.history.state()
     }
 
-    /// The commands that are not sent yet.
+    /// The commands of the last task, which are not sent yet.
     pub fn commands(&self) -> &[Command]
         ensures { IsOkAnd (run_of W.program self.now.events) (λ replayed. result.now ≡ replayed.unsent) }
     {
         self.history.commands()
     }
 
-    /// The settled version of a change.
+    /// The settled version of a change, if there is one.
     pub fn version(&self, change_id: &str) -> Option<i32>
         ensures { IsOkAnd (run_of W.program self.now.events) (λ replayed. result ≡ lookup_version change_id.now replayed.settled) }
     {
         self.history.version(change_id)
     }
 
-    /// The answer to the last task.
+    /// The answer to the last task: a copy of its commands. `OutOfMemory` where an allocation was refused.
     pub fn answer(&self, alloc: Global) -> Result<Answer, OutOfMemory>
         ensures { IfOk result (λ answer. answer ≡ answered (run_of W.program self.now.events)) }
     {

@@ -1,4 +1,4 @@
-use Rattle.std.proofs.Common.{◌≡◌, ◌∙◌, ◌&&◌, ℕ, is_none, sym, ap, take, drop}
+use Rattle.std.proofs.Common.{◌∙◌, ◌&&◌, ℕ, is_none, sym, ap, take, drop}
 use Rattle.std.proofs.lemmas.List.{take-append-drop}
 use Rattle.wh_events.specs.Cuts.{is_recorded, record_of}
 use Rattle.wh_workflow.specs.Names.{mismatch}

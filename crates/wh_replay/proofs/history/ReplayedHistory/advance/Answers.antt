@@ -1,4 +1,4 @@
-use Rattle.std.proofs.Common.{◌≡◌, ℕ, ◌≤◌, ◌∙◌, refl, sym, ap, subst, arith, List, ◌++◌, length, Err, rules}
+use Rattle.std.proofs.Common.{ℕ, ◌∙◌, refl, sym, ap, subst, arith, List, ◌++◌, Err, rules}
 use Rattle.std.specs.Result.{is_ok}
 use Rattle.std.proofs.lemmas.Result.{err_from_is_err_and}
 use Rattle.wh_events.specs.declared.event.Event.{Event}
@@ -6,7 +6,6 @@ use Rattle.wh_workflow.specs.Counting.{risen}
 use Rattle.wh_replay.specs.Runs.{IsRun, run_of, advance_steps}
 use Rattle.wh_replay.specs.Advances.{GivesHistory}
 use Rattle.wh_replay.specs.Checks.{replayed}
-use Rattle.wh_replay.proofs.Raising.{top}
 use Rattle.wh_replay.proofs.Ending.{ends_joined, run_ok, IsLonger, longer_run, longer_counts, longer_err}
 use Rattle.wh_replay.proofs.history.ReplayedHistory.advance.Goals as goal
 

@@ -33,11 +33,10 @@ returns-clause-history g c =
     let below : c.args.meter.now ≤ top = omega (arith, c.count-before.ensures, c.count-before.type_inv) in
     let ends : ends_in_task events ≡ true = ap ends_in_task (sym c.as_slice.ensures.value) ∙ (sym c.ends_in_task.ensures ∙ c.if-not-ends_in_task.false) in
     let outcome = c.in_ok-outcome.outcome in
-    let value = replayed outcome.state outcome.versions outcome.unsent.items c.replay.new.meter in
-    (
+    let value = replayed outcome.state outcome.versions outcome.unsent.items c.replay.new.meter in (
       refl,
       run_ok program events value.state value.settled value.unsent
-      (replayed_run program events c.args.meter.now value ends below (ap (λ l. replay program l c.args.meter.now) (sym c.as_slice-2.ensures.value) ∙ c.in_ok-outcome.ensures.replayed)),
+          (replayed_run program events c.args.meter.now value ends below (ap (λ l. replay program l c.args.meter.now) (sym c.as_slice-2.ensures.value) ∙ c.in_ok-outcome.ensures.replayed)),
     )
 
 pub returns-clause-meter : goal.returns-clause-meter

@@ -1,4 +1,4 @@
-use Rattle.std.proofs.Common.{◌≡◌, ◌≤◌, length, arith, rules}
+use Rattle.std.proofs.Common.{◌≡◌, length, arith, rules}
 use Rattle.wh_replay.proofs.Ending.{is_replayed}
 use Rattle.wh_replay.proofs.history.ReplayedHistory.len.Goals as goal
 
