@@ -37,6 +37,17 @@ same_pairs job commands x xs ys p q r =
     ap (λ (j : Job). let y : Pair = record { job = j; commands = commands } in y ∷ xs) p
     ∙ (ap (λ (l : List Command). let y : Pair = record { job = x.job; commands = l } in y ∷ xs) (sym q) ∙ ap (λ l. x ∷ l) r)
 
+-- workflows that give the same commands after the same pairs have the same scripts
+same_script : {A B : Type 0} (one : Program A) (other : Program B) (place : Place) (jobs : List Job) (first : A) (begin : B) (settled : Settled) (pairs : List Pair)
+    → ((before : List Pair) (job : Job) → one.gives (state_after one first before) job ≡ other.gives (state_after other begin before) job) → IsScriptBy one place jobs first settled pairs → IsScriptBy other place jobs begin settled pairs
+same_script one other place jobs first begin settled pairs same p = record {
+  first_jobs = p.first_jobs;
+  begins = p.begins;
+  answers = p.answers;
+  steps = λ before after pair e. p.steps before after pair e ∙ ap (up_to_fault place (settled_after settled (before ++ pair ∷ [])) (commands_in before)) (same before pair.job);
+  faultless = p.faultless;
+}
+
 -- a state with the pairs that led to it
 record Logged (S : Type 0) : Type 0 where
   state : S
@@ -72,28 +83,11 @@ module _ {S : Type 0} where
 
   -- the scripts are those of the workflow without a log
   unlogged : (program : Program S) (place : Place) (jobs : List Job) (state : S) (settled : Settled) (pairs : List Pair) → IsScriptBy (logging program) place jobs (begun state []) settled pairs → IsScriptBy program place jobs state settled pairs
-  unlogged program place jobs state settled pairs p = record {
-    first_jobs = p.first_jobs;
-    begins = p.begins;
-    answers = p.answers;
-    steps = λ before after pair e. p.steps before after pair e
-        ∙ ap (λ s. up_to_fault place (settled_after settled (before ++ pair ∷ [])) (commands_in before) (program.gives s pair.job)) (logged_state program state [] before);
-    faultless = p.faultless;
-  }
-
-  with_log : (program : Program S) (place : Place) (jobs : List Job) (state : S) (settled : Settled) (pairs : List Pair) → IsScriptBy program place jobs state settled pairs → IsScriptBy (logging program) place jobs (begun state []) settled pairs
-  with_log program place jobs state settled pairs p = record {
-    first_jobs = p.first_jobs;
-    begins = p.begins;
-    answers = p.answers;
-    steps = λ before after pair e. p.steps before after pair e
-        ∙ ap (λ s. up_to_fault place (settled_after settled (before ++ pair ∷ [])) (commands_in before) (program.gives s pair.job)) (sym (logged_state program state [] before));
-    faultless = p.faultless;
-  }
+  unlogged program place jobs state settled pairs = same_script (logging program) program place jobs (begun state []) state settled pairs (λ before job. ap (λ s. program.gives s job) (logged_state program state [] before))
 
   longest_unlogged : (program : Program S) (place : Place) (jobs : List Job) (state : S) (settled : Settled) (pairs : List Pair) → IsLongestBy (logging program) place jobs (begun state []) settled pairs → IsLongest program place jobs state settled pairs
   longest_unlogged program place jobs state settled pairs p =
-      longest_in_words program place jobs state settled pairs (record { script = unlogged program place jobs state settled pairs p.script; longest = λ other o. p.longest other (with_log program place jobs state settled other o) })
+      longest_in_words program place jobs state settled pairs (record { script = unlogged program place jobs state settled pairs p.script; longest = λ other o. p.longest other (same_script program (logging program) place jobs state (begun state []) settled other (λ before job. ap (λ s. program.gives s job) (sym (logged_state program state [] before))) o) })
 
   -- a script without a fault has all commands of each step
   all_given : (program : Program S) (place : Place) (jobs : List Job) (state : S) (settled : Settled) (pairs before rest : List Pair) → IsScriptBy program place jobs state settled pairs → pairs ≡ before ++ rest
