@@ -1,0 +1,6 @@
+pub mod Lookups
+pub mod Roles
+pub mod Openings
+pub mod Noted
+pub mod Tables
+pub mod Chain
