@@ -1,6 +1,8 @@
 -- What the answers of a track say of its events.
 use Rattle.std.proofs.Common.{◌≡◌, ℕ, zero, suc, ◌-◌, ◌<◌, ◌≤◌, Bool, true, false, cond, eqb, List, [], ◌∷◌, length, take, Option, Some, None, is_some, is_none, unwrap_or, slice_get, refl, sym, ap, ◌∙◌, arith}
+use Rattle.std.specs.Prelude.{nat_lt}
 use Rattle.std.proofs.lemmas.Bool.{ne_eqb}
+use Rattle.std.proofs.lemmas.Bool.Decides.{nat_tests}
 use Rattle.std.proofs.lemmas.List.{take_all, take-take, length-take}
 use Rattle.wh_events.specs.declared.event.Event.{Event}
 use Rattle.wh_events.specs.declared.place.OpenKind.{OpenKind}
@@ -14,11 +16,14 @@ use Rattle.wh_events.specs.Places.{fault_after, is_named}
 use Rattle.wh_machines.specs.Lookups.{thing_of, last_at, with_status}
 use Rattle.wh_machines.specs.declared.opening.Opening.{Opening}
 use Rattle.wh_machines.specs.Openings.{named_of, opening_with, opened_by, opening_of, status_up_to}
+use Rattle.wh_machines.specs.declared.jumps.Jump.{Jump}
+use Rattle.wh_machines.specs.Jumps.{jump_at, back_by, IsAlike, JumpsBack}
 use Rattle.wh_machines.specs.Chain.{IsLastWithin}
 use Rattle.wh_machines.proofs.Placed.{NumberedFrom, numbered_after, numbered_take}
 use Rattle.wh_machines.proofs.Firsts.{closed_by-first, status_up_to_is}
 use Rattle.wh_machines.proofs.Named.{opens_under-is, opens_at, last_named_role, last_named-take}
 use Rattle.wh_machines.proofs.OpenNamed.{open_named_last}
+use Rattle.wh_machines.proofs.Jumping.{last_up_to}
 
 -- what is kept of a thing is told by the events
 pub record IsOpening (events : List Event) (number : ℕ) (opening : Opening) : Type 0 where
@@ -50,7 +55,7 @@ module _ (events : List Event) (number : ℕ) (positive : 0 < number) where
       ∙ ap (λ list. Some (status_of list number)) (take_all (length events) events (omega arith))
       ∙ ap (λ b. cond b (Some (status_of events number)) None) (sym shape.opened)
 
-pub same_previous : (o : Option Opening) (x y : Opening) → o ≡ Some x → o ≡ Some y → x.previous ≡ y.previous
+same_previous : (o : Option Opening) (x y : Opening) → o ≡ Some x → o ≡ Some y → x.previous ≡ y.previous
 same_previous o x y h k = let same : x ≡ y = cc in ap (λ (p : Opening). p.previous) same
 
 -- the last thing under an id is kept
@@ -93,18 +98,22 @@ module _ (events : List Event) (thing : Thing) (id : List ℕ) (place : ℕ) (pl
   numbered_first : (count : ℕ) → NumberedFrom 0 (take count events)
   numbered_first count = numbered_take 0 count events (numbered_after [] events placed)
 
+  walk_role : (number : ℕ) → IsLastWithin events thing id place (Some number) → (0 < number) × (role_at events number ≡ Opens thing id)
+  walk_role number within =
+      let found = opens_at thing id 0 number (take within.count events) (numbered_first within.count) (sym within.is) in
+      let far = found.numbered in
+      let index : number - 1 ≡ found.place = omega arith in
+      let at = slice_get_from_take within.count found.place events found.event found.at in
+      (omega arith, ap (λ k. role_in (slice_get events k)) index ∙ ap role_in at ∙ opens_under-is thing id (role_of found.event.body) found.opened)
+
   -- the thing at which the walk stands is kept
   pub walk_opened : (number : ℕ) → IsLastWithin events thing id place (Some number) → (0 < number) × (opening_of events number ≡ Some (opening_with events number (named_of (take (number - 1) events) thing id)))
   walk_opened number within =
-      let found = opens_at thing id 0 number (take within.count events) (numbered_first within.count) (sym within.is) in
-      let far = found.numbered in
-      let positive : 0 < number = omega arith in
-      let index : number - 1 ≡ found.place = omega arith in
-      let at = slice_get_from_take within.count found.place events found.event found.at in
-      let role = ap (λ k. role_in (slice_get events k)) index ∙ ap role_in at ∙ opens_under-is thing id (role_of found.event.body) found.opened in
-      (positive, rw (ne_eqb number 0 (omega arith)) (ap (opened_by events number) role))
+      let role = walk_role number within in
+      let positive = role.0 in
+      (positive, rw (ne_eqb number 0 (omega arith)) (ap (opened_by events number) role.1))
 
-  pub walk_back : (number : ℕ) → is_named thing ≡ true → place < number → IsLastWithin events thing id place (named_of (take (number - 1) events) thing id)
+  walk_back : (number : ℕ) → is_named thing ≡ true → place < number → IsLastWithin events thing id place (named_of (take (number - 1) events) thing id)
   walk_back number named past =
       record { count = number - 1; reaches = take-take place (number - 1) events (omega arith); is = last_kept (take (number - 1) events) thing id named }
 
@@ -128,8 +137,8 @@ module _ (events : List Event) (thing : Thing) (id : List ℕ) (place : ℕ) (pl
       ∙ sym (ap (with_status (take place events)) (walk_here number near within))
 
   -- a walk back comes to smaller numbers
-  pub walk_smaller : (number : ℕ) → 0 < number → unwrap_or (named_of (take (number - 1) events) thing id) 0 < number
-  walk_smaller number positive = by (is_named thing) (last_named (take (number - 1) events) thing id) refl
+  before_smaller : (number : ℕ) → 0 < number → unwrap_or (named_of (take (number - 1) events) thing id) 0 < number
+  before_smaller number positive = by (is_named thing) (last_named (take (number - 1) events) thing id) refl
     where
       by : (b : Bool) (o : Option ℕ) → last_named (take (number - 1) events) thing id ≡ o → unwrap_or (cond b (last_named (take (number - 1) events) thing id) None) 0 < number
       by false o e = positive
@@ -139,3 +148,46 @@ module _ (events : List Event) (thing : Thing) (id : List ℕ) (place : ℕ) (pl
           let low = role.1 in
           let size = length-take (number - 1) events in
           rw e (omega arith)
+
+  module _ (number : ℕ) (jumps : List Jump) (back : JumpsBack events jumps) (within : IsLastWithin events thing id place (Some number)) where
+    walk_jump : (to : ℕ) → place < to → jump_at jumps number ≡ Some to → IsLastWithin events thing id place (Some to)
+    walk_jump to past at =
+        let role = walk_role number within in
+        let there = back.alike number to role.0 at in
+        let alike = there.1 in
+        record { count = to; reaches = take-take place to events (omega arith); is = sym (last_up_to thing id to events (numbered_after [] events placed) (alike.0, alike.1, alike.2 ∙ role.1)) }
+
+    walk_from : (o : Option ℕ) → jump_at jumps number ≡ o → is_named thing ≡ true → place < number → IsLastWithin events thing id place (back_by place o (named_of (take (number - 1) events) thing id))
+    walk_from None at named past = walk_back number named past
+    walk_from (Some to) at named past = chosen (nat_lt place to) refl
+      where
+        chosen : (b : Bool) → nat_lt place to ≡ b → IsLastWithin events thing id place (cond b (Some to) (named_of (take (number - 1) events) thing id))
+        chosen true e = walk_jump to (let farther : place < to = grind (arith, nat_tests) in farther) at
+        chosen false e = walk_back number named past
+
+    smaller_from : (o : Option ℕ) → jump_at jumps number ≡ o → unwrap_or (back_by place o (named_of (take (number - 1) events) thing id)) 0 < number
+    smaller_from None at = before_smaller number (walk_role number within).0
+    smaller_from (Some to) at = chosen (nat_lt place to)
+      where
+        chosen : (b : Bool) → unwrap_or (cond b (Some to) (named_of (take (number - 1) events) thing id)) 0 < number
+        chosen true = (back.alike number to (walk_role number within).0 at).0
+        chosen false = before_smaller number (walk_role number within).0
+
+    module _ (opening : Opening) (found : opening_of events number ≡ Some opening) (next : Option ℕ) (is : next ≡ back_by place (jump_at jumps number) opening.previous) where
+      next_is : next ≡ back_by place (jump_at jumps number) (named_of (take (number - 1) events) thing id)
+      next_is = is ∙ ap (back_by place (jump_at jumps number)) (same_previous (opening_of events number) _ _ found (walk_opened number within).1)
+
+      -- a walk goes on from a thing past the place
+      pub walk_on : is_named thing ≡ true → place < number → IsLastWithin events thing id place next
+      walk_on named past = rw next_is (walk_from (jump_at jumps number) refl named past)
+
+      pub walk_smaller : unwrap_or next 0 < number
+      walk_smaller = rw next_is (smaller_from (jump_at jumps number) refl)
+
+-- the last thing under an id is alike to what opens the next one under it
+pub last_alike : (events : List Event) (thing : Thing) (id : List ℕ) (previous : ℕ) → fault_after [] events ≡ None → named_of events thing id ≡ Some previous → IsAlike events (Opens thing id) previous
+last_alike events thing id previous placed h = let found = last_named_role thing id previous events (numbered_after [] events placed) (by (is_named thing) (last_named events thing id) h) in (found.0, found.1, found.2)
+  where
+    by : (b : Bool) (o : Option ℕ) → cond b o None ≡ Some previous → o ≡ Some previous
+    by true o e = e
+    by false o e = cc

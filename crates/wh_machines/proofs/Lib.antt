@@ -5,5 +5,6 @@ pub mod Placed
 pub mod Firsts
 pub mod Named
 pub mod OpenNamed
+pub mod Jumping
 pub mod Steps
 pub mod Found

@@ -1,5 +1,6 @@
 -- One more event in place changes what is kept of the things as `noted` and `noted_name` say.
 use Rattle.std.proofs.Common.{◌≡◌, ℕ, zero, suc, ◌+◌, ◌-◌, ◌<◌, ◌≤◌, Bool, true, false, ◌&&◌, ◌||◌, cond, eqb, ltb, List, [], ◌∷◌, ◌++◌, length, Option, Some, None, is_none, option_map, slice_get, refl, sym, ap, subst, ◌∙◌, inl, inr, arith}
+use Rattle.std.specs.Prelude.{IfSome}
 use Rattle.std.specs.Str.{bytes_eq}
 use Rattle.std.specs.Cmp.Lexicographic.{nat_list_eq_equiv}
 use Rattle.std.proofs.lemmas.Bool.{eq-eqb, ne_eqb, eqb-true, eqb-false, cases_eq}
@@ -24,6 +25,9 @@ use Rattle.wh_machines.specs.Openings.{closes_test, starts_test, cancels_test, n
 use Rattle.wh_machines.specs.Noted.{fresh, marked, noted, noted_name}
 use Rattle.wh_machines.specs.Tables.{IsTracked, IsSound, opening_in, named_in}
 use Rattle.wh_machines.proofs.Placed.{accepted, reference_there, child_there, numbered_after}
+use Rattle.wh_machines.specs.declared.jumps.Jump.{Jump}
+use Rattle.wh_machines.specs.Jumps.{IsAlike}
+use Rattle.wh_machines.proofs.Jumping.{slice_get-append_left, slice_get_end, jumps_back-push}
 use Rattle.wh_machines.proofs.Firsts.{first_by-push, first_by_none}
 use Rattle.wh_machines.proofs.Named.{same_thing-is, both_left, last_named_role}
 use Rattle.wh_machines.proofs.OpenNamed.{open_if, open_named_last}
@@ -76,15 +80,6 @@ over_push (first ∷ rest) event h = by (closes_run_of first.body) (over_push re
     by false later k = later k
 
 -- ---- events by their places
-
-slice_get-append_left : {X : Type 0} (xs ys : List X) (k : ℕ) → k < length xs → slice_get (xs ++ ys) k ≡ slice_get xs k
-slice_get-append_left [] ys k h = absurd (omega arith)
-slice_get-append_left (x ∷ xs) ys zero h = refl
-slice_get-append_left (x ∷ xs) ys (suc k) h = slice_get-append_left xs ys k (omega arith)
-
-slice_get_end : {X : Type 0} (xs : List X) (x : X) → slice_get (xs ++ x ∷ []) (length xs) ≡ Some x
-slice_get_end [] x = refl
-slice_get_end (y ∷ xs) x = slice_get_end xs x
 
 pub past_none : (events : List Event) (number : ℕ) → length events < number → opening_of events number ≡ None
 past_none events number h =
@@ -326,14 +321,16 @@ module _ (events : List Event) (event : Event) (placed : fault_after [] events �
       ∙ name_step (role_of event.body) thing id event.number (last_named events thing id) (named_of events) refl
 
   -- the tables after the event
-  pub tracked_push : (over : Bool) (openings new_openings : Openings) (names new_names : Names) → IsTracked events over openings names → IsSound new_openings
+  pub tracked_push : (over : Bool) (openings new_openings : Openings) (names new_names : Names) (jumps : List Jump) (jump : Jump) → IsTracked events over openings names jumps → IsSound new_openings
       → ((number : ℕ) → opening_in new_openings number ≡ noted (role_of event.body) event.number (named_in names) (opening_in openings) number)
       → ((thing : Thing) (id : List ℕ) → named_in new_names thing id ≡ noted_name (role_of event.body) event.number (named_in names) thing id)
-      → IsTracked (events ++ event ∷ []) (closes_run_of event.body) new_openings new_names
-  tracked_push over openings new_openings names new_names before sound opened named = record {
+      → IfSome jump.to (IsAlike events (role_of event.body))
+      → IsTracked (events ++ event ∷ []) (closes_run_of event.body) new_openings new_names (jumps ++ jump ∷ [])
+  tracked_push over openings new_openings names new_names jumps jump before sound opened named alike = record {
     placed = more_placed;
     ended = sym (over_push events event (accepted events event fits).unfinished);
     sound = sound;
     opened = λ number. opened number ∙ noted_same (role_of event.body) event.number number (named_in names) (named_of events) (opening_in openings) (opening_of events) before.named before.opened ∙ sym (opening_noted number);
     named = λ thing id. named thing id ∙ noted_name_same (role_of event.body) event.number (named_in names) (named_of events) before.named thing id ∙ sym (named_noted thing id);
+    jumping = jumps_back-push events event jumps jump before.jumping alike;
   }

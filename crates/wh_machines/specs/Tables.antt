@@ -10,7 +10,9 @@ use Rattle.wh_events.specs.Places.{fault_after, is_over}
 use Rattle.wh_machines.specs.declared.opening.Opening.{Opening}
 use Rattle.wh_machines.specs.declared.openings.Openings.{Openings}
 use Rattle.wh_machines.specs.declared.names.Names.{Names}
+use Rattle.wh_machines.specs.declared.jumps.Jump.{Jump}
 use Rattle.wh_machines.specs.Openings.{opening_of, named_of}
+use Rattle.wh_machines.specs.Jumps.{JumpsBack}
 
 abbrev pub key_of : Openings → ℕ → Option ℕ
 key_of openings number = tree.get nat_cmp openings.keys number
@@ -42,9 +44,10 @@ named_in names Child id = tree.get_by_text names.children id
 named_in names _ id = None
 
 -- the events are in place, and the tables hold what they tell
-pub record IsTracked (events : List Event) (over : Bool) (openings : Openings) (names : Names) : Type 0 where
+pub record IsTracked (events : List Event) (over : Bool) (openings : Openings) (names : Names) (jumps : List Jump) : Type 0 where
   pub placed : fault_after [] events ≡ None
   pub ended : over ≡ is_over events
   pub sound : IsSound openings
   pub opened : (number : ℕ) → opening_in openings number ≡ opening_of events number
   pub named : (thing : Thing) (id : List ℕ) → named_in names thing id ≡ named_of events thing id
+  pub jumping : JumpsBack events jumps

@@ -2,6 +2,7 @@
 #![tactic(auto)]
 
 mod fault;
+mod jumps;
 mod names;
 mod note;
 mod opening;

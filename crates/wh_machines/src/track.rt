@@ -1,11 +1,14 @@
-ghost use Rattle.std.specs.Prelude.{◌≡◌, ◌-◌, ◌+◌, ◌<◌, ◌≤◌, ◌↔◌, ◌++◌, ◌∷◌, [], true, not, is_some, length, option_copied, slice_get, OnOk, OnErr, IfOk, Option};
+ghost use Rattle.std.specs.Prelude.{◌≡◌, IsTrue, ◌-◌, ◌+◌, ◌<◌, ◌≤◌, ◌↔◌, ◌++◌, ◌∷◌, [], true, not, is_some, length, option_copied, slice_get, OnOk, OnErr, IfOk, IfSome, Option, vec_len};
+ghost use Rattle.std.specs.Vec.{vec_capacity};
 ghost use Rattle.wh_events.specs.Kinds.{role_of};
 ghost use Rattle.wh_events.specs.Machines as machines;
 ghost use Rattle.wh_events.specs.Places as places;
 ghost use Rattle.wh_events.specs.declared.place.PlaceFault.{PlaceFault};
+ghost use Rattle.wh_machines.specs.Jumps.{IsAlike};
 ghost use Rattle.wh_machines.specs.Lookups.{thing_of, last_at, events_between};
 
 use crate::fault::PushFault;
+use crate::jumps::{Jump, NO_JUMP, jump_behind, step_back};
 use crate::names::Names;
 use crate::note::note;
 use crate::openings::Openings;
@@ -22,6 +25,7 @@ pub struct Track {
     over: bool,
     openings: Openings,
     names: Names,
+    jumps: Vec<Jump>,
     alloc: Global,
 }
 
@@ -34,7 +38,7 @@ impl Model for Track {
 
     ghost view = { λ t. t.events.items };
 
-    ghost invariant = { λ t. IsTracked t.events.items t.over t.openings t.names };
+    ghost invariant = { λ t. IsTracked t.events.items t.over t.openings t.names t.jumps.items };
 }
 
 impl Track {
@@ -46,6 +50,7 @@ impl Track {
             over: false,
             openings: Openings::new(alloc),
             names: Names::new(alloc),
+            jumps: Vec::new(alloc),
             alloc,
         }
     }
@@ -59,13 +64,14 @@ impl Track {
         if let Some(fault) = self.place_fault(&event) {
             return Err(PushFault::Place(fault));
         }
+        let jump = self.jump_of(&event);
         self.events.reserve(1)?;
+        self.jumps.reserve(1)?;
         note(self.alloc, &mut self.openings, &mut self.names, &event)?;
         self.over = event.closes_run();
-        match self.events.push(event) {
-            Ok(()) => Ok(()),
-            Err(_) => unreachable!(),
-        }
+        push_reserved(&mut self.events, event);
+        push_reserved(&mut self.jumps, jump);
+        Ok(())
     }
 
     /// How many events are held. They are in place.
@@ -74,6 +80,20 @@ impl Track {
         ensures in_place { places.fault_after [] self.now ≡ None }
     {
         self.events.len()
+    }
+
+    pub fn is_empty(&self) -> bool
+        ensures { IsTrue result ↔ (self.now ≡ []) }
+    {
+        self.events.is_empty()
+    }
+
+    /// All events. They are in place.
+    pub fn events(&self) -> &[Event]
+        ensures events { result.now ≡ self.now }
+        ensures in_place { places.fault_after [] self.now ≡ None }
+    {
+        self.events.as_slice()
     }
 
     /// Where the thing that the event of the number opened stands, if it opened one.
@@ -108,7 +128,7 @@ impl Track {
             if number.get() <= place {
                 return Some((number, opening.status_up_to(place)));
             }
-            last = opening.previous;
+            last = step_back(&self.jumps, number, opening.previous, place);
         }
         None
     }
@@ -166,6 +186,19 @@ impl Track {
             Some(number)
         } else {
             None
+        }
+    }
+
+    /// How a walk back gets on from what the event opens.
+    fn jump_of(&self, event: &Event) -> Jump
+        ensures { IfSome result.to (IsAlike self.now (role_of event.now.body)) }
+    {
+        let Role::Opens { thing, id } = read_role(&event.body) else {
+            return NO_JUMP;
+        };
+        match self.names.last(thing, id) {
+            Some(previous) => jump_behind(&self.jumps, previous),
+            None => NO_JUMP,
         }
     }
 
@@ -241,5 +274,16 @@ impl Track {
             Some(opening) if opening.closed.is_some() => Some(PlaceFault::AlreadyClosed),
             _ => None,
         }
+    }
+}
+
+/// Adds an item for which there is room.
+fn push_reserved<T: Drop>(items: &mut Vec<T>, item: T)
+    requires { vec_len items.old < vec_capacity items.old }
+    ensures { items.new.items ≡ items.old.items ++ item ∷ [] }
+{
+    match items.push(item) {
+        Ok(()) => {}
+        Err(_) => unreachable!(),
     }
 }
