@@ -1,0 +1,10 @@
+pub mod Options
+pub mod Histories
+pub mod Keys
+pub mod Placed
+pub mod Firsts
+pub mod Named
+pub mod OpenNamed
+pub mod Jumping
+pub mod Steps
+pub mod Found

@@ -1,0 +1,32 @@
+-- The short ways back over the things of one kind and id.
+use Rattle.std.specs.Prelude.{◌≡◌, ℕ, ◌-◌, ◌<◌, ◌≤◌, ◌⊎◌, List, length, Option, Some, None, if◌then◌else◌, nat_lt, slice_get}
+use Rattle.wh_events.specs.declared.event.Event.{Event}
+use Rattle.wh_events.specs.Kinds.{Role}
+use Rattle.wh_events.specs.Machines.{role_at}
+use Rattle.wh_machines.specs.declared.jumps.Jump.{Jump}
+
+abbrev pub target_of : Option Jump → Option ℕ
+target_of None = None
+target_of (Some jump) = jump.to
+
+-- where the jump of the event of the number goes
+abbrev pub jump_at : List Jump → ℕ → Option ℕ
+jump_at jumps number = target_of (slice_get jumps (number - 1))
+
+-- where a walk goes on from a thing past the place: by its jump, if that ends past the place too, else to the thing before
+abbrev pub back_by : ℕ → Option ℕ → Option ℕ → Option ℕ
+back_by place None previous = previous
+back_by place (Some to) previous = if nat_lt place to then Some to else previous
+
+-- the number is the one given, or two jumps behind it
+abbrev pub IsShort : List Jump → ℕ → ℕ → Type 0
+IsShort jumps from to = (from ≡ to) ⊎ ((middle : ℕ) × (jump_at jumps from ≡ Some middle) × (jump_at jumps middle ≡ Some to))
+
+-- one of the events, that of the number, does the same
+abbrev pub IsAlike : List Event → Role → ℕ → Type 0
+IsAlike events role number = (0 < number) × (number ≤ length events) × (role_at events number ≡ role)
+
+-- each event has a jump, and it goes to an earlier event that does the same
+pub record JumpsBack (events : List Event) (jumps : List Jump) : Type 0 where
+  pub even : length jumps ≡ length events
+  pub alike : (number to : ℕ) → 0 < number → jump_at jumps number ≡ Some to → (to < number) × IsAlike events (role_at events number) to

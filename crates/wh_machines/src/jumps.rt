@@ -1,0 +1,71 @@
+ghost use Rattle.std.specs.Prelude.{◌≡◌, IfSome};
+ghost use Rattle.wh_machines.specs.Jumps.{jump_at, back_by, IsShort};
+
+use wh_events::EventNo;
+
+/// A short way back from a thing to an earlier one of its kind and id.
+#[derive(Clone, Copy, Debug)]
+pub struct Jump {
+    /// The number of that earlier thing.
+    pub to: Option<EventNo>,
+    /// How many things of the kind and id are before this one.
+    pub depth: u64,
+}
+
+/// The jump of what opens nothing, or nothing that was opened before.
+pub const NO_JUMP: Jump = Jump { to: None, depth: 0 };
+
+/// Where the jump of the event of the number goes.
+fn target(jumps: &[Jump], number: EventNo) -> Option<EventNo>
+    ensures { result ≡ jump_at jumps.now number }
+{
+    match jumps.get((number.get() - 1) as usize) {
+        Some(jump) => jump.to,
+        None => None,
+    }
+}
+
+fn depth(jumps: &[Jump], number: EventNo) -> u64 {
+    match jumps.get((number.get() - 1) as usize) {
+        Some(jump) => jump.depth,
+        None => 0,
+    }
+}
+
+/// The jump of a thing that comes next after the one of the number. It goes there, or, where two jumps from there are equally long, past both: so a walk back takes steps in proportion to the logarithm of what it passes (E. W. Myers, "An applicative random-access stack", 1983).
+pub fn jump_behind(jumps: &[Jump], previous: EventNo) -> Jump
+    ensures { IfSome result.to (IsShort jumps.now previous) }
+{
+    let near = depth(jumps, previous);
+    let next = near.saturating_add(1);
+    if let Some(middle) = target(jumps, previous) {
+        if let Some(far) = target(jumps, middle) {
+            let halfway = depth(jumps, middle);
+            if near.saturating_sub(halfway) == halfway.saturating_sub(depth(jumps, far)) {
+                return Jump {
+                    to: Some(far),
+                    depth: next,
+                };
+            }
+        }
+    }
+    Jump {
+        to: Some(previous),
+        depth: next,
+    }
+}
+
+/// The next thing of a walk back from one past the place: where its jump goes, if that is past the place too, else the one before it.
+pub fn step_back(
+    jumps: &[Jump],
+    number: EventNo,
+    previous: Option<EventNo>,
+    place: u64,
+) -> Option<EventNo>
+    ensures { result ≡ back_by place (jump_at jumps.now number) previous }
+{
+    match target(jumps, number) {
+        Some(to) if place < to.get() => Some(to),
+        _ => previous,
+    }
+}

@@ -1,0 +1,18 @@
+//! What a history has opened and where each thing stands, kept in tables beside its events.
+#![tactic(auto)]
+
+mod fault;
+mod jumps;
+mod names;
+mod note;
+mod opening;
+mod openings;
+mod place;
+mod role;
+mod track;
+
+pub use fault::PushFault;
+pub use track::Track;
+
+#[cfg(test)]
+mod tests;

@@ -1,0 +1,68 @@
+ghost use Rattle.std.specs.Prelude.{◌≡◌};
+ghost use Rattle.wh_machines.specs.Noted.{fresh, marked};
+ghost use Rattle.wh_machines.specs.Openings.{status_up_to, up_to};
+ghost use Rattle.wh_machines.specs.Roles.{effect_seen};
+
+use crate::role::Effect;
+use wh_events::{EventNo, Status};
+
+/// A thing that an event opened, and the numbers of the first events that changed it.
+#[derive(Clone, Copy, Debug)]
+pub struct Opening {
+    pub number: EventNo,
+    pub started: Option<EventNo>,
+    pub cancelling: Option<EventNo>,
+    pub closed: Option<EventNo>,
+    /// The thing of the same kind that was opened under the same id before.
+    pub previous: Option<EventNo>,
+}
+
+impl Opening {
+    pub fn new(number: EventNo, previous: Option<EventNo>) -> Self
+        ensures { result ≡ fresh number previous }
+    {
+        Opening {
+            number,
+            started: None,
+            cancelling: None,
+            closed: None,
+            previous,
+        }
+    }
+
+    /// Keeps the event of the number, if it is the first with this effect.
+    pub fn mark(&mut self, effect: Effect, by: EventNo)
+        ensures { self.new ≡ marked (effect_seen effect) by self.old }
+    {
+        match effect {
+            Effect::Starts => self.started = self.started.or(Some(by)),
+            Effect::Cancels => self.cancelling = self.cancelling.or(Some(by)),
+            Effect::Closes => self.closed = self.closed.or(Some(by)),
+        }
+    }
+
+    /// Where the thing stood after the event at the place.
+    pub fn status_up_to(&self, place: u64) -> Status
+        ensures { result ≡ status_up_to place self.now }
+    {
+        if let Some(by) = kept_up_to(place, self.closed) {
+            Status::Closed { by }
+        } else if kept_up_to(place, self.cancelling).is_some() {
+            Status::Cancelling
+        } else if kept_up_to(place, self.started).is_some() {
+            Status::Started
+        } else {
+            Status::Open
+        }
+    }
+}
+
+/// The number, if it is not past the place.
+fn kept_up_to(place: u64, number: Option<EventNo>) -> Option<EventNo>
+    ensures { result ≡ up_to place number }
+{
+    match number {
+        Some(number) if number.get() <= place => Some(number),
+        _ => None,
+    }
+}

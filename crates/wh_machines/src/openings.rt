@@ -1,0 +1,78 @@
+ghost use Rattle.std.specs.Prelude.{◌≡◌, ℕ, Some, None, Option, IfSome, OnOk, OnErr, eqb, if◌then◌else◌};
+ghost use Rattle.wh_machines.specs.Noted.{with_opening, with_mark};
+ghost use Rattle.wh_machines.specs.Roles.{effect_seen};
+
+use crate::opening::Opening;
+use crate::role::Effect;
+use slab::Slab;
+use std::alloc::Global;
+use std::collections::BTreeMap;
+use wh_events::{EventNo, OutOfMemory};
+
+/// The things that the events opened, each found by the number of its event.
+#[derive(Debug, Drop)]
+pub struct Openings {
+    pub entries: Slab<Opening>,
+    pub keys: BTreeMap<u64, usize>,
+}
+
+impl Openings {
+    ghost use Rattle.wh_machines.specs.Tables.{IsSound, opening_in};
+
+    pub fn new(alloc: Global) -> Self
+        ensures sound { IsSound result }
+        ensures empty { (number : ℕ) → opening_in result number ≡ None }
+    {
+        Openings {
+            entries: Slab::new(alloc),
+            keys: BTreeMap::new(alloc),
+        }
+    }
+
+    /// The thing that the event of the number opened.
+    pub fn find(&self, number: u64) -> Option<Opening>
+        ensures { result ≡ opening_in self.now number }
+    {
+        let key = *self.keys.get(&number)?;
+        self.entries.get(key).copied()
+    }
+
+    pub fn insert(&mut self, opening: Opening) -> Result<(), OutOfMemory>
+        requires sound { IsSound self.old }
+        requires unknown { opening_in self.old opening.number ≡ None }
+        ensures sound { IsSound self.new }
+        ensures ok { OnOk result ((number : ℕ) → opening_in self.new number ≡ with_opening (opening_in self.old) opening number) }
+        ensures err { OnErr result ((number : ℕ) → opening_in self.new number ≡ opening_in self.old number) }
+    {
+        self.entries.reserve(1)?;
+        let key = self.entries.vacant_key();
+        self.keys.insert(opening.number.get(), key)?;
+        self.entries.insert_reserved(opening);
+        Ok(())
+    }
+
+    /// Takes back the thing that the event of the number opened.
+    pub fn remove(&mut self, number: u64)
+        requires { IsSound self.old }
+        ensures sound { IsSound self.new }
+        ensures removed { (other : ℕ) → opening_in self.new other ≡ (if eqb number other then None else opening_in self.old other) }
+    {
+        if let Some(key) = self.keys.remove(&number) {
+            let _ = self.entries.try_remove(key);
+        }
+    }
+
+    /// Marks the thing that the event of the number opened, if there is one.
+    pub fn mark(&mut self, number: u64, effect: Effect, by: EventNo)
+        requires { IsSound self.old }
+        ensures sound { IsSound self.new }
+        ensures marked { (other : ℕ) → opening_in self.new other ≡ with_mark (opening_in self.old) (Some number) (effect_seen effect) by other }
+    {
+        let Some(key) = self.keys.get(&number).copied() else {
+            return;
+        };
+        if let Some(opening) = self.entries.get_mut(key) {
+            opening.mark(effect, by);
+        }
+    }
+}

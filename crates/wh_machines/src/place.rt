@@ -1,0 +1,44 @@
+ghost use Rattle.std.specs.Prelude.{◌≡◌};
+ghost use Rattle.wh_events.specs.Kinds.{role_of};
+ghost use Rattle.wh_events.specs.Machines.{opened_thing, role_at};
+ghost use Rattle.wh_events.specs.Places as places;
+
+use crate::role::{Role, read_role};
+use wh_events::{Class, Event, EventKind, Thing};
+
+/// The most events of one run.
+pub const MOST_EVENTS: u64 = 51_200;
+
+pub fn is_start(event: &Event) -> bool
+    ensures { result ≡ places.is_start event.now }
+{
+    matches!(event.class(), Class::Start)
+}
+
+/// Whether open things of this kind have different ids.
+pub fn is_named(thing: Thing) -> bool
+    ensures { result ≡ places.is_named thing }
+{
+    matches!(thing, Thing::Activity | Thing::Timer | Thing::Child)
+}
+
+/// Whether the kind of event opens such a thing.
+fn opens_thing(thing: Thing, kind: &EventKind) -> bool
+    ensures { result ≡ places.is_thing thing (opened_thing (role_of kind.now)) }
+{
+    match read_role(kind) {
+        Role::Opens { thing: other, .. } => thing == other,
+        Role::CancelsChild { .. } => thing == Thing::CancelRequest,
+        Role::Refers { .. } | Role::Plain => false,
+    }
+}
+
+/// Whether the event of the number opens such a thing.
+pub fn opens_at(events: &[Event], thing: Thing, number: u64) -> bool
+    ensures { result ≡ places.is_thing thing (opened_thing (role_at events.now number)) }
+{
+    match events.get(number.saturating_sub(1) as usize) {
+        Some(event) => opens_thing(thing, &event.body),
+        None => false,
+    }
+}

@@ -1,0 +1,289 @@
+ghost use Rattle.std.specs.Prelude.{◌≡◌, IsTrue, ◌-◌, ◌+◌, ◌<◌, ◌≤◌, ◌↔◌, ◌++◌, ◌∷◌, [], true, not, is_some, length, option_copied, slice_get, OnOk, OnErr, IfOk, IfSome, Option, vec_len};
+ghost use Rattle.std.specs.Vec.{vec_capacity};
+ghost use Rattle.wh_events.specs.Kinds.{role_of};
+ghost use Rattle.wh_events.specs.Machines as machines;
+ghost use Rattle.wh_events.specs.Places as places;
+ghost use Rattle.wh_events.specs.declared.place.PlaceFault.{PlaceFault};
+ghost use Rattle.wh_machines.specs.Jumps.{IsAlike};
+ghost use Rattle.wh_machines.specs.Lookups.{thing_of, last_at, events_between};
+
+use crate::fault::PushFault;
+use crate::jumps::{Jump, NO_JUMP, jump_behind, step_back};
+use crate::names::Names;
+use crate::note::note;
+use crate::openings::Openings;
+use crate::place;
+use crate::role::{Role, read_role, thing_of};
+use std::alloc::Global;
+use std::marker::Model;
+use wh_events::{Event, EventNo, OpenKind, OutOfMemory, PlaceFault, Status, Thing};
+
+/// The events of a run, each in place after those before it. Contracts see the list of them.
+#[derive(Debug, Drop)]
+pub struct Track {
+    events: Vec<Event>,
+    over: bool,
+    openings: Openings,
+    names: Names,
+    jumps: Vec<Jump>,
+    alloc: Global,
+}
+
+impl Model for Track {
+    ghost use Rattle.std.specs.Prelude.{List};
+    ghost use Rattle.wh_events.specs.declared.event.Event.{Event};
+    ghost use Rattle.wh_machines.specs.Tables.{IsTracked};
+
+    ghost Value = { List Event };
+
+    ghost view = { λ t. t.events.items };
+
+    ghost invariant = { λ t. IsTracked t.events.items t.over t.openings t.names t.jumps.items };
+}
+
+impl Track {
+    pub fn new(alloc: Global) -> Self
+        ensures { result ≡ [] }
+    {
+        Track {
+            events: Vec::new(alloc),
+            over: false,
+            openings: Openings::new(alloc),
+            names: Names::new(alloc),
+            jumps: Vec::new(alloc),
+            alloc,
+        }
+    }
+
+    /// Takes an event that is in place after those before it. A refused event is dropped.
+    pub fn push(&mut self, event: Event) -> Result<(), PushFault>
+        ensures fault { (fault : PlaceFault) → (result ≡ Err (PushFault.Place fault)) ↔ (places.place_fault self.old event ≡ Some fault) }
+        ensures ok { OnOk result (self.new ≡ self.old ++ event ∷ []) }
+        ensures err { OnErr result (self.new ≡ self.old) }
+    {
+        if let Some(fault) = self.place_fault(&event) {
+            return Err(PushFault::Place(fault));
+        }
+        let jump = self.jump_of(&event);
+        self.events.reserve(1)?;
+        self.jumps.reserve(1)?;
+        note(self.alloc, &mut self.openings, &mut self.names, &event)?;
+        self.over = event.closes_run();
+        push_reserved(&mut self.events, event);
+        push_reserved(&mut self.jumps, jump);
+        Ok(())
+    }
+
+    /// How many events are held. They are in place.
+    pub fn len(&self) -> usize
+        ensures len { result ≡ length self.now }
+        ensures in_place { places.fault_after [] self.now ≡ None }
+    {
+        self.events.len()
+    }
+
+    pub fn is_empty(&self) -> bool
+        ensures { IsTrue result ↔ (self.now ≡ []) }
+    {
+        self.events.is_empty()
+    }
+
+    /// All events. They are in place.
+    pub fn events(&self) -> &[Event]
+        ensures events { result.now ≡ self.now }
+        ensures in_place { places.fault_after [] self.now ≡ None }
+    {
+        self.events.as_slice()
+    }
+
+    /// Where the thing that the event of the number opened stands, if it opened one.
+    pub fn status(&self, number: EventNo) -> Option<Status>
+        ensures { result ≡ machines.status_at self.now number }
+    {
+        let opening = self.openings.find(number.get())?;
+        Some(opening.status_up_to(self.events.len() as u64))
+    }
+
+    /// The number of the open thing of a kind and an id.
+    pub fn open_named(&self, kind: OpenKind, id: &str) -> Option<EventNo>
+        ensures { result ≡ machines.open_named self.now (thing_of kind) id.now }
+    {
+        self.open_thing(thing_of(kind), id)
+    }
+
+    /// The number of the last thing that was opened of a kind under an id.
+    pub fn last_named(&self, kind: OpenKind, id: &str) -> Option<EventNo>
+        ensures { result ≡ machines.last_named self.now (thing_of kind) id.now }
+    {
+        self.names.last(thing_of(kind), id)
+    }
+
+    /// The last thing of a kind and an id among the events up to a place, and where it stands there.
+    pub fn last_at(&self, kind: OpenKind, id: &str, place: u64) -> Option<(EventNo, Status)>
+        ensures { result ≡ last_at self.now (thing_of kind) id.now place }
+    {
+        let mut last = self.names.last(thing_of(kind), id);
+        while let Some(number) = last {
+            let opening = self.openings.find(number.get())?;
+            if number.get() <= place {
+                return Some((number, opening.status_up_to(place)));
+            }
+            last = step_back(&self.jumps, number, opening.previous, place);
+        }
+        None
+    }
+
+    /// The event of a number.
+    pub fn event(&self, number: EventNo) -> Option<&Event>
+        ensures { option_copied result ≡ slice_get self.now (number - 1) }
+    {
+        let index = number.get() - 1;
+        if index < self.events.len() as u64 {
+            Some(&self.events[index as usize])
+        } else {
+            None
+        }
+    }
+
+    /// The events strictly between two numbers.
+    pub fn between(&self, from: u64, to: u64) -> &[Event]
+        requires rising { from < to }
+        requires within { to ≤ length self.now + 1 }
+        ensures { result.now ≡ events_between self.now from to }
+    {
+        &self.events[from as usize..(to - 1) as usize]
+    }
+
+    /// A track of the same events.
+    pub fn try_copy(&self) -> Result<Self, OutOfMemory>
+        ensures { IfOk result (λ copy. copy ≡ self.now) }
+    {
+        let mut copy = Track::new(self.alloc);
+        for event in &self.events {
+            match copy.push(event.try_copy()?) {
+                Ok(()) => {}
+                Err(PushFault::OutOfMemory) => return Err(OutOfMemory),
+                Err(PushFault::Place(_)) => unreachable!(),
+            }
+        }
+        Ok(copy)
+    }
+
+    pub fn into_events(self) -> Vec<Event>
+        ensures { result.items ≡ self }
+    {
+        self.events
+    }
+
+    /// The number of the open thing of a kind and an id.
+    fn open_thing(&self, thing: Thing, id: &str) -> Option<EventNo>
+        requires { places.is_named thing ≡ true }
+        ensures { result ≡ machines.open_named self.now thing id.now }
+    {
+        let number = self.names.last(thing, id)?;
+        let opening = self.openings.find(number.get())?;
+        if opening.closed.is_none() {
+            Some(number)
+        } else {
+            None
+        }
+    }
+
+    /// How a walk back gets on from what the event opens.
+    fn jump_of(&self, event: &Event) -> Jump
+        ensures { IfSome result.to (IsAlike self.now (role_of event.now.body)) }
+    {
+        let Role::Opens { thing, id } = read_role(&event.body) else {
+            return NO_JUMP;
+        };
+        match self.names.last(thing, id) {
+            Some(previous) => jump_behind(&self.jumps, previous),
+            None => NO_JUMP,
+        }
+    }
+
+    /// The least fault that the event has after those before it.
+    #[tactic(auto, unfolding(wh_events::specs::Places::place_fault))]
+    fn place_fault(&self, event: &Event) -> Option<PlaceFault>
+        ensures { result ≡ places.place_fault self.now event.now }
+    {
+        let len = self.events.len() as u64;
+        if (len == 0) != place::is_start(event) {
+            return Some(PlaceFault::FirstNotStart);
+        }
+        if event.number.get() - 1 != len {
+            return Some(PlaceFault::WrongNumber);
+        }
+        if self.over {
+            return Some(PlaceFault::AfterClose);
+        }
+        if let Some(fault) = self.role_fault(event) {
+            return Some(fault);
+        }
+        if len >= place::MOST_EVENTS {
+            return Some(PlaceFault::TooManyEvents);
+        }
+        None
+    }
+
+    /// The least fault that lies in what the event does to the things of the events.
+    fn role_fault(&self, event: &Event) -> Option<PlaceFault>
+        ensures { result ≡ places.role_fault self.now (role_of event.now.body) }
+    {
+        match read_role(&event.body) {
+            Role::Opens { thing, id } => {
+                if place::is_named(thing) && self.open_thing(thing, id).is_some() {
+                    Some(PlaceFault::IdInUse)
+                } else {
+                    None
+                }
+            }
+            Role::Refers { thing, number, .. } => self.reference_fault(thing, number),
+            Role::CancelsChild { workflow_id } => {
+                if self.open_thing(Thing::Child, workflow_id).is_none() {
+                    Some(PlaceFault::NoSuchRef)
+                } else {
+                    None
+                }
+            }
+            Role::Plain => None,
+        }
+    }
+
+    /// Why a thing can't be referred to.
+    #[tactic(auto, unfolding(wh_events::specs::Places::reference_fault))]
+    fn reference_fault(&self, thing: Thing, number: u64) -> Option<PlaceFault>
+        ensures { result ≡ places.reference_fault self.now thing number }
+    {
+        if number == 0 || (self.events.len() as u64) < number {
+            Some(PlaceFault::NoSuchRef)
+        } else if !place::opens_at(&self.events, thing, number) {
+            Some(PlaceFault::WrongKindRef)
+        } else {
+            self.closed_fault(number)
+        }
+    }
+
+    /// The fault of a reference to a thing that is closed.
+    fn closed_fault(&self, number: u64) -> Option<PlaceFault>
+        requires opens { is_some (machines.opened_thing (machines.role_at self.now number)) ≡ true }
+        requires positive { 0 < number }
+        ensures { result ≡ places.fault_if (not (machines.is_open self.now number)) PlaceFault.AlreadyClosed }
+    {
+        match self.openings.find(number) {
+            Some(opening) if opening.closed.is_some() => Some(PlaceFault::AlreadyClosed),
+            _ => None,
+        }
+    }
+}
+
+/// Adds an item for which there is room.
+fn push_reserved<T: Drop>(items: &mut Vec<T>, item: T)
+    requires { vec_len items.old < vec_capacity items.old }
+    ensures { items.new.items ≡ items.old.items ++ item ∷ [] }
+{
+    match items.push(item) {
+        Ok(()) => {}
+        Err(_) => unreachable!(),
+    }
+}

@@ -1,0 +1,61 @@
+ghost use Rattle.std.specs.Prelude.{◌≡◌, ℕ, IfOk};
+ghost use Rattle.wh_events.specs.declared.event.Event.{Event};
+ghost use Rattle.wh_events.specs.Cuts.{cuts};
+ghost use Rattle.wh_events.specs.InPlace.{IsAt};
+ghost use Rattle.wh_split.specs.Splits.{first_of, next_cut, is_live};
+
+use crate::look;
+use std::alloc::Global;
+use wh_events::{Event, EventNo, OutOfMemory};
+
+/// The number of the first cut after the number `from`, or `None` where no cut follows it. The first cut of all is that after 0.
+///
+/// A cut is the place of a WorkflowTaskStarted that completes, or that the history ends in: the event after it, inert ones left out, is a WorkflowTaskCompleted, or there is none. A task that failed or timed out is no cut; its events belong to the next one. This is how a worker replays a history: see <https://docs.temporal.io/encyclopedia/event-history/>.
+///
+/// It needs no memory, and looks only at the events from `from` to the cut and at the inert ones behind that.
+pub fn next_cut(events: &[Event], from: u64) -> Option<EventNo>
+    requires numbered { (place : ℕ) (event : Event) → IsAt events.now place event → event.number ≡ place }
+    ensures { result ≡ next_cut events.now from }
+{
+    if from >= events.len() as u64 {
+        return None;
+    }
+    first_cut(&events[from as usize..])
+}
+
+/// Whether the event in the place is a live cut: a WorkflowTaskStarted behind which there are inert events alone.
+pub fn is_live(events: &[Event], cut: EventNo) -> bool
+    ensures { result ≡ is_live events.now cut }
+{
+    let place = cut.get();
+    if place > events.len() as u64 {
+        return false;
+    }
+    let event = &events[(place - 1) as usize];
+    look::is_task_started(event) && look::next_core(&events[place as usize..]).is_none()
+}
+
+/// The numbers of all cuts, in their order. `OutOfMemory` where no room was found for the list.
+pub fn cuts(alloc: Global, events: &[Event]) -> Result<Vec<EventNo>, OutOfMemory>
+    ensures { IfOk result (λ numbers. numbers.items ≡ cuts events.now) }
+{
+    let mut numbers = Vec::new(alloc);
+    for (index, event) in events.iter().enumerate() {
+        if look::is_cut(event, &events[index + 1..]) {
+            numbers.push(event.number)?;
+        }
+    }
+    Ok(numbers)
+}
+
+/// The number of the first cut.
+fn first_cut(events: &[Event]) -> Option<EventNo>
+    ensures { result ≡ first_of (cuts events.now) }
+{
+    for (index, event) in events.iter().enumerate() {
+        if look::is_cut(event, &events[index + 1..]) {
+            return Some(event.number);
+        }
+    }
+    None
+}
