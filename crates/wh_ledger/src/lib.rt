@@ -1,7 +1,12 @@
-//! Books of what was taken, completed and failed, and the seats whose shares they add up.
+//! Books of the tasks that were taken, completed and failed, and the seats whose shares they add up.
+//!
+//! Each worker counts on a seat of its own, and the books stand beside what the workers share. An addition raises
+//! one book and the same share of one seat. Shares cannot be copied or made up, so once all seats are gathered
+//! their sums are the books. The three ledgers are of `std::sync::ledger`: `T` of tasks taken, `C` of tasks
+//! completed and `F` of tasks failed, each cut into as many parts as there are seats.
 #![tactic(auto)]
 
-ghost use Rattle.std.specs.Prelude.{◌≡◌, ◌+◌, ◌-◌, ◌<◌, ◌≢◌, ◌↔◌, ◌^◌, IfOk, IfErr, IsErr, vec_len, replicate};
+ghost use Rattle.std.specs.Prelude.{◌≡◌, ◌+◌, ◌-◌, ◌<◌, ◌↔◌, ◌^◌, IfOk, IfErr, IsErr, vec_len, replicate};
 ghost use Rattle.wh_ledger.specs.Shares.{no_shares, sums_of, IsWithin};
 
 use std::alloc::Global;
@@ -9,7 +14,7 @@ use std::marker::Model;
 use std::sync::ledger::{Blank, Book, Ledger, Share};
 use wh_events::OutOfMemory;
 
-/// Numbers of tasks.
+/// Numbers of tasks that were taken, completed and failed.
 #[derive(Clone, Copy, PartialEq, Eq, Debug)]
 pub struct Shares {
     pub taken: u64,
@@ -26,7 +31,7 @@ impl Shares {
     };
 }
 
-/// The books of one host. Contracts see their totals.
+/// What all seats together have counted. Contracts see the three totals.
 #[derive(Drop)]
 pub struct Books<T: Ledger, C: Ledger, F: Ledger> {
     seats: usize,
@@ -47,7 +52,8 @@ impl<T: Ledger, C: Ledger, F: Ledger> Model for Books<T, C, F> {
     ghost invariant = { λ b. (b.taken.total ≡ b.totals.taken) × (b.completed.total ≡ b.totals.completed) × (b.failed.total ≡ b.totals.failed) × (0 < b.seats) × (b.seats ≡ T.parts) × (b.seats ≡ C.parts) × (b.seats ≡ F.parts) };
 }
 
-/// What one worker counts. Contracts see its shares.
+/// The seat of one worker. Contracts see what it has counted. A seat that is dropped is missing when the books
+/// are to be gathered.
 #[derive(Drop)]
 pub struct Seat<T: Ledger, C: Ledger, F: Ledger> {
     shares: Shares,
@@ -57,7 +63,7 @@ pub struct Seat<T: Ledger, C: Ledger, F: Ledger> {
 }
 
 impl<T: Ledger, C: Ledger, F: Ledger> Model for Seat<T, C, F> {
-    ghost use Rattle.std.specs.Prelude.{◌≡◌, ℕ};
+    ghost use Rattle.std.specs.Prelude.{◌≡◌};
     ghost use Rattle.wh_ledger.specs.declared.Shares.{Shares};
 
     ghost Value = { Shares };
@@ -76,12 +82,13 @@ impl<T: Ledger, C: Ledger, F: Ledger> Seat<T, C, F> {
     }
 }
 
-/// Some seat is not there.
+/// A seat that was opened is not among those brought to be gathered.
 #[derive(Clone, Copy, PartialEq, Eq, Debug)]
 pub struct SeatsMissing;
 
 impl<T: Ledger, C: Ledger, F: Ledger> Books<T, C, F> {
-    /// Empty books, and as many empty seats as each ledger has parts.
+    /// Empty books and as many empty seats, over three new ledgers that are cut into as many parts.
+    /// `OutOfMemory` where no room was found for the seats; the ledgers are spent then. No later call takes memory.
     pub fn open(
         alloc: Global,
         seats: usize,
@@ -93,7 +100,8 @@ impl<T: Ledger, C: Ledger, F: Ledger> Books<T, C, F> {
         requires taken { (taken.name ≡ T.name) × (taken.parts ≡ T.parts) × (taken.parts ≡ seats) }
         requires completed { (completed.name ≡ C.name) × (completed.parts ≡ C.parts) × (completed.parts ≡ seats) }
         requires failed { (failed.name ≡ F.name) × (failed.parts ≡ F.parts) × (failed.parts ≡ seats) }
-        ensures { IfOk result (λ opened. (opened.0 ≡ no_shares) × (opened.1.items ≡ replicate seats no_shares)) }
+        ensures books { IfOk result (λ opened. opened.0 ≡ no_shares) }
+        ensures seats { IfOk result (λ opened. opened.1.items ≡ replicate seats no_shares) }
     {
         let (taken, mut taken_left) = taken.open::<T>();
         let (completed, mut completed_left) = completed.open::<C>();
@@ -133,7 +141,7 @@ impl<T: Ledger, C: Ledger, F: Ledger> Books<T, C, F> {
         self.totals
     }
 
-    /// What all seats have counted is at least what this one has. Nothing changes.
+    /// Compares a seat with the books: no share is above its book. Nothing changes.
     pub fn audit(&mut self, seat: &mut Seat<T, C, F>)
         ensures books { self.new ≡ self.old }
         ensures seat { seat.new ≡ seat.old }
@@ -156,7 +164,7 @@ impl<T: Ledger, C: Ledger, F: Ledger> Books<T, C, F> {
         failed.audit(my_failed);
     }
 
-    /// A task was taken.
+    /// One more task was taken: the book and the seat's share of it rise by one.
     pub fn add_taken(&mut self, seat: &mut Seat<T, C, F>)
         requires { self.old.taken < 2 ^ 64 - 1 }
         ensures books { self.new ≡ record self.old { taken = self.old.taken + 1 } }
@@ -174,7 +182,7 @@ impl<T: Ledger, C: Ledger, F: Ledger> Books<T, C, F> {
         shares.taken += 1;
     }
 
-    /// A task was completed.
+    /// One more task was completed: the book and the seat's share of it rise by one.
     pub fn add_completed(&mut self, seat: &mut Seat<T, C, F>)
         requires { self.old.completed < 2 ^ 64 - 1 }
         ensures books { self.new ≡ record self.old { completed = self.old.completed + 1 } }
@@ -196,7 +204,7 @@ impl<T: Ledger, C: Ledger, F: Ledger> Books<T, C, F> {
         shares.completed += 1;
     }
 
-    /// A task failed.
+    /// One more task failed: the book and the seat's share of it rise by one.
     pub fn add_failed(&mut self, seat: &mut Seat<T, C, F>)
         requires { self.old.failed < 2 ^ 64 - 1 }
         ensures books { self.new ≡ record self.old { failed = self.old.failed + 1 } }
@@ -215,15 +223,18 @@ impl<T: Ledger, C: Ledger, F: Ledger> Books<T, C, F> {
     }
 
     /// The sums of the shares of all seats, which are the books.
+    /// `SeatsMissing` where there are fewer seats than were opened; books and seats come back as they were.
     pub fn gather(
         self,
         mut seats: Vec<Seat<T, C, F>>,
     ) -> Result<Shares, (Books<T, C, F>, Vec<Seat<T, C, F>>, SeatsMissing)>
-        ensures gathered { IfOk result (λ shares. (shares ≡ self) × (shares ≡ sums_of seats.items)) }
-        ensures missing { IsErr result ↔ (vec_len seats ≢ T.parts) }
-        ensures back { IfErr result (λ refused. (refused.0 ≡ self) × (refused.1 ≡ seats)) }
+        ensures books { IfOk result (λ shares. shares ≡ self) }
+        ensures sums { IfOk result (λ shares. shares ≡ sums_of seats.items) }
+        ensures missing { IsErr result ↔ (vec_len seats < T.parts) }
+        ensures books_back { IfErr result (λ refused. refused.0 ≡ self) }
+        ensures seats_back { IfErr result (λ refused. refused.1 ≡ seats) }
     {
-        if seats.len() != self.seats {
+        if seats.len() < self.seats {
             return Err((self, seats, SeatsMissing));
         }
         let Books {
@@ -259,3 +270,6 @@ impl<T: Ledger, C: Ledger, F: Ledger> Books<T, C, F> {
         Ok(totals)
     }
 }
+
+#[cfg(test)]
+mod tests;

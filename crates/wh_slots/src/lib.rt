@@ -1,26 +1,32 @@
-//! Slots of one kind: each place is free, reserved for one poll, or held by one named task.
+//! Task slots of one kind. Each place is free, reserved for one poll, or held by one named task.
+//!
+//! A worker has a fixed number of task slots, each the room for one task at a time (Temporal documentation,
+//! "Worker performance", task slots). A place is reserved before the source is polled, it is held by the task
+//! that the poll brings, and it is freed when the task is finished, or released where the poll brings none.
 #![tactic(auto)]
 
-ghost use Rattle.std.specs.Prelude.{◌≡◌, ◌+◌, ◌<◌, ◌≤◌, true, false, replicate, position, IfOk, MatchResult, MatchOption};
+ghost use Rattle.std.specs.Prelude.{◌≡◌, ◌+◌, ◌<◌, ◌≤◌, true, false, replicate, position, IfOk, IfErr, OnOk, OnErr, IfSome, IfNone};
 ghost use Rattle.wh_slots.specs.declared.Place.TheVariants.{Free};
-ghost use Rattle.wh_slots.specs.Table.{table, is_free, is_reserved, is_held, is_named, IsTable, IsPlaceOf, IsReserved, IsHeld, Reserves, Uses, Frees, Releases, reserve_fault_of, use_fault_of, count_of};
+ghost use Rattle.wh_slots.specs.Table.{table, is_free, is_reserved, is_held, is_named, IsTable, IsPlaceOf, IsReserved, IsHeld, Reserves, Uses, Frees, Releases, IsReserveFault, IsUseFault, count_of};
+
+pub mod laws;
 
 use std::alloc::Global;
 use std::marker::Model;
 use wh_events::OutOfMemory;
 
-/// What a slot is for.
+/// What a slot is for: workflow tasks or activity tasks.
 #[derive(Clone, Copy, PartialEq, Eq, Debug)]
 pub enum SlotKind {
     Workflow,
     Activity,
 }
 
-/// The name under which a source knows a task.
+/// The name under which a source knows a task. Any number is a name.
 #[derive(Clone, Copy, PartialEq, Eq, Debug)]
 pub struct TaskName(pub u128);
 
-/// One place.
+/// One place, as contracts see it: free, reserved under a number, or held under a number by a named task.
 #[derive(Clone, Copy, Debug)]
 pub enum Place {
     Free,
@@ -28,30 +34,35 @@ pub enum Place {
     InHand(u64, TaskName),
 }
 
-/// Why no place was reserved.
+/// Why no place was reserved. Where several reasons apply, it is the first of them in this order.
 #[derive(Clone, Copy, PartialEq, Eq, Debug)]
 pub enum ReserveFault {
+    /// The slots drain: nothing is reserved any more.
     Draining,
+    /// The last number was given out.
     NumbersSpent,
+    /// No place is free.
     NoSlot,
 }
 
-/// Why a place was not used.
+/// Why a permit was not used. Where both reasons apply, it is the first.
 #[derive(Clone, Copy, PartialEq, Eq, Debug)]
 pub enum UseFault {
+    /// The permit is of the other kind, or no place is reserved under its number.
     NotReserved,
+    /// The task holds a place already.
     TaskInHand,
 }
 
-/// No place is reserved under the permit.
+/// The permit is of the other kind, or no place is reserved under its number.
 #[derive(Clone, Copy, PartialEq, Eq, Debug)]
 pub struct NotReserved;
 
-/// No place is held under the number.
+/// The right is of the other kind, or no place is held under its number.
 #[derive(Clone, Copy, PartialEq, Eq, Debug)]
 pub struct NotHeld;
 
-/// How many places are free, reserved and held.
+/// How many places are free, reserved and held. Together they are all places of the kind.
 #[derive(Clone, Copy, PartialEq, Eq, Debug)]
 pub struct SlotCount {
     pub free: usize,
@@ -59,13 +70,14 @@ pub struct SlotCount {
     pub held: usize,
 }
 
-/// The numbers that are given out lie below this one.
-pub const NUMBERS_END: u64 = 9_223_372_036_854_775_808;
+/// The last number that is given out: 2^63 - 1.
+pub const LAST_NUMBER: u64 = 0x7fff_ffff_ffff_ffff;
 
 /// The most places of one kind.
 pub const MOST_SLOTS: usize = 1000;
 
-/// The right to use one reserved place once. Contracts see its kind and its number.
+/// The right to use or to release one reserved place, once. It cannot be copied.
+/// Contracts see its kind and its number. A permit that is dropped leaves its place reserved.
 #[derive(Debug, Drop)]
 pub struct Permit {
     kind: SlotKind,
@@ -73,7 +85,7 @@ pub struct Permit {
 }
 
 impl Model for Permit {
-    ghost use Rattle.std.specs.Prelude.{ℕ, ◌<◌, ◌^◌};
+    ghost use Rattle.std.specs.Prelude.{ℕ};
     ghost use Rattle.wh_slots.specs.declared.SlotKind.{SlotKind};
 
     ghost Value = { SlotKind × ℕ };
@@ -97,7 +109,8 @@ impl Permit {
     }
 }
 
-/// The right to free one held place once. Contracts see its kind and its number.
+/// The right to free one held place, once. It cannot be copied.
+/// Contracts see its kind and its number. One that is dropped leaves its place held.
 #[derive(Debug, Drop)]
 pub struct Held {
     kind: SlotKind,
@@ -121,7 +134,7 @@ impl Held {
         self.kind
     }
 
-    /// The number under which the place is held.
+    /// The number under which the place is held: that of the permit that was used.
     pub fn number(&self) -> u64
         ensures { result ≡ self.now.1 }
     {
@@ -129,7 +142,8 @@ impl Held {
     }
 }
 
-/// The places of one kind. Contracts see the table of them.
+/// The places of one kind, 1 to 1,000 of them. Contracts see the table of them, in which numbers of different
+/// places differ, names of different places differ, and each number is below the next one.
 #[derive(Drop)]
 pub struct Slots {
     kind: SlotKind,
@@ -149,7 +163,8 @@ impl Model for Slots {
 }
 
 impl Slots {
-    /// All places free, and 1 for the first number.
+    /// As many free places, 1 to 1,000, and 1 for the first number.
+    /// `OutOfMemory` where no room was found for them; no later call takes memory.
     pub fn open(alloc: Global, kind: SlotKind, places: usize) -> Result<Slots, OutOfMemory>
         requires { (0 < places) × (places ≤ MOST_SLOTS) }
         ensures { IfOk result (λ slots. slots ≡ table kind (replicate places Free) 1 false) }
@@ -157,7 +172,8 @@ impl Slots {
         Slots::starting_at(alloc, kind, places, 1)
     }
 
-    /// All places free, and `next` for the first number.
+    /// As many free places, 1 to 1,000, and `next` for the first number, 1 to 2^63 - 1.
+    /// `OutOfMemory` where no room was found for them; no later call takes memory.
     pub fn starting_at(
         alloc: Global,
         kind: SlotKind,
@@ -165,7 +181,7 @@ impl Slots {
         next: u64,
     ) -> Result<Slots, OutOfMemory>
         requires places { (0 < places) × (places ≤ MOST_SLOTS) }
-        requires next { (0 < next) × (next < NUMBERS_END) }
+        requires next { (0 < next) × (next ≤ LAST_NUMBER) }
         ensures { IfOk result (λ slots. slots ≡ table kind (replicate places Free) next false) }
     {
         let places = vec![in alloc; Place::Free; places]?;
@@ -177,14 +193,17 @@ impl Slots {
         })
     }
 
-    /// Reserves a free place under the next number.
+    /// Reserves a free place under the next number, which is never given out again. Which free place it is, is left open.
+    /// Errors are tried in the order of [`ReserveFault`] and change nothing.
     pub fn reserve(&mut self) -> Result<Permit, ReserveFault>
-        ensures { MatchResult result (Reserves self.old self.new) (λ fault. (reserve_fault_of self.old fault) × (self.new ≡ self.old)) }
+        ensures reserved { IfOk result (Reserves self.old self.new) }
+        ensures refused { IfErr result (IsReserveFault self.old) }
+        ensures unchanged { OnErr result (self.new ≡ self.old) }
     {
         if self.draining {
             return Err(ReserveFault::Draining);
         }
-        if self.next == NUMBERS_END {
+        if self.next > LAST_NUMBER {
             return Err(ReserveFault::NumbersSpent);
         }
         let Some(at) = find_free(self.places.as_slice()) else {
@@ -199,9 +218,13 @@ impl Slots {
         })
     }
 
-    /// The reserved place is held by the task.
+    /// The place that is reserved under the permit is held by the task from now on, under the same number.
+    /// Errors are tried in the order of [`UseFault`]; they change nothing and hand the permit back.
     pub fn use_slot(&mut self, permit: Permit, name: TaskName) -> Result<Held, (Permit, UseFault)>
-        ensures { MatchResult result (Uses self.old self.new permit name) (λ refused. (refused.0 ≡ permit) × (use_fault_of self.old permit name refused.1) × (self.new ≡ self.old)) }
+        ensures held { IfOk result (Uses self.old self.new permit name) }
+        ensures refused { IfErr result (λ refused. IsUseFault self.old permit name refused.1) }
+        ensures handed_back { IfErr result (λ refused. refused.0 ≡ permit) }
+        ensures unchanged { OnErr result (self.new ≡ self.old) }
     {
         let number = permit.number;
         if permit.kind != self.kind {
@@ -220,9 +243,12 @@ impl Slots {
         })
     }
 
-    /// The held place is free again.
+    /// The held place is free again. `NotHeld` where it is not one of these; nothing changes then, and the right comes back.
     pub fn free(&mut self, held: Held) -> Result<(), (Held, NotHeld)>
-        ensures { MatchResult result (λ _. Frees self.old self.new held) (λ refused. (refused.0 ≡ held) × (¬ IsHeld self.old held) × (self.new ≡ self.old)) }
+        ensures freed { OnOk result (Frees self.old self.new held) }
+        ensures refused { OnErr result (¬ IsHeld self.old held) }
+        ensures handed_back { IfErr result (λ refused. refused.0 ≡ held) }
+        ensures unchanged { OnErr result (self.new ≡ self.old) }
     {
         if held.kind != self.kind {
             return Err((held, NotHeld));
@@ -235,8 +261,12 @@ impl Slots {
     }
 
     /// The reserved place is free again, and was not used.
+    /// `NotReserved` where it is not one of these; nothing changes then, and the permit comes back.
     pub fn release(&mut self, permit: Permit) -> Result<(), (Permit, NotReserved)>
-        ensures { MatchResult result (λ _. Releases self.old self.new permit) (λ refused. (refused.0 ≡ permit) × (¬ IsReserved self.old permit) × (self.new ≡ self.old)) }
+        ensures released { OnOk result (Releases self.old self.new permit) }
+        ensures refused { OnErr result (¬ IsReserved self.old permit) }
+        ensures handed_back { IfErr result (λ refused. refused.0 ≡ permit) }
+        ensures unchanged { OnErr result (self.new ≡ self.old) }
     {
         if permit.kind != self.kind {
             return Err((permit, NotReserved));
@@ -248,16 +278,18 @@ impl Slots {
         Ok(())
     }
 
-    /// From now on nothing is reserved.
+    /// From now on nothing is reserved. What is reserved or held may still be used, released and freed.
     pub fn drain(&mut self)
         ensures { self.new ≡ record self.old { draining = true } }
     {
         self.draining = true;
     }
 
-    /// At which place this is held. No other place has its number.
+    /// At which place, counted from 0, the right is held, or `None` where it is not one of these. A place stays
+    /// where it is while it is held, so what is told of held places can stand in a list beside the slots.
     pub fn place_of(&self, held: &Held) -> Option<usize>
-        ensures { MatchOption result (¬ IsHeld self.now held.now) (IsPlaceOf self.now held.now) }
+        ensures found { IfSome result (IsPlaceOf self.now held.now) }
+        ensures missing { IfNone result (¬ IsHeld self.now held.now) }
     {
         if held.kind != self.kind {
             return None;
