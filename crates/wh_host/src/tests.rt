@@ -10,7 +10,7 @@ use wh_cache::Put;
 use wh_events::{Event, EventKind, EventNo, Items, OutOfMemory, Payload, RunKey, Text};
 use wh_ledger::Seat;
 use wh_replay::Run;
-use wh_slots::{Held, SlotKind, TaskName};
+use wh_slots::{Held, SlotKind, TaskName, UseFault};
 use wh_workflow::{Command, Job, Meter, Workflow};
 
 /// A workflow that answers nothing.
@@ -107,7 +107,11 @@ fn hold<T: Ledger, C: Ledger, F: Ledger>(
 ) -> Result<(Held, Option<Run<Still>>), Fail> {
     let permit = state.reserve(SlotKind::Workflow).map_err(|_| "reserve")?;
     let key = key(alloc, run)?;
-    Ok(state.use_workflow(permit, TaskName(name), key, seat).map_err(|_| "use")?)
+    Ok(
+        state
+            .use_workflow(permit, TaskName(name), key, seat)
+            .map_err(|_| "use")?,
+    )
 }
 
 /// The same through the lock.
@@ -122,7 +126,9 @@ fn hold_locked<R: Wait, T: Ledger, C: Ledger, F: Ledger>(
     let reserved = host.lock(rt).reserve(SlotKind::Workflow);
     let permit = reserved.map_err(|_| "reserve")?;
     let key = key(alloc, run)?;
-    let used = host.lock(rt).use_workflow(permit, TaskName(name), key, seat);
+    let used = host
+        .lock(rt)
+        .use_workflow(permit, TaskName(name), key, seat);
     Ok(used.map_err(|_| "use")?)
 }
 
@@ -168,9 +174,14 @@ fn a_name_is_in_hand_once<T: Ledger, C: Ledger, F: Ledger>(
 {
     let (mut state, mut seat) = open::<T, C, F>(alloc, taken, completed, failed)?;
     let (_held, _run) = hold(alloc, &mut state, &mut seat, 7, "a")?;
-    match hold(alloc, &mut state, &mut seat, 7, "b") {
-        Ok(_) => Err("used twice".into()),
-        Err(_) => Ok(state.counts(&mut seat)),
+    let permit = state.reserve(SlotKind::Workflow).map_err(|_| "reserve")?;
+    let key = key(alloc, "b")?;
+    match state.use_workflow(permit, TaskName(7), key, &mut seat) {
+        Err((permit, _key, UseFault::TaskInHand)) => {
+            let _ = state.release(permit);
+            Ok(state.counts(&mut seat))
+        }
+        _ => Err("a name is in hand twice".into()),
     }
 }
 
@@ -242,7 +253,7 @@ fn name_in_hand(rt: HostRuntime) -> Result<(), Fail> {
         Blank::new(1),
     )?;
     assert_eq!(rt; counts.taken, 1);
-    assert_eq!(rt; counts.workflow.reserved, 1);
+    assert_eq!(rt; counts.workflow.reserved, 0);
     Ok(())
 }
 
