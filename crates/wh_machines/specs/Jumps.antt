@@ -5,6 +5,7 @@ use Rattle.wh_events.specs.Kinds.{Role}
 use Rattle.wh_events.specs.Machines.{role_at}
 use Rattle.wh_machines.specs.declared.jumps.Jump.{Jump}
 
+-- where a jump goes, if there is one
 abbrev pub target_of : Option Jump → Option ℕ
 target_of None = None
 target_of (Some jump) = jump.to

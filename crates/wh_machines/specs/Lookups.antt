@@ -14,6 +14,7 @@ thing_of ActivityKind = Activity
 thing_of TimerKind = Timer
 thing_of ChildKind = Child
 
+-- the number with where the events leave what its event opened
 abbrev pub with_status : List Event → Option ℕ → Option (ℕ × Status)
 with_status events None = None
 with_status events (Some number) = Some (number, status_of events number)

@@ -15,12 +15,15 @@ abbrev pub first_by : (List Event → Event → Bool) → List Event → List Ev
 first_by test before [] = None
 first_by test before (event ∷ rest) = if test before event then Some event.number else first_by test (before ++ event ∷ []) rest
 
+-- the event closes what the event of the number opened
 abbrev pub closes_test : ℕ → List Event → Event → Bool
 closes_test number before event = closes number event
 
+-- the event starts it
 abbrev pub starts_test : ℕ → List Event → Event → Bool
 starts_test number before event = starts number event
 
+-- the event asks for it to be cancelled
 abbrev pub cancels_test : ℕ → List Event → Event → Bool
 cancels_test number before event = cancels_number before number (role_of event.body)
 
@@ -28,6 +31,7 @@ cancels_test number before event = cancels_number before number (role_of event.b
 abbrev pub named_of : List Event → Thing → List ℕ → Option ℕ
 named_of events thing id = if is_named thing then last_named events thing id else None
 
+-- the opening of a number, with the first event of each effect and the opening before it
 abbrev pub opening_with : List Event → ℕ → Option ℕ → Opening
 opening_with events number previous = record {
   number = number;
@@ -37,6 +41,7 @@ opening_with events number previous = record {
   previous = previous;
 }
 
+-- the opening by an event of this role, if that opens something
 abbrev pub opened_by : List Event → ℕ → Role → Option Opening
 opened_by events number (Opens thing id) = Some (opening_with events number (named_of (take (number - 1) events) thing id))
 opened_by events number (CancelsChild workflow_id) = Some (opening_with events number None)

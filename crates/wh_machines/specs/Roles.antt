@@ -5,11 +5,13 @@ use Rattle.wh_machines.specs.declared.role.Effect.TheVariants.{Starts, Cancels, 
 use Rattle.wh_machines.specs.declared.role.Role.{Role}
 use Rattle.wh_machines.specs.declared.role.Role.TheVariants.{Opens, Refers, CancelsChild, Plain}
 
+-- the effect that the code's word stands for
 abbrev pub effect_seen : Effect → kinds.Effect
 effect_seen Starts = kinds.Effect.Starts
 effect_seen Cancels = kinds.Effect.Cancels
 effect_seen Closes = kinds.Effect.Closes
 
+-- the role that the code's word stands for
 abbrev pub role_seen : Role → kinds.Role
 role_seen (Opens thing id) = kinds.Role.Opens thing id.now
 role_seen (Refers thing number effect) = kinds.Role.Refers thing number (effect_seen effect)

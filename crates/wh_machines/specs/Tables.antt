@@ -14,9 +14,11 @@ use Rattle.wh_machines.specs.declared.jumps.Jump.{Jump}
 use Rattle.wh_machines.specs.Openings.{opening_of, named_of}
 use Rattle.wh_machines.specs.Jumps.{JumpsBack}
 
+-- the key under which the opening of a number is kept
 abbrev pub key_of : Openings → ℕ → Option ℕ
 key_of openings number = tree.get nat_cmp openings.keys number
 
+-- the opening that is kept under a key
 abbrev pub entry_at : Openings → ℕ → Option Opening
 entry_at openings key = slab.get openings.entries key
 
@@ -24,6 +26,7 @@ entry_at openings key = slab.get openings.entries key
 abbrev pub opening_in : Openings → ℕ → Option Opening
 opening_in openings number = option_and_then (entry_at openings) (key_of openings number)
 
+-- there is an opening, and it has the number
 abbrev pub has_number : ℕ → Option Opening → Bool
 has_number number None = false
 has_number number (Some opening) = eqb number opening.number
@@ -33,6 +36,7 @@ pub record IsKeyed (keys : ℕ → Option ℕ) (entries : ℕ → Option Opening
   pub keyed : (number key : ℕ) → keys number ≡ Some key → has_number number (entries key) ≡ true
   pub entered : (key : ℕ) (opening : Opening) → entries key ≡ Some opening → keys opening.number ≡ Some key
 
+-- the map of the openings' numbers and their entries fit each other
 abbrev pub IsSound : Openings → Type 0
 IsSound openings = IsKeyed (key_of openings) (entry_at openings)
 

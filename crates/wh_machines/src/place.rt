@@ -6,7 +6,7 @@ ghost use Rattle.wh_events.specs.Places as places;
 use crate::role::{Role, read_role};
 use wh_events::{Class, Event, EventKind, Thing};
 
-/// The most events of one run.
+/// The most events of one run. Temporal ends a run whose history grows longer: <https://docs.temporal.io/workflow-execution/limits>.
 pub const MOST_EVENTS: u64 = 51_200;
 
 pub fn is_start(event: &Event) -> bool

@@ -18,7 +18,7 @@ use std::alloc::Global;
 use std::marker::Model;
 use wh_events::{Event, EventNo, OpenKind, OutOfMemory, PlaceFault, Status, Thing};
 
-/// The events of a run, each in place after those before it. Contracts see the list of them.
+/// The events of a run, each in place after those before it, and tables of what they opened (the kinds of events: <https://docs.temporal.io/references/events>). Contracts see the list of the events, and each look-up is its definition over that list.
 #[derive(Debug, Drop)]
 pub struct Track {
     events: Vec<Event>,
@@ -42,6 +42,7 @@ impl Model for Track {
 }
 
 impl Track {
+    /// A track without events. It takes no memory until the first push.
     pub fn new(alloc: Global) -> Self
         ensures { result ≡ [] }
     {
@@ -55,7 +56,7 @@ impl Track {
         }
     }
 
-    /// Takes an event that is in place after those before it. A refused event is dropped.
+    /// Takes an event that is in place after those before it. `Place` where it is not, with the least fault that it has; this comes before `OutOfMemory`, for which nothing stays of the event in the tables. After either the track is as it was, and the event is dropped.
     pub fn push(&mut self, event: Event) -> Result<(), PushFault>
         ensures fault { (fault : PlaceFault) → (result ≡ Err (PushFault.Place fault)) ↔ (places.place_fault self.old event ≡ Some fault) }
         ensures ok { OnOk result (self.new ≡ self.old ++ event ∷ []) }
@@ -74,7 +75,7 @@ impl Track {
         Ok(())
     }
 
-    /// How many events are held. They are in place.
+    /// How many events are held, at most 51,200. They are in place.
     pub fn len(&self) -> usize
         ensures len { result ≡ length self.now }
         ensures in_place { places.fault_after [] self.now ≡ None }
@@ -82,6 +83,7 @@ impl Track {
         self.events.len()
     }
 
+    /// Whether no event is held.
     pub fn is_empty(&self) -> bool
         ensures { IsTrue result ↔ (self.now ≡ []) }
     {
@@ -96,7 +98,7 @@ impl Track {
         self.events.as_slice()
     }
 
-    /// Where the thing that the event of the number opened stands, if it opened one.
+    /// Where the thing that the event of the number opened stands after all events; `None` where there is no such event or it opened nothing.
     pub fn status(&self, number: EventNo) -> Option<Status>
         ensures { result ≡ machines.status_at self.now number }
     {
@@ -104,21 +106,21 @@ impl Track {
         Some(opening.status_up_to(self.events.len() as u64))
     }
 
-    /// The number of the open thing of a kind and an id.
+    /// The number of the open thing of a kind and an id; `None` where each of them is closed.
     pub fn open_named(&self, kind: OpenKind, id: &str) -> Option<EventNo>
         ensures { result ≡ machines.open_named self.now (thing_of kind) id.now }
     {
         self.open_thing(thing_of(kind), id)
     }
 
-    /// The number of the last thing that was opened of a kind under an id.
+    /// The number of the last thing that was opened of a kind under an id, be it open or closed.
     pub fn last_named(&self, kind: OpenKind, id: &str) -> Option<EventNo>
         ensures { result ≡ machines.last_named self.now (thing_of kind) id.now }
     {
         self.names.last(thing_of(kind), id)
     }
 
-    /// The last thing of a kind and an id among the events up to a place, and where it stands there.
+    /// The last thing of a kind and an id among the events up to the number `place`, and where it stands there, as if no event followed.
     pub fn last_at(&self, kind: OpenKind, id: &str, place: u64) -> Option<(EventNo, Status)>
         ensures { result ≡ last_at self.now (thing_of kind) id.now place }
     {
@@ -133,7 +135,7 @@ impl Track {
         None
     }
 
-    /// The event of a number.
+    /// The event of a number, if it is held.
     pub fn event(&self, number: EventNo) -> Option<&Event>
         ensures { option_copied result ≡ slice_get self.now (number - 1) }
     {
@@ -145,7 +147,7 @@ impl Track {
         }
     }
 
-    /// The events strictly between two numbers.
+    /// The events strictly between two numbers, of which 0 stands before the first event and one more than their count behind the last.
     pub fn between(&self, from: u64, to: u64) -> &[Event]
         requires rising { from < to }
         requires within { to ≤ length self.now + 1 }
@@ -154,7 +156,7 @@ impl Track {
         &self.events[from as usize..(to - 1) as usize]
     }
 
-    /// A track of the same events.
+    /// A track of the same events. `OutOfMemory` where no room was found for it; this one stays as it is.
     pub fn try_copy(&self) -> Result<Self, OutOfMemory>
         ensures { IfOk result (λ copy. copy ≡ self.now) }
     {
@@ -169,6 +171,7 @@ impl Track {
         Ok(copy)
     }
 
+    /// The events, in their order, without copies.
     pub fn into_events(self) -> Vec<Event>
         ensures { result.items ≡ self }
     {

@@ -1,21 +1,21 @@
-ghost use Rattle.std.specs.Prelude.{◌≡◌, ℕ, IfOk};
-ghost use Rattle.wh_events.specs.declared.event.Event.{Event};
+ghost use Rattle.std.specs.Prelude.{◌≡◌, drop, IfOk};
 ghost use Rattle.wh_events.specs.Cuts.{cuts};
-ghost use Rattle.wh_events.specs.InPlace.{IsAt};
-ghost use Rattle.wh_split.specs.Splits.{first_of, next_cut, is_live};
+ghost use Rattle.wh_split.specs.Splits.{IsNumbered, first_of, next_cut, is_live};
 
 use crate::look;
 use std::alloc::Global;
 use wh_events::{Event, EventNo, OutOfMemory};
 
-/// The number of the first cut after the number `from`, or `None` where no cut follows it. The first cut of all is that after 0.
+/// The number of the first cut behind the first `from` events, which is the first cut after the number `from` in a history whose event i has number i; `None` where no cut follows. The first cut of all is that after 0.
 ///
-/// A cut is the place of a WorkflowTaskStarted that completes, or that the history ends in: the event after it, inert ones left out, is a WorkflowTaskCompleted, or there is none. A task that failed or timed out is no cut; its events belong to the next one. This is how a worker replays a history: see <https://docs.temporal.io/encyclopedia/event-history/>.
+/// A cut is the place of a WorkflowTaskStarted that completes, or that the history ends in: the event after it, inert ones left out, is a WorkflowTaskCompleted, or there is none. A task that failed or timed out is no cut; its events belong to the next one. See <https://docs.temporal.io/tasks#workflow-task>.
 ///
 /// It needs no memory, and looks only at the events from `from` to the cut and at the inert ones behind that.
 pub fn next_cut(events: &[Event], from: u64) -> Option<EventNo>
-    requires numbered { (place : ℕ) (event : Event) → IsAt events.now place event → event.number ≡ place }
-    ensures { result ≡ next_cut events.now from }
+    ensures behind { result ≡ first_of (cuts (drop from events.now)) }
+
+    // In a history whose event i has number i, that is the first cut with a greater number.
+    ensures after { IsNumbered events.now → result ≡ next_cut events.now from }
 {
     if from >= events.len() as u64 {
         return None;
