@@ -1,0 +1,160 @@
+//! One workflow task replayed.
+ghost use Rattle.std.specs.Prelude.{◌≡◌, false, IfOk, IfSome};
+ghost use Rattle.wh_poll.specs.Source.{SameRelation, SameTelling};
+ghost use Rattle.wh_replay.specs.Runs.{steps};
+ghost use Rattle.wh_poll.specs.Numbers.{begins_at, last_number};
+ghost use Rattle.wh_poll.specs.Tasks.{Steps, Replays, ReplaysTold, HasAnswer, FailsOnlySource};
+
+use crate::source::{SourceFault, TaskSource};
+use std::alloc::Global;
+use wh_events::{Event, OutOfMemory, RunKey};
+use wh_replay::{AdvanceFault, Fault, Run, RunFault};
+use wh_workflow::{Meter, Workflow};
+
+/// What replay of a task gave: the run, unless there is a fault, and whether its cached run served.
+#[derive(Drop)]
+pub struct Stepped<W: Workflow> {
+    pub run: Option<Run<W>>,
+    pub fault: Option<Fault>,
+    pub hit: bool,
+}
+
+/// Why a task was not replayed.
+#[derive(Clone, Copy, PartialEq, Eq, Debug)]
+pub enum StepFault {
+    Source(SourceFault),
+    OutOfMemory,
+}
+
+impl From<OutOfMemory> for StepFault {
+    ghost use Rattle.std.specs.Prelude.{◌≡◌};
+    ghost use Rattle.wh_poll.specs.declared.task.StepFault.TheVariants.{OutOfMemory as NoMemory};
+
+    ghost from_gives = { λ error fault. fault ≡ NoMemory };
+
+    fn from(_error: OutOfMemory) -> StepFault {
+        StepFault::OutOfMemory
+    }
+}
+
+/// Replays a task. Events that begin with the first are replayed by themselves. Else a run is advanced by them.
+/// Where there is none, or the events do not continue it, the source is asked for the whole history.
+pub fn replay_task<W: Workflow, S: TaskSource>(
+    alloc: Global,
+    run: Option<Run<W>>,
+    key: &RunKey,
+    events: Vec<Event>,
+    source: &mut S,
+    meter: &mut Meter,
+) -> Result<Stepped<W>, StepFault>
+    requires { IfSome run (λ run. run.key ≡ key.now) }
+    ensures stepped { IfOk result (λ stepped. Steps W.program (S.tells source.old) run key.now events.items stepped.run stepped.fault stepped.hit meter.old meter.new) }
+    ensures key { IfOk result (λ stepped. IfSome stepped.run (λ run. run.key ≡ key.now)) }
+    ensures one { IfOk result (λ stepped. HasAnswer stepped.run stepped.fault) }
+    ensures answers { S.answers source.new ≡ S.answers source.old }
+    ensures failures { FailsOnlySource result (S.failures source.old) (S.failures source.new) }
+    ensures delivers { SameRelation (S.delivers source.old) (S.delivers source.new) }
+    ensures tells { SameTelling (S.tells source.old) (S.tells source.new) }
+{
+    if begins_at(1, events.as_slice()) {
+        return Ok(replay_first(alloc, key, events, meter)?);
+    }
+    let up_to = last_number(events.as_slice());
+    let Some(run) = run else {
+        if events.is_empty() {
+            return Ok(Stepped {
+                run: None,
+                fault: Some(Fault::NotATask),
+                hit: false,
+            });
+        }
+        return replay_told(alloc, key, up_to, source, meter);
+    };
+    match run.advance(alloc, events, meter) {
+        Ok(run) => Ok(Stepped {
+            run: Some(run),
+            fault: None,
+            hit: true,
+        }),
+        Err(AdvanceFault::NotATask(run)) => Ok(Stepped {
+            run: Some(run),
+            fault: Some(Fault::NotATask),
+            hit: true,
+        }),
+        Err(AdvanceFault::Gap(_run)) => replay_told(alloc, key, up_to, source, meter),
+        Err(AdvanceFault::Fault(fault)) => Ok(Stepped {
+            run: None,
+            fault: Some(fault),
+            hit: true,
+        }),
+        Err(AdvanceFault::OutOfMemory) => Err(StepFault::OutOfMemory),
+    }
+}
+
+// Replays events from the first.
+fn replay_first<W: Workflow>(
+    alloc: Global,
+    key: &RunKey,
+    events: Vec<Event>,
+    meter: &mut Meter,
+) -> Result<Stepped<W>, OutOfMemory>
+    ensures replays { IfOk result (λ stepped. Replays W.program key.now events.items (steps W.program events.items) stepped.run stepped.fault meter.old meter.new) }
+    ensures miss { IfOk result (λ stepped. stepped.hit ≡ false) }
+{
+    let key = key.try_copy()?;
+    match Run::from_first(alloc, key, events, meter) {
+        Ok(run) => Ok(Stepped {
+            run: Some(run),
+            fault: None,
+            hit: false,
+        }),
+        Err(RunFault::Fault(fault)) => Ok(Stepped {
+            run: None,
+            fault: Some(fault),
+            hit: false,
+        }),
+        Err(RunFault::OutOfMemory) => Err(OutOfMemory),
+    }
+}
+
+// Replays what the source tells, from the first event.
+fn replay_told<W: Workflow, S: TaskSource>(
+    alloc: Global,
+    key: &RunKey,
+    up_to: u64,
+    source: &mut S,
+    meter: &mut Meter,
+) -> Result<Stepped<W>, StepFault>
+    ensures replays { IfOk result (λ stepped. ReplaysTold W.program (S.tells source.old) key.now up_to stepped.run stepped.fault meter.old meter.new) }
+    ensures miss { IfOk result (λ stepped. stepped.hit ≡ false) }
+    ensures answers { S.answers source.new ≡ S.answers source.old }
+    ensures failures { FailsOnlySource result (S.failures source.old) (S.failures source.new) }
+    ensures delivers { SameRelation (S.delivers source.old) (S.delivers source.new) }
+    ensures tells { SameTelling (S.tells source.old) (S.tells source.new) }
+{
+    let history = match source.whole(key, up_to) {
+        Ok(history) => history,
+        Err(fault) => return Err(StepFault::Source(fault)),
+    };
+    Ok(replay_first(alloc, key, history, meter)?)
+}
+
+// Whether the first event has this number.
+fn begins_at(number: u64, events: &[Event]) -> bool
+    ensures { result ≡ begins_at number events.now }
+{
+    match events.first() {
+        Some(event) => event.number.get() == number,
+        None => false,
+    }
+}
+
+// The number of the last event, 0 where there is none.
+fn last_number(events: &[Event]) -> u64
+    ensures { result ≡ last_number events.now }
+{
+    match events.last() {
+        Some(event) => event.number.get(),
+        None => 0,
+    }
+}
