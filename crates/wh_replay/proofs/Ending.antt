@@ -2,8 +2,7 @@
 use Rattle.std.proofs.Common.{◌≡◌, ℕ, suc, ◌-◌, ◌≤◌, Bool, true, false, List, [], ◌∷◌, ◌++◌, length, take, drop, slice_get, Option, Some, None, Result, Ok, Err, cond, refl, sym, ap, ◌∙◌, subst}
 use Rattle.std.proofs.Math.Numerals.{sub-one}
 use Rattle.std.proofs.Math.Seq.{take-append_seam, drop-append_seam}
-use Rattle.std.proofs.lemmas.List.{take-append-drop}
-use Rattle.std.specs.Result.{is_ok, is_err, IsOk}
+use Rattle.std.specs.Result.{is_ok, is_err, IsOk, IsOkAnd}
 use Rattle.wh_events.specs.declared.event.Event.{Event}
 use Rattle.wh_events.specs.declared.kind.EventKind.{EventKind}
 use Rattle.wh_events.specs.declared.kind.EventKind.TheVariants.{WorkflowTaskStarted}
@@ -14,14 +13,15 @@ use Rattle.wh_workflow.specs.Scripts.{Settled}
 use Rattle.wh_replay.specs.declared.fault.Fault.{Fault}
 use Rattle.wh_replay.specs.declared.fault.Fault.TheVariants.{NotATask}
 use Rattle.wh_replay.specs.Replays.{Replayed, replay, ends_in_task}
-use Rattle.wh_replay.specs.Runs.{Gives, IsRun, run_of, advanced}
+use Rattle.wh_replay.specs.Runs.{Gives, IsRun, IsReplayed, run_of, advance_steps, advanced}
 use Rattle.wh_replay.proofs.Raising.{top}
-use Rattle.wh_events.specs.declared.key.RunKey.{RunKey}
 use Rattle.wh_replay.specs.declared.fault.RunFault.{RunFault}
 use Rattle.wh_replay.specs.declared.fault.RunFault.TheVariants.{Fault as Faulty, OutOfMemory}
 use Rattle.wh_replay.specs.Checks.{Answers}
-use Rattle.wh_replay.specs.Advances.{Begins}
-use Rattle.wh_replay.proofs.Resuming.{replayed_fault, advanced_gives}
+use Rattle.wh_replay.specs.Advances.{GivesHistory}
+use Rattle.wh_replay.proofs.Resuming.{run_replay, replay_parts, replayed_gives, replayed_fault, advanced_gives, advanced_counts, advanced_fault}
+use Rattle.wh_events.proofs.Standing.{no_fault_where_in_place}
+use Rattle.wh_workflow.specs.Counting.{risen}
 
 abbrev pub started_in : Option Event → Bool
 started_in None = false
@@ -74,19 +74,71 @@ module _ {S : Type 0} where
   pub run_fault : (program : Program S) (events : List Event) (fault : Fault) → ends_in_task events ≡ true → replay program events 0 ≡ Err fault → run_of program events ≡ Err fault
   run_fault program events fault e h = replay_of_run (ends_in_task events) (replay program events 0) e ∙ h
 
-  -- a run that is advanced is a run
-  pub advanced_run : (program : Program S) → IsLawful program → (history : List Event) (held meter : ℕ) (state : S) (settled : Settled) (unsent : List Command) (value : Replayed S) → IsRun program (take held history) state settled unsent → meter ≤ top
-      → ends_in_task (drop held history) ≡ true → advanced program (take held history) (drop held history) meter ≡ Ok value → IsRun program history value.state value.settled value.unsent
-  advanced_run program lawful history held meter state settled unsent value run below ends e =
-      let P : List Event → Type 0 = λ l. IsRun program l value.state value.settled value.unsent in
-      subst P (take-append-drop held history)
-      (record {
-        ends = ends_joined (take held history) (drop held history) ends;
-        gives = advanced_gives program lawful (take held history) (drop held history) meter state settled unsent value run below e;
-      })
+  -- what a replay on a meter gives makes a run
+  pub replayed_run : (program : Program S) (events : List Event) (meter : ℕ) (value : Replayed S) → ends_in_task events ≡ true → meter ≤ top → replay program events meter ≡ Ok value → IsRun program events value.state value.settled value.unsent
+  replayed_run program events meter value ends below e = record { ends = ends; gives = replayed_gives program events meter value below e }
 
   -- the fault of a replay on a meter is what the history begins with
-  pub begins_err : {A : Type 0} (program : Program S) (key : RunKey) (events : List Event) (meter : ℕ) (fault : RunFault) (defined : Result (Replayed S) Fault) (seen : A → Replayed S) → replay program events meter ≡ defined → meter ≤ top → ends_in_task events ≡ true
-      → Answers (Err fault) defined seen → Begins program key events (Err fault)
-  begins_err program key events meter (Faulty fault) defined seen is below ends answers = run_fault program events fault ends (replayed_fault program events meter fault below (is ∙ answers))
-  begins_err program key events meter OutOfMemory defined seen is below ends answers = ends
+  pub begins_err : {A : Type 0} (program : Program S) (events : List Event) (meter : ℕ) (fault : RunFault) (defined : Result (Replayed S) Fault) (seen : A → Replayed S) → replay program events meter ≡ defined → meter ≤ top → ends_in_task events ≡ true
+      → Answers (Err fault) defined seen → GivesHistory program events (Err fault)
+  begins_err program events meter (Faulty fault) defined seen is below ends answers = run_fault program events fault ends (replayed_fault program events meter fault below (is ∙ answers))
+  begins_err program events meter OutOfMemory defined seen is below ends answers = ends
+
+  -- a run is replayed, and not too long
+  pub is_replayed : (program : Program S) (events : List Event) (state : S) (settled : Settled) (unsent : List Command) → IsRun program events state settled unsent → IsReplayed program events
+  is_replayed program events state settled unsent run = record {
+    replays = run_ok program events state settled unsent run;
+    most = let kept = run_replay program events state settled unsent (replay program events 0) refl run.gives in ((no_fault_where_in_place events).0 (replay_parts program events 0 kept.0 kept.1).0).1;
+  }
+
+  -- what holds of what the replay gives
+  gives_that : (result : Result (Replayed S) Fault) (state : S) (settled : Settled) (unsent : List Command) (P : Replayed S → Type 0) → Gives result state settled unsent
+      → ((left : Replayed S) → left.state ≡ state → left.settled ≡ settled → left.unsent ≡ unsent → P left) → IsOkAnd result P
+  gives_that (Ok left) state settled unsent P gives h = h left gives.0 gives.1 gives.2
+  gives_that (Err fault) state settled unsent P gives h = absurd gives
+
+  pub run_that : (program : Program S) (events : List Event) (state : S) (settled : Settled) (unsent : List Command) (P : Replayed S → Type 0) → IsRun program events state settled unsent
+      → ((left : Replayed S) → left.state ≡ state → left.settled ≡ settled → left.unsent ≡ unsent → P left) → IsOkAnd (run_of program events) P
+  run_that program events state settled unsent P run h =
+      let Q : Result (Replayed S) Fault → Type 0 = λ r. IsOkAnd r P in
+      subst Q (sym (replay_of_run (ends_in_task events) (replay program events 0) run.ends)) (gives_that (replay program events 0) state settled unsent P run.gives h)
+
+  -- new events, which end in a started task, are joined to those of a run on a meter: a list of which that many first events are held
+  pub record IsLonger (program : Program S) (before new joined : List Event) (held meter : ℕ) (state : S) (settled : Settled) (unsent : List Command) : Type 0 where
+    pub run : IsRun program before state settled unsent
+    pub ends : ends_in_task new ≡ true
+    pub joins : joined ≡ before ++ new
+    pub count : held ≡ length before
+    pub below : meter ≤ top
+
+  pub kept_run : (program : Program S) (before new joined : List Event) (held meter : ℕ) (state : S) (settled : Settled) (unsent : List Command) → IsLonger program before new joined held meter state settled unsent → IsRun program (take held joined) state settled unsent
+  kept_run program before new joined held meter state settled unsent h =
+      let P : List Event → Type 0 = λ l. IsRun program l state settled unsent in subst P (sym (front_is before new joined held h.joins h.count)) h.run
+
+  parted : (program : Program S) (before new joined : List Event) (held meter : ℕ) (state : S) (settled : Settled) (unsent : List Command) → IsLonger program before new joined held meter state settled unsent
+      → advanced program before new meter ≡ advanced program (take held joined) (drop held joined) meter
+  parted program before new joined held meter state settled unsent h =
+      ap (λ l. advanced program l new meter) (sym (front_is before new joined held h.joins h.count))
+      ∙ ap (λ l. advanced program (take held joined) l meter) (sym (back_is before new joined held h.joins h.count))
+
+  -- a run that is advanced is a run
+  pub longer_run : (program : Program S) → IsLawful program → (before new joined : List Event) (held meter : ℕ) (state : S) (settled : Settled) (unsent : List Command) (value : Replayed S) → IsLonger program before new joined held meter state settled unsent
+      → advanced program (take held joined) (drop held joined) meter ≡ Ok value → IsRun program (before ++ new) value.state value.settled value.unsent
+  longer_run program lawful before new joined held meter state settled unsent value h e = record {
+    ends = ends_joined before new h.ends;
+    gives = advanced_gives program lawful before new meter state settled unsent value h.run h.below (parted program before new joined held meter state settled unsent h ∙ e);
+  }
+
+  -- its meter rises by the steps that were taken
+  pub longer_counts : (program : Program S) → IsLawful program → (before new joined : List Event) (held meter : ℕ) (state : S) (settled : Settled) (unsent : List Command) (value : Replayed S) → IsLonger program before new joined held meter state settled unsent
+      → advanced program (take held joined) (drop held joined) meter ≡ Ok value → value.meter ≡ risen meter (advance_steps program before new)
+  longer_counts program lawful before new joined held meter state settled unsent value h e =
+      advanced_counts program lawful before new meter state settled unsent value h.run h.below (parted program before new joined held meter state settled unsent h ∙ e)
+
+  -- and its fault is that of the joined history
+  pub longer_err : {A : Type 0} (program : Program S) → IsLawful program → (before new joined : List Event) (held meter : ℕ) (state : S) (settled : Settled) (unsent : List Command) (fault : RunFault) (defined : Result (Replayed S) Fault) (seen : A → Replayed S)
+      → IsLonger program before new joined held meter state settled unsent → advanced program (take held joined) (drop held joined) meter ≡ defined → Answers (Err fault) defined seen → GivesHistory program (before ++ new) (Err fault)
+  longer_err program lawful before new joined held meter state settled unsent (Faulty fault) defined seen h is answers =
+      run_fault program (before ++ new) fault (ends_joined before new h.ends)
+      (advanced_fault program lawful before new meter state settled unsent fault h.run h.below (parted program before new joined held meter state settled unsent h ∙ (is ∙ answers)))
+  longer_err program lawful before new joined held meter state settled unsent OutOfMemory defined seen h is answers = ends_joined before new h.ends

@@ -20,6 +20,12 @@ pub record IsJoined (held new : List Event) : Type 0 where
   pub begins : follows (length held) new ≡ true
 
 module _ {S : Type 0} where
+  -- these events, which end in a started task and whose replay has no fault, or the fault; want of memory only where they end in a started task
+  abbrev pub GivesHistory : Program S → List Event → Result (List Event) RunFault → Type 0
+  GivesHistory program events (Ok history) = (history ≡ events) × IsOk (run_of program events)
+  GivesHistory program events (Err (Faulty fault)) = run_of program events ≡ Err fault
+  GivesHistory program events (Err OutOfMemory) = ends_in_task events ≡ true
+
   -- a run of the key and the history, or the fault of its replay; want of memory only where the history ends in a started task
   abbrev pub Begins : Program S → RunKey → List Event → Result Held RunFault → Type 0
   Begins program key events (Ok run) = (run ≡ record { key = key; events = events }) × IsOk (run_of program events)

@@ -1,9 +1,9 @@
 -- A run: a history that ends in a started task, with what its replay gives. How a run begins, and how new events advance it.
-use Rattle.std.specs.Prelude.{◌≡◌, ℕ, ◌+◌, Bool, true, false, ◌&&◌, List, [], ◌∷◌, ◌++◌, Result, Ok, Err, if◌then◌else◌, eqb, is_none}
+use Rattle.std.specs.Prelude.{◌≡◌, ℕ, ◌+◌, ◌≤◌, Bool, true, false, ◌&&◌, List, [], ◌∷◌, ◌++◌, length, Result, Ok, Err, IsOk, if◌then◌else◌, eqb, is_none}
 use Rattle.wh_events.specs.declared.event.Event.{Event}
 use Rattle.wh_events.specs.declared.key.RunKey.{RunKey}
 use Rattle.wh_events.specs.Cuts.{is_recorded, record_of}
-use Rattle.wh_events.specs.Places.{history_fault}
+use Rattle.wh_events.specs.Places.{most_events, history_fault}
 use Rattle.wh_workflow.specs.declared.command.Command.{Command}
 use Rattle.wh_workflow.specs.Law.{Program}
 use Rattle.wh_workflow.specs.Names.{mismatch}
@@ -37,6 +37,11 @@ module _ {S : Type 0} where
   -- replay of a history that has to end in a started task
   abbrev pub run_of : Program S → List Event → Result (Replayed S) Fault
   run_of program events = if ends_in_task events then replay program events 0 else Err NotATask
+
+  -- the history ends in a started task, its replay has no fault, and it has at most the most events
+  pub record IsReplayed (program : Program S) (events : List Event) : Type 0 where
+    pub replays : IsOk (run_of program events)
+    pub most : length events ≤ most_events
 
   -- the steps that a replay counted, from 0 on
   abbrev pub counted : Result (Replayed S) Fault → ℕ

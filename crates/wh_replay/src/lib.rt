@@ -7,6 +7,7 @@ mod continuing;
 mod cut;
 mod cuts;
 mod fault;
+mod history;
 mod jobs;
 pub mod laws;
 mod machines;
@@ -18,5 +19,6 @@ mod versions;
 
 pub use checking::check;
 pub use fault::{Checked, Fault, RunFault};
+pub use history::{MOST_EVENTS, ReplayedHistory};
 pub use run::{AdvanceFault, Answer, Run};
 pub use versions::Versions;

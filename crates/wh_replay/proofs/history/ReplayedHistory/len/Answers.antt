@@ -1,0 +1,15 @@
+use Rattle.std.proofs.Common.{◌≡◌, ◌≤◌, length, arith, rules}
+use Rattle.wh_replay.proofs.Ending.{is_replayed}
+use Rattle.wh_replay.proofs.history.ReplayedHistory.len.Goals as goal
+
+pub returns-clause-most : goal.returns-clause-most
+returns-clause-most g c =
+    let inside = c.self.inside in
+    let most = (is_replayed g.W.Workflow.program inside.events.items inside.outcome.state inside.outcome.versions inside.outcome.unsent.items c.self.invariant).most in
+    let is : c.len.result ≡ length inside.events.items = search rules in
+    omega (arith, most, is)
+
+pub returns-clause-replayed : goal.returns-clause-replayed
+returns-clause-replayed g c =
+    let inside = c.self.inside in
+    rw (← c.self.view_is) (is_replayed g.W.Workflow.program inside.events.items inside.outcome.state inside.outcome.versions inside.outcome.unsent.items c.self.invariant)
