@@ -1,0 +1,359 @@
+//! Task slots of one kind. Each place is free, reserved for one poll, or held by one named task.
+//!
+//! A worker has a fixed number of task slots, each the room for one task at a time (Temporal documentation,
+//! "Worker performance", task slots). A place is reserved before the source is polled, it is held by the task
+//! that the poll brings, and it is freed when the task is finished, or released where the poll brings none.
+#![tactic(auto)]
+
+ghost use Rattle.std.specs.Prelude.{◌≡◌, ◌+◌, ◌<◌, ◌≤◌, true, false, replicate, position, IfOk, IfErr, OnOk, OnErr, IfSome, IfNone};
+ghost use Rattle.wh_slots.specs.declared.Place.TheVariants.{Free};
+ghost use Rattle.wh_slots.specs.Table.{table, is_free, is_reserved, is_held, is_named, IsTable, IsPlaceOf, IsReserved, IsHeld, Reserves, Uses, Frees, Releases, IsReserveFault, IsUseFault, count_of};
+
+pub mod laws;
+
+use std::alloc::Global;
+use std::marker::Model;
+use wh_events::OutOfMemory;
+
+/// What a slot is for: workflow tasks or activity tasks.
+#[derive(Clone, Copy, PartialEq, Eq, Debug)]
+pub enum SlotKind {
+    Workflow,
+    Activity,
+}
+
+/// The name under which a source knows a task. Any number is a name.
+#[derive(Clone, Copy, PartialEq, Eq, Debug)]
+pub struct TaskName(pub u128);
+
+/// One place, as contracts see it: free, reserved under a number, or held under a number by a named task.
+#[derive(Clone, Copy, Debug)]
+pub enum Place {
+    Free,
+    Reserved(u64),
+    InHand(u64, TaskName),
+}
+
+/// Why no place was reserved. Where several reasons apply, it is the first of them in this order.
+#[derive(Clone, Copy, PartialEq, Eq, Debug)]
+pub enum ReserveFault {
+    /// The slots drain: nothing is reserved any more.
+    Draining,
+    /// The last number was given out.
+    NumbersSpent,
+    /// No place is free.
+    NoSlot,
+}
+
+/// Why a permit was not used. Where both reasons apply, it is the first.
+#[derive(Clone, Copy, PartialEq, Eq, Debug)]
+pub enum UseFault {
+    /// The permit is of the other kind, or no place is reserved under its number.
+    NotReserved,
+    /// The task holds a place already.
+    TaskInHand,
+}
+
+/// The permit is of the other kind, or no place is reserved under its number.
+#[derive(Clone, Copy, PartialEq, Eq, Debug)]
+pub struct NotReserved;
+
+/// The right is of the other kind, or no place is held under its number.
+#[derive(Clone, Copy, PartialEq, Eq, Debug)]
+pub struct NotHeld;
+
+/// How many places are free, reserved and held. Together they are all places of the kind.
+#[derive(Clone, Copy, PartialEq, Eq, Debug)]
+pub struct SlotCount {
+    pub free: usize,
+    pub reserved: usize,
+    pub held: usize,
+}
+
+/// The last number that is given out: 2^63 - 1.
+pub const LAST_NUMBER: u64 = 0x7fff_ffff_ffff_ffff;
+
+/// The most places of one kind.
+pub const MOST_SLOTS: usize = 1000;
+
+/// The right to use or to release one reserved place, once. It cannot be copied.
+/// Contracts see its kind and its number. A permit that is dropped leaves its place reserved.
+#[derive(Debug, Drop)]
+pub struct Permit {
+    kind: SlotKind,
+    number: u64,
+}
+
+impl Model for Permit {
+    ghost use Rattle.std.specs.Prelude.{ℕ};
+    ghost use Rattle.wh_slots.specs.declared.SlotKind.{SlotKind};
+
+    ghost Value = { SlotKind × ℕ };
+
+    ghost view = { λ p. (p.kind, p.number) };
+}
+
+impl Permit {
+    /// What the place is for.
+    pub fn kind(&self) -> SlotKind
+        ensures { result ≡ self.now.0 }
+    {
+        self.kind
+    }
+
+    /// The number under which the place is reserved.
+    pub fn number(&self) -> u64
+        ensures { result ≡ self.now.1 }
+    {
+        self.number
+    }
+}
+
+/// The right to free one held place, once. It cannot be copied.
+/// Contracts see its kind and its number. One that is dropped leaves its place held.
+#[derive(Debug, Drop)]
+pub struct Held {
+    kind: SlotKind,
+    number: u64,
+}
+
+impl Model for Held {
+    ghost use Rattle.std.specs.Prelude.{ℕ};
+    ghost use Rattle.wh_slots.specs.declared.SlotKind.{SlotKind};
+
+    ghost Value = { SlotKind × ℕ };
+
+    ghost view = { λ h. (h.kind, h.number) };
+}
+
+impl Held {
+    /// What the place is for.
+    pub fn kind(&self) -> SlotKind
+        ensures { result ≡ self.now.0 }
+    {
+        self.kind
+    }
+
+    /// The number under which the place is held: that of the permit that was used.
+    pub fn number(&self) -> u64
+        ensures { result ≡ self.now.1 }
+    {
+        self.number
+    }
+}
+
+/// The places of one kind, 1 to 1,000 of them. Contracts see the table of them, in which numbers of different
+/// places differ, names of different places differ, and each number is below the next one.
+#[derive(Drop)]
+pub struct Slots {
+    kind: SlotKind,
+    places: Vec<Place>,
+    next: u64,
+    draining: bool,
+}
+
+impl Model for Slots {
+    ghost use Rattle.wh_slots.specs.Table.{Table, table, IsTable};
+
+    ghost Value = { Table };
+
+    ghost view = { λ s. table s.kind s.places.items s.next s.draining };
+
+    ghost invariant = { λ s. IsTable (table s.kind s.places.items s.next s.draining) };
+}
+
+impl Slots {
+    /// As many free places, 1 to 1,000, and 1 for the first number.
+    /// `OutOfMemory` where no room was found for them; no later call takes memory.
+    pub fn open(alloc: Global, kind: SlotKind, places: usize) -> Result<Slots, OutOfMemory>
+        requires { (0 < places) × (places ≤ MOST_SLOTS) }
+        ensures { IfOk result (λ slots. slots ≡ table kind (replicate places Free) 1 false) }
+    {
+        Slots::starting_at(alloc, kind, places, 1)
+    }
+
+    /// As many free places, 1 to 1,000, and `next` for the first number, 1 to 2^63 - 1.
+    /// `OutOfMemory` where no room was found for them; no later call takes memory.
+    pub fn starting_at(
+        alloc: Global,
+        kind: SlotKind,
+        places: usize,
+        next: u64,
+    ) -> Result<Slots, OutOfMemory>
+        requires places { (0 < places) × (places ≤ MOST_SLOTS) }
+        requires next { (0 < next) × (next ≤ LAST_NUMBER) }
+        ensures { IfOk result (λ slots. slots ≡ table kind (replicate places Free) next false) }
+    {
+        let places = vec![in alloc; Place::Free; places]?;
+        Ok(Slots {
+            kind,
+            places,
+            next,
+            draining: false,
+        })
+    }
+
+    /// Reserves a free place under the next number, which is never given out again. Which free place it is, is left open.
+    /// Errors are tried in the order of [`ReserveFault`] and change nothing.
+    pub fn reserve(&mut self) -> Result<Permit, ReserveFault>
+        ensures reserved { IfOk result (Reserves self.old self.new) }
+        ensures refused { IfErr result (IsReserveFault self.old) }
+        ensures unchanged { OnErr result (self.new ≡ self.old) }
+    {
+        if self.draining {
+            return Err(ReserveFault::Draining);
+        }
+        if self.next > LAST_NUMBER {
+            return Err(ReserveFault::NumbersSpent);
+        }
+        let Some(at) = find_free(self.places.as_slice()) else {
+            return Err(ReserveFault::NoSlot);
+        };
+        let number = self.next;
+        self.places[at] = Place::Reserved(number);
+        self.next += 1;
+        Ok(Permit {
+            kind: self.kind,
+            number,
+        })
+    }
+
+    /// The place that is reserved under the permit is held by the task from now on, under the same number.
+    /// Errors are tried in the order of [`UseFault`]; they change nothing and hand the permit back.
+    pub fn use_slot(&mut self, permit: Permit, name: TaskName) -> Result<Held, (Permit, UseFault)>
+        ensures held { IfOk result (Uses self.old self.new permit name) }
+        ensures refused { IfErr result (λ refused. IsUseFault self.old permit name refused.1) }
+        ensures handed_back { IfErr result (λ refused. refused.0 ≡ permit) }
+        ensures unchanged { OnErr result (self.new ≡ self.old) }
+    {
+        let number = permit.number;
+        if permit.kind != self.kind {
+            return Err((permit, UseFault::NotReserved));
+        }
+        let Some(at) = find_reserved(self.places.as_slice(), number) else {
+            return Err((permit, UseFault::NotReserved));
+        };
+        if find_named(self.places.as_slice(), name).is_some() {
+            return Err((permit, UseFault::TaskInHand));
+        }
+        self.places[at] = Place::InHand(number, name);
+        Ok(Held {
+            kind: permit.kind,
+            number,
+        })
+    }
+
+    /// The held place is free again. `NotHeld` where it is not one of these; nothing changes then, and the right comes back.
+    pub fn free(&mut self, held: Held) -> Result<(), (Held, NotHeld)>
+        ensures freed { OnOk result (Frees self.old self.new held) }
+        ensures refused { OnErr result (¬ IsHeld self.old held) }
+        ensures handed_back { IfErr result (λ refused. refused.0 ≡ held) }
+        ensures unchanged { OnErr result (self.new ≡ self.old) }
+    {
+        if held.kind != self.kind {
+            return Err((held, NotHeld));
+        }
+        let Some(at) = find_held(self.places.as_slice(), held.number) else {
+            return Err((held, NotHeld));
+        };
+        self.places[at] = Place::Free;
+        Ok(())
+    }
+
+    /// The reserved place is free again, and was not used.
+    /// `NotReserved` where it is not one of these; nothing changes then, and the permit comes back.
+    pub fn release(&mut self, permit: Permit) -> Result<(), (Permit, NotReserved)>
+        ensures released { OnOk result (Releases self.old self.new permit) }
+        ensures refused { OnErr result (¬ IsReserved self.old permit) }
+        ensures handed_back { IfErr result (λ refused. refused.0 ≡ permit) }
+        ensures unchanged { OnErr result (self.new ≡ self.old) }
+    {
+        if permit.kind != self.kind {
+            return Err((permit, NotReserved));
+        }
+        let Some(at) = find_reserved(self.places.as_slice(), permit.number) else {
+            return Err((permit, NotReserved));
+        };
+        self.places[at] = Place::Free;
+        Ok(())
+    }
+
+    /// From now on nothing is reserved. What is reserved or held may still be used, released and freed.
+    pub fn drain(&mut self)
+        ensures { self.new ≡ record self.old { draining = true } }
+    {
+        self.draining = true;
+    }
+
+    /// At which place, counted from 0, the right is held, or `None` where it is not one of these. A place stays
+    /// where it is while it is held, so what is told of held places can stand in a list beside the slots.
+    pub fn place_of(&self, held: &Held) -> Option<usize>
+        ensures found { IfSome result (IsPlaceOf self.now held.now) }
+        ensures missing { IfNone result (¬ IsHeld self.now held.now) }
+    {
+        if held.kind != self.kind {
+            return None;
+        }
+        find_held(self.places.as_slice(), held.number)
+    }
+
+    /// How many places are free, reserved and held.
+    pub fn count(&self) -> SlotCount
+        ensures count { result ≡ count_of self.now }
+        ensures table { IsTable self.now }
+    {
+        let mut count = SlotCount {
+            free: 0,
+            reserved: 0,
+            held: 0,
+        };
+        for place in &self.places {
+            match place {
+                Place::Free => count.free += 1,
+                Place::Reserved(_) => count.reserved += 1,
+                Place::InHand(_, _) => count.held += 1,
+            }
+        }
+        count
+    }
+}
+
+// The first free place.
+fn find_free(places: &[Place]) -> Option<usize>
+    ensures { result ≡ position is_free places.now }
+{
+    places.iter().position(|place| matches!(place, Place::Free))
+}
+
+// The place that is reserved under the number.
+fn find_reserved(places: &[Place], number: u64) -> Option<usize>
+    ensures { result ≡ position (is_reserved number) places.now }
+{
+    places.iter().position(|place| match place {
+        Place::Reserved(other) => *other == number,
+        _ => false,
+    })
+}
+
+// The place that is held under the number.
+fn find_held(places: &[Place], number: u64) -> Option<usize>
+    ensures { result ≡ position (is_held number) places.now }
+{
+    places.iter().position(|place| match place {
+        Place::InHand(other, _) => *other == number,
+        _ => false,
+    })
+}
+
+// The place that is held by the task.
+fn find_named(places: &[Place], name: TaskName) -> Option<usize>
+    ensures { result ≡ position (is_named name) places.now }
+{
+    places.iter().position(|place| match place {
+        Place::InHand(_, other) => other.0 == name.0,
+        _ => false,
+    })
+}
+
+#[cfg(test)]
+mod tests;
