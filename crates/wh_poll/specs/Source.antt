@@ -1,4 +1,4 @@
--- Words on sources.
+-- Words on sources of tasks.
 use Rattle.std.specs.Prelude.{◌≡◌, ◌↔◌, ℕ, ◌<◌, ◌≤◌, ◌==◌, cond, List, Option, Some, None, Result, Ok, Err}
 use Rattle.wh_events.specs.declared.event.Event.{Event}
 use Rattle.wh_events.specs.declared.key.RunKey.{RunKey}

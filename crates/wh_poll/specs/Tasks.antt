@@ -1,5 +1,5 @@
 -- What replay of a task gives, and from which events.
-use Rattle.std.specs.Prelude.{◌≡◌, ℕ, ◌+◌, ◌++◌, ◌<◌, ◌≤◌, Bool, true, false, List, [], ◌∷◌, length, Option, Some, None, is_some, Result, Ok, Err, if◌then◌else◌}
+use Rattle.std.specs.Prelude.{◌≡◌, ℕ, ◌+◌, ◌++◌, ◌<◌, ◌≤◌, Bool, true, false, List, [], ◌∷◌, length, Option, Some, None, is_some, Result, Ok, Err, IsOk, if◌then◌else◌}
 use Rattle.wh_events.specs.declared.event.Event.{Event}
 use Rattle.wh_replay.specs.declared.fault.Fault.{Fault}
 use Rattle.wh_replay.specs.declared.fault.Fault.TheVariants.{NotATask}
@@ -10,7 +10,7 @@ use Rattle.wh_replay.specs.Replays.{ends_in_task}
 use Rattle.wh_poll.specs.Numbers.{begins_at, last_number}
 use Rattle.wh_workflow.specs.Law.{Program}
 use Rattle.wh_workflow.specs.Counting.{risen}
-use Rattle.wh_replay.specs.Runs.{Held, IsReplayed, run_of, steps, advance_steps}
+use Rattle.wh_replay.specs.Runs.{Held, run_of, steps, advance_steps}
 use Rattle.wh_replay.specs.Advances.{answered}
 use Rattle.wh_poll.specs.declared.source.SourceFault.TheVariants.{Source as Failed, OutOfMemory as Unfed}
 use Rattle.wh_poll.specs.declared.task.StepFault.{StepFault}
@@ -39,7 +39,7 @@ answer_to program events = answered (run_of program events)
 module _ {S : Type 0} (program : Program S) where
   -- without a fault a run of the key holds the events, and the meter rises by the steps; a fault answers the events
   abbrev pub Replays : RunKey → List Event → ℕ → Option Held → Option Fault → ℕ → ℕ → Type 0
-  Replays key events steps (Some run) None before after = (run ≡ record { key = key; events = events }) × IsReplayed program events × (after ≡ risen before steps)
+  Replays key events steps (Some run) None before after = (run ≡ record { key = key; events = events }) × IsOk (run_of program events) × (after ≡ risen before steps)
   Replays key events steps None (Some fault) before after = answer_to program events ≡ Fail fault
   Replays key events steps (Some run) (Some fault) before after = ⊥
   Replays key events steps None None before after = ⊥
