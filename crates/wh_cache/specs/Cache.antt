@@ -1,0 +1,120 @@
+-- A cache of runs, the most recently used first, and the rule of `put`.
+use Rattle.std.specs.Prelude.{◌≡◌, ◌≢◌, ◌⊎◌, ℕ, ◌+◌, ◌-◌, ◌<◌, ◌≤◌, ◌==◌, ◌||◌, nat_lt, cond, List, [], ◌∷◌, ◌++◌, length, map, take, reverse, None, Some}
+use Rattle.std.specs.List.{IsDistinct}
+use Rattle.std.specs.Map.{keys_of, lookup, remove_entry}
+use Rattle.wh_events.specs.declared.event.Event.{Event}
+use Rattle.wh_events.specs.declared.key.RunKey.{RunKey}
+use Rattle.wh_events.specs.Keys.{same_key}
+use Rattle.wh_workflow.specs.Law.{Program}
+use Rattle.wh_replay.specs.Runs.{Held, IsReplayed}
+use Rattle.wh_cache.specs.declared.Put.{Put}
+use Rattle.wh_cache.specs.declared.Put.TheVariants.{Kept, PushedOut, Off, Shorter, TooLarge, NoMemory}
+
+-- a cached run: its key and its held events
+abbrev pub Entry : Type 0
+Entry = RunKey × List Event
+
+-- a run as the cache keeps it
+abbrev pub entry_of : Held → Entry
+entry_of run = (run.key, run.events)
+
+-- a cached run as it is handed out
+abbrev pub held_of : Entry → Held
+held_of entry = record { key = entry.0; events = entry.1 }
+
+-- the runs, the most recently used first, and the bounds on their number and, unless it is 0, on their held events together
+pub record CacheView : Type 0 where
+  pub runs : List Entry
+  pub capacity : ℕ
+  pub bound : ℕ
+
+abbrev pub cache_view : List Entry → ℕ → ℕ → CacheView
+cache_view runs capacity bound = record { runs = runs; capacity = capacity; bound = bound }
+
+-- how many events the runs hold together
+abbrev pub held_by : List Entry → ℕ
+held_by [] = 0
+held_by (r ∷ rs) = length r.1 + held_by rs
+
+-- each run is what replay of its held events gives
+abbrev pub AllReplayed : {S : Type 0} → Program S → List Entry → Type 0
+AllReplayed program [] = Unit {0}
+AllReplayed program (r ∷ rs) = IsReplayed program r.1 × AllReplayed program rs
+
+-- both bounds hold
+abbrev pub Fits : ℕ → ℕ → List Entry → Type 0
+Fits capacity bound runs = (length runs ≤ capacity) × (bound ≢ 0 → held_by runs ≤ bound)
+
+-- both bounds hold, no two runs have one key, and each run is what replay of its held events gives
+pub record IsSound {S : Type 0} (program : Program S) (c : CacheView) : Type 0 where
+  pub fits : Fits c.capacity c.bound c.runs
+  pub distinct : IsDistinct same_key (keys_of c.runs)
+  pub replayed : AllReplayed program c.runs
+  pub capacity : c.capacity ≤ 10000
+  pub bound : c.bound ≤ 512000000
+
+-- the run in front, in place of the one of its key
+abbrev pub with_first : Entry → List Entry → List Entry
+with_first run runs = run ∷ remove_entry (same_key run.0) runs
+
+-- how many runs of other keys fit, from the front on, where there is room for so many runs and so many events are left
+abbrev pub kept_count : RunKey → ℕ → ℕ → List Entry → ℕ
+kept_count key room left [] = 0
+kept_count key room left (r ∷ rs) =
+    cond (same_key key r.0) (kept_count key room left rs) (cond (room == 0 || nat_lt left (length r.1)) 0 (kept_count key (room - 1) (left - length r.1) rs + 1))
+
+-- the first n runs fit, and no longer beginning does
+pub record FitMost (c : CacheView) (runs : List Entry) (n : ℕ) : Type 0 where
+  pub within : n ≤ length runs
+  pub fits : Fits c.capacity c.bound (take n runs)
+  pub most : (m : ℕ) → n < m → m ≤ length runs → Fits c.capacity c.bound (take m runs) → ⊥
+
+-- the kept runs are the longest beginning that fits, and the others go, the last first
+pub record KeepsMost (c : CacheView) (all kept gone : List Entry) : Type 0 where
+  pub parts : all ≡ kept ++ reverse gone
+  pub most : FitMost c all (length kept)
+
+-- the cached run of the key holds at least as many events
+abbrev pub IsShorter : CacheView → Held → Type 0
+IsShorter c run = (held : List Event) × (lookup (same_key run.key) c.runs ≡ Some held) × (length run.events ≤ length held)
+
+-- there is a bound on held events, and the run alone holds more
+abbrev pub IsTooLarge : CacheView → Held → Type 0
+IsTooLarge c run = (c.bound ≢ 0) × (c.bound < length run.events)
+
+-- the cache takes runs, and this one is neither shorter than the cached one nor too large
+abbrev pub MayEnter : CacheView → Held → Type 0
+MayEnter c run = (c.capacity ≢ 0) × (¬ IsShorter c run) × (¬ IsTooLarge c run)
+
+-- the run becomes the first, the one of its key goes, and runs go from the back until both bounds hold
+pub record Enters (old : CacheView) (run : Held) (new : CacheView) (gone : List Held) : Type 0 where
+  pub may : MayEnter old run
+  pub same : new ≡ record old { runs = new.runs }
+  pub keeps : KeepsMost old (with_first (entry_of run) old.runs) new.runs (map entry_of gone)
+
+-- an answer of `put`, with the runs that it hands back
+pub data Reply : Type 0 where
+  IsKept : Reply
+  HasPushedOut : List Held → Reply
+  IsOff : Held → Reply
+  IsShort : Held → Reply
+  IsLarge : Held → Reply
+  HasNoMemory : Held → Reply
+
+abbrev pub reply_of : {W S : Type 0} → Put W S → Reply
+reply_of Kept = IsKept
+reply_of (PushedOut gone) = HasPushedOut gone
+reply_of (Off back) = IsOff back
+reply_of (Shorter back) = IsShort back
+reply_of (TooLarge back) = IsLarge back
+reply_of (NoMemory back) = HasNoMemory back
+
+-- what `put` does, by its answer: each answer stands exactly where those before it don't, and want of memory only where the key is not cached or a run has to go
+abbrev pub Puts : CacheView → Held → CacheView → Reply → Type 0
+Puts old run new IsKept = Enters old run new []
+Puts old run new (HasPushedOut gone) = Enters old run new gone × (gone ≢ [])
+Puts old run new (IsOff back) = (old.capacity ≡ 0) × (back ≡ run) × (new ≡ old)
+Puts old run new (IsShort back) = (old.capacity ≢ 0) × IsShorter old run × (back ≡ run) × (new ≡ old)
+Puts old run new (IsLarge back) = (old.capacity ≢ 0) × (¬ IsShorter old run) × IsTooLarge old run × (back ≡ run) × (new ≡ old)
+Puts old run new (HasNoMemory back) =
+    MayEnter old run × ((lookup (same_key run.key) old.runs ≡ None) ⊎ (¬ Fits old.capacity old.bound (with_first (entry_of run) old.runs))) × (back ≡ run) × (new ≡ old)

@@ -1,0 +1,309 @@
+//! A sticky cache: runs of workflows kept between their tasks, bounded by their number and by the events that they hold.
+#![tactic(auto)]
+
+ghost use Rattle.std.specs.Prelude.{◌≡◌, ◌≢◌, ◌↔◌, ◌≤◌, ◌<◌, ◌+◌, ◌-◌, ◌++◌, [], None, IsTrue, IfOk, IfErr, MatchOption, OnOk, length, map, reverse, is_some, option_map, vec_capacity};
+ghost use Rattle.std.specs.Map.{keys_of, lookup, lookup_entry, remove_entry};
+ghost use Rattle.std.specs.List.{IsDistinct};
+ghost use Rattle.wh_events.specs.Keys.{same_key};
+ghost use Rattle.wh_replay.specs.Runs.{IsReplayed};
+ghost use Rattle.wh_cache.specs.Cache.{cache_view, entry_of, held_of, held_by, IsSound, IsShorter, IsTooLarge, MayEnter, FitMost, with_first, kept_count, reply_of, Puts};
+
+use lru::LruCache;
+use std::alloc::Global;
+use std::marker::Model;
+use std::num::NonZeroUsize;
+use wh_events::{Items, OutOfMemory, RunKey};
+use wh_replay::{MOST_EVENTS, ReplayedHistory, Run};
+use wh_workflow::Workflow;
+
+/// The most runs that a cache may hold.
+pub const MOST_RUNS: usize = 10_000;
+
+/// The largest bound on the events that the cached runs hold together.
+pub const MOST_CACHED_EVENTS: u64 = 512_000_000;
+
+/// What became of a run that was put into the cache. The last four hand it back and leave the cache as it was.
+#[derive(Drop)]
+pub enum Put<W: Workflow> {
+    /// The run is the first one, and no run had to go.
+    Kept,
+    /// The run is the first one. These had to go, the least recently used first.
+    PushedOut(Items<Run<W>>),
+    /// The cache takes no runs: its capacity is 0.
+    Off(Run<W>),
+    /// The cached run of the same key holds at least as many events.
+    Shorter(Run<W>),
+    /// The run alone holds more events than the cache may hold.
+    TooLarge(Run<W>),
+    /// No memory was found, for a run of a key that is not cached or for the list of the runs that have to go.
+    NoMemory(Run<W>),
+}
+
+/// The cached runs of a worker, which saves the replay of a workflow from its first event where its next task comes to the
+/// same worker ("sticky execution" in Temporal's documentation). Contracts see the runs, the most recently used first, with both
+/// bounds.
+#[derive(Drop)]
+pub struct Sticky<W: Workflow> {
+    alloc: Global,
+    capacity: usize,
+    bound: u64,
+    held: u64,
+    runs: LruCache<RunKey, ReplayedHistory<W>>,
+}
+
+impl<W: Workflow> Model for Sticky<W> {
+    ghost use Rattle.std.specs.Prelude.{◌≡◌, ◌+◌};
+    ghost use Rattle.wh_cache.specs.Cache.{CacheView, cache_view, held_by, IsSound};
+
+    ghost Value = { CacheView };
+
+    ghost view = { λ s. cache_view s.runs.entries s.capacity s.bound };
+
+    ghost invariant = { λ s. (s.runs.cap ≡ s.capacity + 1) × (s.held ≡ held_by s.runs.entries) × IsSound W.program (cache_view s.runs.entries s.capacity s.bound) };
+}
+
+impl<W: Workflow> Sticky<W> {
+    /// An empty cache of at most `capacity` runs, none where it is 0. Where `events` is not 0, the cached runs hold at most so
+    /// many events together. `OutOfMemory` where no room was found.
+    pub fn open(alloc: Global, capacity: usize, events: u64) -> Result<Self, OutOfMemory>
+        requires capacity { capacity ≤ MOST_RUNS }
+        requires events { events ≤ MOST_CACHED_EVENTS }
+        ensures { IfOk result (λ cache. cache ≡ cache_view [] capacity events) }
+    {
+        // One place more than the capacity: a new run is added before the last one goes.
+        let places = NonZeroUsize::MIN.saturating_add(capacity);
+        Ok(Sticky {
+            alloc,
+            capacity,
+            bound: events,
+            held: 0,
+            runs: LruCache::new(alloc, places)?,
+        })
+    }
+
+    /// Takes the run of the key out of the cache, if there is one.
+    pub fn take(&mut self, key: &RunKey) -> Option<Run<W>>
+        ensures run { result ≡ option_map held_of (lookup_entry (same_key key.now) self.old.runs) }
+        ensures runs { self.new ≡ record self.old { runs = remove_entry (same_key key.now) self.old.runs } }
+    {
+        let (key, history) = self.runs.pop_entry(key)?;
+        self.held -= history.len() as u64;
+        Some(Run::from_parts(key, history))
+    }
+
+    /// Drops the run of the key, and says whether there was one.
+    pub fn evict(&mut self, key: &RunKey) -> bool
+        ensures found { result ≡ is_some (lookup (same_key key.now) self.old.runs) }
+        ensures runs { self.new ≡ record self.old { runs = remove_entry (same_key key.now) self.old.runs } }
+    {
+        let found = self.runs.contains(key);
+        let _gone = self.take(key);
+        found
+    }
+
+    /// How many events the run of the key holds, if there is one. The order of use stays.
+    pub fn peek_len(&self, key: &RunKey) -> Option<usize>
+        ensures { result ≡ option_map length (lookup (same_key key.now) self.now.runs) }
+    {
+        let history = self.runs.peek(key)?;
+        Some(history.len())
+    }
+
+    /// How many runs are cached. Both bounds hold, no two runs have one key, and each is what replay of its held events gives.
+    pub fn len(&self) -> usize
+        ensures len { result ≡ length self.now.runs }
+        ensures sound { IsSound W.program self.now }
+    {
+        self.runs.len()
+    }
+
+    /// How many events the cached runs hold together.
+    pub fn held(&self) -> u64
+        ensures { result ≡ held_by self.now.runs }
+    {
+        self.held
+    }
+
+    /// Puts a run in front, in place of the one of its key, and drops runs from the back until both bounds hold. Else the run
+    /// comes back, and the cache stays as it was: `Off`, `Shorter`, `TooLarge` and `NoMemory` are tried in this order.
+    pub fn put(&mut self, run: Run<W>) -> Put<W>
+        ensures { Puts self.old run self.new (reply_of result) }
+    {
+        if self.capacity == 0 {
+            return Put::Off(run);
+        }
+        if self.is_shorter(&run) {
+            return Put::Shorter(run);
+        }
+        if self.is_too_large(&run) {
+            return Put::TooLarge(run);
+        }
+        let going = self.going(&run);
+        let Some(mut gone) = room_for(self.alloc, going) else {
+            return Put::NoMemory(run);
+        };
+        if let Err(run) = put_first(&mut self.runs, &mut self.held, run) {
+            return Put::NoMemory(run);
+        }
+        push_out(&mut self.runs, &mut self.held, going, &mut gone);
+        if going == 0 {
+            return Put::Kept;
+        }
+        Put::PushedOut(Items::new(gone))
+    }
+
+    // Whether the cached run of the key holds at least as many events.
+    fn is_shorter(&self, run: &Run<W>) -> bool
+        ensures { IsTrue result ↔ IsShorter self.now run.now }
+    {
+        match self.peek_len(run.key()) {
+            Some(len) => run.held_len() <= len,
+            None => false,
+        }
+    }
+
+    // Whether the run alone holds more events than the bound.
+    fn is_too_large(&self, run: &Run<W>) -> bool
+        ensures { IsTrue result ↔ IsTooLarge self.now run.now }
+    {
+        self.bound != 0 && self.bound < run.held_len() as u64
+    }
+
+    // How many runs have to go, the last first, once this one is in front. It is what replay of its events gives.
+    fn going(&self, run: &Run<W>) -> usize
+        requires { MayEnter self.now run.now }
+        ensures count { result < length (with_first (entry_of run.now) self.now.runs) }
+        ensures most { FitMost self.now (with_first (entry_of run.now) self.now.runs) (length (with_first (entry_of run.now) self.now.runs) - result) }
+        ensures replayed { IsReplayed W.program run.now.events }
+    {
+        let left = room_beside(self.bound, run.held_len() as u64);
+        let kept = kept_beside(&self.runs, run.key(), self.capacity - 1, left);
+        self.others(run.key()) - kept
+    }
+
+    // How many runs of other keys are cached. No two runs have one key.
+    fn others(&self, key: &RunKey) -> usize
+        ensures distinct { IsDistinct same_key (keys_of self.now.runs) }
+        ensures count { result ≡ length (remove_entry (same_key key.now) self.now.runs) }
+    {
+        match self.runs.peek(key) {
+            Some(_) => self.runs.len() - 1,
+            None => self.runs.len(),
+        }
+    }
+}
+
+// How many events fit beside these. Where there is no bound, all that a cache may hold do.
+fn room_beside(bound: u64, added: u64) -> u64
+    requires added { added ≤ MOST_EVENTS }
+    requires bound { bound ≢ 0 → added ≤ bound }
+    ensures some { bound ≢ 0 → result + added ≡ bound }
+    ensures none { bound ≡ 0 → MOST_CACHED_EVENTS ≤ result }
+{
+    if bound == 0 { u64::MAX } else { bound - added }
+}
+
+// Room for so many runs. None is needed for no run.
+fn room_for<W: Workflow>(alloc: Global, count: usize) -> Option<Vec<Run<W>>>
+    ensures { MatchOption result (0 < count) (λ room. (room.items ≡ []) × (count ≤ vec_capacity room)) }
+{
+    let mut room = Vec::new(alloc);
+    if 0 < count {
+        room.reserve(count).ok()?;
+    }
+    Some(room)
+}
+
+// Puts the run in front, in place of the one of its key, which takes no memory where there is one.
+fn put_first<W: Workflow>(
+    runs: &mut LruCache<RunKey, ReplayedHistory<W>>,
+    held: &mut u64,
+    run: Run<W>,
+) -> Result<(), Run<W>>
+    requires room { length runs.old.entries < runs.old.cap }
+    requires held { (held.old ≡ held_by runs.old.entries) × (held.old ≤ MOST_CACHED_EVENTS) }
+    ensures runs { OnOk result (runs.new.entries ≡ with_first (entry_of run) runs.old.entries) }
+    ensures held { OnOk result (held.new ≡ held_by runs.new.entries) }
+    ensures cap { runs.new.cap ≡ runs.old.cap }
+    ensures refused { IfErr result (λ back. (back ≡ run) × (lookup (same_key run.key) runs.old.entries ≡ None) × (runs.new ≡ runs.old) × (held.new ≡ held.old)) }
+{
+    let added = run.held_len() as u64;
+    let replaced = replaced_len(runs, run.key());
+    let (key, history) = run.into_parts();
+    match runs.push(key, history) {
+        Ok(_replaced) => {
+            *held = *held - replaced + added;
+            Ok(())
+        }
+        Err(failed) => {
+            let (key, history) = failed.value;
+            Err(Run::from_parts(key, history))
+        }
+    }
+}
+
+// How many events the run of the key holds, 0 where there is none.
+fn replaced_len<W: Workflow>(runs: &LruCache<RunKey, ReplayedHistory<W>>, key: &RunKey) -> u64
+    ensures held { held_by (remove_entry (same_key key.now) runs.now.entries) + result ≡ held_by runs.now.entries }
+    ensures most { result ≤ MOST_EVENTS }
+{
+    match runs.peek(key) {
+        Some(history) => history.len() as u64,
+        None => 0,
+    }
+}
+
+// How many of the other runs stay beside one of this key, where `room` runs with `left` events fit.
+fn kept_beside<W: Workflow>(
+    runs: &LruCache<RunKey, ReplayedHistory<W>>,
+    key: &RunKey,
+    room: usize,
+    left: u64,
+) -> usize
+    ensures count { result ≡ kept_count key.now room left runs.now.entries }
+{
+    let mut room = room;
+    let mut left = left;
+    let mut kept = 0;
+    for (other, history) in runs.iter() {
+        if key == other {
+            continue;
+        }
+        let len = history.len() as u64;
+        if room == 0 || left < len {
+            break;
+        }
+        room -= 1;
+        left -= len;
+        kept += 1;
+    }
+    kept
+}
+
+// Moves the last runs out, the least recently used first.
+fn push_out<W: Workflow>(
+    runs: &mut LruCache<RunKey, ReplayedHistory<W>>,
+    held: &mut u64,
+    count: usize,
+    gone: &mut Vec<Run<W>>,
+)
+    requires count { count ≤ length runs.old.entries }
+    requires held { held.old ≡ held_by runs.old.entries }
+    requires gone { (gone.old.items ≡ []) × (count ≤ vec_capacity gone.old) }
+    ensures parts { runs.old.entries ≡ runs.new.entries ++ reverse (map entry_of gone.new.items) }
+    ensures count { length gone.new.items ≡ count }
+    ensures cap { runs.new.cap ≡ runs.old.cap }
+    ensures held { held.new ≡ held_by runs.new.entries }
+{
+    for _turn in 0..count {
+        let Some((key, history)) = runs.pop_lru() else {
+            unreachable!()
+        };
+        *held -= history.len() as u64;
+        gone.push_reserved(Run::from_parts(key, history));
+    }
+}
+
+
+#[cfg(test)]
+mod tests;
