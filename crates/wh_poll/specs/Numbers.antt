@@ -1,11 +1,6 @@
--- Lists of events: the number that they begin with, and the one that they end with.
-use Rattle.std.specs.Prelude.{ℕ, ◌-◌, eqb, Bool, false, List, [], ◌∷◌, length, slice_get, Option, Some, None}
+-- The number that a list of events ends with.
+use Rattle.std.specs.Prelude.{ℕ, ◌-◌, List, length, slice_get, Option, Some, None}
 use Rattle.wh_events.specs.declared.event.Event.{Event}
-
--- the first event has this number
-abbrev pub begins_at : ℕ → List Event → Bool
-begins_at number [] = false
-begins_at number (event ∷ rest) = eqb event.number number
 
 abbrev pub number_or_zero : Option Event → ℕ
 number_or_zero None = 0

@@ -1,5 +1,5 @@
 -- What replay of a task gives, and from which events.
-use Rattle.std.specs.Prelude.{◌≡◌, ℕ, ◌+◌, ◌++◌, ◌<◌, ◌≤◌, Bool, true, false, List, [], ◌∷◌, length, Option, Some, None, is_some, Result, Ok, Err, IsOk, if◌then◌else◌}
+use Rattle.std.specs.Prelude.{◌≡◌, ℕ, ◌++◌, ◌<◌, ◌≤◌, Bool, true, false, List, [], ◌∷◌, length, Option, Some, None, is_some, Result, Ok, Err, IsOk, if◌then◌else◌}
 use Rattle.wh_events.specs.declared.event.Event.{Event}
 use Rattle.wh_replay.specs.declared.fault.Fault.{Fault}
 use Rattle.wh_replay.specs.declared.fault.Fault.TheVariants.{NotATask}
@@ -7,10 +7,10 @@ use Rattle.wh_events.specs.declared.key.RunKey.{RunKey}
 use Rattle.wh_replay.specs.declared.run.Answer.{Answer}
 use Rattle.wh_replay.specs.declared.run.Answer.TheVariants.{Complete, Fail}
 use Rattle.wh_replay.specs.Replays.{ends_in_task}
-use Rattle.wh_poll.specs.Numbers.{begins_at, last_number}
+use Rattle.wh_poll.specs.Numbers.{last_number}
 use Rattle.wh_workflow.specs.Law.{Program}
 use Rattle.wh_workflow.specs.Counting.{risen}
-use Rattle.wh_replay.specs.Runs.{Held, run_of, steps, advance_steps}
+use Rattle.wh_replay.specs.Runs.{Held, follows, run_of, steps, advance_steps}
 use Rattle.wh_replay.specs.Advances.{answered}
 use Rattle.wh_poll.specs.declared.source.SourceFault.TheVariants.{Source as Failed, OutOfMemory as Unfed}
 use Rattle.wh_poll.specs.declared.task.StepFault.{StepFault}
@@ -26,11 +26,11 @@ pub data Basis : Type 0 where
 abbrev pub later_basis : Option Held → List Event → Basis
 later_basis None [] = Nothing
 later_basis None (event ∷ rest) = Told
-later_basis (Some run) events = if ends_in_task events then (if begins_at (length run.events + 1) events then Joined run.events else Told) else Nothing
+later_basis (Some run) events = if ends_in_task events then (if follows (length run.events) events then Joined run.events else Told) else Nothing
 
 -- the first that applies
 abbrev pub basis_of : Option Held → List Event → Basis
-basis_of run events = if begins_at 1 events then Own else later_basis run events
+basis_of run events = if follows 0 events then Own else later_basis run events
 
 -- the answer to a list of events: the fault of its replay, else the commands that it leaves unsent
 abbrev pub answer_to : {S : Type 0} → Program S → List Event → Answer

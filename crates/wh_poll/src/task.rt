@@ -1,8 +1,8 @@
 //! One workflow task replayed.
 ghost use Rattle.std.specs.Prelude.{◌≡◌, false, IfOk, IfSome};
 ghost use Rattle.wh_poll.specs.Source.{SameRelation, SameTelling};
-ghost use Rattle.wh_replay.specs.Runs.{steps};
-ghost use Rattle.wh_poll.specs.Numbers.{begins_at, last_number};
+ghost use Rattle.wh_replay.specs.Runs.{follows, steps};
+ghost use Rattle.wh_poll.specs.Numbers.{last_number};
 ghost use Rattle.wh_poll.specs.Tasks.{Steps, Replays, ReplaysTold, HasAnswer, FailsOnlySource};
 
 use crate::source::{SourceFault, TaskSource};
@@ -56,7 +56,7 @@ pub fn replay_task<W: Workflow, S: TaskSource>(
     ensures delivers { SameRelation (S.delivers source.old) (S.delivers source.new) }
     ensures tells { SameTelling (S.tells source.old) (S.tells source.new) }
 {
-    if begins_at(1, events.as_slice()) {
+    if is_whole(events.as_slice()) {
         return Ok(replay_first(alloc, key, events, meter)?);
     }
     let up_to = last_number(events.as_slice());
@@ -139,12 +139,12 @@ fn replay_told<W: Workflow, S: TaskSource>(
     Ok(replay_first(alloc, key, history, meter)?)
 }
 
-// Whether the first event has this number.
-fn begins_at(number: u64, events: &[Event]) -> bool
-    ensures { result ≡ begins_at number events.now }
+// Whether the events begin with the first of a history.
+fn is_whole(events: &[Event]) -> bool
+    ensures { result ≡ follows 0 events.now }
 {
     match events.first() {
-        Some(event) => event.number.get() == number,
+        Some(event) => event.number.get() == 1,
         None => false,
     }
 }
