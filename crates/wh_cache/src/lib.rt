@@ -304,6 +304,5 @@ fn push_out<W: Workflow>(
     }
 }
 
-
 #[cfg(test)]
 mod tests;

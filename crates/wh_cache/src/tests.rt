@@ -73,7 +73,9 @@ fn history(alloc: Global, len: u64) -> Result<Vec<Event>, Fail> {
         };
         events.push(event(number, signal)?).map_err(|_| "memory")?;
     }
-    events.push(event(len, EventKind::WorkflowTaskStarted)?).map_err(|_| "memory")?;
+    events
+        .push(event(len, EventKind::WorkflowTaskStarted)?)
+        .map_err(|_| "memory")?;
     Ok(events)
 }
 
@@ -112,7 +114,11 @@ fn put(
         Put::TooLarge(_) => "too large",
         Put::NoMemory(_) => "no memory",
     };
-    if word == answer { Ok(()) } else { Err(answer.into()) }
+    if word == answer {
+        Ok(())
+    } else {
+        Err(answer.into())
+    }
 }
 
 #[test]

@@ -1,0 +1,63 @@
+use wh_cache::Put;
+use wh_replay::Run;
+use wh_slots::SlotCount;
+use wh_workflow::Workflow;
+
+/// How a task ended.
+#[derive(Clone, Copy, PartialEq, Eq, Debug)]
+pub enum Outcome {
+    Completed,
+    Failed,
+}
+
+/// What became of a run that was given back.
+#[derive(Drop)]
+pub enum Given<W: Workflow> {
+    /// It was put into the cache, with this answer of the cache.
+    Put(Put<W>),
+    /// Its task's place is marked for eviction, so it is not cached.
+    Marked(Run<W>),
+    /// No workflow task with the run's key is held under the number.
+    NotHeld(Run<W>),
+}
+
+/// What became of an evicted key.
+#[derive(Clone, Copy, PartialEq, Eq, Debug)]
+pub enum Evict {
+    /// Its run was cached, and is no longer.
+    Evicted,
+    /// Its run was not cached, but a task of it is in hand: that run won't be cached.
+    Marked,
+    /// Neither.
+    NotCached,
+}
+
+/// What a host has counted since it was opened, and what it caches and holds now.
+#[derive(Clone, Copy, PartialEq, Eq, Debug)]
+pub struct Counts {
+    /// Tasks taken in hand, of both kinds.
+    pub taken: u64,
+    /// Tasks completed.
+    pub completed: u64,
+    /// Tasks failed.
+    pub failed: u64,
+    /// Tasks in hand now.
+    pub in_hand: u64,
+    /// Runs in the cache.
+    pub cached: usize,
+    /// Events that the cached runs hold together.
+    pub cached_events: u64,
+    /// Workflow slots by their use.
+    pub workflow: SlotCount,
+    /// Activity slots by their use.
+    pub activity: SlotCount,
+}
+
+/// What all seats of a closed host have counted. What `taken` leaves over `completed` and `failed` was in hand.
+#[derive(Clone, Copy, PartialEq, Eq, Debug)]
+pub struct Totals {
+    pub taken: u64,
+    pub completed: u64,
+    pub failed: u64,
+    pub in_hand: u64,
+}

@@ -1,0 +1,360 @@
+//! Slots, the run key and the mark of each workflow place, cached runs and books, as one machine.
+ghost use Rattle.std.specs.Prelude.{◌≡◌, ◌<◌, ◌+◌, ◌-◌, ◌^◌, ◌↔◌, Bool, Some, length, map, option_map, slice_get, replicate, IsTrue, IfOk, IfErr, IsErr, Err, MatchOption, MatchResult, vec_len};
+ghost use Rattle.std.specs.Map.{lookup_entry, remove_entry};
+ghost use Rattle.wh_events.specs.Keys.{same_key};
+ghost use Rattle.wh_cache.specs.Cache.{held_of};
+ghost use Rattle.wh_ledger.specs.Shares.{no_shares, sums_of, IsWithin};
+ghost use Rattle.wh_host.specs.Machine.{IsConfig, IsHost, in_hand, totals_of, opening_of, step, with_outcome, books_of, answer_of, evicted_for, has_key, has_mark, is_marked_at, Reserve, Release, UseWorkflow, UseActivity, GiveRun, EvictRun, Finish, Drain, ReadCounts};
+
+use crate::config::{Config, OpenFault};
+use crate::reply::{Counts, Evict, Given, Outcome, Totals};
+use std::alloc::Global;
+use std::marker::Model;
+use std::sync::ledger::{Blank, Ledger};
+use wh_cache::Sticky;
+use wh_events::RunKey;
+use wh_ledger::{Books, Seat, SeatsMissing};
+use wh_replay::Run;
+use wh_slots::{
+    Held, NotHeld, NotReserved, Permit, ReserveFault, SlotKind, Slots, TaskName, UseFault,
+};
+use wh_workflow::Workflow;
+
+/// The run of a held workflow place, and whether it is to be evicted.
+#[derive(Drop, Debug)]
+pub struct Mark {
+    pub key: RunKey,
+    pub evicted: bool,
+}
+
+/// The slots, the sticky cache and the books of a worker host. Contracts see them as one record, and each method as one step of
+/// a machine. A method that refuses hands back what was moved in and leaves the state as it was. The words are those of
+/// Temporal's documentation on workers: slots bound the tasks in hand ("worker performance"), and a run is kept in the
+/// cache between its tasks ("sticky execution").
+#[derive(Drop)]
+pub struct HostState<W: Workflow, T: Ledger, C: Ledger, F: Ledger> {
+    workflow: Slots,
+    activity: Slots,
+    marks: Vec<Option<Mark>>,
+    cache: Sticky<W>,
+    books: Books<T, C, F>,
+}
+
+impl<W: Workflow, T: Ledger, C: Ledger, F: Ledger> Model for HostState<W, T, C, F> {
+    ghost use Rattle.wh_host.specs.Machine.{HostView, host_view, IsHost};
+
+    ghost Value = { HostView };
+
+    ghost view = { λ s. host_view s.workflow s.activity s.marks.items s.cache s.books };
+
+    ghost invariant = { λ s. IsHost W.program (host_view s.workflow s.activity s.marks.items s.cache s.books) };
+}
+
+impl<W: Workflow, T: Ledger, C: Ledger, F: Ledger> HostState<W, T, C, F> {
+    /// A state with all places free, an empty cache and empty books, and its seats, each of which has counted nothing. The three
+    /// blanks have as many parts as there are seats. `BadConfig` where a size is not within its range, `OutOfMemory` where no
+    /// room was found.
+    pub fn open(
+        alloc: Global,
+        config: Config,
+        taken: Blank,
+        completed: Blank,
+        failed: Blank,
+    ) -> Result<(Self, Vec<Seat<T, C, F>>), OpenFault>
+        requires taken { (taken.name ≡ T.name) × (taken.parts ≡ T.parts) × (IsConfig config → taken.parts ≡ config.seats) }
+        requires completed { (completed.name ≡ C.name) × (completed.parts ≡ C.parts) × (IsConfig config → completed.parts ≡ config.seats) }
+        requires failed { (failed.name ≡ F.name) × (failed.parts ≡ F.parts) × (IsConfig config → failed.parts ≡ config.seats) }
+        ensures opened { IfOk result (λ opened. (opened.0 ≡ opening_of config) × (opened.1.items ≡ replicate config.seats no_shares)) }
+        ensures bad { (result ≡ Err OpenFault.BadConfig) ↔ (¬ IsConfig config) }
+    {
+        if !config.is_within() {
+            return Err(OpenFault::BadConfig);
+        }
+        let workflow = Slots::open(alloc, SlotKind::Workflow, config.workflow_slots)?;
+        let activity = Slots::open(alloc, SlotKind::Activity, config.activity_slots)?;
+        let mut marks = Vec::new(alloc);
+        marks.reserve(config.workflow_slots)?;
+        for _place in 0..config.workflow_slots {
+            marks.push_reserved(None);
+        }
+        let cache = Sticky::open(alloc, config.cache, config.cache_events)?;
+        let (books, seats) = Books::open(alloc, config.seats, taken, completed, failed)?;
+        Ok((
+            HostState {
+                workflow,
+                activity,
+                marks,
+                cache,
+                books,
+            },
+            seats,
+        ))
+    }
+
+    /// Reserves a place of the kind for one poll. The faults are tried as `Draining`, `NumbersSpent`, `NoSlot`.
+    pub fn reserve(&mut self, kind: SlotKind) -> Result<Permit, ReserveFault>
+        ensures { step self.old (Reserve kind result) self.new }
+    {
+        match kind {
+            SlotKind::Workflow => self.workflow.reserve(),
+            SlotKind::Activity => self.activity.reserve(),
+        }
+    }
+
+    /// From now on nothing is reserved. What is reserved or in hand stays so.
+    pub fn drain(&mut self)
+        ensures { step self.old Drain self.new }
+    {
+        self.workflow.drain();
+        self.activity.drain();
+    }
+
+    /// The reserved place was not used and is free again. A permit under which nothing is reserved comes back.
+    pub fn release(&mut self, permit: Permit) -> Result<(), (Permit, NotReserved)>
+        ensures { step self.old (Release permit result) self.new }
+    {
+        match permit.kind() {
+            SlotKind::Workflow => self.workflow.release(permit),
+            SlotKind::Activity => self.activity.release(permit),
+        }
+    }
+
+    /// Takes a workflow task in hand: the reserved place is held under the task's name, the cached run of the key is handed out,
+    /// if there is one, and the task is counted as taken. The faults are tried as `NotReserved`, `TaskInHand`.
+    pub fn use_workflow(
+        &mut self,
+        permit: Permit,
+        name: TaskName,
+        key: RunKey,
+        seat: &mut Seat<T, C, F>,
+    ) -> Result<(Held, Option<Run<W>>), (Permit, RunKey, UseFault)>
+        ensures step { step self.old (UseWorkflow permit name key result) self.new }
+        ensures seat { MatchResult result (λ _. seat.new ≡ record seat.old { taken = seat.old.taken + 1 }) (λ _. seat.new ≡ seat.old) }
+    {
+        let held = match self.workflow.use_slot(permit, name) {
+            Ok(held) => held,
+            Err((permit, fault)) => return Err((permit, key, fault)),
+        };
+        let Some(at) = self.workflow.place_of(&held) else {
+            unreachable!()
+        };
+        let run = hand_out(&mut self.cache, &key);
+        self.marks[at] = Some(Mark {
+            key,
+            evicted: false,
+        });
+        self.books.add_taken(seat);
+        Ok((held, run))
+    }
+
+    /// Takes an activity task in hand: the reserved place is held under the task's name, and the task is counted as taken. The
+    /// faults are tried as `NotReserved`, `TaskInHand`.
+    pub fn use_activity(
+        &mut self,
+        permit: Permit,
+        name: TaskName,
+        seat: &mut Seat<T, C, F>,
+    ) -> Result<Held, (Permit, UseFault)>
+        ensures step { step self.old (UseActivity permit name result) self.new }
+        ensures seat { MatchResult result (λ _. seat.new ≡ record seat.old { taken = seat.old.taken + 1 }) (λ _. seat.new ≡ seat.old) }
+    {
+        let held = self.activity.use_slot(permit, name)?;
+        self.books.add_taken(seat);
+        Ok(held)
+    }
+
+    /// Puts the run of a workflow task in hand into the cache. It comes back as `NotHeld` where no workflow place is held under
+    /// the number with the run's key, and else as `Marked` where that place is marked for eviction.
+    pub fn give_run(&mut self, held: &Held, run: Run<W>) -> Given<W>
+        ensures { step self.old (GiveRun held.now run (answer_of result)) self.new }
+    {
+        let Some(at) = self.workflow.place_of(held) else {
+            return Given::NotHeld(run);
+        };
+        let Some(evicted) = mark_of(self.marks.as_slice(), at, run.key()) else {
+            return Given::NotHeld(run);
+        };
+        if evicted {
+            return Given::Marked(run);
+        }
+        let put = self.cache.put(run);
+        // The cache answers here for the runs that it holds.
+        self.cache.len();
+        Given::Put(put)
+    }
+
+    /// Drops the run of the key from the cache, and marks each held place of the key, so that the run in hand there won't be
+    /// cached.
+    pub fn evict(&mut self, key: &RunKey) -> Evict
+        ensures { step self.old (EvictRun key.now result) self.new }
+    {
+        let marked = mark_places(self.marks.as_mut_slice(), key);
+        if self.cache.evict(key) {
+            return Evict::Evicted;
+        }
+        if marked {
+            return Evict::Marked;
+        }
+        Evict::NotCached
+    }
+
+    /// The task is done: its place is free, and its outcome is counted. What is not held comes back.
+    pub fn finish(
+        &mut self,
+        held: Held,
+        outcome: Outcome,
+        seat: &mut Seat<T, C, F>,
+    ) -> Result<(), (Held, NotHeld)>
+        ensures step { step self.old (Finish held outcome result) self.new }
+        ensures seat { MatchResult result (λ _. seat.new ≡ with_outcome outcome seat.old) (λ _. seat.new ≡ seat.old) }
+    {
+        match held.kind() {
+            SlotKind::Workflow => {
+                let Some(at) = self.workflow.place_of(&held) else {
+                    return Err((held, NotHeld));
+                };
+                self.workflow.free(held)?;
+                self.marks[at] = None;
+                count_outcome(&mut self.books, outcome, seat);
+                Ok(())
+            }
+            SlotKind::Activity => {
+                self.activity.free(held)?;
+                count_outcome(&mut self.books, outcome, seat);
+                Ok(())
+            }
+        }
+    }
+
+    /// What is counted, cached and held. Nothing changes, and no count is below what the seat has counted.
+    pub fn counts(&mut self, seat: &mut Seat<T, C, F>) -> Counts
+        ensures step { step self.old (ReadCounts result) self.new }
+        ensures within { IsWithin seat.old (books_of result) }
+        ensures seat { seat.new ≡ seat.old }
+        ensures host { IsHost W.program self.old }
+    {
+        self.books.audit(seat);
+        let shares = self.books.totals();
+        Counts {
+            taken: shares.taken,
+            completed: shares.completed,
+            failed: shares.failed,
+            in_hand: self.in_hand(),
+            cached: self.cache.len(),
+            cached_events: self.cache.held(),
+            workflow: self.workflow.count(),
+            activity: self.activity.count(),
+        }
+    }
+
+    /// How many tasks are in hand, of both kinds.
+    pub fn in_hand(&self) -> u64
+        ensures in_hand { result ≡ in_hand self.now }
+        ensures host { IsHost W.program self.now }
+    {
+        let totals = self.books.totals();
+        totals.taken - totals.completed - totals.failed
+    }
+
+    /// Gathers what all seats have counted. `SeatsMissing` where not all of them are brought: the state and the seats come back.
+    pub fn close(
+        self,
+        seats: Vec<Seat<T, C, F>>,
+    ) -> Result<Totals, (Self, Vec<Seat<T, C, F>>, SeatsMissing)>
+        ensures gathered { IfOk result (λ totals. (totals ≡ totals_of (sums_of seats.items)) × (sums_of seats.items ≡ self.counts) × (totals.in_hand ≡ in_hand self)) }
+        ensures missing { IsErr result ↔ (vec_len seats < T.parts) }
+        ensures back { IfErr result (λ refused. (refused.0 ≡ self) × (refused.1 ≡ seats)) }
+    {
+        let in_hand = self.in_hand();
+        let HostState {
+            workflow,
+            activity,
+            marks,
+            cache,
+            books,
+        } = self;
+        match books.gather(seats) {
+            Ok(shares) => Ok(Totals {
+                taken: shares.taken,
+                completed: shares.completed,
+                failed: shares.failed,
+                in_hand,
+            }),
+            Err((books, seats, missing)) => Err((
+                HostState {
+                    workflow,
+                    activity,
+                    marks,
+                    cache,
+                    books,
+                },
+                seats,
+                missing,
+            )),
+        }
+    }
+}
+
+// Takes the run of the key out of the cache, for the task that is now in hand.
+fn hand_out<W: Workflow>(cache: &mut Sticky<W>, key: &RunKey) -> Option<Run<W>>
+    ensures run { result ≡ option_map held_of (lookup_entry (same_key key.now) cache.old.runs) }
+    ensures runs { cache.new ≡ record cache.old { runs = remove_entry (same_key key.now) cache.old.runs } }
+{
+    cache.take(key)
+}
+
+// Adds one to the book of the outcome and to the seat's share of it.
+fn count_outcome<T: Ledger, C: Ledger, F: Ledger>(
+    books: &mut Books<T, C, F>,
+    outcome: Outcome,
+    seat: &mut Seat<T, C, F>,
+)
+    requires completed { books.old.completed < 2 ^ 64 - 1 }
+    requires failed { books.old.failed < 2 ^ 64 - 1 }
+    ensures books { books.new ≡ with_outcome outcome books.old }
+    ensures seat { seat.new ≡ with_outcome outcome seat.old }
+{
+    match outcome {
+        Outcome::Completed => books.add_completed(seat),
+        Outcome::Failed => books.add_failed(seat),
+    }
+}
+
+// Whether the place is marked for eviction, where it has this key.
+fn mark_of(marks: &[Option<Mark>], at: usize, key: &RunKey) -> Option<bool>
+    requires { at < length marks.now }
+    ensures { MatchOption result ((evicted : Bool) → ¬ is_marked_at marks.now at key.now evicted) (is_marked_at marks.now at key.now) }
+{
+    match &marks[at] {
+        Some(mark) if mark.key == *key => Some(mark.evicted),
+        _ => None,
+    }
+}
+
+// Marks the place, where it has the key, and says whether it has.
+fn mark_place(mark: &mut Option<Mark>, key: &RunKey) -> bool
+    ensures mark { mark.new ≡ evicted_for key.now mark.old }
+    ensures found { result ≡ has_key key.now mark.old }
+{
+    match mark {
+        Some(mark) if mark.key == *key => {
+            mark.evicted = true;
+            true
+        }
+        _ => false,
+    }
+}
+
+// Marks every place that has the key, and says whether there is one.
+fn mark_places(marks: &mut [Option<Mark>], key: &RunKey) -> bool
+    ensures marks { marks.new ≡ map (evicted_for key.now) marks.old }
+    ensures found { result ≡ has_mark key.now marks.old }
+{
+    let mut found = false;
+    for mark in marks.iter_mut() {
+        if mark_place(mark, key) {
+            found = true;
+        }
+    }
+    found
+}
