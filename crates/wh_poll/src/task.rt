@@ -1,4 +1,4 @@
-//! One workflow task replayed.
+//! Replay of one workflow task.
 ghost use Rattle.std.specs.Prelude.{◌≡◌, false, IfOk, IfSome};
 ghost use Rattle.wh_poll.specs.Source.{SameRelation, SameTelling};
 ghost use Rattle.wh_replay.specs.Runs.{follows, steps};
@@ -11,18 +11,24 @@ use wh_events::{Event, OutOfMemory, RunKey};
 use wh_replay::{AdvanceFault, Fault, Run, RunFault};
 use wh_workflow::{Meter, Workflow};
 
-/// What replay of a task gave: the run, unless there is a fault, and whether its cached run served.
+/// What replay of a workflow task gave: a run or a fault. The answer is `Fail` of the fault, else the run's commands.
 #[derive(Drop)]
 pub struct Stepped<W: Workflow> {
+    /// The run that may be cached. Without a fault it holds the history that the task was replayed from. After `NotATask` it is
+    /// the run that was handed in, if there was one, as it was; after any other fault there is none.
     pub run: Option<Run<W>>,
+    /// Why the task is answered `Fail`.
     pub fault: Option<Fault>,
+    /// Whether the run that was handed in was used.
     pub hit: bool,
 }
 
-/// Why a task was not replayed.
+/// Why a task got no answer.
 #[derive(Clone, Copy, PartialEq, Eq, Debug)]
 pub enum StepFault {
+    /// A call of the source failed.
     Source(SourceFault),
+    /// No room was found.
     OutOfMemory,
 }
 
@@ -37,8 +43,17 @@ impl From<OutOfMemory> for StepFault {
     }
 }
 
-/// Replays a task. Events that begin with the first are replayed by themselves. Else a run is advanced by them.
-/// Where there is none, or the events do not continue it, the source is asked for the whole history.
+/// Replays a workflow task from its run, if one was cached, and its events, by the first case that applies:
+///
+/// 1. The events begin with the first of the history: they are replayed by themselves, and the run is dropped.
+/// 2. There are no events, or there is a run and the events do not end in a started task: the fault is `NotATask`, the source is
+///    not asked, and the run comes back.
+/// 3. There is a run and the events begin right after those that it holds: it is advanced by them, a hit.
+/// 4. Else the source is asked for the whole history up to the last event, which is replayed from the first; the run is dropped.
+///
+/// The meter rises by the steps of replay, in the third case by those of the new tasks alone where the events confirm the run.
+/// `Source` where the source fails when it is asked, `OutOfMemory` where no room was found; then the run is dropped and nothing is
+/// left to send. (Temporal documentation, "Sticky Execution": a Worker that has no cached run asks for the full history.)
 pub fn replay_task<W: Workflow, S: TaskSource>(
     alloc: Global,
     run: Option<Run<W>>,
