@@ -5,3 +5,6 @@ mod look;
 mod split;
 
 pub use split::{cuts, is_live, next_cut};
+
+#[cfg(test)]
+mod tests;
