@@ -28,6 +28,7 @@ SameTelling p q = (key : RunKey) (up_to : ℕ) (history : List Event) → p key 
 abbrev pub SameMay : (ActivityTask → ActivityAnswer → Type 0) → (ActivityTask → ActivityAnswer → Type 0) → Type 0
 SameMay p q = (task : ActivityTask) (answer : ActivityAnswer) → p task answer ↔ q task answer
 
+-- it holds of the task, where the poll gave one
 abbrev pub IfTask : {A : Type 0} → (A → Type 0) → Polled A → Type 0
 IfTask p (Task task) = p task
 IfTask p Nothing = Unit {0}
