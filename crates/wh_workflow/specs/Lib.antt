@@ -7,3 +7,7 @@ pub mod Scripts
 pub mod Activations
 pub mod ActivationScripts
 pub mod Rules
+pub mod CommandFaults
+pub mod Sent
+pub mod Differences
+pub mod JobRules

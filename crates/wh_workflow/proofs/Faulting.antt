@@ -1,0 +1,454 @@
+-- The fault of a command is the least row of the table that applies to it.
+use Rattle.std.proofs.Common.{slice_get, ◌≡◌, ℕ, zero, suc, ◌+◌, ◌≤◌, ◌⊎◌, Bool, true, false, not, ◌&&◌, ◌||◌, List, [], ◌∷◌, ◌++◌, length, Option, Some, None, refl, sym, ap, subst, ◌∙◌, inl, inr, arith, eqb, leb, is_some, bytes_eq, IsTrue, T, ℤ, pos, negsuc}
+use Rattle.std.specs.Prelude.{int_lt, ◌<ℤ◌}
+use Rattle.std.specs.Int.Signed.{lt_z_yes}
+use Rattle.std.specs.Bool.{Decides}
+use Rattle.std.proofs.lemmas.Bool.Decides.{Decides-eqb, Decides-not, Decides-and, Decides-or, Decides-like, nat_tests}
+use Rattle.std.proofs.lemmas.Slice.Eq.{bytes_eq-Decides}
+use Rattle.wh_events.specs.declared.event.Event.{Event}
+use Rattle.wh_events.specs.declared.place.Status.TheVariants.{Cancelling as CancellingStatus, Closed}
+use Rattle.wh_events.specs.declared.place.Thing.{Thing}
+use Rattle.wh_events.specs.declared.place.Thing.TheVariants.{Activity, Timer, Child, CancelRequest, SignalRequest}
+use Rattle.wh_events.specs.Cuts.{is_outside}
+use Rattle.wh_events.specs.Machines.{same_thing, open_named, last_named, closes, closed_by, is_cancelling, is_started, status_by, or_else}
+use Rattle.wh_events.specs.InPlace.{InPlace, IsAt, HasOpen}
+use Rattle.wh_events.specs.Places.{is_named}
+use Rattle.wh_events.proofs.Placing.{or_cases, or_left, or_right, leb_cases, same_decides, has_decides, closed_decides, some_decides, at_index, index_of}
+use Rattle.wh_events.proofs.Standing.{same_event}
+use Rattle.wh_events.proofs.Saying.{some_or_none, status_is_said}
+use Rattle.wh_events.proofs.Naming.{open_unclosed, last_last}
+use Rattle.wh_workflow.specs.declared.command.Command.{Command}
+use Rattle.wh_workflow.specs.declared.command.Command.TheVariants.{StartActivity, CancelActivity, StartTimer, CancelTimer, StartChild, CancelChild, SignalExternal, Ask, Marker, Complete, Fail, Cancel, ContinueAsNew}
+use Rattle.wh_workflow.specs.declared.fault.WorkflowFault.{WorkflowFault}
+use Rattle.wh_workflow.specs.declared.fault.WorkflowFault.TheVariants.{AfterClosing, TooManyCommands, IdInUse, IdReused, NotOpen, AlreadyCancelling, BadRange, VersionOutOfRange, UnknownWorkflow}
+use Rattle.wh_workflow.specs.Scripts.{Place, Settled, Act, act_of, act_opens, act_cancels, act_closes, some_act, left_open, withdrawn, is_timer, open_at, still_open, has_outside, closer_of, is_late, cancels_open, is_cancelled, choice_of, fault_if, opening_fault, cancel_fault, ask_fault, act_fault, given, most_commands, command_fault}
+use Rattle.wh_workflow.specs.Scripts.Act.{Opening, Cancelling, Closing, Asking, Other}
+use Rattle.wh_workflow.specs.CommandFaults.{IsOfCut, Does, IsLeftOpen, IsWithdrawn, IsStillOpen, IsEndedHere, IsLateCancel, IsCancellingAtCut, UsesId, ReusesId, CancelsNothing, CancelsAgain, AsksBadRange, GetsOutOfRange, RowApplies, row_of, IsLeastRow, LeastRowDecides}
+
+-- a test whether one of the commands, with those after it, passes another
+module _ (p : Command → List Command → Bool) (f : List Command → Bool) (none : f [] ≡ false) (one : (x : Command) (rest : List Command) → f (x ∷ rest) ≡ (p x rest || f rest)) where
+  split_found : (xs : List Command) → f xs ≡ true → (before : List Command) × (x : Command) × (after : List Command) × (xs ≡ before ++ x ∷ after) × (p x after ≡ true)
+  split_found [] h = cc
+  split_found (x ∷ xs) h =
+      elim (or_cases (p x xs) (f xs) (sym (one x xs) ∙ h)) [
+        | inl here ↦ ([], x, xs, refl, here)
+        | inr there ↦ let r = split_found xs there in (x ∷ r.0, r.1, r.2, ap (λ l. x ∷ l) r.3, r.4)
+      ]
+
+  split_passes : (before : List Command) (x : Command) (after : List Command) → p x after ≡ true → f (before ++ x ∷ after) ≡ true
+  split_passes [] x after h = one x after ∙ or_left (p x after) (f after) h
+  split_passes (y ∷ before) x after h = one y (before ++ x ∷ after) ∙ or_right (p y (before ++ x ∷ after)) (f (before ++ x ∷ after)) (split_passes before x after h)
+
+  pub split_decides : (xs : List Command) → Decides (f xs) ((before : List Command) × (x : Command) × (after : List Command) × (xs ≡ before ++ x ∷ after) × (p x after ≡ true))
+  split_decides xs = (split_found xs, λ r. ap f r.3 ∙ split_passes r.0 r.1 r.2 r.4)
+
+pub opens_decides : (thing : Thing) (id : List ℕ) (act : Act) → Decides (act_opens thing id act) (act ≡ Opening thing id)
+opens_decides thing id (Opening other other_id) =
+    Decides-like (same_thing thing other && bytes_eq id other_id) (λ p. let a = p.0 in let b = p.1 in cc) (λ e. (cc, cc)) (Decides-and (same_thing thing other) (bytes_eq id other_id) (same_decides thing other) (bytes_eq-Decides id other_id))
+opens_decides thing id (Cancelling _ _) = (λ e. cc, λ e. cc)
+opens_decides thing id Closing = (λ e. cc, λ e. cc)
+opens_decides thing id (Asking _ _ _) = (λ e. cc, λ e. cc)
+opens_decides thing id Other = (λ e. cc, λ e. cc)
+
+pub cancels_decides : (thing : Thing) (id : List ℕ) (act : Act) → Decides (act_cancels thing id act) (act ≡ Cancelling thing id)
+cancels_decides thing id (Cancelling other other_id) =
+    Decides-like (same_thing thing other && bytes_eq id other_id) (λ p. let a = p.0 in let b = p.1 in cc) (λ e. (cc, cc)) (Decides-and (same_thing thing other) (bytes_eq id other_id) (same_decides thing other) (bytes_eq-Decides id other_id))
+cancels_decides thing id (Opening _ _) = (λ e. cc, λ e. cc)
+cancels_decides thing id Closing = (λ e. cc, λ e. cc)
+cancels_decides thing id (Asking _ _ _) = (λ e. cc, λ e. cc)
+cancels_decides thing id Other = (λ e. cc, λ e. cc)
+
+closing_decides : (act : Act) → Decides (act_closes act) (act ≡ Closing)
+closing_decides Closing = (λ e. refl, λ e. refl)
+closing_decides (Opening _ _) = (λ e. cc, λ e. cc)
+closing_decides (Cancelling _ _) = (λ e. cc, λ e. cc)
+closing_decides (Asking _ _ _) = (λ e. cc, λ e. cc)
+closing_decides Other = (λ e. cc, λ e. cc)
+
+-- one of the commands passes the test exactly where one of them does that
+pub does_decides : (test : Act → Bool) (act : Act) → ((a : Act) → Decides (test a) (a ≡ act)) → (xs : List Command) → Decides (some_act test xs) (Does xs act)
+does_decides test act each xs =
+    let d = split_decides (λ x _. test (act_of x)) (some_act test) refl (λ _ _. refl) xs in (
+      λ h. let r = d.0 h in (r.0, r.1, r.2, r.3, (each (act_of r.1)).0 r.4),
+      λ r. d.1 (r.0, r.1, r.2, r.3, (each (act_of r.1)).1 r.4),
+    )
+
+pub some_cancels : (thing : Thing) (id : List ℕ) (xs : List Command) → Decides (some_act (act_cancels thing id) xs) (Does xs (Cancelling thing id))
+some_cancels thing id xs = does_decides (act_cancels thing id) (Cancelling thing id) (cancels_decides thing id) xs
+
+or_swap : (a b : Bool) → (a || b) ≡ (b || a)
+or_swap true true = refl
+or_swap true false = refl
+or_swap false true = refl
+or_swap false false = refl
+
+pub left_decides : (thing : Thing) (id : List ℕ) (xs : List Command) → Decides (left_open thing id xs) (IsLeftOpen thing id xs)
+left_decides thing id xs =
+    let test : Command → List Command → Bool = λ x rest. act_opens thing id (act_of x) && not (some_act (act_cancels thing id) rest) in
+    let d = split_decides test (left_open thing id) refl (λ x rest. or_swap (left_open thing id rest) (test x rest)) xs in
+    let each = λ (x : Command) (rest : List Command). Decides-and (act_opens thing id (act_of x)) (not (some_act (act_cancels thing id) rest)) (opens_decides thing id (act_of x)) (Decides-not (some_act (act_cancels thing id) rest) (some_cancels thing id rest)) in (
+      λ h. let r = d.0 h in let q = (each r.1 r.2).0 r.4 in (r.0, r.1, r.2, r.3, q.0, q.1),
+      λ r. d.1 (r.0, r.1, r.2, r.3, (each r.1 r.2).1 (r.4, r.5)),
+    )
+
+withdrawn_decides : (thing : Thing) (id : List ℕ) (xs : List Command) → Decides (withdrawn thing id xs) (IsWithdrawn thing id xs)
+withdrawn_decides thing id xs =
+    let test : Command → List Command → Bool = λ x rest. act_opens thing id (act_of x) && some_act (act_cancels thing id) rest in
+    let d = split_decides test (withdrawn thing id) refl (λ _ _. refl) xs in
+    let each = λ (x : Command) (rest : List Command). Decides-and (act_opens thing id (act_of x)) (some_act (act_cancels thing id) rest) (opens_decides thing id (act_of x)) (some_cancels thing id rest) in (
+      λ h. let r = d.0 h in let q = (each r.1 r.2).0 r.4 in (r.0, r.1, r.2, r.3, q.0, q.1),
+      λ r. d.1 (r.0, r.1, r.2, r.3, (each r.1 r.2).1 (r.4, r.5)),
+    )
+
+timer_decides : (thing : Thing) → Decides (is_timer thing) (thing ≡ Timer)
+timer_decides Timer = (λ e. refl, λ e. refl)
+timer_decides Activity = (λ e. cc, λ e. cc)
+timer_decides Child = (λ e. cc, λ e. cc)
+timer_decides CancelRequest = (λ e. cc, λ e. cc)
+timer_decides SignalRequest = (λ e. cc, λ e. cc)
+
+still_decides : (place : Place) (earlier : List Command) (thing : Thing) (id : List ℕ) → Decides (still_open place earlier thing id) (IsStillOpen place earlier thing id)
+still_decides place earlier thing id =
+    let stopped : Bool = is_timer thing && some_act (act_cancels thing id) earlier in
+    Decides-or (left_open thing id earlier) (open_at place thing id && not stopped) (left_decides thing id earlier)
+    (Decides-and (open_at place thing id) (not stopped) (has_decides place.seen thing id)
+    (Decides-not stopped (Decides-and (is_timer thing) (some_act (act_cancels thing id) earlier) (timer_decides thing) (some_cancels thing id earlier))))
+
+-- places in a list that stands in a longer one
+pub at_left : (xs ys : List Event) (k : ℕ) (e : Event) → slice_get xs k ≡ Some e → slice_get (xs ++ ys) k ≡ Some e
+at_left [] ys k e h = cc
+at_left (x ∷ xs) ys zero e h = h
+at_left (x ∷ xs) ys (suc k) e h = at_left xs ys k e h
+
+pub at_right : (xs ys : List Event) (k : ℕ) (e : Event) → slice_get ys k ≡ Some e → (j : ℕ) × (j ≡ length xs + k) × (slice_get (xs ++ ys) j ≡ Some e)
+at_right [] ys k e h = (k, omega arith, h)
+at_right (x ∷ xs) ys k e h = let r = at_right xs ys k e h in (suc r.0, (let same = r.1 in omega arith), r.2)
+
+-- an event between the cuts is one of the history
+in_history : (place : Place) → IsOfCut place → (i : ℕ) (e : Event) → IsAt place.between i e → (j : ℕ) × IsAt place.seen j e
+in_history place of_cut i e h =
+    let ends = of_cut.ends in
+    let k = index_of place.between i e h in
+    let r = at_right ends.0 (place.between ++ ends.1 ∷ []) k.0 e (at_left place.between (ends.1 ∷ []) k.0 e k.2) in
+    (suc r.0, at_index place.seen r.0 e (ap (λ l. slice_get l r.0) ends.2 ∙ r.2))
+
+status_closes : (o : Option ℕ) (cancelling started : Bool) (by : ℕ) → status_by o cancelling started ≡ Closed by → o ≡ Some by
+status_closes (Some other) cancelling started by h = cc
+status_closes None true started by h = cc
+status_closes None false true by h = cc
+status_closes None false false by h = cc
+
+status_cancels : (o : Option ℕ) (cancelling started : Bool) → status_by o cancelling started ≡ CancellingStatus → cancelling ≡ true
+status_cancels (Some other) cancelling started h = cc
+status_cancels None true started h = refl
+status_cancels None false true h = cc
+status_cancels None false false h = cc
+
+-- in a history in place the event that closes a thing is the one whose number is found
+closer_numbered : (events : List Event) → InPlace events → (number j : ℕ) (closer : Event) → IsAt events j closer → IsTrue (closes number closer) → closed_by number events ≡ Some j
+closer_numbered events placed number j closer at shuts = status_closes _ _ _ j ((status_is_said events placed number).closed j closer at shuts)
+
+outside_decides : (number : ℕ) (xs : List Event) → Decides (has_outside (Some number) xs) ((i : ℕ) × (e : Event) × IsAt xs i e × ((is_outside e && eqb number e.number) ≡ true))
+outside_decides number xs = some_decides (λ e. is_outside e && eqb number e.number) (has_outside (Some number)) refl (λ _ _. refl) xs
+
+module _ (place : Place) (of_cut : IsOfCut place) (thing : Thing) (id : List ℕ) where
+  ended_found : (last closer : Option ℕ) → last_named place.seen thing id ≡ last → closer_of place.seen last ≡ closer → has_outside closer place.between ≡ true → IsEndedHere place thing id
+  ended_found None closer l c h = let w : has_outside None place.between ≡ true = ap (λ o. has_outside o place.between) c ∙ h in cc
+  ended_found (Some number) None l c h = cc
+  ended_found (Some number) (Some by) l c h =
+      let r = (outside_decides by place.between).0 h in
+      let test = (Decides-and (is_outside r.1) (eqb by r.1.number) (λ e. e, λ e. e) (Decides-eqb by r.1.number)).0 r.3 in
+      let there = in_history place of_cut r.0 r.1 r.2 in
+      let own = of_cut.in_place.numbered there.0 r.1 there.1 in
+      let closed = (closed_decides place.seen number).0 (ap is_some c) in
+      let found = closer_numbered place.seen of_cut.in_place number closed.0 closed.1 closed.2 closed.3 in
+      let same : closed.0 ≡ there.0 = (let a : Some closed.0 ≡ Some by = sym found ∙ c in let b = test.1 in cc) in
+      let event = same_event place.seen there.0 closed.1 r.1 (subst (λ i. IsAt place.seen i closed.1) same closed.2) there.1 in
+      (number, r.0, r.1, (last_last place.seen of_cut.in_place thing id number).0 l, r.2, test.0, subst (λ e. IsTrue (closes number e)) event closed.3)
+
+  ended_decides : Decides (has_outside (closer_of place.seen (last_named place.seen thing id)) place.between) (IsEndedHere place thing id)
+  ended_decides = (
+    λ h. ended_found (last_named place.seen thing id) _ refl refl h,
+    λ r.
+        let there = in_history place of_cut r.1 r.2 r.4 in
+        let own = of_cut.in_place.numbered there.0 r.2 there.1 in
+        let last = (last_last place.seen of_cut.in_place thing id r.0).1 r.3 in
+        let found = closer_numbered place.seen of_cut.in_place r.0 there.0 r.2 there.1 r.6 in
+        let closer : closer_of place.seen (last_named place.seen thing id) ≡ Some r.2.number = ap (closer_of place.seen) last ∙ (found ∙ ap Some (sym own)) in
+        ap (λ o. has_outside o place.between) closer
+        ∙ (outside_decides r.2.number place.between).1 (r.1, r.2, r.4, (Decides-and (is_outside r.2) (eqb r.2.number r.2.number) (λ e. e, λ e. e) (Decides-eqb r.2.number r.2.number)).1 (r.5, refl)),
+  )
+
+  pub late_decides : (earlier : List Command) → Decides (is_late place earlier thing id) (IsLateCancel place earlier thing id)
+  late_decides earlier =
+      let opened : Bool = some_act (act_opens thing id) earlier in
+      let ended : Bool = has_outside (closer_of place.seen (last_named place.seen thing id)) place.between in
+      Decides-like (is_late place earlier thing id) (λ p. (p.0, p.1.0, p.1.1)) (λ p. (p.0, (p.1, p.2)))
+      (Decides-and (not (open_at place thing id)) (not opened && ended) (Decides-not (open_at place thing id) (has_decides place.seen thing id))
+      (Decides-and (not opened) ended (Decides-not opened (does_decides (act_opens thing id) (Opening thing id) (opens_decides thing id) earlier)) ended_decides))
+
+  cancelling_found : (o : Option ℕ) → IsTrue (is_named thing) → open_named place.seen thing id ≡ o → cancels_open place o ≡ true → IsCancellingAtCut place thing id
+  cancelling_found None named e h = cc
+  cancelling_found (Some number) named e h =
+      let under = (open_unclosed place.seen of_cut.in_place thing id number named).0 e in
+      let unclosed = elim (some_or_none (closed_by number place.seen)) as (λ _. closed_by number place.seen ≡ None) [ inl some ↦ absurd (under.3 ((closed_decides place.seen number).0 (ap is_some some.1))) | inr none ↦ none ] in
+      (number, under, ap (λ o. status_by o (is_cancelling place.seen number) (is_started place.seen number)) unclosed ∙ ap (λ b. status_by None b (is_started place.seen number)) h)
+
+  cancelling_decides : IsTrue (is_named thing) → Decides (cancels_open place (open_named place.seen thing id)) (IsCancellingAtCut place thing id)
+  cancelling_decides named = (
+    λ h. cancelling_found (open_named place.seen thing id) named refl h,
+    λ r. ap (cancels_open place) ((open_unclosed place.seen of_cut.in_place thing id r.0 named).1 r.1) ∙ status_cancels _ _ _ r.2,
+  )
+
+  again_decides : IsTrue (is_named thing) → (earlier : List Command) → Decides (is_cancelled place earlier thing id) ((¬ (thing ≡ Timer)) × (IsCancellingAtCut place thing id ⊎ (HasOpen place.seen thing id × Does earlier (Cancelling thing id))))
+  again_decides named earlier =
+      let asked : Bool = cancels_open place (open_named place.seen thing id) in
+      let stopped : Bool = open_at place thing id && some_act (act_cancels thing id) earlier in
+      Decides-and (not (is_timer thing)) (asked || stopped) (Decides-not (is_timer thing) (timer_decides thing))
+      (Decides-or asked stopped (cancelling_decides named) (Decides-and (open_at place thing id) (some_act (act_cancels thing id) earlier) (has_decides place.seen thing id) (some_cancels thing id earlier)))
+
+-- what commands open and cancel has a name
+abbrev IsNamedAct : Act → Type 0
+IsNamedAct (Cancelling thing id) = IsTrue (is_named thing)
+IsNamedAct _ = Unit {0}
+
+named_act : (command : Command) → IsNamedAct (act_of command)
+named_act (CancelActivity id) = refl
+named_act (CancelTimer id) = refl
+named_act (CancelChild workflow_id) = refl
+named_act (StartActivity _ _ _) = tt
+named_act (StartTimer _ _) = tt
+named_act (StartChild _ _ _) = tt
+named_act (SignalExternal _ _ _) = tt
+named_act (Ask _ _ _) = tt
+named_act (Marker _ _) = tt
+named_act (Complete _) = tt
+named_act (Fail _) = tt
+named_act Cancel = tt
+named_act (ContinueAsNew _ _) = tt
+
+-- the tests of the rows
+uses : Place → List Command → Act → Bool
+uses place earlier (Opening thing id) = still_open place earlier thing id
+uses place earlier _ = false
+
+reuses : List Command → Act → Bool
+reuses earlier (Opening thing id) = withdrawn thing id earlier
+reuses earlier _ = false
+
+misses : Place → List Command → Act → Bool
+misses place earlier (Cancelling thing id) = not (still_open place earlier thing id) && not (is_late place earlier thing id)
+misses place earlier _ = false
+
+cancels_again : Place → List Command → Act → Bool
+cancels_again place earlier (Cancelling thing id) = is_cancelled place earlier thing id
+cancels_again place earlier _ = false
+
+asks_badly : Act → Bool
+asks_badly (Asking change_id low high) = int_lt high low || (int_lt low (negsuc 0) || int_lt high (pos 0))
+asks_badly _ = false
+
+gets_badly : Place → Settled → Act → Bool
+gets_badly place settled (Asking change_id low high) = let version = (choice_of place settled change_id high).version in int_lt version low || int_lt high version
+gets_badly place settled _ = false
+
+row_test : Place → Settled → List Command → Command → WorkflowFault → Bool
+row_test place settled earlier command AfterClosing = some_act act_closes earlier
+row_test place settled earlier command TooManyCommands = leb most_commands (length (given earlier))
+row_test place settled earlier command IdInUse = uses place earlier (act_of command)
+row_test place settled earlier command IdReused = reuses earlier (act_of command)
+row_test place settled earlier command NotOpen = misses place earlier (act_of command)
+row_test place settled earlier command AlreadyCancelling = cancels_again place earlier (act_of command)
+row_test place settled earlier command BadRange = asks_badly (act_of command)
+row_test place settled earlier command VersionOutOfRange = gets_badly place settled (act_of command)
+row_test place settled earlier command UnknownWorkflow = false
+
+-- the least row that passes
+first_row : (WorkflowFault → Bool) → Option WorkflowFault
+first_row t =
+    or_else (fault_if (t AfterClosing) AfterClosing) (or_else (fault_if (t TooManyCommands) TooManyCommands) (or_else (fault_if (t IdInUse) IdInUse)
+    (or_else (fault_if (t IdReused) IdReused) (or_else (fault_if (t NotOpen) NotOpen) (or_else (fault_if (t AlreadyCancelling) AlreadyCancelling)
+    (or_else (fault_if (t BadRange) BadRange) (or_else (fault_if (t VersionOutOfRange) VersionOutOfRange) (or_else (fault_if (t UnknownWorkflow) UnknownWorkflow) None))))))))
+
+or_none : (o : Option WorkflowFault) → o ≡ or_else o None
+or_none None = refl
+or_none (Some x) = refl
+
+in_rows : (place : Place) (settled : Settled) (earlier : List Command) (act : Act) → act_fault place settled earlier act
+    ≡ or_else (fault_if (uses place earlier act) IdInUse) (or_else (fault_if (reuses earlier act) IdReused) (or_else (fault_if (misses place earlier act) NotOpen)
+    (or_else (fault_if (cancels_again place earlier act) AlreadyCancelling) (or_else (fault_if (asks_badly act) BadRange) (or_else (fault_if (gets_badly place settled act) VersionOutOfRange) None)))))
+unfolding opening_fault cancel_fault ask_fault uses reuses misses cancels_again asks_badly gets_badly
+in_rows place settled earlier (Opening thing id) = ap (or_else (fault_if (still_open place earlier thing id) IdInUse)) (or_none (fault_if (withdrawn thing id earlier) IdReused))
+in_rows place settled earlier (Cancelling thing id) =
+    ap (or_else (fault_if (not (still_open place earlier thing id) && not (is_late place earlier thing id)) NotOpen)) (or_none (fault_if (is_cancelled place earlier thing id) AlreadyCancelling))
+in_rows place settled earlier (Asking change_id low high) =
+    let version : ℤ = (choice_of place settled change_id high).version in
+    ap (or_else (fault_if (int_lt high low || (int_lt low (negsuc 0) || int_lt high (pos 0))) BadRange)) (or_none (fault_if (int_lt version low || int_lt high version) VersionOutOfRange))
+in_rows place settled earlier Closing = refl
+in_rows place settled earlier Other = refl
+
+fault_row : (place : Place) (settled : Settled) (earlier : List Command) (command : Command) → command_fault place settled earlier command ≡ first_row (row_test place settled earlier command)
+unfolding command_fault first_row row_test
+fault_row place settled earlier command = rw (in_rows place settled earlier (act_of command)) refl
+
+-- what the rest of the rows tells, from one row on
+abbrev Tells : (WorkflowFault → Bool) → ℕ → Option WorkflowFault → Type 0
+Tells t n None = (f : WorkflowFault) → n ≤ row_of f → t f ≡ false
+Tells t n (Some f) = (n ≤ row_of f) × (t f ≡ true) × ((g : WorkflowFault) → n ≤ row_of g → t g ≡ true → row_of f ≤ row_of g)
+
+row_inj : (f g : WorkflowFault) → row_of f ≡ row_of g → f ≡ g
+row_inj AfterClosing AfterClosing e = refl
+row_inj TooManyCommands TooManyCommands e = refl
+row_inj IdInUse IdInUse e = refl
+row_inj IdReused IdReused e = refl
+row_inj NotOpen NotOpen e = refl
+row_inj AlreadyCancelling AlreadyCancelling e = refl
+row_inj BadRange BadRange e = refl
+row_inj VersionOutOfRange VersionOutOfRange e = refl
+row_inj UnknownWorkflow UnknownWorkflow e = refl
+row_inj _ _ e = absurd (omega arith)
+
+at_or_above : (f g : WorkflowFault) → row_of f ≤ row_of g → (f ≡ g) ⊎ (suc (row_of f) ≤ row_of g)
+at_or_above f g h = elim (leb_cases (suc (row_of f)) (row_of g)) [ inl more ↦ inr more | inr less ↦ inl (row_inj f g (omega arith)) ]
+
+tell : (t : WorkflowFault → Bool) (f : WorkflowFault) (rest : Option WorkflowFault) (here : Bool) → t f ≡ here → Tells t (suc (row_of f)) rest → Tells t (row_of f) (or_else (fault_if here f) rest)
+tell t f rest true e h = (omega arith, e, λ g above passes. above)
+tell t f None false e h = λ g above. elim (at_or_above f g above) [ inl same ↦ ap t (sym same) ∙ e | inr more ↦ h g more ]
+tell t f (Some other) false e h =
+    (let a = h.0 in omega arith, h.1, λ g above passes. elim (at_or_above f g above) [ inl same ↦ (let q : true ≡ false = sym passes ∙ (ap t (sym same) ∙ e) in cc) | inr more ↦ h.2 g more passes ])
+
+no_more : (t : WorkflowFault → Bool) → Tells t 10 None
+no_more t AfterClosing h = absurd (omega arith)
+no_more t TooManyCommands h = absurd (omega arith)
+no_more t IdInUse h = absurd (omega arith)
+no_more t IdReused h = absurd (omega arith)
+no_more t NotOpen h = absurd (omega arith)
+no_more t AlreadyCancelling h = absurd (omega arith)
+no_more t BadRange h = absurd (omega arith)
+no_more t VersionOutOfRange h = absurd (omega arith)
+no_more t UnknownWorkflow h = absurd (omega arith)
+
+first_tells : (t : WorkflowFault → Bool) → Tells t 1 (first_row t)
+unfolding first_row
+first_tells t =
+    tell t AfterClosing _ (t AfterClosing) refl (tell t TooManyCommands _ (t TooManyCommands) refl (tell t IdInUse _ (t IdInUse) refl (tell t IdReused _ (t IdReused) refl
+    (tell t NotOpen _ (t NotOpen) refl (tell t AlreadyCancelling _ (t AlreadyCancelling) refl (tell t BadRange _ (t BadRange) refl
+    (tell t VersionOutOfRange _ (t VersionOutOfRange) refl (tell t UnknownWorkflow None (t UnknownWorkflow) refl (no_more t)))))))))
+
+positive : (f : WorkflowFault) → 1 ≤ row_of f
+positive AfterClosing = omega arith
+positive _ = omega arith
+
+-- each test decides its row
+true_of : (b : Bool) → T b → b ≡ true
+true_of true h = refl
+true_of false h = absurd h
+
+of_true : (b : Bool) → b ≡ true → T b
+of_true true h = tt
+of_true false h = cc
+
+less_decides : (a b : ℤ) → Decides (int_lt a b) (a <ℤ b)
+less_decides a b = (λ h. lt_z_yes (of_true (int_lt a b) h), λ h. true_of (int_lt a b) h.lt)
+
+leb_decides : (a b : ℕ) → Decides (leb a b) (a ≤ b)
+leb_decides a b = (λ e. grind (arith, nat_tests), λ h. grind (arith, nat_tests))
+
+module _ (place : Place) (of_cut : IsOfCut place) (settled : Settled) (earlier : List Command) where
+  uses_decides : (act : Act) → Decides (uses place earlier act) (UsesId place earlier act)
+  unfolding uses
+  uses_decides (Opening thing id) = still_decides place earlier thing id
+  uses_decides (Cancelling _ _) = (λ e. cc, λ h. absurd h)
+  uses_decides Closing = (λ e. cc, λ h. absurd h)
+  uses_decides (Asking _ _ _) = (λ e. cc, λ h. absurd h)
+  uses_decides Other = (λ e. cc, λ h. absurd h)
+
+  reuses_decides : (act : Act) → Decides (reuses earlier act) (ReusesId earlier act)
+  unfolding reuses
+  reuses_decides (Opening thing id) = withdrawn_decides thing id earlier
+  reuses_decides (Cancelling _ _) = (λ e. cc, λ h. absurd h)
+  reuses_decides Closing = (λ e. cc, λ h. absurd h)
+  reuses_decides (Asking _ _ _) = (λ e. cc, λ h. absurd h)
+  reuses_decides Other = (λ e. cc, λ h. absurd h)
+
+  misses_decides : (act : Act) → Decides (misses place earlier act) (CancelsNothing place earlier act)
+  unfolding misses
+  misses_decides (Cancelling thing id) =
+      Decides-and (not (still_open place earlier thing id)) (not (is_late place earlier thing id)) (Decides-not (still_open place earlier thing id) (still_decides place earlier thing id))
+      (Decides-not (is_late place earlier thing id) (late_decides place of_cut thing id earlier))
+  misses_decides (Opening _ _) = (λ e. cc, λ h. absurd h)
+  misses_decides Closing = (λ e. cc, λ h. absurd h)
+  misses_decides (Asking _ _ _) = (λ e. cc, λ h. absurd h)
+  misses_decides Other = (λ e. cc, λ h. absurd h)
+
+  cancels_again_decides : (act : Act) → IsNamedAct act → Decides (cancels_again place earlier act) (CancelsAgain place earlier act)
+  unfolding cancels_again
+  cancels_again_decides (Cancelling thing id) named = again_decides place of_cut thing id named earlier
+  cancels_again_decides (Opening _ _) named = (λ e. cc, λ h. absurd h)
+  cancels_again_decides Closing named = (λ e. cc, λ h. absurd h)
+  cancels_again_decides (Asking _ _ _) named = (λ e. cc, λ h. absurd h)
+  cancels_again_decides Other named = (λ e. cc, λ h. absurd h)
+
+  asks_badly_decides : (act : Act) → Decides (asks_badly act) (AsksBadRange act)
+  unfolding asks_badly
+  asks_badly_decides (Asking change_id low high) =
+      Decides-or (int_lt high low) (int_lt low (negsuc 0) || int_lt high (pos 0)) (less_decides high low) (Decides-or (int_lt low (negsuc 0)) (int_lt high (pos 0)) (less_decides low (negsuc 0)) (less_decides high (pos 0)))
+  asks_badly_decides (Opening _ _) = (λ e. cc, λ h. absurd h)
+  asks_badly_decides (Cancelling _ _) = (λ e. cc, λ h. absurd h)
+  asks_badly_decides Closing = (λ e. cc, λ h. absurd h)
+  asks_badly_decides Other = (λ e. cc, λ h. absurd h)
+
+  gets_badly_decides : (act : Act) → Decides (gets_badly place settled act) (GetsOutOfRange place settled act)
+  unfolding gets_badly
+  gets_badly_decides (Asking change_id low high) =
+      let version : ℤ = (choice_of place settled change_id high).version in
+      Decides-or (int_lt version low) (int_lt high version) (less_decides version low) (less_decides high version)
+  gets_badly_decides (Opening _ _) = (λ e. cc, λ h. absurd h)
+  gets_badly_decides (Cancelling _ _) = (λ e. cc, λ h. absurd h)
+  gets_badly_decides Closing = (λ e. cc, λ h. absurd h)
+  gets_badly_decides Other = (λ e. cc, λ h. absurd h)
+
+  row_decides : (command : Command) (row : WorkflowFault) → Decides (row_test place settled earlier command row) (RowApplies place settled earlier command row)
+  unfolding row_test
+  row_decides command AfterClosing = does_decides act_closes Closing closing_decides earlier
+  row_decides command TooManyCommands = leb_decides most_commands (length (given earlier))
+  row_decides command IdInUse = uses_decides (act_of command)
+  row_decides command IdReused = reuses_decides (act_of command)
+  row_decides command NotOpen = misses_decides (act_of command)
+  row_decides command AlreadyCancelling = cancels_again_decides (act_of command) (named_act command)
+  row_decides command BadRange = asks_badly_decides (act_of command)
+  row_decides command VersionOutOfRange = gets_badly_decides (act_of command)
+  row_decides command UnknownWorkflow = (λ e. cc, λ h. absurd h)
+
+-- the fault, and the rows that apply
+told : (t : WorkflowFault → Bool) (o : Option WorkflowFault) → Tells t 1 o → ((o ≡ None) × ((f : WorkflowFault) → t f ≡ false)) ⊎ ((f : WorkflowFault) × (o ≡ Some f) × (t f ≡ true) × ((g : WorkflowFault) → t g ≡ true → row_of f ≤ row_of g))
+told t None h = inl (refl, λ f. h f (positive f))
+told t (Some f) h = inr (f, refl, h.1, λ g. h.2 g (positive g))
+
+-- either no row applies, or the fault is the least one
+fault_tells : (place : Place) (settled : Settled) (earlier : List Command) (command : Command) → IsOfCut place
+    → ((command_fault place settled earlier command ≡ None) × ((row : WorkflowFault) → ¬ RowApplies place settled earlier command row))
+    ⊎ ((f : WorkflowFault) × (command_fault place settled earlier command ≡ Some f) × IsLeastRow place settled earlier command f)
+fault_tells place settled earlier command of_cut =
+    let t = row_test place settled earlier command in
+    let decides = row_decides place of_cut settled earlier command in
+    elim (told t (first_row t) (first_tells t)) [
+      | inl none ↦ inl (fault_row place settled earlier command ∙ none.0, λ row h. let passed_here = (decides row).1 h in let failed_here = none.1 row in cc)
+      | inr some ↦ inr (some.0, fault_row place settled earlier command ∙ some.1, record { applies = (decides some.0).0 some.2; least = λ other h. some.3 other ((decides other).1 h) })
+    ]
+
+same_least : (place : Place) (settled : Settled) (earlier : List Command) (command : Command) (f g : WorkflowFault) → IsLeastRow place settled earlier command f → IsLeastRow place settled earlier command g → f ≡ g
+same_least place settled earlier command f g a b = let p = a.least g b.applies in let q = b.least f a.applies in row_inj f g (omega arith)
+
+pub least_row_decides : LeastRowDecides
+least_row_decides place settled earlier command of_cut =
+    elim (fault_tells place settled earlier command of_cut) [
+      | inl none ↦ ((λ _. none.1, λ _. none.0), λ fault. (λ e. let n = none.0 in cc, λ l. absurd (none.1 fault l.applies)))
+      | inr some ↦ (
+        (λ e. let n = some.1 in cc, λ h. absurd (h some.0 some.2.applies)),
+        λ fault. (
+          λ e. let same : some.0 ≡ fault = (let n = some.1 in cc) in subst (IsLeastRow place settled earlier command) same some.2,
+          λ l. some.1 ∙ ap Some (same_least place settled earlier command some.0 fault some.2 l),
+        ),
+      )
+    ]

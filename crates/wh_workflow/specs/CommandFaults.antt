@@ -1,0 +1,115 @@
+-- Which rows of the table of workflow faults apply to a command, said of the commands before it and of the history up to the cut.
+use Rattle.std.specs.Prelude.{◌≡◌, ℕ, ◌≤◌, ◌↔◌, ◌⊎◌, List, [], ◌∷◌, ◌++◌, length, Some, None, IsTrue, pos, negsuc, ◌<ℤ◌}
+use Rattle.wh_events.specs.declared.event.Event.{Event}
+use Rattle.wh_events.specs.declared.place.Status.TheVariants.{Cancelling as CancellingStatus}
+use Rattle.wh_events.specs.declared.place.Thing.{Thing}
+use Rattle.wh_events.specs.declared.place.Thing.TheVariants.{Timer}
+use Rattle.wh_events.specs.Cuts.{is_outside}
+use Rattle.wh_events.specs.Machines.{closes, status_of}
+use Rattle.wh_events.specs.InPlace.{InPlace, IsAt, HasOpen}
+use Rattle.wh_events.specs.Names.{IsOpenUnder, IsLastUnder}
+use Rattle.wh_workflow.specs.declared.command.Command.{Command}
+use Rattle.wh_workflow.specs.declared.fault.WorkflowFault.{WorkflowFault}
+use Rattle.wh_workflow.specs.declared.fault.WorkflowFault.TheVariants.{AfterClosing, TooManyCommands, IdInUse, IdReused, NotOpen, AlreadyCancelling, BadRange, VersionOutOfRange, UnknownWorkflow}
+use Rattle.wh_workflow.specs.Scripts.{Place, Settled, Act, act_of, choice_of, given, most_commands, command_fault}
+use Rattle.wh_workflow.specs.Scripts.Act.{Opening, Cancelling, Closing, Asking}
+
+-- what an activation knows is of a cut, the last event of a history in place: the events between are those right before it
+pub record IsOfCut (place : Place) : Type 0 where
+  pub in_place : InPlace place.seen
+  pub ends : (passed : List Event) × (cut : Event) × (place.seen ≡ passed ++ (place.between ++ cut ∷ []))
+
+-- one of the commands does it
+abbrev pub Does : List Command → Act → Type 0
+Does commands act = (before : List Command) × (command : Command) × (after : List Command) × (commands ≡ before ++ command ∷ after) × (act_of command ≡ act)
+
+-- one of the commands opens it, and no later one cancels it
+abbrev pub IsLeftOpen : Thing → List ℕ → List Command → Type 0
+IsLeftOpen thing id commands =
+    (before : List Command) × (opening : Command) × (after : List Command) × (commands ≡ before ++ opening ∷ after) × (act_of opening ≡ Opening thing id) × ¬ Does after (Cancelling thing id)
+
+-- one of the commands opens it, and a later one cancels it
+abbrev pub IsWithdrawn : Thing → List ℕ → List Command → Type 0
+IsWithdrawn thing id commands =
+    (before : List Command) × (opening : Command) × (after : List Command) × (commands ≡ before ++ opening ∷ after) × (act_of opening ≡ Opening thing id) × Does after (Cancelling thing id)
+
+-- it is open by now: opened in this activation and not cancelled, or open at the cut, and no timer that was cancelled in this activation
+abbrev pub IsStillOpen : Place → List Command → Thing → List ℕ → Type 0
+IsStillOpen place earlier thing id = IsLeftOpen thing id earlier ⊎ (HasOpen place.seen thing id × ¬ ((thing ≡ Timer) × Does earlier (Cancelling thing id)))
+
+-- its last opening was closed by an outside event of this activation
+abbrev pub IsEndedHere : Place → Thing → List ℕ → Type 0
+IsEndedHere place thing id = (number : ℕ) × (i : ℕ) × (closer : Event) × IsLastUnder place.seen thing id number × IsAt place.between i closer × IsTrue (is_outside closer) × IsTrue (closes number closer)
+
+-- a cancel of it is late: it is not open at the cut, was not opened in this activation, and was ended by an outside event of it
+abbrev pub IsLateCancel : Place → List Command → Thing → List ℕ → Type 0
+IsLateCancel place earlier thing id = (¬ HasOpen place.seen thing id) × (¬ Does earlier (Opening thing id)) × IsEndedHere place thing id
+
+-- the thing that is open under the id is cancelling at the cut
+abbrev pub IsCancellingAtCut : Place → Thing → List ℕ → Type 0
+IsCancellingAtCut place thing id = (number : ℕ) × IsOpenUnder place.seen thing id number × (status_of place.seen number ≡ CancellingStatus)
+
+-- an opening under an id that is in use
+abbrev pub UsesId : Place → List Command → Act → Type 0
+UsesId place earlier (Opening thing id) = IsStillOpen place earlier thing id
+UsesId place earlier _ = ⊥
+
+-- an opening of what this activation opened and then cancelled
+abbrev pub ReusesId : List Command → Act → Type 0
+ReusesId earlier (Opening thing id) = IsWithdrawn thing id earlier
+ReusesId earlier _ = ⊥
+
+-- a cancel of what is not open by now, and not a late one
+abbrev pub CancelsNothing : Place → List Command → Act → Type 0
+CancelsNothing place earlier (Cancelling thing id) = (¬ IsStillOpen place earlier thing id) × ¬ IsLateCancel place earlier thing id
+CancelsNothing place earlier _ = ⊥
+
+-- a cancel of an activity or child that is cancelling at the cut, or open at it and cancelled in this activation
+abbrev pub CancelsAgain : Place → List Command → Act → Type 0
+CancelsAgain place earlier (Cancelling thing id) = (¬ (thing ≡ Timer)) × (IsCancellingAtCut place thing id ⊎ (HasOpen place.seen thing id × Does earlier (Cancelling thing id)))
+CancelsAgain place earlier _ = ⊥
+
+-- an ask whose least version is above the greatest, or below -1, or whose greatest is below 0
+abbrev pub AsksBadRange : Act → Type 0
+AsksBadRange (Asking change_id low high) = (high <ℤ low) ⊎ ((low <ℤ negsuc 0) ⊎ (high <ℤ pos 0))
+AsksBadRange _ = ⊥
+
+-- an ask whose version is not in its range
+abbrev pub GetsOutOfRange : Place → Settled → Act → Type 0
+GetsOutOfRange place settled (Asking change_id low high) = let version = (choice_of place settled change_id high).version in (version <ℤ low) ⊎ (high <ℤ version)
+GetsOutOfRange place settled _ = ⊥
+
+-- the row of the table applies to a command after those before it
+abbrev pub RowApplies : Place → Settled → List Command → Command → WorkflowFault → Type 0
+RowApplies place settled earlier command AfterClosing = Does earlier Closing
+RowApplies place settled earlier command TooManyCommands = most_commands ≤ length (given earlier)
+RowApplies place settled earlier command IdInUse = UsesId place earlier (act_of command)
+RowApplies place settled earlier command IdReused = ReusesId earlier (act_of command)
+RowApplies place settled earlier command NotOpen = CancelsNothing place earlier (act_of command)
+RowApplies place settled earlier command AlreadyCancelling = CancelsAgain place earlier (act_of command)
+RowApplies place settled earlier command BadRange = AsksBadRange (act_of command)
+RowApplies place settled earlier command VersionOutOfRange = GetsOutOfRange place settled (act_of command)
+RowApplies place settled earlier command UnknownWorkflow = ⊥
+
+-- the number of a row in the table
+abbrev pub row_of : WorkflowFault → ℕ
+row_of AfterClosing = 1
+row_of TooManyCommands = 2
+row_of IdInUse = 3
+row_of IdReused = 4
+row_of NotOpen = 5
+row_of AlreadyCancelling = 6
+row_of BadRange = 7
+row_of VersionOutOfRange = 8
+row_of UnknownWorkflow = 9
+
+-- the least row that applies
+pub record IsLeastRow (place : Place) (settled : Settled) (earlier : List Command) (command : Command) (fault : WorkflowFault) : Type 0 where
+  pub applies : RowApplies place settled earlier command fault
+  pub least : (other : WorkflowFault) → RowApplies place settled earlier command other → row_of fault ≤ row_of other
+
+-- the fault of a command at a cut is the least row of the table that applies
+abbrev pub LeastRowDecides : Type 0
+LeastRowDecides = (place : Place) (settled : Settled) (earlier : List Command) (command : Command) → IsOfCut place
+    → ((command_fault place settled earlier command ≡ None) ↔ ((row : WorkflowFault) → ¬ RowApplies place settled earlier command row))
+    × ((fault : WorkflowFault) → (command_fault place settled earlier command ≡ Some fault) ↔ IsLeastRow place settled earlier command fault)
