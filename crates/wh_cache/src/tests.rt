@@ -81,7 +81,10 @@ fn history(alloc: Global, len: u64) -> Result<Vec<Event>, Fail> {
 
 fn run(alloc: Global, name: &str, len: u64) -> Result<Run<Still>, Fail> {
     let events = history(alloc, len)?;
-    Ok(Run::from_first(alloc, key(alloc, name)?, events, &mut Meter::new()).map_err(|_| "run")?)
+    match Run::from_first(alloc, key(alloc, name)?, events, &mut Meter::new()) {
+        Ok(run) => Ok(run),
+        Err(_) => Err("run".into()),
+    }
 }
 
 /// The names of the runs that had to go, in one word.

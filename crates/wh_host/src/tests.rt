@@ -94,7 +94,10 @@ fn run(alloc: Global, name: &str, len: u64) -> Result<Run<Still>, Fail> {
     let last = event(len, EventKind::WorkflowTaskStarted)?;
     events.push(last).map_err(|_| "memory")?;
     let key = key(alloc, name)?;
-    Ok(Run::from_first(alloc, key, events, &mut Meter::new()).map_err(|_| "run")?)
+    match Run::from_first(alloc, key, events, &mut Meter::new()) {
+        Ok(run) => Ok(run),
+        Err(_) => Err("run".into()),
+    }
 }
 
 /// Takes a workflow task of the key in hand.
