@@ -1,4 +1,4 @@
-use Rattle.std.proofs.Common.{◌≡◌, ◌++◌, ◌≤◌, ◌∷◌, [], take, drop, length, ◌-◌, arith, rules}
+use Rattle.std.proofs.Common.{◌≡◌, ◌++◌, ◌∷◌, [], arith, rules}
 use Rattle.std.proofs.lemmas.Grind.{common_steps}
 use Rattle.wh_samples.proofs.Parting.{part_goes_on, part_within}
 use Rattle.wh_samples.proofs.script_source.copy_between.Goals as goal

@@ -1,4 +1,4 @@
-use Rattle.std.proofs.Common.{◌≡◌, take, min, sum_by}
+use Rattle.std.proofs.Common.{◌≡◌, take}
 use Rattle.wh_samples.specs.Rounds.{deliveries_of}
 use Rattle.wh_samples.proofs.script_source.ScriptSource.deliveries.Given as goal
 
