@@ -4,8 +4,8 @@ use crate::tests::notation::replays;
 use std::test::Fail;
 use wh_samples::{All, Asker, Flood};
 
-/// Commands that match their record or do not.
-const MATCHES: &str = "\
+/// Commands that match their record or do not, versions of a change, and commands that cannot stand.
+const ACTIVATIONS: &str = "\
 greet => x.json: ok, 2 tasks
 branch => x.json: ok, 2 tasks
 family => x.json: ok, 3 tasks
@@ -27,10 +27,6 @@ greet/5 activity_canceled:5 S T C canceled => x.json: ok, 2 tasks
 family/6 S T C child_failed:5 S T C failed => x.json: ok, 3 tasks
 family/6 signal:stop S T C cancel_child:kid child_canceled:5 cancel_sent:11 S T C canceled => x.json: ok, 3 tasks
 greet/5 cancel_requested S T C activity_cancel:5 activity_canceled:5 S T C canceled => x.json: ok, 3 tasks
-";
-
-/// Versions of a change.
-const VERSIONS: &str = "\
 start:Branch S T C chg_marker:MQ== activity:1:new => x.json: ok, 1 tasks
 start:Branch S T C chg_marker:MA== activity:1:new => x.json: ok, 1 tasks
 start:Branch S T C chg_marker:LTE= activity:1:old => x.json: ok, 1 tasks
@@ -40,10 +36,6 @@ start:Branch S T C activity:1:new chg_marker:MQ== => x.json: fault, event 5 diff
 start:Branch chg_marker:MQ== S T C activity:1:old => x.json: ok, 1 tasks
 start:Branch S T C chg_marker:Mg== activity:1:new => x.json: fault, task at 3: VersionOutOfRange
 start:Branch S T C activity:2:x chg_marker:Mg== => x.json: fault, task at 3: VersionOutOfRange
-";
-
-/// Commands that cannot stand.
-const FAULTS: &str = "\
 start:Nope => x.json: fault, task at 1: UnknownWorkflow
 nap | 'name':'Nap' -> 'name':'Nope' => x.json: fault, task at 1: UnknownWorkflow
 start:Nope S timer_fired:2 => x.json: fault, event 3 is not in place: WrongKindRef
@@ -69,18 +61,8 @@ start:Asker S T => x.json: fault, task at 3: TooManyCommands
 ";
 
 #[test]
-fn matches_records(rt: HostRuntime) -> Result<(), Fail> {
-    replays::<All, _>(&rt, rt.alloc(), MATCHES)
-}
-
-#[test]
-fn settles_versions(rt: HostRuntime) -> Result<(), Fail> {
-    replays::<All, _>(&rt, rt.alloc(), VERSIONS)
-}
-
-#[test]
-fn finds_workflow_faults(rt: HostRuntime) -> Result<(), Fail> {
-    replays::<All, _>(&rt, rt.alloc(), FAULTS)
+fn judges_activations(rt: HostRuntime) -> Result<(), Fail> {
+    replays::<All, _>(&rt, rt.alloc(), ACTIVATIONS)
 }
 
 #[test]

@@ -23,6 +23,7 @@ serve d --cache-events 512000001 => bad line
 serve d --slots 0 => bad line
 serve d --slots 1001 => bad line
 serve d --workers -1 => bad line
+ => bad line
 serve => bad line
 replay => bad line
 replay d e => bad line
@@ -80,12 +81,5 @@ fn reads_command_lines(rt: HostRuntime) -> Result<(), Fail> {
         let text = line_text(rt.alloc(), line)?;
         assert_eq!(rt; text.as_str(), wanted, "{line}");
     }
-    Ok(())
-}
-
-#[test]
-fn wants_a_command(rt: HostRuntime) -> Result<(), Fail> {
-    let text = line_text(rt.alloc(), "")?;
-    assert_eq!(rt; text.as_str(), "bad line");
     Ok(())
 }

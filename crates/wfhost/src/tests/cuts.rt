@@ -4,7 +4,8 @@ use crate::tests::notation::replays;
 use std::test::Fail;
 use wh_samples::All;
 
-/// Tasks that ended in one way or another.
+/// Tasks that ended in one way or another; records, which go on to the next completion, whichever
+/// it is; and events of failed tasks and of no record, which give jobs all the same.
 const CUTS: &str = "\
 start:Nap => x.json: ok, 0 tasks
 start:Nap S => x.json: ok, 0 tasks
@@ -17,19 +18,11 @@ nap/3 attributes_upserted C timer:nap => x.json: ok, 1 tasks
 nap/3 attributes_upserted task_failed => x.json: ok, 0 tasks
 start:Nap S T signal:s C timer:x => x.json: ok, 0 tasks
 start:Nap S T S C timer:x => x.json: ok, 0 tasks
-";
-
-/// Records, which go on to the next completion, whichever it is.
-const RECORDS: &str = "\
 nap/4 attributes_upserted signal:s timer:nap timer_fired:7 S T C completed => x.json: ok, 2 tasks
 nap/4 timer:nap C timer:x => x.json: ok, 1 tasks
 nap/4 timer:nap S T signal:s C timer:x => x.json: ok, 1 tasks
 nap/4 S T task_failed timer:nap S T C => x.json: ok, 2 tasks
 nap/5 S T task_failed timer:x S T C => x.json: fault, event 9 has no command
-";
-
-/// Events of failed tasks and of no record, which give jobs all the same.
-const JOBS: &str = "\
 start:Nap timer:nap timer_fired:2 S T => x.json: ok, 1 tasks, last live
 start:Nap timer:nap timer_fired:2 S T C timer:nap completed => x.json: ok, 1 tasks
 nap/6 S T task_failed S T C completed => x.json: ok, 2 tasks
@@ -41,16 +34,6 @@ greet/5 cancel_requested S T C activity_cancel:5 cancel_requested S T C activity
 ";
 
 #[test]
-fn splits_histories(rt: HostRuntime) -> Result<(), Fail> {
+fn judges_cuts(rt: HostRuntime) -> Result<(), Fail> {
     replays::<All, _>(&rt, rt.alloc(), CUTS)
-}
-
-#[test]
-fn takes_records(rt: HostRuntime) -> Result<(), Fail> {
-    replays::<All, _>(&rt, rt.alloc(), RECORDS)
-}
-
-#[test]
-fn gives_jobs(rt: HostRuntime) -> Result<(), Fail> {
-    replays::<All, _>(&rt, rt.alloc(), JOBS)
 }

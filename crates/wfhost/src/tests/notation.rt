@@ -77,10 +77,10 @@ fn line_named(lines: &'static str, name: &str) -> Option<&'static str> {
     None
 }
 
-/// A word, and the number behind a sign in it.
-fn numbered(
+/// Words, and the number behind a sign in them.
+pub(super) fn numbered(
     word: &'static str,
-    sign: char,
+    sign: &str,
     otherwise: usize,
 ) -> Result<(&'static str, usize), Fail> {
     match word.split_once(sign) {
@@ -92,14 +92,14 @@ fn numbered(
 /// Adds the events that a word stands for: those of a history with that name, or one, or as many
 /// as it says behind `*`.
 fn push_events(words: &mut Vec<&'static str>, word: &'static str) -> Result<(), Fail> {
-    let (name, count) = numbered(word, '/', usize::MAX)?;
+    let (name, count) = numbered(word, "/", usize::MAX)?;
     if let Some(history) = line_named(HISTORIES, name) {
         for event in history.split_whitespace().take(count) {
             words.push(event)?;
         }
         return Ok(());
     }
-    let (word, times) = numbered(word, '*', 1)?;
+    let (word, times) = numbered(word, "*", 1)?;
     for _ in 0..times {
         words.push(word)?;
     }

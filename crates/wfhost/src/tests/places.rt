@@ -1,14 +1,11 @@
 //! Which events are in place.
 
 use crate::tests::notation::replays;
-use std::alloc::Global;
 use std::test::Fail;
-use wh_events::{Event, EventKind, EventNo, Items, PlaceFault, Text};
-use wh_replay::{Fault, RunFault, check};
 use wh_samples::All;
 
-/// Events that are not in place.
-const FAULTS: &str = "\
+/// Events that are not in place, and then events that are, with what the task makes of them.
+const PLACES: &str = "\
 S => x.json: fault, event 1 is not in place: FirstNotStart
 ignored start:Nap => x.json: fault, event 1 is not in place: FirstNotStart
 nap start:Nap => x.json: fault, event 11 is not in place: FirstNotStart
@@ -36,10 +33,6 @@ caller/6 external_sent:5 => x.json: fault, event 7 is not in place: AlreadyClose
 nap/5 timer:nap => x.json: fault, event 6 is not in place: IdInUse
 greet/5 activity:1:greet => x.json: fault, event 6 is not in place: IdInUse
 family/5 child:kid:Nap => x.json: fault, event 6 is not in place: IdInUse
-";
-
-/// Events that are in place, with what the task makes of them.
-const IN_PLACE: &str = "\
 greet/6 activity_started:5 => x.json: ok, 1 tasks
 greet/5 activity_completed:5 S T => x.json: ok, 2 tasks, last live
 family/6 C cancel_child:kid activity:kid:x timer:kid S T => x.json: ok, 2 tasks, last live
@@ -51,56 +44,6 @@ nap/6 C timer:nap S T => x.json: ok, 2 tasks, last live
 ";
 
 #[test]
-fn finds_place_faults(rt: HostRuntime) -> Result<(), Fail> {
-    replays::<All, _>(&rt, rt.alloc(), FAULTS)
-}
-
-#[test]
-fn takes_events_in_place(rt: HostRuntime) -> Result<(), Fail> {
-    replays::<All, _>(&rt, rt.alloc(), IN_PLACE)
-}
-
-/// A start and then signals.
-fn signals(alloc: Global, count: u64) -> Result<Vec<Event>, Fail> {
-    let mut events = Vec::new(alloc);
-    for place in 0..=count {
-        let Some(number) = EventNo::new(place.saturating_add(1)) else {
-            return Err(Fail::new("no number"));
-        };
-        let name = Text::new(String::from_str(alloc, "Nap")?);
-        let input = Items::new(Vec::new(alloc));
-        let body = if place == 0 {
-            EventKind::WorkflowExecutionStarted {
-                workflow: name,
-                input,
-            }
-        } else {
-            EventKind::WorkflowExecutionSignaled { name, input }
-        };
-        events.push(Event {
-            number,
-            time: 0,
-            body,
-        })?;
-    }
-    Ok(events)
-}
-
-#[test]
-fn bounds_histories(rt: HostRuntime) -> Result<(), Fail> {
-    let alloc = rt.alloc();
-    let fault = PlaceFault::TooManyEvents;
-    let wanted = RunFault::Fault(Fault::Place { at: 51_201, fault });
-    let answer = check::<All>(alloc, signals(alloc, 51_200)?);
-    assert!(rt; answer == Err(wanted));
-    Ok(())
-}
-
-#[test]
-fn wants_a_first_event(rt: HostRuntime) -> Result<(), Fail> {
-    let fault = PlaceFault::FirstNotStart;
-    let wanted = RunFault::Fault(Fault::Place { at: 1, fault });
-    let answer = check::<All>(rt.alloc(), Vec::new(rt.alloc()));
-    assert!(rt; answer == Err(wanted));
-    Ok(())
+fn judges_places(rt: HostRuntime) -> Result<(), Fail> {
+    replays::<All, _>(&rt, rt.alloc(), PLACES)
 }

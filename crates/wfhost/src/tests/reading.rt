@@ -1,6 +1,6 @@
 //! What the reader takes, and what it refuses.
 
-use crate::tests::notation::{events, json, line_of, replays, rows};
+use crate::tests::notation::{json, line_of, replays, rows};
 use std::alloc::Global;
 use std::test::Fail;
 use std::thread::Threads;
@@ -27,7 +27,7 @@ start:Branch S T C chg_marker:IDEg activity:1:new => x.json: ok, 1 tasks
 start:Branch S T C chg_marker:MQ== activity:1:new | 'ImNoZyI=' -> 'Ilx1MDA2M2hnIg==' => x.json: ok, 1 tasks
 ";
 
-/// Numbers, order, types and times that are refused.
+/// Numbers, order, types, times, payloads and markers that are refused.
 const REFUSED: &str = "\
 nap | 'eventId':'1' -> 'eventId':'0' => x.json: unreadable, event 1 has a bad number
 nap | 'eventId':'1' -> 'eventId':'9223372036854775808' => x.json: unreadable, event 1 has a bad number
@@ -63,10 +63,6 @@ nap | 'eventTime':'2024-05-01T10:00:02Z' -> 'eventTime':'yesterday' => x.json: u
 nap | 'eventTime':'2024-05-01T10:00:01Z' -> 'eventTime':'yesterday' | 'eventId':'2' -> 'eventId':'x' => x.json: unreadable, event 1 has a bad time
 nap | 'timerId':'nap' -> 'timerId':'nap','x':1e999 => x.json: unreadable, not JSON
 nap | 'timerId':'nap' -> 'timerId':'\\ud800' => x.json: unreadable, not JSON
-";
-
-/// Payloads and markers that are refused.
-const PAYLOADS: &str = "\
 greet | CompletedEventAttributes':{ -> CompletedEventAttributes':{'result':['hi'], => x.json: unreadable, event 7 has a shorthand payload
 greet | CompletedEventAttributes':{ -> CompletedEventAttributes':{'result':{'payloads':[{'data':'MQ='}]}, => x.json: unreadable, event 7 has a bad payload
 greet | CompletedEventAttributes':{ -> CompletedEventAttributes':{'result':{'payloads':[{'data':'MQ'}]}, => x.json: unreadable, event 7 has a bad payload
@@ -108,27 +104,13 @@ const FILES: &str = "\
 ";
 
 #[test]
-fn reads_both_spellings(rt: HostRuntime) -> Result<(), Fail> {
+fn reads_events(rt: HostRuntime) -> Result<(), Fail> {
     replays::<All, _>(&rt, rt.alloc(), READ)
 }
 
 #[test]
 fn refuses_events(rt: HostRuntime) -> Result<(), Fail> {
     replays::<All, _>(&rt, rt.alloc(), REFUSED)
-}
-
-#[test]
-fn refuses_payloads(rt: HostRuntime) -> Result<(), Fail> {
-    replays::<All, _>(&rt, rt.alloc(), PAYLOADS)
-}
-
-#[test]
-fn refuses_files(rt: HostRuntime) -> Result<(), Fail> {
-    for (text, wanted) in rows(rt.alloc(), FILES)? {
-        let bytes = Vec::from_slice(rt.alloc(), text.as_bytes())?;
-        is_line(&rt, rt.alloc(), bytes, wanted)?;
-    }
-    Ok(())
 }
 
 /// The line of a file is this one.
@@ -145,36 +127,35 @@ fn is_line<R: Threads + Sync>(
     Ok(())
 }
 
-/// A byte, many times.
-fn many(alloc: Global, byte: u8, count: usize) -> Result<Vec<u8>, Fail> {
-    let mut bytes = Vec::new(alloc);
-    bytes.resize(count, byte)?;
-    Ok(bytes)
+#[test]
+fn refuses_files(rt: HostRuntime) -> Result<(), Fail> {
+    for (text, wanted) in rows(rt.alloc(), FILES)? {
+        let bytes = Vec::from_slice(rt.alloc(), text.as_bytes())?;
+        is_line(&rt, rt.alloc(), bytes, wanted)?;
+    }
+    Ok(())
 }
 
-/// Lists in lists.
-fn nested(alloc: Global, depth: usize) -> Result<Vec<u8>, Fail> {
-    let mut bytes = many(alloc, b'[', depth)?;
-    bytes.resize(depth.saturating_mul(2), b']')?;
+/// A byte many times, and then another as many times.
+fn many(alloc: Global, first: u8, second: u8, count: usize) -> Result<Vec<u8>, Fail> {
+    let mut bytes = Vec::new(alloc);
+    bytes.resize(count, first)?;
+    bytes.resize(count.saturating_mul(2), second)?;
     Ok(bytes)
 }
 
 #[test]
 fn bounds_files(rt: HostRuntime) -> Result<(), Fail> {
     let alloc = rt.alloc();
-    let too_long = many(alloc, b' ', 67_108_865)?;
-    is_line(&rt, alloc, too_long, "x.json: unreadable, file too long")?;
-    let long = many(alloc, b' ', 67_108_864)?;
-    is_line(&rt, alloc, long, "x.json: unreadable, not JSON")?;
-    let deep = nested(alloc, 1_000)?;
+    let longest = many(alloc, b' ', b' ', 33_554_432)?;
+    is_line(&rt, alloc, longest, "x.json: unreadable, not JSON")?;
+    let longer = many(alloc, b' ', b' ', 33_554_433)?;
+    is_line(&rt, alloc, longer, "x.json: unreadable, file too long")?;
+    let deep = many(alloc, b'[', b']', 1_000)?;
     is_line(&rt, alloc, deep, "x.json: unreadable, not JSON")?;
-    let shallow = nested(alloc, 100)?;
-    is_line(
-        &rt,
-        alloc,
-        shallow,
-        "x.json: unreadable, event 1 has a bad number",
-    )
+    let shallow = many(alloc, b'[', b']', 100)?;
+    let wanted = "x.json: unreadable, event 1 has a bad number";
+    is_line(&rt, alloc, shallow, wanted)
 }
 
 #[test]
@@ -193,20 +174,8 @@ fn refuses_bytes_that_are_no_text(rt: HostRuntime) -> Result<(), Fail> {
     let alloc = rt.alloc();
     let text = json(alloc, "nap")?;
     let mut bytes = Vec::from_slice(alloc, text.as_bytes())?;
-    if 3 < bytes.len() {
-        bytes[3] = 255;
+    if let Some(byte) = bytes.get_mut(3) {
+        *byte = 255;
     }
     is_line(&rt, alloc, bytes, "x.json: unreadable, not JSON")
-}
-
-#[test]
-fn reads_times(rt: HostRuntime) -> Result<(), Fail> {
-    let alloc = rt.alloc();
-    let history = "nap/3 | 2024-05-01T10:00:03Z -> 2024-05-01T12:00:03.5+02:00";
-    let read = events(alloc, history)?;
-    let Some(event) = read.last() else {
-        return Err(Fail::new("no event"));
-    };
-    assert_eq!(rt; event.time, 1_714_557_603_500_000_000);
-    Ok(())
 }

@@ -1,118 +1,57 @@
 //! Reports of several files.
 
 use crate::replaying::{CommandFault, replay_command};
-use crate::tests::notation::json;
+use crate::tests::notation::{json, rows};
 use std::alloc::Global;
 use std::io;
 use std::io::Write;
 use std::test::Fail;
-use std::thread::Threads;
 use wh_samples::All;
 
-/// A file by its name and its history.
-fn file(alloc: Global, name: &str, history: &'static str) -> Result<(String, Vec<u8>), Fail> {
-    let text = json(alloc, history)?;
-    Ok((String::from_str(alloc, name)?, text.into_bytes()))
-}
+/// Files, each by its name and its history, with the lines of their report and the status.
+const REPORTS: &str = "\
+b.json: nap; a.json: greet => b.json: ok, 2 tasks, a.json: ok, 2 tasks, 2 files, 2 ok, status 0
+b.json: nap; a.json: greet/2 C; c: S => b.json: ok, 2 tasks, a.json: ok, 0 tasks, c: fault, event 1 is not in place: FirstNotStart, 3 files, 2 ok, status 1
+\u{e9}.json: nap; a\tb\u{7f}~ .json: nap => ?.json: ok, 2 tasks, a?b?~ .json: ok, 2 tasks, 2 files, 2 ok, status 0
+ => 0 files, 0 ok, status 0
+";
 
-/// The status and the report of files.
-fn report<R: Threads + Sync>(
-    rt: &R,
-    alloc: Global,
-    files: Vec<(String, Vec<u8>)>,
-) -> Result<(u8, String), Fail> {
-    let mut out = Vec::new(alloc);
-    let Ok(status) = replay_command::<All, _, _>(rt, alloc, files, &mut out) else {
-        return Err(Fail::new("refused"));
-    };
-    match String::from_utf8(out) {
-        Ok(text) => Ok((status, text)),
-        Err(_) => Err(Fail::new("no text")),
-    }
-}
-
-#[test]
-fn keeps_the_order_of_files(rt: HostRuntime) -> Result<(), Fail> {
-    let alloc = rt.alloc();
+/// Files by their names and histories.
+fn named_files(alloc: Global, list: &'static str) -> Result<Vec<(String, Vec<u8>)>, Fail> {
     let mut files = Vec::new(alloc);
-    files.push(file(alloc, "b.json", "nap")?)?;
-    files.push(file(alloc, "a.json", "greet | 'name':'greet' -> 'name':'greets'")?)?;
-    let (status, text) = report(&rt, alloc, files)?;
-    assert_eq!(rt;
-        text.as_str(),
-        "b.json: ok, 2 tasks\na.json: fault, event 5 differs\n2 files, 1 ok\n"
-    );
-    assert_eq!(rt; status, 1);
-    Ok(())
-}
-
-#[test]
-fn reports_no_files(rt: HostRuntime) -> Result<(), Fail> {
-    let (status, text) = report(&rt, rt.alloc(), Vec::new(rt.alloc()))?;
-    assert_eq!(rt; text.as_str(), "0 files, 0 ok\n");
-    assert_eq!(rt; status, 0);
-    Ok(())
-}
-
-#[test]
-fn reports_many_files(rt: HostRuntime) -> Result<(), Fail> {
-    let alloc = rt.alloc();
-    let mut files = Vec::new(alloc);
-    for _ in 0..3_000 {
-        files.push(file(alloc, "nap.json", "nap")?)?;
-    }
-    let (status, text) = report(&rt, alloc, files)?;
-    let good = text
-        .lines()
-        .filter(|line| *line == "nap.json: ok, 2 tasks")
-        .count();
-    assert_eq!(rt; good, 3_000);
-    assert!(rt; text.ends_with("\n3000 files, 3000 ok\n"));
-    assert_eq!(rt; status, 0);
-    Ok(())
-}
-
-#[test]
-fn shows_names(rt: HostRuntime) -> Result<(), Fail> {
-    let alloc = rt.alloc();
-    let mut files = Vec::new(alloc);
-    files.push(file(alloc, "\u{e9}.json", "nap")?)?;
-    files.push(file(alloc, "a\nb\u{7f}~ .json", "nap")?)?;
-    let (_, text) = report(&rt, alloc, files)?;
-    let wanted = "?.json: ok, 2 tasks\na?b?~ .json: ok, 2 tasks\n2 files, 2 ok\n";
-    assert_eq!(rt; text.as_str(), wanted);
-    Ok(())
-}
-
-#[test]
-fn cuts_long_names(rt: HostRuntime) -> Result<(), Fail> {
-    let alloc = rt.alloc();
-    let mut name = String::new(alloc);
-    for _ in 0..300 {
-        name.push('\u{e9}')?;
-    }
-    let mut files = Vec::new(alloc);
-    files.push((name, Vec::new(alloc)))?;
-    let (_, text) = report(&rt, alloc, files)?;
-    let marks = text.chars().filter(|c| *c == '?').count();
-    assert_eq!(rt; marks, 255);
-    assert!(rt; text.ends_with("?: unreadable, not JSON\n1 files, 0 ok\n"));
-    Ok(())
-}
-
-/// A writer that takes that many writes and then fails.
-#[derive(Drop)]
-struct Failing {
-    left: u64,
-}
-
-impl Write for Failing {
-    fn write(&mut self, bytes: &[u8]) -> io::Result<usize> {
-        if self.left == 0 {
-            return Err(io::Error::from(io::ErrorKind::StorageFull));
+    for file in list.split("; ") {
+        if let Some((name, history)) = file.split_once(": ") {
+            let text = json(alloc, history)?;
+            files.push((String::from_str(alloc, name)?, text.into_bytes()))?;
         }
-        self.left -= 1;
-        Ok(bytes.len())
+    }
+    Ok(files)
+}
+
+#[test]
+fn reports_files(rt: HostRuntime) -> Result<(), Fail> {
+    let alloc = rt.alloc();
+    for (list, wanted) in rows(alloc, REPORTS)? {
+        let files = named_files(alloc, list)?;
+        let mut out = Vec::new(alloc);
+        let Ok(status) = replay_command::<All, _, _>(&rt, alloc, files, &mut out) else {
+            return Err(Fail::new(list));
+        };
+        let report = String::from_utf8(out).map_err(|_| Fail::new("no text"))?;
+        let lines = report.replace(alloc, "\n", ", ")?;
+        let text = format!(in alloc; "{lines}status {status}")?;
+        assert_eq!(rt; text.as_str(), wanted);
+    }
+    Ok(())
+}
+
+/// A writer without room.
+#[derive(Drop)]
+struct Full;
+
+impl Write for Full {
+    fn write(&mut self, _bytes: &[u8]) -> io::Result<usize> {
+        Err(io::Error::from(io::ErrorKind::StorageFull))
     }
 
     fn flush(&mut self) -> io::Result<()> {
@@ -122,13 +61,8 @@ impl Write for Failing {
 
 #[test]
 fn refuses_failed_output(rt: HostRuntime) -> Result<(), Fail> {
-    let alloc = rt.alloc();
-    for left in 0..3 {
-        let mut files = Vec::new(alloc);
-        files.push(file(alloc, "nap.json", "nap")?)?;
-        let mut writer = Failing { left };
-        let answer = replay_command::<All, _, _>(&rt, alloc, files, &mut writer);
-        assert!(rt; matches!(answer, Err(CommandFault::Output)));
-    }
+    let files = Vec::new(rt.alloc());
+    let answer = replay_command::<All, _, _>(&rt, rt.alloc(), files, &mut Full);
+    assert!(rt; matches!(answer, Err(CommandFault::Output)));
     Ok(())
 }

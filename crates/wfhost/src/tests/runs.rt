@@ -1,10 +1,10 @@
 //! Runs, from their first event and as they go on.
 
-use crate::tests::notation::{events, rows};
+use crate::tests::notation::{events, numbered, rows};
 use std::alloc::Global;
 use std::test::Fail;
-use wh_events::{Event, EventNo, RunKey, Status, Text};
-use wh_replay::{AdvanceFault, Answer, Run, RunFault};
+use wh_events::{EventNo, RunKey, Status, Text};
+use wh_replay::{AdvanceFault, Answer, Run};
 use wh_samples::{All, Flood};
 use wh_workflow::{Command, Meter, Workflow};
 
@@ -26,13 +26,14 @@ caller/3 => 2 steps, SignalExternal other go
 late => 5 steps, StartTimer u 5
 start:Racer activity:1:race activity_completed:2 S T => 3 steps, StartActivity 1 race, Complete
 start:Racer S T task_failed timer:t timer_fired:5 S T => 3 steps, StartTimer t 30, StartTimer u 5
-family/9 signal:stop child_completed:5 S T => 8 steps, Complete
+family/9 signal:stop child_completed:5 S T => 7 steps, Complete
 nap/5 timer_fired:4 S T => Fault(Place { at: 6, fault: WrongKindRef })
 nap/4 timer:x S T => Fault(Mismatch { at: 3, mismatch: Different { event: EventNo { number: 5 } } })
 start:Nap timer:nap S T => Fault(Workflow { at: 4, fault: IdInUse })
 ";
 
-/// Runs of the events before `then`, advanced by those that the longer history has behind them.
+/// Runs of the events before `then`, advanced by those that the longer history has behind them, or
+/// behind another place.
 const ADVANCED: &str = "\
 nap/3 then nap/8 => 2 steps, Complete
 nap/3 then nap/3 attributes_upserted C timer:nap timer_fired:6 S T => 2 steps, Complete
@@ -51,6 +52,8 @@ nap/3 then nap/4 timer:x S T => Fault(Mismatch { at: 3, mismatch: Different { ev
 nap/3 then nap/4 timer:nap timer_fired:4 S T => Fault(Place { at: 6, fault: WrongKindRef })
 nap/3 then nap/6 => NotATask, StartTimer nap 60
 nap/3 then nap/3 => NotATask, StartTimer nap 60
+nap/3 then nap/3 behind 2 => Gap, StartTimer nap 60
+nap/3 then nap/8 behind 4 => Gap, StartTimer nap 60
 ";
 
 /// A command in words.
@@ -127,15 +130,16 @@ fn begun_text(alloc: Global, history: &'static str) -> Result<String, Fail> {
     )
 }
 
-/// What comes of a run that is advanced by the events of a history behind a place.
-fn advanced_text(
-    alloc: Global,
-    run: Run<All>,
-    held: usize,
-    history: &'static str,
-) -> Result<String, Fail> {
+/// What comes of a run that is advanced by the events of a history behind those that it holds, or
+/// behind the place that the history names.
+fn advanced_text(alloc: Global, run: Run<All>, history: &'static str) -> Result<String, Fail> {
     let mut meter = Meter::new();
-    let new = events_behind(alloc, history, held)?;
+    let (history, place) = numbered(history, " behind ", run.held_len())?;
+    let mut all = events(alloc, history)?;
+    if all.len() < place {
+        return Err(Fail::new(history));
+    }
+    let new = all.split_off(place)?;
     Ok(match run.advance(alloc, new, &mut meter) {
         Ok(run) => {
             let run = run_text(alloc, &run)?;
@@ -154,15 +158,6 @@ fn advanced_text(
     })
 }
 
-/// The events of a history behind a place.
-fn events_behind(alloc: Global, history: &'static str, place: usize) -> Result<Vec<Event>, Fail> {
-    let mut all = events(alloc, history)?;
-    if all.len() < place {
-        return Err(Fail::new(format_args!("too short: {history}")));
-    }
-    Ok(all.split_off(place)?)
-}
-
 #[test]
 fn begins_runs(rt: HostRuntime) -> Result<(), Fail> {
     for (history, wanted) in rows(rt.alloc(), BEGUN)? {
@@ -179,30 +174,9 @@ fn advances_runs(rt: HostRuntime) -> Result<(), Fail> {
             return Err(Fail::new(both));
         };
         let run = begun::<All>(rt.alloc(), before)?;
-        let held = run.held_len();
-        let text = advanced_text(rt.alloc(), run, held, after)?;
+        let text = advanced_text(rt.alloc(), run, after)?;
         assert_eq!(rt; text.as_str(), wanted, "{both}");
     }
-    Ok(())
-}
-
-#[test]
-fn hands_a_run_back_over_a_gap(rt: HostRuntime) -> Result<(), Fail> {
-    let run = begun::<All>(rt.alloc(), "nap/3")?;
-    let text = advanced_text(rt.alloc(), run, 2, "nap/3")?;
-    assert_eq!(rt; text.as_str(), "Gap, StartTimer nap 60");
-    let run = begun::<All>(rt.alloc(), "nap/3")?;
-    let text = advanced_text(rt.alloc(), run, 4, "nap/8")?;
-    assert_eq!(rt; text.as_str(), "Gap, StartTimer nap 60");
-    Ok(())
-}
-
-#[test]
-fn wants_events(rt: HostRuntime) -> Result<(), Fail> {
-    let alloc = rt.alloc();
-    let mut meter = Meter::new();
-    let answer = Run::<All>::from_first(alloc, key(alloc)?, Vec::new(alloc), &mut meter);
-    assert!(rt; matches!(answer, Err(RunFault::Fault(wh_replay::Fault::NotATask))));
     Ok(())
 }
 
@@ -236,14 +210,5 @@ fn shows_a_run(rt: HostRuntime) -> Result<(), Fail> {
     assert!(rt; run.status(number(5)?) == Some(Status::Closed { by: number(12)? }));
     assert!(rt; run.status(number(13)?) == Some(Status::Open));
     let _state = run.state();
-    Ok(())
-}
-
-#[test]
-fn shows_statuses(rt: HostRuntime) -> Result<(), Fail> {
-    let run = begun::<All>(rt.alloc(), "family/8")?;
-    assert!(rt; run.status(number(5)?) == Some(Status::Started));
-    let run = begun::<All>(rt.alloc(), "greet/6 C activity_cancel:5 S T")?;
-    assert!(rt; run.status(number(5)?) == Some(Status::Cancelling));
     Ok(())
 }
