@@ -3,7 +3,7 @@
 use crate::tests::notation::{events, numbered, rows};
 use std::alloc::Global;
 use std::test::Fail;
-use wh_events::{EventNo, RunKey, Status, Text};
+use wh_events::{RunKey, Text};
 use wh_replay::{AdvanceFault, Answer, Run};
 use wh_samples::{All, Flood};
 use wh_workflow::{Command, Meter, Workflow};
@@ -188,27 +188,5 @@ fn keeps_many_commands(rt: HostRuntime) -> Result<(), Fail> {
         return Err(Fail::new("no answer"));
     };
     assert_eq!(rt; commands.get().len(), 4_096);
-    Ok(())
-}
-
-/// A number of an event.
-fn number(n: u64) -> Result<EventNo, Fail> {
-    match EventNo::new(n) {
-        Some(number) => Ok(number),
-        None => Err(Fail::new("no number")),
-    }
-}
-
-#[test]
-fn shows_a_run(rt: HostRuntime) -> Result<(), Fail> {
-    let run = begun::<All>(rt.alloc(), "racer/15")?;
-    assert_eq!(rt; run.key().run_id.get(), "recorded");
-    assert_eq!(rt; run.held_len(), 15);
-    assert!(rt; run.event(number(15)?).is_some());
-    assert!(rt; run.event(number(16)?).is_none());
-    assert!(rt; run.status(number(3)?).is_none());
-    assert!(rt; run.status(number(5)?) == Some(Status::Closed { by: number(12)? }));
-    assert!(rt; run.status(number(13)?) == Some(Status::Open));
-    let _state = run.state();
     Ok(())
 }
