@@ -1,0 +1,5 @@
+pub mod Numbers
+pub mod Source
+pub mod Tasks
+pub mod Serve
+pub mod Steady

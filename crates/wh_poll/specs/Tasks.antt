@@ -1,0 +1,84 @@
+-- What replay of a task gives, and from which events.
+use Rattle.std.specs.Prelude.{◌≡◌, ℕ, ◌++◌, ◌<◌, ◌≤◌, Bool, true, false, List, [], ◌∷◌, length, Option, Some, None, is_some, Result, Ok, Err, IsOk, if◌then◌else◌}
+use Rattle.wh_events.specs.declared.event.Event.{Event}
+use Rattle.wh_replay.specs.declared.fault.Fault.{Fault}
+use Rattle.wh_replay.specs.declared.fault.Fault.TheVariants.{NotATask}
+use Rattle.wh_events.specs.declared.key.RunKey.{RunKey}
+use Rattle.wh_replay.specs.declared.run.Answer.{Answer}
+use Rattle.wh_replay.specs.declared.run.Answer.TheVariants.{Complete, Fail}
+use Rattle.wh_replay.specs.Replays.{ends_in_task}
+use Rattle.wh_poll.specs.Numbers.{last_number}
+use Rattle.wh_workflow.specs.Law.{Program}
+use Rattle.wh_workflow.specs.Counting.{risen}
+use Rattle.wh_replay.specs.Runs.{Held, follows, run_of, steps, advance_steps}
+use Rattle.wh_replay.specs.Advances.{answered}
+use Rattle.wh_poll.specs.declared.source.SourceFault.TheVariants.{Source as Failed, OutOfMemory as Unfed}
+use Rattle.wh_poll.specs.declared.task.StepFault.{StepFault}
+use Rattle.wh_poll.specs.declared.task.StepFault.TheVariants.{Source, OutOfMemory}
+
+-- the events that a task is replayed from: its own, none, those of the run followed by its own, or those that the source tells
+pub data Basis : Type 0 where
+  Own : Basis
+  Nothing : Basis
+  Joined : List Event → Basis
+  Told : Basis
+
+abbrev pub later_basis : Option Held → List Event → Basis
+later_basis None [] = Nothing
+later_basis None (event ∷ rest) = Told
+later_basis (Some run) events = if ends_in_task events then (if follows (length run.events) events then Joined run.events else Told) else Nothing
+
+-- the first that applies
+abbrev pub basis_of : Option Held → List Event → Basis
+basis_of run events = if follows 0 events then Own else later_basis run events
+
+-- the answer to a list of events: the fault of its replay, else the commands that it leaves unsent
+abbrev pub answer_to : {S : Type 0} → Program S → List Event → Answer
+answer_to program events = answered (run_of program events)
+
+module _ {S : Type 0} (program : Program S) where
+  -- without a fault a run of the key holds the events, and the meter rises by the steps; a fault answers the events
+  abbrev pub Replays : RunKey → List Event → ℕ → Option Held → Option Fault → ℕ → ℕ → Type 0
+  Replays key events steps (Some run) None before after = (run ≡ record { key = key; events = events }) × IsOk (run_of program events) × (after ≡ risen before steps)
+  Replays key events steps None (Some fault) before after = answer_to program events ≡ Fail fault
+  Replays key events steps (Some run) (Some fault) before after = ⊥
+  Replays key events steps None None before after = ⊥
+
+  -- replay from the first event of what the source tells
+  abbrev pub ReplaysTold : (RunKey → ℕ → List Event → Type 0) → RunKey → ℕ → Option Held → Option Fault → ℕ → ℕ → Type 0
+  ReplaysTold tells key up_to run fault before after =
+      (history : List Event) × tells key up_to history × Replays key history (steps program history) run fault before after
+
+  -- the run and the fault that a task gives, whether its run was hit, and the meter before and after
+  abbrev pub StepsFrom : Basis → (RunKey → ℕ → List Event → Type 0) → Option Held → RunKey → List Event → Option Held → Option Fault → Bool → ℕ → ℕ → Type 0
+  StepsFrom Own tells run key events stepped fault hit before after =
+      Replays key events (steps program events) stepped fault before after × (hit ≡ false)
+  StepsFrom Nothing tells run key events stepped fault hit before after =
+      (stepped ≡ run) × (fault ≡ Some NotATask) × (hit ≡ is_some run)
+  StepsFrom (Joined held) tells run key events stepped fault hit before after =
+      Replays key (held ++ events) (advance_steps program held events) stepped fault before after × (hit ≡ true)
+  StepsFrom Told tells run key events stepped fault hit before after =
+      ReplaysTold tells key (last_number events) stepped fault before after × (hit ≡ false)
+
+  abbrev pub Steps : (RunKey → ℕ → List Event → Type 0) → Option Held → RunKey → List Event → Option Held → Option Fault → Bool → ℕ → ℕ → Type 0
+  Steps tells run key events stepped fault hit before after =
+      StepsFrom (basis_of run events) tells run key events stepped fault hit before after
+
+  -- the answer that is sent: `Fail` of the fault, else the commands of the run
+  abbrev pub IsAnswer : Option Held → Option Fault → Answer → Type 0
+  IsAnswer stepped (Some fault) answer = answer ≡ Fail fault
+  IsAnswer (Some run) None answer = answer ≡ answer_to program run.events
+  IsAnswer None None answer = ⊥
+
+-- there is a run or a fault
+abbrev pub HasAnswer : Option Held → Option Fault → Type 0
+HasAnswer stepped (Some fault) = Unit {0}
+HasAnswer (Some run) None = Unit {0}
+HasAnswer None None = ⊥
+
+-- the source's count never falls, and it rises where the source fails
+abbrev pub FailsOnlySource : {A : Type 0} → Result A StepFault → ℕ → ℕ → Type 0
+FailsOnlySource (Ok x) old new = old ≤ new
+FailsOnlySource (Err (Source Failed)) old new = old < new
+FailsOnlySource (Err (Source Unfed)) old new = old ≤ new
+FailsOnlySource (Err OutOfMemory) old new = old ≤ new

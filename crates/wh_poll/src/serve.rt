@@ -1,0 +1,318 @@
+//! One turn of a worker.
+ghost use Rattle.std.specs.Prelude.{◌≡◌, ◌+◌, IfSome, MatchOption};
+ghost use Rattle.wh_poll.specs.Source.{SameRelation, SameTelling, SameMay, FailsOnly};
+ghost use Rattle.wh_poll.specs.Serve.{Serves, Counts, MayCount};
+
+use crate::answer::{Answered, answer_activity, answer_workflow};
+use crate::handler::{ActivityHandler, Gate};
+use crate::source::{Polled, SourceFault, TaskSource, WorkflowTask};
+use crate::task::StepFault;
+use std::alloc::Global;
+use std::sync::Wait;
+use std::sync::ledger::Ledger;
+use wh_events::RunKey;
+use wh_host::{Host, Outcome};
+use wh_ledger::Seat;
+use wh_replay::Run;
+use wh_slots::{Held, Permit, ReserveFault, SlotKind, TaskName};
+use wh_workflow::Workflow;
+
+/// What one turn of a worker did.
+#[derive(Clone, Copy, PartialEq, Eq, Debug)]
+pub enum Served {
+    /// A workflow task was answered.
+    Workflow {
+        /// The task's name.
+        name: TaskName,
+        /// Whether a cached run was used.
+        hit: bool,
+        /// The steps that replay counted.
+        steps: u64,
+        /// `Completed` where `Complete` was sent, `Failed` where `Fail` was.
+        outcome: Outcome,
+    },
+    /// An activity task was answered.
+    Activity {
+        /// The task's name.
+        name: TaskName,
+        /// `Completed` where the activity's result was sent, `Failed` where its failure was.
+        outcome: Outcome,
+    },
+    /// No room was found, and the task was not answered.
+    NoMemory {
+        /// The task's name.
+        name: TaskName,
+    },
+    /// A task of this name is in hand already, and the task was not answered again.
+    Repeated {
+        /// The task's name.
+        name: TaskName,
+    },
+    /// The source has no task now.
+    Idle,
+    /// The source has no task now or later.
+    Closed,
+    /// Every slot of the kind is in use, and the source was not polled.
+    NoSlot,
+    /// The host drains, and the source was not polled.
+    Draining,
+    /// All numbers of slots were given out, and the source was not polled.
+    NumbersSpent,
+}
+
+/// Serves one task of the kind, if there is one: reserves a slot, polls the source, takes the task in hand, replays it or runs
+/// it, sends its answer, gives the run back to the cache, and finishes the task. The host is locked for each of its own steps
+/// alone; its lock is not held while the source is called, the gate is entered, workflow code is stepped or an activity is run.
+///
+/// `Workflow` and `Activity` are answered where exactly one answer was sent, under the name of a task that the source delivers:
+/// that of `replay_task` with no run or one of the task's key, and of the handler. Everything else sends nothing. The seat's taken
+/// share rises by one where a task was taken in hand, and its completed or failed share by at most one, as the task's outcome
+/// says. A fault is the source's, after which no slot is left reserved or held by this turn. (Temporal documentation, "Workers",
+/// "Task Queues", "Sticky Execution".)
+pub fn serve_one<
+    R: Wait,
+    W: Workflow,
+    T: Ledger,
+    C: Ledger,
+    F: Ledger,
+    S: TaskSource,
+    A: ActivityHandler,
+    G: Gate,
+>(
+    rt: &R,
+    alloc: Global,
+    host: &Host<W, T, C, F>,
+    seat: &mut Seat<T, C, F>,
+    source: &mut S,
+    handler: &mut A,
+    gate: &G,
+    kind: SlotKind,
+) -> Result<Served, SourceFault>
+    ensures serves { Serves W.program (S.tells source.old) (S.delivers source.old) (A.may handler.old) (S.answers source.old) (S.answers source.new) result }
+    ensures counts { Counts seat.old seat.new result }
+    ensures failures { FailsOnly result (S.failures source.old) (S.failures source.new) }
+    ensures delivers { SameRelation (S.delivers source.old) (S.delivers source.new) }
+    ensures tells { SameTelling (S.tells source.old) (S.tells source.new) }
+    ensures may { SameMay (A.may handler.old) (A.may handler.new) }
+{
+    let reserved = host.lock(rt).reserve(kind);
+    let permit = match reserved {
+        Ok(permit) => permit,
+        Err(ReserveFault::NoSlot) => return Ok(Served::NoSlot),
+        Err(ReserveFault::Draining) => return Ok(Served::Draining),
+        Err(ReserveFault::NumbersSpent) => return Ok(Served::NumbersSpent),
+    };
+    match kind {
+        SlotKind::Workflow => serve_workflow(rt, alloc, host, seat, source, handler, gate, permit),
+        SlotKind::Activity => serve_activity(rt, host, seat, source, handler, permit),
+    }
+}
+
+// Serves a workflow task under the permit.
+fn serve_workflow<
+    R: Wait,
+    W: Workflow,
+    T: Ledger,
+    C: Ledger,
+    F: Ledger,
+    S: TaskSource,
+    A: ActivityHandler,
+    G: Gate,
+>(
+    rt: &R,
+    alloc: Global,
+    host: &Host<W, T, C, F>,
+    seat: &mut Seat<T, C, F>,
+    source: &mut S,
+    _handler: &A,
+    gate: &G,
+    permit: Permit,
+) -> Result<Served, SourceFault>
+    ensures serves { Serves W.program (S.tells source.old) (S.delivers source.old) (A.may _handler.now) (S.answers source.old) (S.answers source.new) result }
+    ensures counts { Counts seat.old seat.new result }
+    ensures failures { FailsOnly result (S.failures source.old) (S.failures source.new) }
+    ensures delivers { SameRelation (S.delivers source.old) (S.delivers source.new) }
+    ensures tells { SameTelling (S.tells source.old) (S.tells source.new) }
+{
+    let polled = source.poll_workflow();
+    let task = match polled {
+        Ok(Polled::Task(task)) => task,
+        Ok(Polled::Nothing) => {
+            release(rt, host, permit);
+            return Ok(Served::Idle);
+        }
+        Ok(Polled::Closed) => {
+            release(rt, host, permit);
+            return Ok(Served::Closed);
+        }
+        Err(fault) => {
+            release(rt, host, permit);
+            return Err(fault);
+        }
+    };
+    let WorkflowTask {
+        name,
+        run: key,
+        events,
+    } = task;
+    let copied = key.try_copy();
+    let Ok(copy) = copied else {
+        release(rt, host, permit);
+        return Ok(Served::NoMemory { name });
+    };
+    let Some((held, cached)) = use_workflow(rt, host, permit, name, copy, seat) else {
+        return Ok(Served::Repeated { name });
+    };
+    gate.enter(rt, name);
+    let answered = answer_workflow(alloc, cached, &key, name, events.into_inner(), source);
+    let Answered { run, sent } = answered;
+    if let Some(run) = run {
+        give(rt, host, &held, run);
+    }
+    let outcome = match sent {
+        Ok(reply) => reply.outcome,
+        Err(_) => Outcome::Failed,
+    };
+    finish(rt, host, held, outcome, seat);
+    match sent {
+        Ok(reply) => Ok(Served::Workflow {
+            name,
+            hit: reply.hit,
+            steps: reply.steps,
+            outcome: reply.outcome,
+        }),
+        Err(StepFault::OutOfMemory) => Ok(Served::NoMemory { name }),
+        Err(StepFault::Source(fault)) => Err(fault),
+    }
+}
+
+// Serves an activity task under the permit.
+fn serve_activity<
+    R: Wait,
+    W: Workflow,
+    T: Ledger,
+    C: Ledger,
+    F: Ledger,
+    S: TaskSource,
+    A: ActivityHandler,
+>(
+    rt: &R,
+    host: &Host<W, T, C, F>,
+    seat: &mut Seat<T, C, F>,
+    source: &mut S,
+    handler: &mut A,
+    permit: Permit,
+) -> Result<Served, SourceFault>
+    ensures serves { Serves W.program (S.tells source.old) (S.delivers source.old) (A.may handler.old) (S.answers source.old) (S.answers source.new) result }
+    ensures counts { Counts seat.old seat.new result }
+    ensures failures { FailsOnly result (S.failures source.old) (S.failures source.new) }
+    ensures delivers { SameRelation (S.delivers source.old) (S.delivers source.new) }
+    ensures tells { SameTelling (S.tells source.old) (S.tells source.new) }
+    ensures may { SameMay (A.may handler.old) (A.may handler.new) }
+{
+    let polled = source.poll_activity();
+    let task = match polled {
+        Ok(Polled::Task(task)) => task,
+        Ok(Polled::Nothing) => {
+            release(rt, host, permit);
+            return Ok(Served::Idle);
+        }
+        Ok(Polled::Closed) => {
+            release(rt, host, permit);
+            return Ok(Served::Closed);
+        }
+        Err(fault) => {
+            release(rt, host, permit);
+            return Err(fault);
+        }
+    };
+    let name = task.name;
+    let Some(held) = use_activity(rt, host, permit, name, seat) else {
+        return Ok(Served::Repeated { name });
+    };
+    let sent = answer_activity(&task, source, handler);
+    let outcome = match sent {
+        Ok(outcome) => outcome,
+        Err(_) => Outcome::Failed,
+    };
+    finish(rt, host, held, outcome, seat);
+    match sent {
+        Ok(outcome) => Ok(Served::Activity { name, outcome }),
+        Err(StepFault::OutOfMemory) => Ok(Served::NoMemory { name }),
+        Err(StepFault::Source(fault)) => Err(fault),
+    }
+}
+
+// Uses the permit. Where the use is refused, the permit is released.
+fn use_workflow<R: Wait, W: Workflow, T: Ledger, C: Ledger, F: Ledger>(
+    rt: &R,
+    host: &Host<W, T, C, F>,
+    permit: Permit,
+    name: TaskName,
+    key: RunKey,
+    seat: &mut Seat<T, C, F>,
+) -> Option<(Held, Option<Run<W>>)>
+    ensures own { IfSome result (λ used. IfSome used.1 (λ run. run.key ≡ key)) }
+    ensures seat { MatchOption result (seat.new ≡ seat.old) (λ _. seat.new ≡ record seat.old { taken = seat.old.taken + 1 }) }
+{
+    let used = host.lock(rt).use_workflow(permit, name, key, seat);
+    match used {
+        Ok(used) => Some(used),
+        Err((permit, _key, _fault)) => {
+            release(rt, host, permit);
+            None
+        }
+    }
+}
+
+// Uses the permit. Where the use is refused, the permit is released.
+fn use_activity<R: Wait, W: Workflow, T: Ledger, C: Ledger, F: Ledger>(
+    rt: &R,
+    host: &Host<W, T, C, F>,
+    permit: Permit,
+    name: TaskName,
+    seat: &mut Seat<T, C, F>,
+) -> Option<Held>
+    ensures { MatchOption result (seat.new ≡ seat.old) (λ _. seat.new ≡ record seat.old { taken = seat.old.taken + 1 }) }
+{
+    let used = host.lock(rt).use_activity(permit, name, seat);
+    match used {
+        Ok(held) => Some(held),
+        Err((permit, _fault)) => {
+            release(rt, host, permit);
+            None
+        }
+    }
+}
+
+// The permit was not used.
+fn release<R: Wait, W: Workflow, T: Ledger, C: Ledger, F: Ledger>(
+    rt: &R,
+    host: &Host<W, T, C, F>,
+    permit: Permit,
+) {
+    let _released = host.lock(rt).release(permit);
+}
+
+// Gives the run that replay gave.
+fn give<R: Wait, W: Workflow, T: Ledger, C: Ledger, F: Ledger>(
+    rt: &R,
+    host: &Host<W, T, C, F>,
+    held: &Held,
+    run: Run<W>,
+) {
+    let _given = host.lock(rt).give_run(held, run);
+}
+
+// Frees the held place, and counts the outcome.
+fn finish<R: Wait, W: Workflow, T: Ledger, C: Ledger, F: Ledger>(
+    rt: &R,
+    host: &Host<W, T, C, F>,
+    held: Held,
+    outcome: Outcome,
+    seat: &mut Seat<T, C, F>,
+)
+    ensures { MayCount seat.old seat.new outcome }
+{
+    let _finished = host.lock(rt).finish(held, outcome, seat);
+}

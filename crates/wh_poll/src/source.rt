@@ -1,0 +1,150 @@
+//! Where tasks come from, and where their answers go.
+ghost use Rattle.std.specs.Prelude.{◌≡◌, ◌++◌, ◌∷◌, [], ℕ, List, IfOk, OnOk, OnErr};
+
+use wh_events::{Event, Items, OutOfMemory, Payload, RunKey, Text};
+use wh_replay::Answer;
+use wh_slots::TaskName;
+
+/// A workflow task, as a poll of a Task Queue gives it (Temporal documentation, "Workers" and "Task Queues").
+#[derive(Drop, Debug)]
+pub struct WorkflowTask {
+    /// The source's name of the task, under which it is answered.
+    pub name: TaskName,
+    /// The run that the task belongs to.
+    pub run: RunKey,
+    /// Events of the run's history: all of them from the first, or those since the last task ("Sticky Execution").
+    pub events: Items<Event>,
+}
+
+/// An activity task, as a poll gives it.
+#[derive(Drop, Debug)]
+pub struct ActivityTask {
+    /// The source's name of the task, under which it is answered.
+    pub name: TaskName,
+    /// The run that asked for the activity.
+    pub run: RunKey,
+    /// The id of the activity in its run.
+    pub id: Text,
+    /// The type of the activity.
+    pub activity: Text,
+    /// What the activity is given.
+    pub input: Items<Payload>,
+}
+
+/// What a poll gives.
+#[derive(Drop, Debug)]
+pub enum Polled<T> {
+    /// A task.
+    Task(T),
+    /// No task now; there may be one later.
+    Nothing,
+    /// No task now or later.
+    Closed,
+}
+
+/// What is sent back for an activity task.
+#[derive(Drop, Debug)]
+pub enum ActivityAnswer {
+    /// The activity's result.
+    Completed(Items<Payload>),
+    /// Why the activity failed.
+    Failed(Text),
+}
+
+impl ActivityAnswer {
+    /// An equal answer. `OutOfMemory` where no room was found for the copy.
+    pub fn try_copy(&self) -> Result<ActivityAnswer, OutOfMemory>
+        ensures { IfOk result (λ copy. copy ≡ self.now) }
+    {
+        match self {
+            ActivityAnswer::Completed(result) => Ok(ActivityAnswer::Completed(result.try_copy()?)),
+            ActivityAnswer::Failed(reason) => Ok(ActivityAnswer::Failed(reason.try_copy()?)),
+        }
+    }
+}
+
+/// An answer to a task of either kind, as a source may store it.
+#[derive(Drop, Debug)]
+pub enum Sent {
+    /// To a workflow task.
+    Workflow(Answer),
+    /// To an activity task.
+    Activity(ActivityAnswer),
+}
+
+/// Why a call of a source gave or sent nothing.
+#[derive(Clone, Copy, PartialEq, Eq, Debug)]
+pub enum SourceFault {
+    /// The source failed. Its count of failures rose in that call.
+    Source,
+    /// No room was found.
+    OutOfMemory,
+}
+
+/// A source of tasks, one for each worker: what a worker polls, and what it answers. It has a list of the answers that it was
+/// sent, a count of its failures, which no call lowers, and two relations that no call changes: which tasks it delivers, and which
+/// histories it tells. That it tells the truth about its histories is its own promise.
+pub trait TaskSource {
+    ghost use Rattle.wh_slots.specs.declared.TaskName.{TaskName};
+    ghost use Rattle.wh_events.specs.declared.event.Event.{Event};
+    ghost use Rattle.wh_events.specs.declared.key.RunKey.{RunKey};
+    ghost use Rattle.wh_poll.specs.declared.source.Sent.{Sent};
+    ghost use Rattle.wh_poll.specs.declared.source.Sent.TheVariants.{Workflow as OfWorkflow, Activity as OfActivity};
+    ghost use Rattle.wh_poll.specs.Source.{Delivery, Workflow, Activity, SameRelation, SameTelling, IfTask, FailsOnly};
+
+    /// The answers that were sent, with their tasks' names.
+    ghost answers: { Self → List (TaskName × Sent) };
+
+    /// How often a call failed.
+    ghost failures: { Self → ℕ };
+
+    /// Which tasks the polls may give. No call changes it.
+    ghost delivers: { Self → Delivery → Type 0 };
+
+    /// What `whole` may give for a run's key and a number. No call changes it.
+    ghost tells: { Self → RunKey → ℕ → List Event → Type 0 };
+
+    /// The next workflow task, if there is one. A fault gives none, and sends nothing.
+    fn poll_workflow(&mut self) -> Result<Polled<WorkflowTask>, SourceFault>
+        ensures task { IfOk result (IfTask (λ task. delivers self.old (Workflow task))) }
+        ensures answers { answers self.new ≡ answers self.old }
+        ensures failures { FailsOnly result (failures self.old) (failures self.new) }
+        ensures delivers { SameRelation (delivers self.old) (delivers self.new) }
+        ensures tells { SameTelling (tells self.old) (tells self.new) };
+
+    /// The next activity task, if there is one. A fault gives none, and sends nothing.
+    fn poll_activity(&mut self) -> Result<Polled<ActivityTask>, SourceFault>
+        ensures task { IfOk result (IfTask (λ task. delivers self.old (Activity task))) }
+        ensures answers { answers self.new ≡ answers self.old }
+        ensures failures { FailsOnly result (failures self.old) (failures self.new) }
+        ensures delivers { SameRelation (delivers self.old) (delivers self.new) }
+        ensures tells { SameTelling (tells self.old) (tells self.new) };
+
+    /// The history of a run from its first event up to the one of a number. A fault gives none, and sends nothing.
+    fn whole(&mut self, key: &RunKey, up_to: u64) -> Result<Vec<Event>, SourceFault>
+        ensures told { IfOk result (λ history. tells self.old key.now up_to history.items) }
+        ensures answers { answers self.new ≡ answers self.old }
+        ensures failures { FailsOnly result (failures self.old) (failures self.new) }
+        ensures delivers { SameRelation (delivers self.old) (delivers self.new) }
+        ensures tells { SameTelling (tells self.old) (tells self.new) };
+
+    /// Sends the answer to the workflow task of a name. After a fault nothing was sent.
+    fn answer_workflow(&mut self, name: TaskName, answer: &Answer) -> Result<(), SourceFault>
+        ensures sent { OnOk result (answers self.new ≡ answers self.old ++ (name, OfWorkflow answer.now) ∷ []) }
+        ensures unsent { OnErr result (answers self.new ≡ answers self.old) }
+        ensures failures { FailsOnly result (failures self.old) (failures self.new) }
+        ensures delivers { SameRelation (delivers self.old) (delivers self.new) }
+        ensures tells { SameTelling (tells self.old) (tells self.new) };
+
+    /// Sends the answer to the activity task of a name. After a fault nothing was sent.
+    fn answer_activity(
+        &mut self,
+        name: TaskName,
+        answer: &ActivityAnswer,
+    ) -> Result<(), SourceFault>
+        ensures sent { OnOk result (answers self.new ≡ answers self.old ++ (name, OfActivity answer.now) ∷ []) }
+        ensures unsent { OnErr result (answers self.new ≡ answers self.old) }
+        ensures failures { FailsOnly result (failures self.old) (failures self.new) }
+        ensures delivers { SameRelation (delivers self.old) (delivers self.new) }
+        ensures tells { SameTelling (tells self.old) (tells self.new) };
+}

@@ -1,0 +1,175 @@
+//! Replay of one workflow task.
+ghost use Rattle.std.specs.Prelude.{◌≡◌, false, IfOk, IfSome};
+ghost use Rattle.wh_poll.specs.Source.{SameRelation, SameTelling};
+ghost use Rattle.wh_replay.specs.Runs.{follows, steps};
+ghost use Rattle.wh_poll.specs.Numbers.{last_number};
+ghost use Rattle.wh_poll.specs.Tasks.{Steps, Replays, ReplaysTold, HasAnswer, FailsOnlySource};
+
+use crate::source::{SourceFault, TaskSource};
+use std::alloc::Global;
+use wh_events::{Event, OutOfMemory, RunKey};
+use wh_replay::{AdvanceFault, Fault, Run, RunFault};
+use wh_workflow::{Meter, Workflow};
+
+/// What replay of a workflow task gave: a run or a fault. The answer is `Fail` of the fault, else the run's commands.
+#[derive(Drop)]
+pub struct Stepped<W: Workflow> {
+    /// The run that may be cached. Without a fault it holds the history that the task was replayed from. After `NotATask` it is
+    /// the run that was handed in, if there was one, as it was; after any other fault there is none.
+    pub run: Option<Run<W>>,
+    /// Why the task is answered `Fail`.
+    pub fault: Option<Fault>,
+    /// Whether the run that was handed in was used.
+    pub hit: bool,
+}
+
+/// Why a task got no answer.
+#[derive(Clone, Copy, PartialEq, Eq, Debug)]
+pub enum StepFault {
+    /// A call of the source failed.
+    Source(SourceFault),
+    /// No room was found.
+    OutOfMemory,
+}
+
+impl From<OutOfMemory> for StepFault {
+    ghost use Rattle.std.specs.Prelude.{◌≡◌};
+    ghost use Rattle.wh_poll.specs.declared.task.StepFault.TheVariants.{OutOfMemory as NoMemory};
+
+    ghost from_gives = { λ error fault. fault ≡ NoMemory };
+
+    fn from(_error: OutOfMemory) -> StepFault {
+        StepFault::OutOfMemory
+    }
+}
+
+/// Replays a workflow task from its run, if one was cached, and its events, by the first case that applies:
+///
+/// 1. The events begin with the first of the history: they are replayed by themselves, and the run is dropped.
+/// 2. There are no events, or there is a run and the events do not end in a started task: the fault is `NotATask`, the source is
+///    not asked, and the run comes back.
+/// 3. There is a run and the events begin right after those that it holds: it is advanced by them, a hit.
+/// 4. Else the source is asked for the whole history up to the last event, which is replayed from the first; the run is dropped.
+///
+/// The meter rises by the steps of replay, in the third case by those of the new tasks alone where the events confirm the run.
+/// `Source` where the source fails when it is asked, `OutOfMemory` where no room was found; then the run is dropped and nothing is
+/// left to send. (Temporal documentation, "Sticky Execution": a Worker that has no cached run asks for the full history.)
+pub fn replay_task<W: Workflow, S: TaskSource>(
+    alloc: Global,
+    run: Option<Run<W>>,
+    key: &RunKey,
+    events: Vec<Event>,
+    source: &mut S,
+    meter: &mut Meter,
+) -> Result<Stepped<W>, StepFault>
+    requires { IfSome run (λ run. run.key ≡ key.now) }
+    ensures stepped { IfOk result (λ stepped. Steps W.program (S.tells source.old) run key.now events.items stepped.run stepped.fault stepped.hit meter.old meter.new) }
+    ensures key { IfOk result (λ stepped. IfSome stepped.run (λ run. run.key ≡ key.now)) }
+    ensures one { IfOk result (λ stepped. HasAnswer stepped.run stepped.fault) }
+    ensures answers { S.answers source.new ≡ S.answers source.old }
+    ensures failures { FailsOnlySource result (S.failures source.old) (S.failures source.new) }
+    ensures delivers { SameRelation (S.delivers source.old) (S.delivers source.new) }
+    ensures tells { SameTelling (S.tells source.old) (S.tells source.new) }
+{
+    if is_whole(events.as_slice()) {
+        return Ok(replay_first(alloc, key, events, meter)?);
+    }
+    let up_to = last_number(events.as_slice());
+    let Some(run) = run else {
+        if events.is_empty() {
+            return Ok(Stepped {
+                run: None,
+                fault: Some(Fault::NotATask),
+                hit: false,
+            });
+        }
+        return replay_told(alloc, key, up_to, source, meter);
+    };
+    match run.advance(alloc, events, meter) {
+        Ok(run) => Ok(Stepped {
+            run: Some(run),
+            fault: None,
+            hit: true,
+        }),
+        Err(AdvanceFault::NotATask(run)) => Ok(Stepped {
+            run: Some(run),
+            fault: Some(Fault::NotATask),
+            hit: true,
+        }),
+        Err(AdvanceFault::Gap(_run)) => replay_told(alloc, key, up_to, source, meter),
+        Err(AdvanceFault::Fault(fault)) => Ok(Stepped {
+            run: None,
+            fault: Some(fault),
+            hit: true,
+        }),
+        Err(AdvanceFault::OutOfMemory) => Err(StepFault::OutOfMemory),
+    }
+}
+
+// Replays events from the first.
+fn replay_first<W: Workflow>(
+    alloc: Global,
+    key: &RunKey,
+    events: Vec<Event>,
+    meter: &mut Meter,
+) -> Result<Stepped<W>, OutOfMemory>
+    ensures replays { IfOk result (λ stepped. Replays W.program key.now events.items (steps W.program events.items) stepped.run stepped.fault meter.old meter.new) }
+    ensures miss { IfOk result (λ stepped. stepped.hit ≡ false) }
+{
+    let key = key.try_copy()?;
+    match Run::from_first(alloc, key, events, meter) {
+        Ok(run) => Ok(Stepped {
+            run: Some(run),
+            fault: None,
+            hit: false,
+        }),
+        Err(RunFault::Fault(fault)) => Ok(Stepped {
+            run: None,
+            fault: Some(fault),
+            hit: false,
+        }),
+        Err(RunFault::OutOfMemory) => Err(OutOfMemory),
+    }
+}
+
+// Replays what the source tells, from the first event.
+fn replay_told<W: Workflow, S: TaskSource>(
+    alloc: Global,
+    key: &RunKey,
+    up_to: u64,
+    source: &mut S,
+    meter: &mut Meter,
+) -> Result<Stepped<W>, StepFault>
+    ensures replays { IfOk result (λ stepped. ReplaysTold W.program (S.tells source.old) key.now up_to stepped.run stepped.fault meter.old meter.new) }
+    ensures miss { IfOk result (λ stepped. stepped.hit ≡ false) }
+    ensures answers { S.answers source.new ≡ S.answers source.old }
+    ensures failures { FailsOnlySource result (S.failures source.old) (S.failures source.new) }
+    ensures delivers { SameRelation (S.delivers source.old) (S.delivers source.new) }
+    ensures tells { SameTelling (S.tells source.old) (S.tells source.new) }
+{
+    let history = match source.whole(key, up_to) {
+        Ok(history) => history,
+        Err(fault) => return Err(StepFault::Source(fault)),
+    };
+    Ok(replay_first(alloc, key, history, meter)?)
+}
+
+// Whether the events begin with the first of a history.
+fn is_whole(events: &[Event]) -> bool
+    ensures { result ≡ follows 0 events.now }
+{
+    match events.first() {
+        Some(event) => event.number.get() == 1,
+        None => false,
+    }
+}
+
+// The number of the last event, 0 where there is none.
+fn last_number(events: &[Event]) -> u64
+    ensures { result ≡ last_number events.now }
+{
+    match events.last() {
+        Some(event) => event.number.get(),
+        None => 0,
+    }
+}

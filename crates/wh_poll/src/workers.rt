@@ -1,0 +1,240 @@
+//! Workers, one thread for each seat.
+ghost use Rattle.std.specs.Prelude.{◌≡◌, ◌≤◌, ◌<◌, ◌+◌, ℕ, IfOk, map, vec_len, slice_index_or};
+ghost use denote.Param.Send.{IsSend};
+ghost use Rattle.wh_poll.specs.Source.{RoseIfFailed};
+ghost use Rattle.wh_poll.specs.Serve.{WithinTurns};
+
+use crate::handler::{ActivityHandler, Gate};
+use crate::serve::{Served, serve_one};
+use crate::source::{SourceFault, TaskSource};
+use std::alloc::{AllocError, Global};
+use std::sync::Wait;
+use std::sync::ledger::Ledger;
+use std::thread;
+use std::thread::Threads;
+use wh_events::OutOfMemory;
+use wh_host::Host;
+use wh_ledger::Seat;
+use wh_slots::SlotKind;
+use wh_workflow::Workflow;
+
+/// What a worker hands back when it ends.
+#[derive(Drop)]
+pub struct Worker<T: Ledger, C: Ledger, F: Ledger, S> {
+    /// Its seat, with what it has counted.
+    pub seat: Seat<T, C, F>,
+    /// Its source, with the answers that it was sent.
+    pub source: S,
+    /// The first fault of its source, if there was one.
+    pub fault: Option<SourceFault>,
+}
+
+// What a worker begins with.
+#[derive(Drop)]
+struct Job<T: Ledger, C: Ledger, F: Ledger, S, A> {
+    seat: Seat<T, C, F>,
+    source: S,
+    handler: A,
+    turns: u64,
+}
+
+/// Serves tasks, at most one a turn: workflow and activity tasks by turns, workflow tasks first. A kind that is closed is not
+/// served again, and each later turn goes to the other. It ends when both are closed, when the host drains, or after so many
+/// turns. The first fault of the source is kept, and the work goes on.
+pub fn work<
+    R: Wait,
+    W: Workflow,
+    T: Ledger,
+    C: Ledger,
+    F: Ledger,
+    S: TaskSource,
+    A: ActivityHandler + Drop,
+    G: Gate,
+>(
+    rt: &R,
+    alloc: Global,
+    host: &Host<W, T, C, F>,
+    seat: Seat<T, C, F>,
+    source: S,
+    handler: A,
+    gate: &G,
+    turns: u64,
+) -> Worker<T, C, F, S>
+    ensures taken { result.seat.taken ≤ seat.taken + turns }
+    ensures fault { RoseIfFailed result.fault (S.failures source) (S.failures result.source) }
+{
+    let mut seat = seat;
+    let mut source = source;
+    let mut handler = handler;
+    let mut fault = None;
+    let mut kind = SlotKind::Workflow;
+    let mut one_closed = false;
+    for _turn in 0..turns {
+        let served = serve_one(
+            rt,
+            alloc,
+            host,
+            &mut seat,
+            &mut source,
+            &mut handler,
+            gate,
+            kind,
+        );
+        if let Err(first) = served {
+            if fault.is_none() {
+                fault = Some(first);
+            }
+        }
+        let is_closed = matches!(served, Ok(Served::Closed));
+        if matches!(served, Ok(Served::Draining)) || (is_closed && one_closed) {
+            break;
+        }
+        if !one_closed {
+            kind = other(kind);
+        }
+        if is_closed {
+            one_closed = true;
+        }
+    }
+    Worker {
+        seat,
+        source,
+        fault,
+    }
+}
+
+// The other kind.
+fn other(kind: SlotKind) -> SlotKind {
+    match kind {
+        SlotKind::Workflow => SlotKind::Activity,
+        SlotKind::Activity => SlotKind::Workflow,
+    }
+}
+
+/// Runs a worker in a thread of its own for each seat, with the source, the handler and the turns of the same place. The four
+/// lists are equally long. The workers come back in the order of the seats, and the taken share of each has risen by at most its
+/// turns. `OutOfMemory` where no room was found; then the seats are given up. (Temporal documentation, "Workers": a Worker
+/// Process runs many task executors.)
+pub fn run_workers<
+    R: Threads + Wait + Sync,
+    W: Workflow + Send,
+    T: Ledger + Send,
+    C: Ledger + Send,
+    F: Ledger + Send,
+    S: TaskSource + Send + Drop,
+    A: ActivityHandler + Send + Drop,
+    G: Gate + Sync,
+>(
+    rt: &R,
+    alloc: Global,
+    host: &Host<W, T, C, F>,
+    seats: Vec<Seat<T, C, F>>,
+    sources: Vec<S>,
+    handlers: Vec<A>,
+    gate: &G,
+    turns: Vec<u64>,
+) -> Result<Vec<Worker<T, C, F, S>>, OutOfMemory>
+    requires sources { vec_len sources ≡ vec_len seats }
+    requires handlers { vec_len handlers ≡ vec_len seats }
+    requires turns { vec_len turns ≡ vec_len seats }
+    ensures { IfOk result (λ workers. WithinTurns seats.items turns.items (map (λ worker. worker.seat) workers.items)) }
+{
+    let jobs = jobs_of(alloc, seats, sources, handlers, turns)?;
+    Ok(run_jobs(rt, alloc, host, gate, jobs)?)
+}
+
+// Runs a worker in a thread of its own for each job.
+fn run_jobs<
+    R: Threads + Wait + Sync,
+    W: Workflow + Send,
+    T: Ledger + Send,
+    C: Ledger + Send,
+    F: Ledger + Send,
+    S: TaskSource + Send + Drop,
+    A: ActivityHandler + Send + Drop,
+    G: Gate + Sync,
+>(
+    rt: &R,
+    alloc: Global,
+    host: &Host<W, T, C, F>,
+    gate: &G,
+    jobs: Vec<Job<T, C, F, S, A>>,
+) -> Result<Vec<Worker<T, C, F, S>>, AllocError>
+    ensures count { IfOk result (λ workers. vec_len workers ≡ vec_len jobs) }
+    ensures turns { IfOk result (λ workers. (i : ℕ) (j : _) (w : _) → i < vec_len jobs → (slice_index_or workers.items i w).seat.taken ≤ (slice_index_or jobs.items i j).seat.taken + (slice_index_or jobs.items i j).turns) }
+{
+    thread::map_vec(
+        rt,
+        jobs,
+        &|job: Job<T, C, F, S, A>| -> Worker<T, C, F, S>
+            requires workflow { IsSend W.row }
+            requires state { IsSend W.State.row }
+            ensures { result.seat.taken ≤ job.seat.taken + job.turns }
+        { work_job(rt, alloc, host, gate, job) },
+    )
+}
+
+// Serves tasks for a job.
+fn work_job<
+    R: Wait,
+    W: Workflow,
+    T: Ledger,
+    C: Ledger,
+    F: Ledger,
+    S: TaskSource,
+    A: ActivityHandler + Drop,
+    G: Gate,
+>(
+    rt: &R,
+    alloc: Global,
+    host: &Host<W, T, C, F>,
+    gate: &G,
+    job: Job<T, C, F, S, A>,
+) -> Worker<T, C, F, S>
+    ensures { result.seat.taken ≤ job.seat.taken + job.turns }
+{
+    let Job {
+        seat,
+        source,
+        handler,
+        turns,
+    } = job;
+    work(rt, alloc, host, seat, source, handler, gate, turns)
+}
+
+// One job for each seat, in their order.
+fn jobs_of<T: Ledger, C: Ledger, F: Ledger, S: Drop, A: Drop>(
+    alloc: Global,
+    mut seats: Vec<Seat<T, C, F>>,
+    mut sources: Vec<S>,
+    mut handlers: Vec<A>,
+    mut turns: Vec<u64>,
+) -> Result<Vec<Job<T, C, F, S, A>>, OutOfMemory>
+    requires sources { vec_len sources ≡ vec_len seats }
+    requires handlers { vec_len handlers ≡ vec_len seats }
+    requires turns { vec_len turns ≡ vec_len seats }
+    ensures seats { IfOk result (λ jobs. map (λ job. job.seat) jobs.items ≡ seats.items) }
+    ensures turns { IfOk result (λ jobs. map (λ job. job.turns) jobs.items ≡ turns.items) }
+{
+    let mut jobs = Vec::new(alloc);
+    jobs.reserve(seats.len())?;
+    while let Some(seat) = seats.pop() {
+        let Some(source) = sources.pop() else {
+            unreachable!()
+        };
+        let Some(handler) = handlers.pop() else {
+            unreachable!()
+        };
+        let Some(count) = turns.pop() else {
+            unreachable!()
+        };
+        jobs.push_reserved(Job {
+            seat,
+            source,
+            handler,
+            turns: count,
+        });
+    }
+    jobs.reverse();
+    Ok(jobs)
+}
