@@ -1,0 +1,116 @@
+-- A source over scripted histories: which tasks it gives, what it tells, and how its tasks were answered.
+use Rattle.std.specs.Prelude.{◌≡◌, ℕ, ◌+◌, ◌-◌, ◌*◌, ◌/◌, ◌<◌, min, Bool, false, List, [], ◌∷◌, length, drop, take, get_or, slice_get, Option, Some, None, if◌then◌else◌, eqb, leb, ltb, bytes_eq, codes, String, string_bytes, Vec, sum_by, count_by}
+use Rattle.std.specs.declared.alloc.Global.{Global}
+use Rattle.wh_events.specs.declared.event.Event.{Event}
+use Rattle.wh_events.specs.declared.key.RunKey.{RunKey}
+use Rattle.wh_events.specs.Cuts.{is_task_started}
+use Rattle.wh_replay.specs.declared.run.Answer.TheVariants.{Complete}
+use Rattle.wh_slots.specs.declared.TaskName.{TaskName}
+use Rattle.wh_poll.specs.declared.source.Sent.{Sent}
+use Rattle.wh_poll.specs.declared.source.Sent.TheVariants.{Workflow as OfWorkflow}
+use Rattle.wh_poll.specs.declared.source.WorkflowTask.{WorkflowTask}
+use Rattle.wh_poll.specs.Numbers.{last_number}
+use Rattle.wh_poll.specs.Source.{Delivery, Workflow, Activity}
+
+-- a scripted history: the index of its file, its name, and its events
+pub record Scripted : Type 0 where
+  pub index : ℕ
+  pub name : List ℕ
+  pub events : List Event
+
+-- a source as contracts see it: its histories, the round of its next task and the place of the history that comes next in it, both counted from 0, and the answers that it was sent
+pub record Stage : Type 0 where
+  pub histories : List Scripted
+  pub round : ℕ
+  pub next : ℕ
+  pub answers : List (TaskName × Sent)
+
+-- a history as it is given
+abbrev pub scripted : (ℕ × String Global × Vec Event Global) → Scripted
+scripted given = record { index = given.0; name = string_bytes given.1; events = given.2.items }
+
+-- the ends of the tasks of a list of events, where so many events stand before it: how many events stand before and up to each event that starts a task
+abbrev pub ends_after : ℕ → List Event → List ℕ
+ends_after before [] = []
+ends_after before (event ∷ rest) = if is_task_started event then (before + 1) ∷ ends_after (before + 1) rest else ends_after (before + 1) rest
+
+-- the ends of the tasks of a history
+abbrev pub ends_of : List Event → List ℕ
+ends_of events = ends_after 0 events
+
+-- how many tasks a history has
+abbrev pub tasks_in : Scripted → ℕ
+tasks_in history = length (ends_of history.events)
+
+-- how many events stand before the n-th task, counted from 0: as many as up to the end of the task before it
+abbrev pub begin_at : List ℕ → ℕ → ℕ
+begin_at ends n = if eqb n 0 then 0 else get_or ends (n - 1) 0
+
+-- the events of the n-th task, counted from 0: those up to its end, without those of the tasks before it
+abbrev pub events_of : List Event → ℕ → List Event
+events_of events n = take (get_or (ends_of events) n 0 - begin_at (ends_of events) n) (drop (begin_at (ends_of events) n) events)
+
+-- the token of a task: the file's index times 2^64 plus the number of the event that starts the task
+abbrev pub token : ℕ → ℕ → TaskName
+token index number = record { 0 = index * 0x1_0000_0000_0000_0000 + number }
+
+-- the key of a history: its name, and the run `recorded`
+abbrev pub key_of : List ℕ → RunKey
+key_of name = record { workflow_id = name; run_id = codes "recorded" }
+
+-- the n-th task of a history, counted from 0
+abbrev pub task_of : Scripted → ℕ → WorkflowTask
+task_of history n = record { name = token history.index (last_number (events_of history.events n)); run = key_of history.name; events = events_of history.events n }
+
+-- the task is one of a history's
+abbrev pub IsTaskOf : List Scripted → WorkflowTask → Type 0
+IsTaskOf histories task = (place n : ℕ) × (history : Scripted) × (slice_get histories place ≡ Some history) × (n < tasks_in history) × (task ≡ task_of history n)
+
+-- the source gives the tasks of its histories, and no activity task
+abbrev pub Gives : List Scripted → Delivery → Type 0
+Gives histories (Workflow task) = IsTaskOf histories task
+Gives histories (Activity task) = ⊥
+
+-- the events up to a number
+abbrev pub events_up_to : ℕ → List Event → List Event
+events_up_to number [] = []
+events_up_to number (event ∷ rest) = if leb event.number number then event ∷ events_up_to number rest else []
+
+-- the first history of the name with its place, where so many histories stand before it, if there is one
+abbrev pub first_named : ℕ → List ℕ → List Scripted → Option (ℕ × Scripted)
+first_named before name [] = None
+first_named before name (history ∷ rest) = if bytes_eq history.name name then Some (before, history) else first_named (before + 1) name rest
+
+-- the events of a history up to a number, if there is one
+abbrev pub events_in : ℕ → Option (ℕ × Scripted) → List Event
+events_in up_to None = []
+events_in up_to (Some found) = events_up_to up_to found.1.events
+
+-- what the source tells of a key: the events of the first history of its name up to the number, none where the run is not `recorded`
+abbrev pub told : List Scripted → RunKey → ℕ → List Event
+told histories key up_to = if bytes_eq key.run_id (codes "recorded") then events_in up_to (first_named 0 key.workflow_id histories) else []
+
+-- how many tasks of the history at a place were polled
+abbrev pub polled_at : Stage → ℕ → Scripted → ℕ
+polled_at stage place history = min (if ltb place stage.next then stage.round + 1 else stage.round) (tasks_in history)
+
+-- an answer without a fault to a workflow task of the file
+abbrev pub completes : ℕ → TaskName → Sent → Bool
+completes index name (OfWorkflow (Complete commands)) = eqb (name.0 / 0x1_0000_0000_0000_0000) index
+completes index name _ = false
+
+-- how many answers without a fault were sent to tasks of the file
+abbrev pub completed_of : ℕ → List (TaskName × Sent) → ℕ
+completed_of index answers = count_by (λ sent. completes index sent.0 sent.1) answers
+
+abbrev pub tally_by : Stage → Option (ℕ × Scripted) → Option (ℕ × ℕ × ℕ)
+tally_by stage None = None
+tally_by stage (Some found) = Some (polled_at stage found.0 found.1, completed_of found.1.index stage.answers, polled_at stage found.0 found.1 - completed_of found.1.index stage.answers)
+
+-- how many tasks of the first history of the name were polled, how many were completed, and the others of them
+abbrev pub tally_of : Stage → List ℕ → Option (ℕ × ℕ × ℕ)
+tally_of stage name = tally_by stage (first_named 0 name stage.histories)
+
+-- how many tasks all histories have, at most 2^64 - 1
+abbrev pub deliveries_of : List Scripted → ℕ
+deliveries_of histories = min (sum_by tasks_in histories) 0xffff_ffff_ffff_ffff
