@@ -2,6 +2,7 @@
 use Rattle.std.specs.Prelude.{ℕ, ◌-◌, List, length, slice_get, Option, Some, None}
 use Rattle.wh_events.specs.declared.event.Event.{Event}
 
+-- the number of the event, 0 where there is none
 abbrev pub number_or_zero : Option Event → ℕ
 number_or_zero None = 0
 number_or_zero (Some event) = event.number

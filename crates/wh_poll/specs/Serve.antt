@@ -26,10 +26,12 @@ use Rattle.wh_poll.specs.declared.source.Sent.TheVariants.{Workflow as OfWorkflo
 use Rattle.wh_poll.specs.Source.{Delivery, Workflow as WorkflowDelivery, Activity as ActivityDelivery}
 use Rattle.wh_poll.specs.Tasks.{Steps, IsAnswer}
 
+-- a workflow task that is answered `Complete` is completed, else failed
 abbrev pub outcome_of : Answer → Outcome
 outcome_of (Complete commands) = Completed
 outcome_of (Fail fault) = Failed
 
+-- an activity task that is answered with a result is completed, else failed
 abbrev pub activity_outcome : ActivityAnswer → Outcome
 activity_outcome (Done result) = Completed
 activity_outcome (Undone reason) = Failed
@@ -103,6 +105,7 @@ Sends program tells run key name events old new (Ok reply) =
     (answer : Answer) × IsReply program tells run key events reply.hit reply.steps reply.outcome answer × (new ≡ old ++ (name, OfWorkflow answer) ∷ [])
 Sends program tells run key name events old new (Err fault) = new ≡ old
 
+-- the one answer to an activity task, which the handler may give, or none
 abbrev pub SendsActivity : (ActivityTask → ActivityAnswer → Type 0) → ActivityTask → List (TaskName × Sent) → List (TaskName × Sent) → Result Outcome StepFault → Type 0
 SendsActivity may task old new (Ok outcome) =
     (answer : ActivityAnswer) × may task answer × (activity_outcome answer ≡ outcome) × (new ≡ old ++ (task.name, OfActivity answer) ∷ [])

@@ -1,5 +1,5 @@
 -- Words on sources of tasks.
-use Rattle.std.specs.Prelude.{◌≡◌, ◌↔◌, ℕ, ◌<◌, ◌≤◌, List, Option, Some, None, Result, Ok, Err}
+use Rattle.std.specs.Prelude.{◌≡◌, ◌↔◌, ℕ, ◌<◌, ◌≤◌, ◌==◌, cond, List, Option, Some, None, Result, Ok, Err}
 use Rattle.wh_events.specs.declared.event.Event.{Event}
 use Rattle.wh_events.specs.declared.key.RunKey.{RunKey}
 use Rattle.wh_replay.specs.declared.run.Answer.{Answer}
@@ -28,6 +28,7 @@ SameTelling p q = (key : RunKey) (up_to : ℕ) (history : List Event) → p key 
 abbrev pub SameMay : (ActivityTask → ActivityAnswer → Type 0) → (ActivityTask → ActivityAnswer → Type 0) → Type 0
 SameMay p q = (task : ActivityTask) (answer : ActivityAnswer) → p task answer ↔ q task answer
 
+-- it holds of the task, where the poll gave one
 abbrev pub IfTask : {A : Type 0} → (A → Type 0) → Polled A → Type 0
 IfTask p (Task task) = p task
 IfTask p Nothing = Unit {0}
@@ -44,3 +45,7 @@ abbrev pub RoseIfFailed : Option SourceFault → ℕ → ℕ → Type 0
 RoseIfFailed None old new = old ≤ new
 RoseIfFailed (Some Source) old new = old < new
 RoseIfFailed (Some OutOfMemory) old new = old ≤ new
+
+-- how often a source of which one call fails has failed, by the calls that are left before that one: once where none is
+abbrev pub spent : ℕ → ℕ
+spent left = cond (left == 0) 1 0

@@ -59,6 +59,7 @@ pub data Move : Type 0 where
 abbrev pub task_of : Table → Use → List HistoryEvent
 task_of table use_of = drop use_of.after (take use_of.up_to (table use_of.key))
 
+-- the runs in hand, with the one that replay gave, if it gave one
 abbrev pub with_run : Option Held → List Entry → List Entry
 with_run None runs = runs
 with_run (Some run) runs = entry_of run ∷ runs
@@ -80,6 +81,7 @@ abbrev pub BringsNoRun : Event → Type 0
 BringsNoRun (GiveRun held run reply) = ⊥
 BringsNoRun _ = Unit {0}
 
+-- the move leads from the old state to the new one
 abbrev pub move : {S : Type 0} → Program S → Table → Steady → Move → Steady → Type 0
 move program table old (Uses u) new = IsUse program table old u new
 move program table old (Gives held before run after reply) new =
@@ -97,6 +99,7 @@ IsAnswered program table (Uses u) = u.answer ≡ answer_to program (take u.up_to
 IsAnswered program table (Gives held before run after reply) = Unit {0}
 IsAnswered program table (Happens event) = Unit {0}
 
+-- so is each task of the moves
 abbrev pub AllAnswered : {S : Type 0} → Program S → Table → List Move → Type 0
 AllAnswered program table [] = Unit {0}
 AllAnswered program table (m ∷ ms) = IsAnswered program table m × AllAnswered program table ms
@@ -105,6 +108,7 @@ AllAnswered program table (m ∷ ms) = IsAnswered program table m × AllAnswered
 abbrev pub HoldsBeginning : Table → Entry → Type 0
 HoldsBeginning table run = (rest : List HistoryEvent) × (table run.0 ≡ run.1 ++ rest)
 
+-- so does each of the runs
 abbrev pub AllHoldBeginnings : Table → List Entry → Type 0
 AllHoldBeginnings table [] = Unit {0}
 AllHoldBeginnings table (run ∷ runs) = HoldsBeginning table run × AllHoldBeginnings table runs

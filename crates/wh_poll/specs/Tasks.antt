@@ -23,6 +23,7 @@ pub data Basis : Type 0 where
   Joined : List Event → Basis
   Told : Basis
 
+-- where the events do not begin with the first: the run decides
 abbrev pub later_basis : Option Held → List Event → Basis
 later_basis None [] = Nothing
 later_basis None (event ∷ rest) = Told
@@ -60,6 +61,7 @@ module _ {S : Type 0} (program : Program S) where
   StepsFrom Told tells run key events stepped fault hit before after =
       ReplaysTold tells key (last_number events) stepped fault before after × (hit ≡ false)
 
+  -- the same, from the first basis that applies
   abbrev pub Steps : (RunKey → ℕ → List Event → Type 0) → Option Held → RunKey → List Event → Option Held → Option Fault → Bool → ℕ → ℕ → Type 0
   Steps tells run key events stepped fault hit before after =
       StepsFrom (basis_of run events) tells run key events stepped fault hit before after

@@ -1,5 +1,5 @@
 //! Replay of one workflow task.
-ghost use Rattle.std.specs.Prelude.{◌≡◌, false, IfOk, IfSome};
+ghost use Rattle.std.specs.Prelude.{◌≡◌, ◌≤◌, false, IfOk, IfSome};
 ghost use Rattle.wh_poll.specs.Source.{SameRelation, SameTelling};
 ghost use Rattle.wh_replay.specs.Runs.{follows, steps};
 ghost use Rattle.wh_poll.specs.Numbers.{last_number};
@@ -66,6 +66,7 @@ pub fn replay_task<W: Workflow, S: TaskSource>(
     ensures stepped { IfOk result (λ stepped. Steps W.program (S.tells source.old) run key.now events.items stepped.run stepped.fault stepped.hit meter.old meter.new) }
     ensures key { IfOk result (λ stepped. IfSome stepped.run (λ run. run.key ≡ key.now)) }
     ensures one { IfOk result (λ stepped. HasAnswer stepped.run stepped.fault) }
+    ensures never_lowered { meter.old ≤ meter.new }
     ensures answers { S.answers source.new ≡ S.answers source.old }
     ensures failures { FailsOnlySource result (S.failures source.old) (S.failures source.new) }
     ensures delivers { SameRelation (S.delivers source.old) (S.delivers source.new) }
@@ -115,6 +116,7 @@ fn replay_first<W: Workflow>(
 ) -> Result<Stepped<W>, OutOfMemory>
     ensures replays { IfOk result (λ stepped. Replays W.program key.now events.items (steps W.program events.items) stepped.run stepped.fault meter.old meter.new) }
     ensures miss { IfOk result (λ stepped. stepped.hit ≡ false) }
+    ensures never_lowered { meter.old ≤ meter.new }
 {
     let key = key.try_copy()?;
     match Run::from_first(alloc, key, events, meter) {
@@ -142,6 +144,7 @@ fn replay_told<W: Workflow, S: TaskSource>(
 ) -> Result<Stepped<W>, StepFault>
     ensures replays { IfOk result (λ stepped. ReplaysTold W.program (S.tells source.old) key.now up_to stepped.run stepped.fault meter.old meter.new) }
     ensures miss { IfOk result (λ stepped. stepped.hit ≡ false) }
+    ensures never_lowered { meter.old ≤ meter.new }
     ensures answers { S.answers source.new ≡ S.answers source.old }
     ensures failures { FailsOnlySource result (S.failures source.old) (S.failures source.new) }
     ensures delivers { SameRelation (S.delivers source.old) (S.delivers source.new) }
