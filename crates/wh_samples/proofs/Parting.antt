@@ -2,7 +2,7 @@
 use Rattle.std.proofs.Common.{◌≡◌, ◌∙◌, ◌++◌, ◌+◌, ◌-◌, ◌<◌, ◌≤◌, ℕ, suc, List, [], ◌∷◌, take, drop, length, get_or, min, ap, sym, subst, append_assoc, length-drop, arith}
 use Rattle.std.proofs.lemmas.List.{drop_more, take_min}
 use Rattle.wh_poll.specs.Source.{SameRelation}
-use Rattle.wh_samples.specs.Scripted.{Scripted, Gives}
+use Rattle.wh_samples.specs.Rounds.{Scripted, Gives}
 
 part_begins : {A : Type 0} (xs : List A) (place stop : ℕ) (x : A) → place < stop → stop ≤ length xs → take (stop - place) (drop place xs) ≡ get_or xs place x ∷ take (stop - (place + 1)) (drop (place + 1) xs)
 part_begins xs place stop x before within =

@@ -1,6 +1,6 @@
 //! A source that gives the tasks of recorded histories.
-ghost use Rattle.std.specs.Prelude.{◌≡◌, ◌<◌, ◌≤◌, ◌-◌, ◌++◌, ◌∷◌, [], get_or, min, length, map, take, drop, option_map, IfOk, IfSome, OnOk, OnErr};
-ghost use Rattle.wh_samples.specs.Scripted.{scripted, ends_of, tasks_in, begin_at, task_of, key_of, events_up_to, first_named, polled_at, completed_of, tally_of, deliveries_of};
+ghost use Rattle.std.specs.Prelude.{◌≡◌, ◌<◌, ◌-◌, ◌++◌, ◌∷◌, [], get_or, length, map, take, drop, option_map, IfOk, IfSome, OnOk, OnErr};
+ghost use Rattle.wh_samples.specs.Rounds.{scripted, ends_of, tasks_in, begin_at, task_of, key_of, events_up_to, first_named, completed_of, tally_of, deliveries_of};
 ghost use Rattle.wh_poll.specs.Numbers.{last_number};
 ghost use Rattle.wh_poll.specs.Source.{FailsOnly};
 
@@ -28,7 +28,7 @@ struct ScriptedHistory {
 
 impl Model for ScriptedHistory {
     ghost use Rattle.std.specs.Prelude.{◌≡◌, string_bytes};
-    ghost use Rattle.wh_samples.specs.Scripted.{Scripted, ends_of};
+    ghost use Rattle.wh_samples.specs.Rounds.{Scripted, ends_of};
 
     ghost Value = { Scripted };
 
@@ -226,7 +226,7 @@ pub struct ScriptSource {
 }
 
 impl Model for ScriptSource {
-    ghost use Rattle.wh_samples.specs.Scripted.{Stage};
+    ghost use Rattle.wh_samples.specs.Rounds.{Stage};
 
     ghost Value = { Stage };
 
@@ -235,7 +235,7 @@ impl Model for ScriptSource {
 
 impl ScriptSource {
     /// A source over histories, each with the index of its file and its name. `OutOfMemory` where no
-    /// room was found for the places of their tasks.
+    /// room was found for the places of their tasks; the histories are dropped then.
     pub fn new(
         alloc: Global,
         histories: Vec<(u64, String, Vec<Event>)>,
@@ -267,8 +267,9 @@ impl ScriptSource {
         deliveries
     }
 
-    /// How many tasks of the first history of the name were polled, how many answers without a fault
-    /// were sent to them, and how many tasks are left without one. `None` where no history has it.
+    /// For the first history of the name: how many of its tasks were polled, how many answers
+    /// without a fault were sent to tasks of its file, and by how many the tasks are more than those.
+    /// `None` where no history has the name.
     pub fn tally(&self, name: &str) -> Option<(u64, u64, u64)>
         ensures { result ≡ tally_of self.now name.now }
     {
@@ -300,7 +301,7 @@ impl ScriptSource {
 
 impl TaskSource for ScriptSource {
     ghost use Rattle.std.specs.Prelude.{◌≡◌};
-    ghost use Rattle.wh_samples.specs.Scripted.{Gives, told};
+    ghost use Rattle.wh_samples.specs.Rounds.{Gives, told};
 
     ghost answers = { λ source. source.answers };
 

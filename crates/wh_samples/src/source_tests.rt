@@ -2,7 +2,7 @@ use crate::{FaultySource, ScriptSource};
 use std::alloc::Global;
 use std::test::Fail;
 use wh_events::{Event, EventKind, EventNo, Items, Payload, RunKey, Text};
-use wh_poll::{Polled, SourceFault, TaskSource};
+use wh_poll::{ActivityAnswer, Polled, SourceFault, TaskSource};
 use wh_replay::Answer;
 use wh_slots::TaskName;
 use wh_workflow::Command;
@@ -95,6 +95,10 @@ fn answers_are_counted_and_histories_told(rt: HostRuntime) -> Result<(), Fail> {
     let answer = Answer::Complete(Items::new(Vec::<Command>::new(alloc)));
     source
         .answer_workflow(TaskName(3), &answer)
+        .map_err(|_| "answer")?;
+    let failed = ActivityAnswer::Failed(text(alloc, "failed")?);
+    source
+        .answer_activity(TaskName(3), &failed)
         .map_err(|_| "answer")?;
     assert_eq!(rt; source.tally("nap"), Some((1, 1, 0)));
     assert_eq!(rt; source.tally("short"), Some((1, 0, 1)));

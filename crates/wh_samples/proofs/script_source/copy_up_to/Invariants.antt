@@ -1,5 +1,5 @@
 use Rattle.std.proofs.Common.{◌≡◌, ◌++◌, drop}
-use Rattle.wh_samples.specs.Scripted.{events_up_to}
+use Rattle.wh_samples.specs.Rounds.{events_up_to}
 use Rattle.wh_samples.proofs.script_source.copy_up_to.Given as goal
 
 abbrev pub invariant-loop-event : goal.invariant-loop-event

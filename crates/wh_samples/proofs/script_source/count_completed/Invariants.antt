@@ -1,5 +1,5 @@
 use Rattle.std.proofs.Common.{◌≡◌, ◌≤◌, take}
-use Rattle.wh_samples.specs.Scripted.{completed_of}
+use Rattle.wh_samples.specs.Rounds.{completed_of}
 use Rattle.wh_samples.proofs.script_source.count_completed.Given as goal
 
 abbrev pub invariant-loop-name : goal.invariant-loop-name

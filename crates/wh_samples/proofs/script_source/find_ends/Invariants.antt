@@ -1,5 +1,5 @@
 use Rattle.std.proofs.Common.{◌≡◌, ◌++◌, drop}
-use Rattle.wh_samples.specs.Scripted.{ends_after, ends_of}
+use Rattle.wh_samples.specs.Rounds.{ends_after, ends_of}
 use Rattle.wh_samples.proofs.script_source.find_ends.Given as goal
 
 abbrev pub invariant-loop-place : goal.invariant-loop-place

@@ -1,5 +1,5 @@
 use Rattle.std.proofs.Common.{◌≡◌, drop}
-use Rattle.wh_samples.specs.Scripted.{first_named}
+use Rattle.wh_samples.specs.Rounds.{first_named}
 use Rattle.wh_samples.proofs.script_source.find_named.Given as goal
 
 abbrev pub invariant-loop-place : goal.invariant-loop-place

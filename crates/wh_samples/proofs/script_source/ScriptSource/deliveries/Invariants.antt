@@ -1,5 +1,5 @@
 use Rattle.std.proofs.Common.{◌≡◌, take, min, sum_by}
-use Rattle.wh_samples.specs.Scripted.{deliveries_of}
+use Rattle.wh_samples.specs.Rounds.{deliveries_of}
 use Rattle.wh_samples.proofs.script_source.ScriptSource.deliveries.Given as goal
 
 abbrev pub invariant-loop-history : goal.invariant-loop-history

@@ -1,5 +1,5 @@
 use Rattle.std.proofs.Common.{◌≡◌, map}
-use Rattle.wh_samples.specs.Scripted.{scripted}
+use Rattle.wh_samples.specs.Rounds.{scripted}
 use Rattle.wh_samples.proofs.script_source.ScriptSource.new.Given as goal
 
 abbrev pub invariant-loop-history : goal.invariant-loop-history

@@ -1,5 +1,5 @@
 use Rattle.std.proofs.Common.{ap, sym}
-use Rattle.wh_samples.specs.Scripted.{Stage}
+use Rattle.wh_samples.specs.Rounds.{Stage}
 use Rattle.wh_samples.proofs.Parting.{same_gives}
 use Rattle.wh_samples.proofs.script_source.ScriptSourceTaskSource.answer_activity.Goals as goal
 
