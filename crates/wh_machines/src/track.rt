@@ -175,7 +175,8 @@ impl Track {
     pub fn into_events(self) -> Vec<Event>
         ensures { result.items ≡ self }
     {
-        self.events
+        let Track { events, .. } = self;
+        events
     }
 
     /// The number of the open thing of a kind and an id.
