@@ -1,0 +1,68 @@
+//! Reports of several files.
+
+use crate::replaying::{CommandFault, replay_command};
+use crate::tests::notation::{json, rows};
+use std::alloc::Global;
+use std::io;
+use std::io::Write;
+use std::test::Fail;
+use wh_samples::All;
+
+/// Files, each by its name and its history, with the lines of their report and the status.
+const REPORTS: &str = "\
+b.json: nap; a.json: greet => b.json: ok, 2 tasks, a.json: ok, 2 tasks, 2 files, 2 ok, status 0
+b.json: nap; a.json: greet/2 C; c: S => b.json: ok, 2 tasks, a.json: ok, 0 tasks, c: fault, event 1 is not in place: FirstNotStart, 3 files, 2 ok, status 1
+\u{e9}.json: nap; a\tb\u{7f}~ .json: nap => ?.json: ok, 2 tasks, a?b?~ .json: ok, 2 tasks, 2 files, 2 ok, status 0
+ => 0 files, 0 ok, status 0
+";
+
+/// Files by their names and histories.
+fn named_files(alloc: Global, list: &'static str) -> Result<Vec<(String, Vec<u8>)>, Fail> {
+    let mut files = Vec::new(alloc);
+    for file in list.split("; ") {
+        if let Some((name, history)) = file.split_once(": ") {
+            let text = json(alloc, history)?;
+            files.push((String::from_str(alloc, name)?, text.into_bytes()))?;
+        }
+    }
+    Ok(files)
+}
+
+#[test]
+fn reports_files(rt: HostRuntime) -> Result<(), Fail> {
+    let alloc = rt.alloc();
+    for (list, wanted) in rows(alloc, REPORTS)? {
+        let files = named_files(alloc, list)?;
+        let mut out = Vec::new(alloc);
+        let Ok(status) = replay_command::<All, _, _>(&rt, alloc, files, &mut out) else {
+            return Err(Fail::new(list));
+        };
+        let report = String::from_utf8(out).map_err(|_| Fail::new("no text"))?;
+        let lines = report.replace(alloc, "\n", ", ")?;
+        let text = format!(in alloc; "{lines}status {status}")?;
+        assert_eq!(rt; text.as_str(), wanted);
+    }
+    Ok(())
+}
+
+/// A writer without room.
+#[derive(Drop)]
+struct Full;
+
+impl Write for Full {
+    fn write(&mut self, _bytes: &[u8]) -> io::Result<usize> {
+        Err(io::Error::from(io::ErrorKind::StorageFull))
+    }
+
+    fn flush(&mut self) -> io::Result<()> {
+        Ok(())
+    }
+}
+
+#[test]
+fn refuses_failed_output(rt: HostRuntime) -> Result<(), Fail> {
+    let files = Vec::new(rt.alloc());
+    let answer = replay_command::<All, _, _>(&rt, rt.alloc(), files, &mut Full);
+    assert!(rt; matches!(answer, Err(CommandFault::Output)));
+    Ok(())
+}
