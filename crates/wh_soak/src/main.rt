@@ -2,7 +2,9 @@
 //! random. What they answer is compared with what one worker answers without a cache.
 #![tactic(auto)]
 
+ghost use Rattle.std.specs.Prelude.{◌≡◌, OnOk, true};
 ghost use Rattle.wh_soak.specs.Sizes.{IsWithin};
+ghost use Rattle.wh_soak.specs.Sound.{IsSound};
 
 mod answers;
 mod checks;
@@ -68,6 +70,17 @@ fn print_figures<R: Runtime>(rt: &R, plan: &Plan, found: &Findings) -> Result<()
     Ok(())
 }
 
+/// Checks what a soak gave: the host's totals, what the workers counted, that the host drained, and
+/// that the answers are those that were given without a cache.
+fn judge(found: &Findings, plain: &Findings) -> Result<(), Refuted>
+    ensures sound { OnOk result (IsSound found.now.totals found.now.tally) }
+    ensures drained { OnOk result (found.now.is_drained ≡ true) }
+    ensures same { OnOk result (found.now.answers.items ≡ plain.now.answers.items) }
+{
+    check(found.totals, found.tally, found.is_drained)?;
+    compare(found.answers.as_slice(), plain.answers.as_slice())
+}
+
 /// Soaks the host as planned, and says what the soak refuted.
 fn run<R: Runtime + AllocGlobal + Threads + Wait + Sync>(
     rt: &R,
@@ -87,10 +100,7 @@ fn run<R: Runtime + AllocGlobal + Threads + Wait + Sync>(
     let hands = deal(alloc, files, plan.histories, plan.workers)?;
     let found = serve_hands::<All, R>(rt, alloc, hands, keys.as_slice(), plan.cache)?;
     print_figures(rt, plan, &found)?;
-    if let Err(refuted) = check(found.totals, found.tally, found.is_drained) {
-        return Ok(Some(refuted));
-    }
-    if let Err(refuted) = compare(found.answers.as_slice(), plain.answers.as_slice()) {
+    if let Err(refuted) = judge(&found, &plain) {
         return Ok(Some(refuted));
     }
     print_facts(rt, found.answers.len(), found.totals)?;

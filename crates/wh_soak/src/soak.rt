@@ -1,5 +1,5 @@
 //! A soak: workers with a thread each serve histories while another thread evicts runs at random.
-ghost use Rattle.std.specs.Prelude.{◌≡◌, ◌+◌, ◌<◌, IfOk, vec_len};
+ghost use Rattle.std.specs.Prelude.{◌≡◌, ◌+◌, ◌<◌, IfOk, length, vec_len};
 ghost use denote.Param.Send.{IsSend};
 ghost use Rattle.wh_soak.specs.Sizes.{IsWithin};
 
@@ -17,7 +17,7 @@ use std::thread;
 use std::thread::Threads;
 use std::time::{Clock, Duration, Instant};
 use wh_events::{OutOfMemory, RunKey};
-use wh_host::{Config, Evict, Host, OpenFault, Totals};
+use wh_host::{Config, Evict, Host, HostState, OpenFault, Totals};
 use wh_ledger::Seat;
 use wh_samples::ScriptSource;
 use wh_slots::{ReserveFault, SlotKind};
@@ -26,11 +26,14 @@ use wh_workflow::Workflow;
 /// How many slots of each kind the host has.
 const SLOTS: usize = 1_000;
 
-/// How often runs are evicted at most.
-const MOST_EVICTIONS: u32 = 100_000;
+/// How often the evicting thread takes the lock at most.
+const MOST_ROUNDS: u32 = 10_000;
 
-/// For how many microseconds the evicting thread sleeps after each eviction.
-const PAUSE: u64 = 50;
+/// How many runs it evicts each time.
+const ROUND: u32 = 64;
+
+/// For how many microseconds it sleeps then.
+const PAUSE: u64 = 2_000;
 
 /// How the evictions of a soak ended.
 #[derive(Clone, Copy, Debug, PartialEq, Eq)]
@@ -44,6 +47,15 @@ pub struct Evictions {
 }
 
 impl Evictions {
+    /// Nothing was evicted yet.
+    fn none() -> Evictions {
+        Evictions {
+            evicted: 0,
+            marked: 0,
+            neither: 0,
+        }
+    }
+
     /// Counts one more.
     fn count(&mut self, evict: Evict) {
         let count = match evict {
@@ -121,29 +133,39 @@ fn run_jobs<
     )
 }
 
-/// Evicts runs picked at random until the workers have ended, at most `MOST_EVICTIONS` times.
+/// Evicts a few runs picked at random.
+fn evict_round<W: Workflow, T: Ledger, C: Ledger, F: Ledger>(
+    state: &mut HostState<W, T, C, F>,
+    keys: &[RunKey],
+    random: &mut Pcg32,
+    evictions: &mut Evictions,
+)
+    requires { 0 < length keys.now }
+{
+    for _run in 0..ROUND {
+        let key = &keys[random.next_word() as usize % keys.len()];
+        evictions.count(state.evict(key));
+    }
+}
+
+/// Evicts runs picked at random, a few at a time, until the workers have ended. It takes the lock at
+/// most `MOST_ROUNDS` times.
 fn evict_at_random<R: Wait + Clock, W: Workflow, T: Ledger, C: Ledger, F: Ledger>(
     rt: &R,
     host: &Host<W, T, C, F>,
     keys: &[RunKey],
     have_ended: &AtomicBool,
 ) -> Evictions {
-    let mut evictions = Evictions {
-        evicted: 0,
-        marked: 0,
-        neither: 0,
-    };
+    let mut evictions = Evictions::none();
     if keys.is_empty() {
         return evictions;
     }
     let mut random = Pcg32::new(42, 54);
-    for _turn in 0..MOST_EVICTIONS {
+    for _round in 0..MOST_ROUNDS {
         if have_ended.load(Ordering::SeqCst) {
             break;
         }
-        let key = &keys[random.next_word() as usize % keys.len()];
-        let evict = host.lock(rt).evict(key);
-        evictions.count(evict);
+        evict_round(&mut host.lock(rt), keys, &mut random, &mut evictions);
         thread::sleep(rt, Duration::from_micros(PAUSE));
     }
     evictions

@@ -90,7 +90,8 @@ pub fn work<R: Wait, W: Workflow, T: Ledger, C: Ledger, F: Ledger>(
     host: &Host<W, T, C, F>,
     job: Job<T, C, F>,
 ) -> Job<T, C, F>
-    ensures { result.tally.hits + result.tally.misses ≤ result.tally.tasks + 1 }
+    ensures turns { result.tally.hits + result.tally.misses ≤ result.tally.tasks + 1 }
+    ensures taken { job.seat.taken + result.tally.hits + result.tally.misses ≤ result.seat.taken }
 {
     let Job {
         mut seat,
