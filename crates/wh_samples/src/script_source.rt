@@ -284,6 +284,13 @@ impl ScriptSource {
         Some((tasks, completed, tasks.saturating_sub(completed)))
     }
 
+    /// The answers that it was sent, each with the name of its task, in the order in which they came.
+    pub fn answers(&self) -> &[(TaskName, Sent)]
+        ensures { result.now ≡ self.now.answers }
+    {
+        self.answers.as_slice()
+    }
+
     /// The round and the history of the next task.
     fn upcoming(&self) -> Option<(usize, usize)>
         ensures within { IfSome result (λ found. found.1 < length self.now.histories) }

@@ -1,0 +1,8 @@
+use Rattle.std.proofs.Common.{◌+◌, ◌≤◌}
+use Rattle.wh_soak.proofs.worker.work.Given as goal
+
+abbrev pub invariant-loop-turn : goal.invariant-loop-turn
+invariant-loop-turn g l = record {
+  turns : l.hits + l.misses ≤ l._turn;
+  taken : l.fn.job.seat.taken + l.hits + l.misses ≤ l.seat.taken;
+}
