@@ -1,7 +1,7 @@
 -- What workers leave, and what a service is by that.
 use Rattle.std.proofs.Common.{◌≡◌, ◌∙◌, ℕ, suc, List, [], ◌∷◌, length, map, refl, sym, ap}
 use Rattle.std.specs.Prelude.{Bool, Option, is_none}
-use Rattle.std.specs.List.{All, list_all}
+use Rattle.std.specs.List.{list_all}
 use Rattle.std.proofs.lemmas.List.Folds.{list_all-map}
 use Rattle.wh_ledger.specs.declared.Shares.{Shares}
 use Rattle.wh_ledger.specs.Shares.{sums_of}
@@ -9,9 +9,10 @@ use Rattle.wh_host.specs.declared.reply.Totals.{Totals}
 use Rattle.wh_host.specs.Machine.{totals_of}
 use Rattle.wh_poll.specs.declared.source.SourceFault.{SourceFault}
 use Rattle.wh_poll.specs.Serve.{WithinTurns}
+use Rattle.wh_samples.specs.Rounds.{Stage}
 use Rattle.wfhost.specs.declared.serving.Dealt.{Dealt}
 use Rattle.wfhost.specs.declared.service_report.Row.{Row}
-use Rattle.wfhost.specs.Services.{file_of, HasTally, Left, IsService}
+use Rattle.wfhost.specs.Services.{rows_from, Left, IsService}
 
 -- as many workers come back as seats went out
 within_length : (olds : List Shares) (turns : List ℕ) (news : List Shares) → WithinTurns olds turns news → length news ≡ length olds
@@ -33,17 +34,16 @@ map-twice f g (x ∷ xs) = ap (λ l. g (f x) ∷ l) (map-twice f g xs)
 pub workers_length : {W : Type 0} (seat : W → Shares) (workers : List W) (olds : List Shares) (turns : List ℕ) → WithinTurns olds turns (map seat workers) → length workers ≡ length olds
 workers_length seat workers olds turns w = sym (map-length seat workers) ∙ within_length olds turns (map seat workers) w
 
--- rows of the files that were dealt, and what the workers leave
-pub service_of : {W : Type 0} (seat : W → Shares) (fault : W → Option SourceFault) (workers : List W) (dealt : List Dealt) (count : ℕ) (rows : List Row) (seats : List Shares) (totals : Totals) (faultless : Bool)
-    → map file_of rows ≡ dealt → All HasTally rows → length workers ≡ count → seats ≡ map seat workers → totals ≡ totals_of (sums_of seats) → faultless ≡ list_all (λ worker. is_none (fault worker)) workers
+-- the rows of the files that were dealt, and what the workers leave
+pub service_of : {W : Type 0} (seat : W → Shares) (source : W → Stage) (fault : W → Option SourceFault) (workers : List W) (dealt : List Dealt) (count : ℕ) (rows : List Row) (seats : List Shares) (totals : Totals) (faultless : Bool)
+    → rows ≡ rows_from (map source workers) 0 dealt → length workers ≡ count → seats ≡ map seat workers → totals ≡ totals_of (sums_of seats) → faultless ≡ list_all (λ worker. is_none (fault worker)) workers
     → IsService dealt count rows totals faultless
-service_of seat fault workers dealt count rows seats totals faultless files tallies counted brought total none =
-    let leave : _ → Left = λ worker. record { counted = seat worker; fault = fault worker } in
+service_of seat source fault workers dealt count rows seats totals faultless told counted brought total none =
+    let leave : _ → Left = λ worker. record { counted = seat worker; source = source worker; fault = fault worker } in
     record {
-      files = files;
-      tallies = tallies;
       left = map leave workers;
       workers = map-length leave workers ∙ counted;
+      told = told ∙ ap (λ l. rows_from l 0 dealt) (sym (map-twice leave (λ worker. worker.source) workers));
       sums = total ∙ ap (λ l. totals_of (sums_of l)) (brought ∙ sym (map-twice leave (λ worker. worker.counted) workers));
       no_fault = none ∙ sym (list_all-map (λ worker. is_none worker.fault) leave workers);
     }

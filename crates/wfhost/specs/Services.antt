@@ -1,6 +1,6 @@
 -- What the command `serve` did: its report, and its status.
-use Rattle.std.specs.Prelude.{◌≡◌, ℕ, ◌-◌, ◌&&◌, List, ◌++◌, length, map, codes, decimal, Bool, false, Option, Some, None, is_none, Result, Ok, Err, String, string_bytes, Vec, if◌then◌else◌, eqb}
-use Rattle.std.specs.List.{All, flat_map, list_all}
+use Rattle.std.specs.Prelude.{◌≡◌, ℕ, ◌+◌, ◌%◌, ◌&&◌, List, [], ◌∷◌, ◌++◌, length, map, get_or, codes, decimal, Bool, false, Option, Some, None, is_none, Result, Ok, Err, String, string_bytes, Vec, if◌then◌else◌, eqb}
+use Rattle.std.specs.List.{flat_map, list_all}
 use Rattle.std.specs.declared.alloc.Global.{Global}
 use Rattle.wh_json.specs.declared.fault.ReadFault.{ReadFault}
 use Rattle.wh_json.specs.Events.{history}
@@ -9,6 +9,7 @@ use Rattle.wh_ledger.specs.Shares.{sums_of}
 use Rattle.wh_host.specs.declared.reply.Totals.{Totals}
 use Rattle.wh_host.specs.Machine.{totals_of}
 use Rattle.wh_poll.specs.declared.source.SourceFault.{SourceFault}
+use Rattle.wh_samples.specs.Rounds.{Stage, tally_of}
 use Rattle.wh_tester.specs.Report.{shown, line_text}
 use Rattle.wh_tester.specs.declared.line.Verdict.TheVariants.{Unreadable}
 use Rattle.wfhost.specs.declared.serving.Dealt.{Dealt}
@@ -24,34 +25,45 @@ fault_of (Err fault) = Some fault
 abbrev pub dealt_of : String Global × Vec ℕ Global → Dealt
 dealt_of file = record { name = string_bytes file.0; fault = fault_of (history file.1.items) }
 
--- the same of a row of the report
-abbrev pub file_of : Row → Dealt
-file_of row = record { name = row.name; fault = fault_of row.outcome }
+-- how many tasks of a file its source gave, and how they ended: none, where it has none of its name
+abbrev pub tally_from : Option (ℕ × ℕ × ℕ) → Tally
+tally_from None = record { tasks = 0; completed = 0; failed = 0 }
+tally_from (Some told) = record { tasks = told.0; completed = told.1; failed = told.2 }
 
--- the tasks that failed are those that were not completed
-abbrev pub IsTally : Tally → Type 0
-IsTally tally = tally.failed ≡ tally.tasks - tally.completed
+abbrev pub outcome_from : Stage → List ℕ → Option ReadFault → Result Tally ReadFault
+outcome_from source name None = Ok (tally_from (tally_of source name))
+outcome_from source name (Some fault) = Err fault
 
-abbrev pub HasTallyIn : Result Tally ReadFault → Type 0
-HasTallyIn (Ok tally) = IsTally tally
-HasTallyIn (Err fault) = Unit {0}
+-- the row of a file: why it cannot be read, or its tally in the source of its worker
+abbrev pub row_from : Stage → Dealt → Row
+row_from source file = record { name = file.name; outcome = outcome_from source file.name file.fault }
 
--- where the row has a tally, it is one
-abbrev pub HasTally : Row → Type 0
-HasTally row = HasTallyIn row.outcome
+-- a source without histories
+abbrev pub no_source : Stage
+no_source = record { histories = []; round = 0; next = 0; answers = [] }
 
--- what a worker leaves: what its seat counted, and the first fault of its source, if there was one
+-- the source of the worker that a file goes to, where so many stand before it: the workers take turns
+abbrev pub source_at : List Stage → ℕ → Stage
+source_at sources before = get_or sources (before % length sources) no_source
+
+-- the rows of files in their order, where so many stand before them
+abbrev pub rows_from : List Stage → ℕ → List Dealt → List Row
+rows_from sources before [] = []
+rows_from sources before (file ∷ rest) = row_from (source_at sources before) file ∷ rows_from sources (before + 1) rest
+
+-- what a worker leaves: what its seat counted, its source with the answers that it was sent, and the first fault of the source,
+-- if there was one
 pub record Left : Type 0 where
   pub counted : Shares
+  pub source : Stage
   pub fault : Option SourceFault
 
--- what so many workers did with the files: a row for each file in their order, which says why it cannot be read exactly where it
--- cannot, the sums of what their seats counted, and whether none of them has a fault
+-- what so many workers did with the files that they were dealt: a row for each file, the sums of what their seats counted, and
+-- whether none of them has a fault
 pub record IsService (dealt : List Dealt) (count : ℕ) (rows : List Row) (totals : Totals) (faultless : Bool) : Type 0 where
-  pub files : map file_of rows ≡ dealt
-  pub tallies : All HasTally rows
   pub left : List Left
   pub workers : length left ≡ count
+  pub told : rows ≡ rows_from (map (λ worker. worker.source) left) 0 dealt
   pub sums : totals ≡ totals_of (sums_of (map (λ worker. worker.counted) left))
   pub no_fault : faultless ≡ list_all (λ worker. is_none worker.fault) left
 

@@ -1,12 +1,13 @@
 //! The command `serve`.
 
-ghost use Rattle.std.specs.Prelude.{◌≡◌, ◌<◌, ◌-◌, List, Bool, Err, IfOk, is_none, length, map, vec_len};
-ghost use Rattle.std.specs.List.{All, list_all};
+ghost use Rattle.std.specs.Prelude.{◌≡◌, ◌<◌, List, Bool, Err, IfOk, is_none, length, map, vec_len};
+ghost use Rattle.std.specs.List.{list_all};
 ghost use Rattle.std.specs.Io.KnownBytes.{Appends};
 ghost use Rattle.wh_host.specs.Machine.{IsConfig};
 ghost use Rattle.wh_host.specs.declared.reply.Totals.{Totals};
+ghost use Rattle.wh_samples.specs.Rounds.{tally_of};
 ghost use Rattle.wfhost.specs.Plans.{AreWithinLimits};
-ghost use Rattle.wfhost.specs.Services.{dealt_of, file_of, HasTally, IsTally, IsService, service_text, status_of};
+ghost use Rattle.wfhost.specs.Services.{dealt_of, tally_from, row_from, rows_from, IsService, service_text, status_of};
 ghost use Rattle.wfhost.specs.declared.service_report.Row.{Row};
 
 use crate::replaying::CommandFault;
@@ -149,7 +150,7 @@ fn handlers_of(alloc: Global, workers: usize) -> Result<Vec<NoActivities>, OutOf
 
 /// The tally of a file in the source of its worker.
 fn tally_in(source: &ScriptSource, name: &str) -> Tally
-    ensures { IsTally result }
+    ensures { result ≡ tally_from (tally_of source.now name.now) }
 {
     match source.tally(name) {
         Some((tasks, completed, failed)) => Tally {
@@ -167,8 +168,7 @@ fn tally_in(source: &ScriptSource, name: &str) -> Tally
 
 /// What came of a file, as the source of its worker tells it.
 fn row_of(file: Dealt, source: &ScriptSource) -> Row
-    ensures file { file_of result ≡ file }
-    ensures tally { HasTally result }
+    ensures { result ≡ row_from source.now file }
 {
     let Dealt { name, fault } = file;
     let outcome = match fault {
@@ -185,8 +185,7 @@ fn rows_of<T: Ledger, C: Ledger, F: Ledger>(
     workers: &[Worker<T, C, F, ScriptSource>],
 ) -> Result<Vec<Row>, OutOfMemory>
     requires { 0 < length workers.now }
-    ensures files { IfOk result (λ rows. map file_of rows.items ≡ files.items) }
-    ensures tallies { IfOk result (λ rows. All HasTally rows.items) }
+    ensures { IfOk result (λ rows. rows.items ≡ rows_from (map (λ worker. worker.source) workers.now) 0 files.items) }
 {
     let mut rows = Vec::new(alloc);
     for file in files {

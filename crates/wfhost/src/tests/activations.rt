@@ -47,6 +47,31 @@ greet/5 C activity_cancel:5 cancel_requested S T => x.json: fault, task at 10: A
 family/6 C cancel_child:kid cancel_failed:8 signal:stop S T => x.json: fault, task at 12: AlreadyCancelling
 start:Racer S T C activity:1:race timer:t C timer_canceled:6 activity_completed:5 S T => x.json: fault, task at 11: NotOpen
 start:Racer activity:1:race activity_completed:2 S T => x.json: ok, 1 tasks, last live
+racer/13 => x.json: ok, 2 tasks
+racer/12 => x.json: fault, command 2 of the task at 9 has no event
+racer/12 timer:v => x.json: fault, event 13 differs
+racer/13 timer:v => x.json: fault, event 14 has no command
+racer/10 activity_cancel:5 timer:u activity_canceled:5 => x.json: ok, 2 tasks
+racer/10 timer:u activity_cancel:5 => x.json: fault, event 11 differs
+late C timer:u => x.json: ok, 2 tasks
+late C activity_started:5 timer:u => x.json: fault, event 13 is not in place: AlreadyClosed
+late C timer:u timer:v => x.json: fault, event 14 has no command
+nap | 'timerId':'nap' -> 'timerId':' ' => x.json: fault, event 5 differs
+family/5 child_completed:5 S T C completed => x.json: ok, 2 tasks
+family/5 child_canceled:5 S T C canceled => x.json: ok, 2 tasks
+family/5 child_timed_out:5 S T C failed => x.json: ok, 2 tasks
+family/5 child_terminated:5 S T C failed => x.json: ok, 2 tasks
+family/5 child_refused:5 S T C failed => x.json: ok, 2 tasks
+family/6 signal:go S T C child_completed:5 S T C completed => x.json: ok, 3 tasks
+family/6 signal:stop signal:stop S T C cancel_child:kid => x.json: ok, 2 tasks
+racer/6 activity_completed:5 S T C timer_canceled:6 completed => x.json: ok, 2 tasks
+racer/6 activity_timed_out:5 S T C timer_canceled:6 failed => x.json: ok, 2 tasks
+racer/6 activity_completed:5 S T C completed timer_canceled:6 => x.json: fault, event 12 is not in place: AfterClose
+caller/5 external_sent:5 signal:s S T C completed => x.json: ok, 2 tasks
+branch/5 activity_canceled:5 S T C failed => x.json: ok, 2 tasks
+greet/6 activity_completed:5 cancel_requested S T C completed => x.json: ok, 2 tasks
+greet/6 cancel_requested activity_completed:5 S T C completed => x.json: ok, 2 tasks
+greet/6 cancel_requested activity_completed:5 S T C activity_cancel:5 => x.json: fault, event 12 is not in place: AlreadyClosed
 ";
 
 /// Commands in one task up to their bound.

@@ -42,6 +42,7 @@ external SignalExternalWorkflowExecutionInitiated ,'signalExternalWorkflowExecut
 external_sent ExternalWorkflowExecutionSignaled ,'externalWorkflowExecutionSignaledEventAttributes':{'initiatedEventId':'$1'}
 external_failed SignalExternalWorkflowExecutionFailed ,'signalExternalWorkflowExecutionFailedEventAttributes':{'initiatedEventId':'$1'}
 chg_marker MarkerRecorded ,'markerRecordedEventAttributes':{'markerName':'Version','details':{'change-id':{'payloads':[{'metadata':{'encoding':'anNvbi9wbGFpbg=='},'data':'ImNoZyI='}]},'version':{'payloads':[{'metadata':{'encoding':'anNvbi9wbGFpbg=='},'data':'$1'}]}}}
+oth_marker MarkerRecorded ,'markerRecordedEventAttributes':{'markerName':'Version','details':{'change-id':{'payloads':[{'data':'Im90aCI='}]},'version':{'payloads':[{'data':'$1'}]}}}
 marker MarkerRecorded ,'markerRecordedEventAttributes':{'markerName':'$1'}
 signal WorkflowExecutionSignaled ,'workflowExecutionSignaledEventAttributes':{'signalName':'$1'}
 cancel_requested WorkflowExecutionCancelRequested
@@ -163,13 +164,18 @@ const MARKS: [&str; 6] = [
     "\"",
 ];
 
-/// A derived text with nothing around its names and numbers.
-pub(super) fn plain(alloc: Global, text: String) -> Result<String, Fail> {
+/// A text without any of the marks.
+pub(super) fn without(alloc: Global, text: String, marks: &[&str]) -> Result<String, Fail> {
     let mut text = text;
-    for mark in MARKS {
+    for mark in marks {
         text = text.replace(alloc, mark, "")?;
     }
     Ok(text)
+}
+
+/// A derived text with nothing around its names and numbers.
+pub(super) fn plain(alloc: Global, text: String) -> Result<String, Fail> {
+    without(alloc, text, &MARKS)
 }
 
 /// The events of a history, none of an empty one.

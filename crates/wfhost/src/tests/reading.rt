@@ -25,6 +25,21 @@ nap/3 ignored | 'EVENT_TYPE_SOMETHING_NEW' -> 5 => x.json: ok, 1 tasks, last liv
 nap/3 attributes_upserted properties_modified => x.json: ok, 1 tasks, last live
 start:Branch S T C chg_marker:IDEg activity:1:new => x.json: ok, 1 tasks
 start:Branch S T C chg_marker:MQ== activity:1:new | 'ImNoZyI=' -> 'Ilx1MDA2M2hnIg==' => x.json: ok, 1 tasks
+start:Branch S T C chg_marker:MQ== activity:1:new | anNvbi9wbGFpbg== -> eA== => x.json: ok, 1 tasks
+start:Branch S T C chg_marker:MQ== activity:1:new | 'encoding':'anNvbi9wbGFpbg==' -> 'encoding':null => x.json: ok, 1 tasks
+start:Branch S T C chg_marker:MQ== activity:1:new | 'details':{ -> 'details':{'other':['x'], => x.json: ok, 1 tasks
+caller | 'eventType':'ExternalWorkflowExecutionSignaled' -> 'eventType':'ExternalWorkflowExecutionSignaled','workerMayIgnore':true => x.json: ok, 2 tasks
+caller | 'eventType':'SignalExternalWorkflowExecutionInitiated' -> 'eventType':'SignalExternalWorkflowExecutionInitiated','workerMayIgnore':true => x.json: ok, 2 tasks
+caller | 'ExternalWorkflowExecutionSignaled' -> 'EVENT_TYPE_EXTERNAL_WORKFLOW_EXECUTION_SIGNALED' => x.json: ok, 2 tasks
+nap/3 ignored | 'workerMayIgnore':true -> 'workerMayIgnore':true,'somethingNewEventAttributes':{'startedEventId':'x','input':[1.5]} => x.json: ok, 1 tasks, last live
+nap/3 attributes_upserted | 'UpsertWorkflowSearchAttributes' -> 'UpsertWorkflowSearchAttributes','upsertWorkflowSearchAttributesEventAttributes':{'startedEventId':'x'} => x.json: ok, 1 tasks, last live
+nap | {'workflowType' -> {'header':[1.5],'input':{'payloads':null},'workflowType' => x.json: ok, 2 tasks
+nap | {'workflowType' -> {'input':{'payloads':[{'metadata':null,'data':null},{'metadata':{'encoding':null}},{}]},'workflowType' => x.json: ok, 2 tasks
+nap | {'workflowType' -> {'input':{'payloads':[]},'workflowType' => x.json: ok, 2 tasks
+nap | 'timerStartedEventAttributes':{ -> 'timerStartedEventAttributes':{'startToFireTimeout':'60s', => x.json: ok, 2 tasks
+family | 'workflowId':'kid' -> 'workflowId':'kid','input':['x'] => x.json: ok, 3 tasks
+caller | 'signalName' -> 'input':5,'signalName' => x.json: ok, 2 tasks
+nap/3 signal:s S T | {'signalName' -> {'input':{'payloads':[{'data':'aGk='}]},'signalName' => x.json: ok, 1 tasks, last live
 ";
 
 /// Numbers, order, types, times, payloads and markers that are refused.
@@ -88,12 +103,57 @@ nap/4 chg_marker:MjE0NzQ4MzY0OA== => x.json: unreadable, event 5 has the unsuppo
 nap/4 chg_marker:MQ== | 'ImNoZyI=' -> 'IiI=' => x.json: unreadable, event 5 has the unsupported marker Version
 ";
 
+/// More that is refused, where one thing stands before another.
+const REFUSED_FIRST: &str = "\
+nap | 'eventId':'1' -> 'eventId':-0 => x.json: unreadable, event 1 has a bad number
+nap | 'eventId':'1' -> 'eventId':10e-1 => x.json: unreadable, event 1 has a bad number
+nap | 'eventId':'1' -> 'eventId':'\u{ff11}' => x.json: unreadable, event 1 has a bad number
+nap | 'eventId':'1' -> 'eventId':'1 ' => x.json: unreadable, event 1 has a bad number
+nap | 'eventId':'1' -> 'event':'1' => x.json: unreadable, event 1 has a bad number
+nap | 'eventId':'1' -> 'eventId':['1'] => x.json: unreadable, event 1 has a bad number
+nap | 'eventTime':'2024-05-01T10:00:06Z' -> 'eventTime':null | 'startedEventId':'5' -> 'startedEventId':'x' => x.json: unreadable, event 6 has a bad number
+nap | 'eventId':'6' -> 'eventId':'8' | 'TimerFired' -> 'Timer' => x.json: unreadable, event 6 is out of order
+nap/3 ignored | 'eventId':'4' -> 'eventId':'9' => x.json: unreadable, event 4 is out of order
+nap/3 ignored | 'eventTime':'2024-05-01T10:00:04Z' -> 'eventTime':'yesterday' => x.json: unreadable, event 4 has a bad time
+nap/3 ignored | 'workerMayIgnore':true -> 'workerMayIgnore':null => x.json: unreadable, event 4 has the unsupported type EVENT_TYPE_SOMETHING_NEW
+nap/3 ignored | 'workerMayIgnore':true -> 'workerMayIgnore':false => x.json: unreadable, event 4 has the unsupported type EVENT_TYPE_SOMETHING_NEW
+nap/3 ignored | 'workerMayIgnore':true -> 'somethingNewEventAttributes':{'workerMayIgnore':true} => x.json: unreadable, event 4 has the unsupported type EVENT_TYPE_SOMETHING_NEW
+nap/3 ignored | ,'workerMayIgnore':true -> ,'workerMayIgnore':true,'workerMayIgnore':false => x.json: unreadable, event 4 has the unsupported type EVENT_TYPE_SOMETHING_NEW
+nap | 'eventTime':'2024-05-01T10:00:02Z' -> 'eventTime':2 => x.json: unreadable, event 2 lacks a field
+nap | 'eventTime':'2024-05-01T10:00:02Z' -> 'eventTime':'' => x.json: unreadable, event 2 lacks a field
+greet | 'activityType':{'name':'greet'} -> 'activityType':{'name':5} => x.json: unreadable, event 5 lacks a field
+family | 'workflowId':'kid' -> 'workflow':'kid' => x.json: unreadable, event 5 lacks a field
+caller | 'workflowExecution':{'workflowId':'other'} -> 'workflowExecution':'other' => x.json: unreadable, event 5 lacks a field
+nap/3 signal:s | 'signalName':'s' -> 'signalName':'' => x.json: unreadable, event 4 lacks a field
+nap/3 signal:s | {'signalName' -> {'input':['x'],'signalName' => x.json: unreadable, event 4 has a shorthand payload
+nap/3 signal:s | 'eventTime':'2024-05-01T10:00:04Z' -> 'eventTime':'yesterday' | {'signalName' -> {'input':['x'],'signalName' => x.json: unreadable, event 4 has a bad time
+nap/3 signal:s | 'signalName':'s' -> 'input':['x'] => x.json: unreadable, event 4 lacks a field
+family | childWorkflowExecutionCompletedEventAttributes':{ -> childWorkflowExecutionCompletedEventAttributes':{'result':['x'], => x.json: unreadable, event 10 has a shorthand payload
+nap | {'workflowType' -> {'input':'x','workflowType' => x.json: unreadable, event 1 has a bad payload
+nap | {'workflowType' -> {'input':{'payloads':[{'metadata':'x'}]},'workflowType' => x.json: unreadable, event 1 has a bad payload
+nap | {'workflowType' -> {'input':{'payloads':[{'metadata':{'encoding':'x'}}]},'workflowType' => x.json: unreadable, event 1 has a bad payload
+nap | {'workflowType' -> {'input':{'payloads':[{'data':5}]},'workflowType' => x.json: unreadable, event 1 has a bad payload
+nap/4 marker:SideEffect | 'eventTime':'2024-05-01T10:00:05Z' -> 'eventTime':'yesterday' => x.json: unreadable, event 5 has a bad time
+nap/4 marker:SideEffect | 'SideEffect' -> 'SideEffect','details':{'change-id':['x']} => x.json: unreadable, event 5 has the unsupported marker SideEffect
+nap/4 marker:Version | 'Version' -> 'Version','details':'x' => x.json: unreadable, event 5 has the unsupported marker Version
+nap/4 marker:Version | 'Version' -> 'Version','details':null => x.json: unreadable, event 5 has the unsupported marker Version
+nap/4 marker:Version | 'Version' -> 'Version','details':{'change-id':{'payloads':[{'data':'ImNoZyI='}]}} => x.json: unreadable, event 5 has the unsupported marker Version
+nap/4 oth_marker:MQ== | {'data':'MQ=='} -> {'data':'MQ=='},{'data':'MQ=='} => x.json: unreadable, event 5 has the unsupported marker Version
+nap/4 oth_marker:MQ== | {'data':'MQ=='} -> {'data':'MQ=='},{'data':'MQ'} => x.json: unreadable, event 5 has a bad payload
+nap/4 oth_marker:MQ== | {'data':'Im90aCI='} -> {'data':'Im90aCI=','metadata':{'encoding':'?'}} => x.json: unreadable, event 5 has a bad payload
+nap/4 chg_marker:LTA= => x.json: unreadable, event 5 has the unsupported marker Version
+nap/4 chg_marker:MWUw => x.json: unreadable, event 5 has the unsupported marker Version
+nap/4 chg_marker:eA== => x.json: unreadable, event 5 has the unsupported marker Version
+nap/4 chg_marker:MQ== | 'ImNoZyI=' -> 'MQ==' => x.json: unreadable, event 5 has the unsupported marker Version
+";
+
 /// Whole files.
 const FILES: &str = "\
 {\"events\":[]} => x.json: unreadable, no events
 {\"events\":null} => x.json: unreadable, no events
 {} => x.json: unreadable, no events
 [] => x.json: unreadable, no events
+ => x.json: unreadable, not JSON
 5 => x.json: unreadable, no events
 [{}] => x.json: unreadable, event 1 has a bad number
 [null] => x.json: unreadable, event 1 has a bad number
@@ -111,6 +171,11 @@ fn reads_events(rt: HostRuntime) -> Result<(), Fail> {
 #[test]
 fn refuses_events(rt: HostRuntime) -> Result<(), Fail> {
     replays::<All, _>(&rt, rt.alloc(), REFUSED)
+}
+
+#[test]
+fn refuses_the_first_fault(rt: HostRuntime) -> Result<(), Fail> {
+    replays::<All, _>(&rt, rt.alloc(), REFUSED_FIRST)
 }
 
 /// The line of a file is this one.

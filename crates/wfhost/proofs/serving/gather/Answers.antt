@@ -4,9 +4,10 @@ use Rattle.std.specs.List.{list_all}
 use Rattle.wfhost.proofs.Workers.{service_of}
 use Rattle.wfhost.proofs.serving.gather.Goals as goal
 
--- what the workers leave is what their seats counted and their faults
+-- what the workers leave is what their seats counted, their sources and their faults
 pub returns : goal.returns
 returns g c =
+    let told = c.in_ok-rows.ensures in
     let none : c.are_faultless-faultless.result ≡ list_all (λ worker. is_none worker.fault) c.args.workers.items = search rules in
-    service_of (λ worker. worker.seat) (λ worker. worker.fault) c.args.workers.items c.args.dealt.items _ c.in_ok-rows.rows.items c.in_ok-seats.seats.items c.in-Ok.totals c.are_faultless-faultless.result
-    c.in_ok-rows.ensures.files c.in_ok-rows.ensures.tallies (search rules) c.in_ok-seats.ensures c.in-Ok.ensures.gathered none
+    service_of (λ worker. worker.seat) (λ worker. worker.source) (λ worker. worker.fault) c.args.workers.items c.args.dealt.items _ c.in_ok-rows.rows.items c.in_ok-seats.seats.items c.in-Ok.totals c.are_faultless-faultless.result
+    (search rules) (search rules) c.in_ok-seats.ensures c.in-Ok.ensures.gathered none
