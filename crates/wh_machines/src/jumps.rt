@@ -1,4 +1,4 @@
-ghost use Rattle.std.specs.Prelude.{◌≡◌, IfSome};
+ghost use Rattle.std.specs.Prelude.{◌≡◌, IfSome, IsSome};
 ghost use Rattle.wh_machines.specs.Jumps.{jump_at, back_by, IsShort};
 
 use wh_events::EventNo;
@@ -34,7 +34,8 @@ fn depth(jumps: &[Jump], number: EventNo) -> u64 {
 
 /// The jump of a thing that comes next after the one of the number. It goes there, or, where two jumps from there are equally long, past both: so a walk back takes steps in proportion to the logarithm of what it passes (E. W. Myers, "An applicative random-access stack", 1983).
 pub fn jump_behind(jumps: &[Jump], previous: EventNo) -> Jump
-    ensures { IfSome result.to (IsShort jumps.now previous) }
+    ensures some { IsSome result.to }
+    ensures short { IfSome result.to (IsShort jumps.now previous) }
 {
     let near = depth(jumps, previous);
     let next = near.saturating_add(1);

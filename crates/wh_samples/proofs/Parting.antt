@@ -1,8 +1,6 @@
--- Part of a list, one element at a time, and sources over equal histories.
-use Rattle.std.proofs.Common.{◌≡◌, ◌∙◌, ◌++◌, ◌+◌, ◌-◌, ◌<◌, ◌≤◌, ℕ, suc, List, [], ◌∷◌, take, drop, length, get_or, min, ap, sym, subst, append_assoc, length-drop, arith}
+-- Part of a list, one element at a time.
+use Rattle.std.proofs.Common.{◌≡◌, ◌∙◌, ◌++◌, ◌+◌, ◌-◌, ◌<◌, ◌≤◌, ℕ, suc, List, [], ◌∷◌, take, drop, length, get_or, min, ap, sym, append_assoc, length-drop, arith}
 use Rattle.std.proofs.lemmas.List.{drop_more, take_min}
-use Rattle.wh_poll.specs.Source.{SameRelation}
-use Rattle.wh_samples.specs.Rounds.{Scripted, Gives}
 
 part_begins : {A : Type 0} (xs : List A) (place stop : ℕ) (x : A) → place < stop → stop ≤ length xs → take (stop - place) (drop place xs) ≡ get_or xs place x ∷ take (stop - (place + 1)) (drop (place + 1) xs)
 part_begins xs place stop x before within =
@@ -25,7 +23,3 @@ pub part_within : {A : Type 0} (xs : List A) (begin end : ℕ) → take (min end
 part_within xs begin end =
     let same : min end (length xs) - begin ≡ min (end - begin) (length (drop begin xs)) = omega (arith, length-drop begin xs) in
     ap (λ n. take n (drop begin xs)) same ∙ take_min (end - begin) (drop begin xs)
-
--- sources over the same histories give the same
-pub same_gives : (old new : List Scripted) → old ≡ new → SameRelation (Gives old) (Gives new)
-same_gives old new e = subst (λ histories. SameRelation (Gives old) (Gives histories)) e (λ delivery. (λ given. given, λ given. given))

@@ -9,6 +9,8 @@ use Rattle.wh_slots.specs.declared.TaskName.{TaskName}
 use Rattle.wh_poll.specs.declared.source.Sent.{Sent}
 use Rattle.wh_poll.specs.declared.source.Sent.TheVariants.{Workflow as OfWorkflow}
 use Rattle.wh_poll.specs.declared.source.WorkflowTask.{WorkflowTask}
+use Rattle.wh_poll.specs.declared.source.Polled.{Polled}
+use Rattle.wh_poll.specs.declared.source.Polled.TheVariants.{Task, Nothing, Closed}
 use Rattle.wh_poll.specs.Numbers.{last_number}
 use Rattle.wh_poll.specs.Source.{Delivery, Workflow, Activity}
 
@@ -65,6 +67,31 @@ task_of history n = record { name = token history.index (last_number (events_of 
 -- the task is one of a history's
 abbrev pub IsTaskOf : List Scripted → WorkflowTask → Type 0
 IsTaskOf histories task = (place n : ℕ) × (history : Scripted) × (slice_get histories place ≡ Some history) × (n < tasks_in history) × (task ≡ task_of history n)
+
+-- the place of the first history that has an n-th task, counted from 0, where so many histories stand before it, if there is one
+abbrev pub first_with : ℕ → ℕ → List Scripted → Option ℕ
+first_with before n [] = None
+first_with before n (history ∷ rest) = if ltb n (tasks_in history) then Some before else first_with (before + 1) n rest
+
+-- the round after, at most 2^64 - 1
+abbrev pub round_after : ℕ → ℕ
+round_after round = min (round + 1) 0xffff_ffff_ffff_ffff
+
+-- the round and the history of the next task, by the first history that is left in this round and the first of the next round
+abbrev pub upcoming_by : ℕ → Option ℕ → Option ℕ → Option (ℕ × ℕ)
+upcoming_by round (Some place) later = Some (round, place)
+upcoming_by round None (Some place) = Some (round_after round, place)
+upcoming_by round None None = None
+
+-- the round of the next task and the place of its history, if a task is left
+abbrev pub upcoming : Stage → Option (ℕ × ℕ)
+upcoming stage = upcoming_by stage.round (first_with stage.next stage.round (drop stage.next stage.histories)) (first_with 0 (round_after stage.round) stage.histories)
+
+-- a poll gives the next task and goes on behind it, and where no task is left the source is closed and stays as it is
+abbrev pub Polls : Stage → Polled WorkflowTask → Stage → Type 0
+Polls old (Task task) new = (round place : ℕ) × (history : Scripted) × (upcoming old ≡ Some (round, place)) × (slice_get old.histories place ≡ Some history) × (task ≡ task_of history round) × (new ≡ record old { round = round; next = place + 1 })
+Polls old Nothing new = ⊥
+Polls old Closed new = (upcoming old ≡ None) × (new ≡ old)
 
 -- the source gives the tasks of its histories, and no activity task
 abbrev pub Gives : List Scripted → Delivery → Type 0

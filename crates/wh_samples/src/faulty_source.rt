@@ -1,6 +1,8 @@
 //! A source of which one call fails.
-ghost use Rattle.std.specs.Prelude.{◌≡◌, ◌+◌, ◌-◌, cond, eqb};
-ghost use Rattle.wh_poll.specs.Source.{spent};
+ghost use Rattle.std.specs.Prelude.{◌≡◌, ◌+◌, ◌-◌, ◌++◌, ◌∷◌, [], cond, eqb, IfOk, OnOk, OnErr};
+ghost use Rattle.wh_poll.specs.Source.{Delivery, FailsOnly, IfTask, SameRelation, SameTelling, spent};
+ghost use Rattle.wh_poll.specs.declared.source.Sent.{Sent};
+ghost use Rattle.wh_samples.specs.Failing.{Counts};
 
 use std::marker::Model;
 use wh_events::{Event, RunKey};
@@ -65,28 +67,64 @@ impl<S: TaskSource> TaskSource for FaultySource<S> {
 
     ghost tells = { λ source. S.tells source.0 };
 
-    fn poll_workflow(&mut self) -> Result<Polled<WorkflowTask>, SourceFault> {
+    fn poll_workflow(&mut self) -> Result<Polled<WorkflowTask>, SourceFault>
+        ensures counted { Counts self.old result self.new }
+
+        // What every source ensures, of this one.
+        ensures task { IfOk result (IfTask (λ task. S.delivers self.old.0 (Delivery.Workflow task))) }
+        ensures answers { S.answers self.new.0 ≡ S.answers self.old.0 }
+        ensures failures { FailsOnly result (S.failures self.old.0 + spent self.old.1) (S.failures self.new.0 + spent self.new.1) }
+        ensures delivers { SameRelation (S.delivers self.old.0) (S.delivers self.new.0) }
+        ensures tells { SameTelling (S.tells self.old.0) (S.tells self.new.0) }
+    {
         if is_due(&mut self.left) {
             return Err(SourceFault::Source);
         }
         self.inner.poll_workflow()
     }
 
-    fn poll_activity(&mut self) -> Result<Polled<ActivityTask>, SourceFault> {
+    fn poll_activity(&mut self) -> Result<Polled<ActivityTask>, SourceFault>
+        ensures counted { Counts self.old result self.new }
+
+        // What every source ensures, of this one.
+        ensures task { IfOk result (IfTask (λ task. S.delivers self.old.0 (Delivery.Activity task))) }
+        ensures answers { S.answers self.new.0 ≡ S.answers self.old.0 }
+        ensures failures { FailsOnly result (S.failures self.old.0 + spent self.old.1) (S.failures self.new.0 + spent self.new.1) }
+        ensures delivers { SameRelation (S.delivers self.old.0) (S.delivers self.new.0) }
+        ensures tells { SameTelling (S.tells self.old.0) (S.tells self.new.0) }
+    {
         if is_due(&mut self.left) {
             return Err(SourceFault::Source);
         }
         self.inner.poll_activity()
     }
 
-    fn whole(&mut self, key: &RunKey, up_to: u64) -> Result<Vec<Event>, SourceFault> {
+    fn whole(&mut self, key: &RunKey, up_to: u64) -> Result<Vec<Event>, SourceFault>
+        ensures counted { Counts self.old result self.new }
+
+        // What every source ensures, of this one.
+        ensures told { IfOk result (λ history. S.tells self.old.0 key.now up_to history.items) }
+        ensures answers { S.answers self.new.0 ≡ S.answers self.old.0 }
+        ensures failures { FailsOnly result (S.failures self.old.0 + spent self.old.1) (S.failures self.new.0 + spent self.new.1) }
+        ensures delivers { SameRelation (S.delivers self.old.0) (S.delivers self.new.0) }
+        ensures tells { SameTelling (S.tells self.old.0) (S.tells self.new.0) }
+    {
         if is_due(&mut self.left) {
             return Err(SourceFault::Source);
         }
         self.inner.whole(key, up_to)
     }
 
-    fn answer_workflow(&mut self, name: TaskName, answer: &Answer) -> Result<(), SourceFault> {
+    fn answer_workflow(&mut self, name: TaskName, answer: &Answer) -> Result<(), SourceFault>
+        ensures counted { Counts self.old result self.new }
+
+        // What every source ensures, of this one.
+        ensures sent { OnOk result (S.answers self.new.0 ≡ S.answers self.old.0 ++ (name, Sent.Workflow answer.now) ∷ []) }
+        ensures unsent { OnErr result (S.answers self.new.0 ≡ S.answers self.old.0) }
+        ensures failures { FailsOnly result (S.failures self.old.0 + spent self.old.1) (S.failures self.new.0 + spent self.new.1) }
+        ensures delivers { SameRelation (S.delivers self.old.0) (S.delivers self.new.0) }
+        ensures tells { SameTelling (S.tells self.old.0) (S.tells self.new.0) }
+    {
         if is_due(&mut self.left) {
             return Err(SourceFault::Source);
         }
@@ -97,7 +135,16 @@ impl<S: TaskSource> TaskSource for FaultySource<S> {
         &mut self,
         name: TaskName,
         answer: &ActivityAnswer,
-    ) -> Result<(), SourceFault> {
+    ) -> Result<(), SourceFault>
+        ensures counted { Counts self.old result self.new }
+
+        // What every source ensures, of this one.
+        ensures sent { OnOk result (S.answers self.new.0 ≡ S.answers self.old.0 ++ (name, Sent.Activity answer.now) ∷ []) }
+        ensures unsent { OnErr result (S.answers self.new.0 ≡ S.answers self.old.0) }
+        ensures failures { FailsOnly result (S.failures self.old.0 + spent self.old.1) (S.failures self.new.0 + spent self.new.1) }
+        ensures delivers { SameRelation (S.delivers self.old.0) (S.delivers self.new.0) }
+        ensures tells { SameTelling (S.tells self.old.0) (S.tells self.new.0) }
+    {
         if is_due(&mut self.left) {
             return Err(SourceFault::Source);
         }

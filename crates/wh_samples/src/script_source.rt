@@ -1,8 +1,11 @@
 //! A source that gives the tasks of recorded histories.
-ghost use Rattle.std.specs.Prelude.{◌≡◌, ◌<◌, ◌-◌, ◌++◌, ◌∷◌, [], get_or, length, map, take, drop, option_map, IfOk, IfSome, OnOk, OnErr};
-ghost use Rattle.wh_samples.specs.Rounds.{scripted, ends_of, tasks_in, begin_at, task_of, key_of, events_up_to, first_named, completed_of, tally_of, deliveries_of};
+ghost use Rattle.std.specs.Prelude.{◌≡◌, ◌<◌, ◌-◌, ◌++◌, ◌∷◌, [], get_or, length, map, take, drop, option_map, IfOk, IfErr, IfSome, OnOk, OnErr};
+ghost use Rattle.wh_samples.specs.Rounds.{scripted, ends_of, tasks_in, begin_at, task_of, key_of, events_up_to, first_named, completed_of, tally_of, deliveries_of, first_with, upcoming, told, Gives, Polls};
 ghost use Rattle.wh_poll.specs.Numbers.{last_number};
-ghost use Rattle.wh_poll.specs.Source.{FailsOnly};
+ghost use Rattle.wh_poll.specs.Source.{Delivery, FailsOnly, IfTask, SameRelation, SameTelling};
+ghost use Rattle.wh_poll.specs.declared.source.Polled.{Polled};
+ghost use Rattle.wh_poll.specs.declared.source.Sent.{Sent};
+ghost use Rattle.wh_poll.specs.declared.source.SourceFault.{SourceFault};
 
 use std::alloc::Global;
 use std::marker::Model;
@@ -166,6 +169,7 @@ fn find_named<'a>(
 
 /// The place of the first history from a place on that has a task `n`, counted from 0.
 fn find_task(histories: &[ScriptedHistory], from: usize, n: usize) -> Option<usize>
+    ensures first { result ≡ first_with from n (drop from histories.now) }
     ensures within { IfSome result (λ place. place < length histories.now) }
     ensures has { IfSome result (λ place. (other : _) → n < tasks_in (get_or histories.now place other)) }
 {
@@ -293,6 +297,7 @@ impl ScriptSource {
 
     /// The round and the history of the next task.
     fn upcoming(&self) -> Option<(usize, usize)>
+        ensures exact { result ≡ upcoming self.now }
         ensures within { IfSome result (λ found. found.1 < length self.now.histories) }
         ensures has { IfSome result (λ found. (other : _) → found.0 < tasks_in (get_or self.now.histories found.1 other)) }
     {
@@ -318,7 +323,18 @@ impl TaskSource for ScriptSource {
 
     ghost tells = { λ source key up_to history. history ≡ told source.histories key up_to };
 
-    fn poll_workflow(&mut self) -> Result<Polled<WorkflowTask>, SourceFault> {
+    fn poll_workflow(&mut self) -> Result<Polled<WorkflowTask>, SourceFault>
+        ensures next { IfOk result (λ polled. Polls self.old polled self.new) }
+        ensures memory { IfErr result (λ fault. fault ≡ SourceFault.OutOfMemory) }
+        ensures kept { OnErr result (self.new ≡ self.old) }
+
+        // What every source ensures, of this one.
+        ensures task { IfOk result (IfTask (λ task. Gives self.old.histories (Delivery.Workflow task))) }
+        ensures answers { self.new.answers ≡ self.old.answers }
+        ensures failures { FailsOnly result 0 0 }
+        ensures delivers { SameRelation (Gives self.old.histories) (Gives self.new.histories) }
+        ensures tells { SameTelling (λ key up_to history. history ≡ told self.old.histories key up_to) (λ key up_to history. history ≡ told self.new.histories key up_to) }
+    {
         let Some((round, place)) = self.upcoming() else {
             return Ok(Polled::Closed);
         };
@@ -330,11 +346,18 @@ impl TaskSource for ScriptSource {
         Ok(Polled::Task(task))
     }
 
-    fn poll_activity(&mut self) -> Result<Polled<ActivityTask>, SourceFault> {
+    fn poll_activity(&mut self) -> Result<Polled<ActivityTask>, SourceFault>
+        ensures closed { result ≡ Ok Polled.Closed }
+        ensures same { self.new ≡ self.old }
+    {
         Ok(Polled::Closed)
     }
 
-    fn whole(&mut self, key: &RunKey, up_to: u64) -> Result<Vec<Event>, SourceFault> {
+    fn whole(&mut self, key: &RunKey, up_to: u64) -> Result<Vec<Event>, SourceFault>
+        ensures told { IfOk result (λ history. history.items ≡ told self.old.histories key.now up_to) }
+        ensures memory { IfErr result (λ fault. fault ≡ SourceFault.OutOfMemory) }
+        ensures same { self.new ≡ self.old }
+    {
         if key.run_id.get() != RUN_ID {
             return Ok(Vec::new(self.alloc));
         }
@@ -347,7 +370,11 @@ impl TaskSource for ScriptSource {
         }
     }
 
-    fn answer_workflow(&mut self, name: TaskName, answer: &Answer) -> Result<(), SourceFault> {
+    fn answer_workflow(&mut self, name: TaskName, answer: &Answer) -> Result<(), SourceFault>
+        ensures stored { OnOk result (self.new ≡ record self.old { answers = self.old.answers ++ (name, Sent.Workflow answer.now) ∷ [] }) }
+        ensures memory { IfErr result (λ fault. fault ≡ SourceFault.OutOfMemory) }
+        ensures kept { OnErr result (self.new ≡ self.old) }
+    {
         let Ok(copy) = answer.try_copy(self.alloc) else {
             return Err(SourceFault::OutOfMemory);
         };
@@ -358,7 +385,11 @@ impl TaskSource for ScriptSource {
         &mut self,
         name: TaskName,
         answer: &ActivityAnswer,
-    ) -> Result<(), SourceFault> {
+    ) -> Result<(), SourceFault>
+        ensures stored { OnOk result (self.new ≡ record self.old { answers = self.old.answers ++ (name, Sent.Activity answer.now) ∷ [] }) }
+        ensures memory { IfErr result (λ fault. fault ≡ SourceFault.OutOfMemory) }
+        ensures kept { OnErr result (self.new ≡ self.old) }
+    {
         let Ok(copy) = answer.try_copy() else {
             return Err(SourceFault::OutOfMemory);
         };

@@ -21,6 +21,6 @@ returns-in-Some c =
     let role : Opens thing id ≡ role_of c.args.event.now.body = c.in-Opens.ensures in
     let named : named_of events thing id ≡ Some previous = sym (c.self.invariant.named thing id) ∙ sym c.last.ensures ∙ c.in-Some.is in
     let start = last_alike events thing id previous c.self.invariant.placed named in
-    let short = subst (λ (list : List Jump). IfSome to (IsShort list previous)) c.deref.ensures.value c.jump_behind.ensures in
+    let short = subst (λ (list : List Jump). IfSome to (IsShort list previous)) c.deref.ensures.value c.jump_behind.ensures.short in
     let alike = each_short events jumps (Opens thing id) previous to c.self.invariant.jumping start short in
     subst (λ (list : List Event). IfSome to (IsAlike list (role_of c.args.event.now.body))) c.self.view_is (subst (λ (done : Role). IfSome to (IsAlike events done)) role alike)
