@@ -26,11 +26,16 @@ nap/5 timer_fired:3 => Err(Fault(Place at: 6, fault: WrongKindRef))
 start:Nap timer:nap S T => Err(Fault(Workflow at: 4, fault: IdInUse))
 ";
 
+/// What a history has, or its fault.
+fn checked_text(alloc: Global, history: &'static str) -> Result<String, Fail> {
+    let checked = check::<All>(alloc, events(alloc, history)?);
+    plain(alloc, format!(in alloc; "{checked:?}")?)
+}
+
 #[test]
 fn checks_histories(rt: HostRuntime) -> Result<(), Fail> {
     for (history, wanted) in rows(rt.alloc(), CHECKED)? {
-        let checked = check::<All>(rt.alloc(), events(rt.alloc(), history)?);
-        let text = plain(rt.alloc(), format!(in rt.alloc(); "{checked:?}")?)?;
+        let text = checked_text(rt.alloc(), history)?;
         assert_eq!(rt; text.as_str(), wanted, "{history}");
     }
     Ok(())

@@ -2,6 +2,7 @@
 
 ghost use Rattle.std.specs.Prelude.{◌≡◌, [], IfOk};
 ghost use Rattle.wfhost.specs.Echo.{echo, echo_lawful, activity_word, child_word, word_of, subject_of, told_of};
+ghost use Rattle.wh_workflow.specs.declared.command.Command.TheVariants.{SignalExternal};
 
 use std::alloc::Global;
 use wh_events::{Items, OutOfMemory, Text};
@@ -86,6 +87,17 @@ fn told_of(alloc: Global, job: &Job) -> Result<Text, OutOfMemory>
     }
 }
 
+/// The signal that names the job.
+fn signal_of(alloc: Global, job: &Job) -> Result<Command, OutOfMemory>
+    ensures { IfOk result (λ command. command ≡ SignalExternal (told_of job.now) (word_of job.now) []) }
+{
+    Ok(Command::SignalExternal {
+        workflow_id: told_of(alloc, job)?,
+        signal: Text::new(String::from_str(alloc, word_of(job))?),
+        input: Items::new(Vec::new(alloc)),
+    })
+}
+
 impl Workflow for Echo {
     type State = NoState;
 
@@ -109,11 +121,7 @@ impl Workflow for Echo {
         meter: &mut Meter,
     ) -> Result<(), OutOfMemory> {
         meter.tick();
-        out.push(Command::SignalExternal {
-            workflow_id: told_of(alloc, job)?,
-            signal: Text::new(String::from_str(alloc, word_of(job))?),
-            input: Items::new(Vec::new(alloc)),
-        })?;
+        out.push(signal_of(alloc, job)?)?;
         Ok(())
     }
 }

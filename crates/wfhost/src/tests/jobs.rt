@@ -66,12 +66,10 @@ fn tells<W: Workflow>(alloc: Global, table: &'static str) -> Result<(), Fail> {
 
 #[test]
 fn tells_jobs_in_order(rt: HostRuntime) -> Result<(), Fail> {
-    tells::<Echo>(rt.alloc(), JOBS)
-}
-
-#[test]
-fn tells_jobs_of_later_tasks(rt: HostRuntime) -> Result<(), Fail> {
-    tells::<Echo>(rt.alloc(), LATER_JOBS)
+    for table in [JOBS, LATER_JOBS] {
+        tells::<Echo>(rt.alloc(), table)?;
+    }
+    Ok(())
 }
 
 #[test]

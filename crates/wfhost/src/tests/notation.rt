@@ -190,6 +190,27 @@ pub(super) fn events(alloc: Global, history: &'static str) -> Result<Vec<Event>,
     }
 }
 
+/// What the command writes, as text.
+fn text_of(out: Vec<u8>) -> Result<String, Fail> {
+    match String::from_utf8(out) {
+        Ok(text) => Ok(text),
+        Err(_) => Err(Fail::new("no text")),
+    }
+}
+
+/// The status of the command on these files, and its report.
+pub(super) fn report_of<W: Workflow + Send, R: Threads + Sync>(
+    rt: &R,
+    alloc: Global,
+    files: Vec<(String, Vec<u8>)>,
+) -> Result<(u8, String), Fail> {
+    let mut out = Vec::new(alloc);
+    let Ok(status) = replay_command::<W, _, _>(rt, alloc, files, &mut out) else {
+        return Err(Fail::new("refused"));
+    };
+    Ok((status, text_of(out)?))
+}
+
 /// What the command writes of one file, `x.json`, before the totals.
 pub(super) fn line_of<W: Workflow + Send, R: Threads + Sync>(
     rt: &R,
@@ -197,11 +218,7 @@ pub(super) fn line_of<W: Workflow + Send, R: Threads + Sync>(
     bytes: Vec<u8>,
 ) -> Result<String, Fail> {
     let files = vec![in alloc; (String::from_str(alloc, "x.json")?, bytes)]?;
-    let mut out = Vec::new(alloc);
-    let Ok(status) = replay_command::<W, _, _>(rt, alloc, files, &mut out) else {
-        return Err(Fail::new("refused"));
-    };
-    let report = String::from_utf8(out).map_err(|_| Fail::new("no text"))?;
+    let (status, report) = report_of::<W, R>(rt, alloc, files)?;
     let good = report.ends_with("\n1 files, 1 ok\n");
     if good != (status == 0) {
         return Err(Fail::new(format_args!("status {status}: {report}")));

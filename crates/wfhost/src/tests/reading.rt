@@ -165,17 +165,10 @@ const FILES: &str = "\
 
 #[test]
 fn reads_events(rt: HostRuntime) -> Result<(), Fail> {
-    replays::<All, _>(&rt, rt.alloc(), READ)
-}
-
-#[test]
-fn refuses_events(rt: HostRuntime) -> Result<(), Fail> {
-    replays::<All, _>(&rt, rt.alloc(), REFUSED)
-}
-
-#[test]
-fn refuses_the_first_fault(rt: HostRuntime) -> Result<(), Fail> {
-    replays::<All, _>(&rt, rt.alloc(), REFUSED_FIRST)
+    for table in [READ, REFUSED, REFUSED_FIRST] {
+        replays::<All, _>(&rt, rt.alloc(), table)?;
+    }
+    Ok(())
 }
 
 /// The line of a file is this one.

@@ -1,7 +1,7 @@
 //! Reports of several files.
 
 use crate::replaying::{CommandFault, replay_command};
-use crate::tests::notation::{json, rows};
+use crate::tests::notation::{json, report_of, rows};
 use std::alloc::Global;
 use std::io;
 use std::io::Write;
@@ -37,11 +37,7 @@ fn reports_files(rt: HostRuntime) -> Result<(), Fail> {
     let alloc = rt.alloc();
     for (list, wanted) in rows(alloc, REPORTS)? {
         let files = named_files(alloc, list)?;
-        let mut out = Vec::new(alloc);
-        let Ok(status) = replay_command::<All, _, _>(&rt, alloc, files, &mut out) else {
-            return Err(Fail::new(list));
-        };
-        let report = String::from_utf8(out).map_err(|_| Fail::new("no text"))?;
+        let (status, report) = report_of::<All, _>(&rt, alloc, files)?;
         let lines = report.replace(alloc, "\n", ", ")?;
         let text = format!(in alloc; "{lines}status {status}")?;
         assert_eq!(rt; text.as_str(), wanted);
@@ -68,14 +64,11 @@ fn equal_files(
 fn replays_many_files(rt: HostRuntime) -> Result<(), Fail> {
     let alloc = rt.alloc();
     let files = equal_files(alloc, "nap", 3_000)?;
-    let mut out = Vec::new(alloc);
-    let Ok(status) = replay_command::<All, _, _>(&rt, alloc, files, &mut out) else {
-        return Err(Fail::new("refused"));
-    };
+    let (status, report) = report_of::<All, _>(&rt, alloc, files)?;
     let mut wanted = "nap.json: ok, 2 tasks\n".repeat(alloc, 3_000)?;
     wanted.push_str("3000 files, 3000 ok\n")?;
     assert_eq!(rt; status, 0);
-    assert!(rt; out.as_slice() == wanted.as_bytes());
+    assert!(rt; report.as_str() == wanted.as_str());
     Ok(())
 }
 

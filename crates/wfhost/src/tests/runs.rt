@@ -240,13 +240,18 @@ fn shows_statuses(rt: HostRuntime) -> Result<(), Fail> {
     Ok(())
 }
 
+/// How many commands complete the last task of a run.
+fn answered<W: Workflow>(alloc: Global, run: &Run<W>) -> Result<usize, Fail> {
+    match run.answer(alloc) {
+        Ok(Answer::Complete(commands)) => Ok(commands.get().len()),
+        _ => Err(Fail::new("no commands")),
+    }
+}
+
 #[test]
 fn keeps_many_commands(rt: HostRuntime) -> Result<(), Fail> {
     let run = begun::<Flood>(rt.alloc(), "start:Flood signal:s*63 S T")?;
     assert_eq!(rt; run.commands().len(), 4_096);
-    let Ok(Answer::Complete(commands)) = run.answer(rt.alloc()) else {
-        return Err(Fail::new("no answer"));
-    };
-    assert_eq!(rt; commands.get().len(), 4_096);
+    assert_eq!(rt; answered(rt.alloc(), &run)?, 4_096);
     Ok(())
 }

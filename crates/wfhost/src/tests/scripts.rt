@@ -167,36 +167,17 @@ start:Scripted timer:t timer_fired:2 signal:cancel_timer S T C => x.json: ok, 1 
 ";
 
 #[test]
-fn withdraws_commands(rt: HostRuntime) -> Result<(), Fail> {
-    begins::<Scripted>(rt.alloc(), WITHDRAWN)
+fn judges_scripts(rt: HostRuntime) -> Result<(), Fail> {
+    for table in [WITHDRAWN, OPEN, LATE, CLOSING, VERSIONS] {
+        begins::<Scripted>(rt.alloc(), table)?;
+    }
+    Ok(())
 }
 
 #[test]
-fn cancels_open_things(rt: HostRuntime) -> Result<(), Fail> {
-    begins::<Scripted>(rt.alloc(), OPEN)
-}
-
-#[test]
-fn drops_late_cancels(rt: HostRuntime) -> Result<(), Fail> {
-    begins::<Scripted>(rt.alloc(), LATE)
-}
-
-#[test]
-fn closes_runs(rt: HostRuntime) -> Result<(), Fail> {
-    begins::<Scripted>(rt.alloc(), CLOSING)
-}
-
-#[test]
-fn settles_versions(rt: HostRuntime) -> Result<(), Fail> {
-    begins::<Scripted>(rt.alloc(), VERSIONS)
-}
-
-#[test]
-fn counts_commands(rt: HostRuntime) -> Result<(), Fail> {
-    replays::<Scripted, _>(&rt, rt.alloc(), COUNTED)
-}
-
-#[test]
-fn compares_commands(rt: HostRuntime) -> Result<(), Fail> {
-    replays::<Scripted, _>(&rt, rt.alloc(), RECORDED)
+fn counts_and_compares_commands(rt: HostRuntime) -> Result<(), Fail> {
+    for table in [COUNTED, RECORDED] {
+        replays::<Scripted, _>(&rt, rt.alloc(), table)?;
+    }
+    Ok(())
 }
