@@ -2,129 +2,131 @@
 //! random. What they answer is compared with what one worker answers without a cache.
 #![tactic(auto)]
 
-ghost use Rattle.std.specs.Prelude.{◌≡◌, OnOk, true};
+ghost use Rattle.std.specs.Prelude.{◌≤◌, IfSome};
 ghost use Rattle.wh_soak.specs.Sizes.{IsWithin};
-ghost use Rattle.wh_soak.specs.Sound.{IsSound};
 
-mod answers;
-mod checks;
 mod histories;
-mod plan;
+mod judging;
 mod soak;
 mod worker;
 
-use crate::answers::compare;
-use crate::checks::{Refuted, check};
-use crate::histories::{Failure, deal, keys_of, read_files, words};
-use crate::plan::{Plan, plan_of};
-use crate::soak::{Evictions, Findings, serve_hands};
+use crate::histories::{keys_of, read_files};
+use crate::judging::judge;
+use crate::soak::{Findings, soak_files};
+use std::io::ErrorKind;
 use std::process::ExitCode;
 use std::rt::Runtime;
 use std::sync::Wait;
 use std::thread::Threads;
-use wh_host::Totals;
+use std::{env, io};
 use wh_samples::All;
 
 /// How the program is called.
 const USAGE: &str =
-    "usage: wh_soak FOLDER WORKERS CACHE HISTORIES, with 1 to 64 workers, a cache of 0 to 10000 runs and 1 to 100000 histories";
+    "wh_soak FOLDER WORKERS CACHE HISTORIES: 1 to 64 workers, a cache of 0 to 10000 runs, 1 to 100000 histories";
 
-/// The status of a soak that refuted something.
-const REFUTED: u8 = 1;
-
-/// The status of a soak that did not take place.
-const FAILED: u8 = 2;
-
-/// Writes what was checked to the standard output.
-fn print_facts<R: Runtime>(rt: &R, answers: usize, totals: Totals) -> Result<(), Failure> {
-    let Totals {
-        taken,
-        completed,
-        failed,
-        in_hand,
-    } = totals;
-    println!(rt; "{answers} answers, equal to those without a cache")?;
-    println!(rt; "taken {taken}, completed {completed}, failed {failed}, in hand {in_hand}")?;
-    Ok(())
+/// A soak to be done.
+#[derive(Drop)]
+struct Plan {
+    /// The folder of the files that the histories are read from.
+    dir: String,
+    workers: usize,
+    cache: usize,
+    histories: u64,
 }
 
-/// Writes the figures, which no two soaks share, to the standard error.
-fn print_figures<R: Runtime>(rt: &R, plan: &Plan, found: &Findings) -> Result<(), Failure> {
-    let Plan {
-        workers,
-        cache,
-        histories,
-        ..
-    } = plan;
-    let Evictions {
-        evicted,
-        marked,
-        neither,
-    } = found.evictions;
-    let (hits, misses) = (found.tally.hits, found.tally.misses);
-    let micros = found.micros;
-    let rate = found.rate();
-    eprintln!(rt; "workers {workers}, cache {cache}, histories {histories}")?;
-    eprintln!(rt; "evicted {evicted}, marked {marked}, neither {neither}")?;
-    eprintln!(rt; "hits {hits}, misses {misses}, microseconds {micros}, tasks a second {rate}")?;
-    Ok(())
-}
-
-/// Checks what a soak gave: the host's totals, what the workers counted, that the host drained, and
-/// that the answers are those that were given without a cache.
-fn judge(found: &Findings, plain: &Findings) -> Result<(), Refuted>
-    ensures sound { OnOk result (IsSound found.now.totals found.now.tally) }
-    ensures drained { OnOk result (found.now.is_drained ≡ true) }
-    ensures same { OnOk result (found.now.answers.items ≡ plain.now.answers.items) }
+/// The number that the text is, where it is one within the bounds.
+fn number_of(text: &str, least: u64, most: u64) -> Option<u64>
+    ensures { IfSome result (λ n. (least ≤ n) × (n ≤ most)) }
 {
-    check(found.totals, found.tally, found.is_drained)?;
-    compare(found.answers.as_slice(), plain.answers.as_slice())
+    let number = text.parse::<u64>().ok()?;
+    if number < least || most < number {
+        return None;
+    }
+    Some(number)
 }
 
-/// Soaks the host as planned, and says what the soak refuted.
+/// What the command line asks for.
+fn plan_of<R: Runtime + AllocGlobal>(rt: &R) -> Option<Plan>
+    ensures { IfSome result (λ plan. IsWithin plan.workers plan.cache) }
+{
+    let mut words: Vec<String> = env::args(rt).ok()?.collect(rt.alloc()).ok()?;
+    if words.len() != 5 {
+        return None;
+    }
+    let workers = number_of(words[2].as_str(), 1, 64)?;
+    let cache = number_of(words[3].as_str(), 0, 10_000)?;
+    Some(Plan {
+        histories: number_of(words[4].as_str(), 1, 100_000)?,
+        dir: words.swap_remove(1),
+        workers: workers as usize,
+        cache: cache as usize,
+    })
+}
+
+/// Writes the figures, in which no two soaks agree, to the standard error, and what was checked to the
+/// standard output.
+fn print<R: Runtime>(rt: &R, found: &Findings) -> io::Result<()> {
+    let (answers, totals, tally) = (found.answers.len(), found.totals, found.tally);
+    let (taken, completed, failed) = (totals.taken, totals.completed, totals.failed);
+    let (evicted, hits, misses) = (found.evicted, tally.hits, tally.misses);
+    let (micros, in_hand) = (found.micros, totals.in_hand);
+    let rate = taken.saturating_mul(1_000_000) / micros.max(1);
+    eprintln!(rt;
+        "evicted {evicted}, hits {hits}, misses {misses}, microseconds {micros}, tasks a second {rate}"
+    )?;
+    println!(rt;
+        "{answers} answers, equal to those without a cache\ntaken {taken}, completed {completed}, failed {failed}, in hand {in_hand}"
+    )
+}
+
+/// Soaks the host as planned, and says what the soak refuted, if anything.
 fn run<R: Runtime + AllocGlobal + Threads + Wait + Sync>(
     rt: &R,
     plan: &Plan,
-) -> Result<Option<Refuted>, Failure>
+) -> io::Result<Result<(), &'static str>>
     requires { IsWithin plan.now.workers plan.now.cache }
 {
     let alloc = rt.alloc();
-    let files = read_files(rt, plan.dir.get())?;
+    let files = read_files(rt, plan.dir.as_str())?;
     let files = files.as_slice();
     if files.is_empty() {
-        return Err(Failure::NoHistories);
+        return Err(ErrorKind::NotFound.into());
     }
-    let alone = deal(alloc, files, plan.histories, 1)?;
-    let plain = serve_hands::<All, R>(rt, alloc, alone, &[], 0)?;
     let keys = keys_of(alloc, files, plan.histories)?;
-    let hands = deal(alloc, files, plan.histories, plan.workers)?;
-    let found = serve_hands::<All, R>(rt, alloc, hands, keys.as_slice(), plan.cache)?;
-    print_figures(rt, plan, &found)?;
-    if let Err(refuted) = judge(&found, &plain) {
-        return Ok(Some(refuted));
+    let keys = keys.as_slice();
+    let plain = soak_files::<All, R>(rt, alloc, files, plan.histories, &[], 1, 0)?;
+    let found = soak_files::<All, R>(
+        rt,
+        alloc,
+        files,
+        plan.histories,
+        keys,
+        plan.workers,
+        plan.cache,
+    )?;
+    let judged = judge(&found, &plain);
+    if judged.is_ok() {
+        print(rt, &found)?;
     }
-    print_facts(rt, found.answers.len(), found.totals)?;
-    Ok(None)
+    Ok(judged)
 }
 
+/// The status is 0 where nothing was refuted, 1 where something was, and 2 where there was no soak.
 fn main(rt: HostRuntime) -> ExitCode {
-    let plan = match words(&rt) {
-        Ok(words) => plan_of(words),
-        Err(_) => None,
-    };
-    let Some(plan) = plan else {
+    let Some(plan) = plan_of(&rt) else {
         let _ = eprintln!(&rt; "{USAGE}");
-        return ExitCode::from(FAILED);
+        return ExitCode::from(2);
     };
     match run(&rt, &plan) {
-        Ok(None) => ExitCode::from(0),
-        Ok(Some(refuted)) => {
+        Ok(Ok(())) => ExitCode::from(0),
+        Ok(Err(refuted)) => {
             let _ = eprintln!(&rt; "wh_soak: {refuted}");
-            ExitCode::from(REFUTED)
+            ExitCode::from(1)
         }
-        Err(failure) => {
-            let _ = eprintln!(&rt; "wh_soak: {failure}");
-            ExitCode::from(FAILED)
+        Err(error) => {
+            let _ = eprintln!(&rt; "wh_soak: {error}");
+            ExitCode::from(2)
         }
     }
 }

@@ -1,22 +1,23 @@
 //! A soak: workers with a thread each serve histories while another thread evicts runs at random.
 ghost use Rattle.std.specs.Prelude.{◌≡◌, ◌+◌, ◌<◌, IfOk, length, vec_len};
 ghost use denote.Param.Send.{IsSend};
+ghost use Rattle.wh_host.specs.Machine.{IsConfig};
 ghost use Rattle.wh_soak.specs.Sizes.{IsWithin};
 
-use crate::answers::{Answered, gather};
-use crate::histories::{Failure, Hand};
+use crate::histories::{File, source_of};
 use crate::worker::{Job, Tally, work};
 use rand_core::utils::NextWord;
 use rand_pcg::Pcg32;
 use std::alloc::{AllocError, Global};
+use std::io::ErrorKind;
 use std::marker::Brand;
 use std::sync::Wait;
 use std::sync::atomic::{AtomicBool, Ordering};
 use std::sync::ledger::{Blank, Ledger};
-use std::thread;
 use std::thread::Threads;
 use std::time::{Clock, Duration, Instant};
-use wh_events::{OutOfMemory, RunKey};
+use std::{io, thread};
+use wh_events::{RunKey, Text};
 use wh_host::{Config, Evict, Host, HostState, OpenFault, Totals};
 use wh_ledger::Seat;
 use wh_samples::ScriptSource;
@@ -35,36 +36,11 @@ const ROUND: u32 = 64;
 /// For how many microseconds it sleeps then.
 const PAUSE: u64 = 2_000;
 
-/// How the evictions of a soak ended.
-#[derive(Clone, Copy, Debug, PartialEq, Eq)]
-pub struct Evictions {
-    /// A cached run was dropped.
-    pub evicted: u32,
-    /// A task of the run was in hand.
-    pub marked: u32,
-    /// The run was neither cached nor in hand.
-    pub neither: u32,
-}
-
-impl Evictions {
-    /// Nothing was evicted yet.
-    fn none() -> Evictions {
-        Evictions {
-            evicted: 0,
-            marked: 0,
-            neither: 0,
-        }
-    }
-
-    /// Counts one more.
-    fn count(&mut self, evict: Evict) {
-        let count = match evict {
-            Evict::Evicted => &mut self.evicted,
-            Evict::Marked => &mut self.marked,
-            Evict::NotCached => &mut self.neither,
-        };
-        *count = count.saturating_add(1);
-    }
+/// An answer as a text, with the name of its task.
+#[derive(Drop)]
+pub struct Answered {
+    pub task: u128,
+    pub text: Text,
 }
 
 /// What a soak gave.
@@ -72,7 +48,8 @@ impl Evictions {
 pub struct Findings {
     pub totals: Totals,
     pub tally: Tally,
-    pub evictions: Evictions,
+    /// How many runs were cached when they were evicted.
+    pub evicted: u64,
     /// Whether nothing could be reserved once the host drained.
     pub is_drained: bool,
     /// For how many microseconds the workers served.
@@ -81,31 +58,66 @@ pub struct Findings {
     pub answers: Vec<Answered>,
 }
 
-impl Findings {
-    /// How many tasks were taken in a second.
-    pub fn rate(&self) -> u64 {
-        self.totals.taken.saturating_mul(1_000_000) / self.micros.max(1)
-    }
-}
-
 /// A job for each seat.
 fn jobs_of<T: Ledger, C: Ledger, F: Ledger>(
     alloc: Global,
     mut seats: Vec<Seat<T, C, F>>,
-    mut hands: Vec<Hand>,
-) -> Result<Vec<Job<T, C, F>>, OutOfMemory>
-    requires { vec_len hands ≡ vec_len seats }
+    files: &[File],
+    histories: u64,
+) -> io::Result<Vec<Job<T, C, F>>>
+    requires { 0 < length files.now }
     ensures { IfOk result (λ jobs. vec_len jobs ≡ vec_len seats) }
 {
+    let workers = seats.len();
     let mut jobs = Vec::new(alloc);
     while let Some(seat) = seats.pop() {
-        let Some(hand) = hands.pop() else {
-            unreachable!()
-        };
-        let source = ScriptSource::new(alloc, hand)?;
-        jobs.push(Job::new(seat, source))?;
+        jobs.push(Job {
+            seat,
+            source: source_of(alloc, files, histories, seats.len(), workers)?,
+            hits: 0,
+            misses: 0,
+        })?;
     }
     Ok(jobs)
+}
+
+/// Evicts a few runs picked at random, and says how many of them were cached.
+fn evict_some<W: Workflow, T: Ledger, C: Ledger, F: Ledger>(
+    state: &mut HostState<W, T, C, F>,
+    keys: &[RunKey],
+    random: &mut Pcg32,
+) -> u64
+    requires { 0 < length keys.now }
+{
+    let mut evicted: u64 = 0;
+    for _run in 0..ROUND {
+        let key = &keys[random.next_word() as usize % keys.len()];
+        if matches!(state.evict(key), Evict::Evicted) {
+            evicted = evicted.saturating_add(1);
+        }
+    }
+    evicted
+}
+
+/// Evicts runs picked at random, a few at a time, until the workers have ended, and at most
+/// `MOST_ROUNDS` times.
+fn evict_at_random<R: Wait + Clock, W: Workflow, T: Ledger, C: Ledger, F: Ledger>(
+    rt: &R,
+    host: &Host<W, T, C, F>,
+    keys: &[RunKey],
+    have_ended: &AtomicBool,
+) -> u64 {
+    let mut evicted: u64 = 0;
+    let mut random = Pcg32::new(42, 54);
+    for _round in 0..MOST_ROUNDS {
+        if keys.is_empty() || have_ended.load(Ordering::SeqCst) {
+            break;
+        }
+        let more = evict_some(&mut host.lock(rt), keys, &mut random);
+        evicted = evicted.saturating_add(more);
+        thread::sleep(rt, Duration::from_micros(PAUSE));
+    }
+    evicted
 }
 
 /// Runs each job in a thread of its own.
@@ -133,44 +145,6 @@ fn run_jobs<
     )
 }
 
-/// Evicts a few runs picked at random.
-fn evict_round<W: Workflow, T: Ledger, C: Ledger, F: Ledger>(
-    state: &mut HostState<W, T, C, F>,
-    keys: &[RunKey],
-    random: &mut Pcg32,
-    evictions: &mut Evictions,
-)
-    requires { 0 < length keys.now }
-{
-    for _run in 0..ROUND {
-        let key = &keys[random.next_word() as usize % keys.len()];
-        evictions.count(state.evict(key));
-    }
-}
-
-/// Evicts runs picked at random, a few at a time, until the workers have ended. It takes the lock at
-/// most `MOST_ROUNDS` times.
-fn evict_at_random<R: Wait + Clock, W: Workflow, T: Ledger, C: Ledger, F: Ledger>(
-    rt: &R,
-    host: &Host<W, T, C, F>,
-    keys: &[RunKey],
-    have_ended: &AtomicBool,
-) -> Evictions {
-    let mut evictions = Evictions::none();
-    if keys.is_empty() {
-        return evictions;
-    }
-    let mut random = Pcg32::new(42, 54);
-    for _round in 0..MOST_ROUNDS {
-        if have_ended.load(Ordering::SeqCst) {
-            break;
-        }
-        evict_round(&mut host.lock(rt), keys, &mut random, &mut evictions);
-        thread::sleep(rt, Duration::from_micros(PAUSE));
-    }
-    evictions
-}
-
 /// Runs the jobs, and beside them evicts runs at random.
 fn serve_jobs<
     R: Threads + Wait + Clock + Sync,
@@ -184,7 +158,7 @@ fn serve_jobs<
     host: &Host<W, T, C, F>,
     jobs: Vec<Job<T, C, F>>,
     keys: &[RunKey],
-) -> (Result<Vec<Job<T, C, F>>, AllocError>, Evictions)
+) -> (Result<Vec<Job<T, C, F>>, AllocError>, u64)
     ensures { IfOk result.0 (λ done. vec_len done ≡ vec_len jobs) }
 {
     let have_ended = AtomicBool::new(false);
@@ -215,43 +189,80 @@ fn drain<R: Wait, W: Workflow, T: Ledger, C: Ledger, F: Ledger>(
         && matches!(activity, Err(ReserveFault::Draining))
 }
 
-/// Opens a host with a seat for each hand, serves the hands, drains the host and closes it.
-fn serve_with<
-    W: Workflow + Send,
+/// Appends the answers that the source was sent.
+fn gather(
+    alloc: Global,
+    source: &ScriptSource,
+    answers: &mut Vec<Answered>,
+) -> Result<(), AllocError> {
+    for (name, sent) in source.answers() {
+        answers.push(Answered {
+            task: name.0,
+            text: Text::new(format!(in alloc; "{sent:?}")?),
+        })?;
+    }
+    Ok(())
+}
+
+/// The seats of the jobs, what their workers counted together, and the answers that were sent, in
+/// the order of the tasks.
+fn taken_apart<T: Ledger, C: Ledger, F: Ledger>(
+    alloc: Global,
+    jobs: Vec<Job<T, C, F>>,
+) -> Result<(Vec<Seat<T, C, F>>, Tally, Vec<Answered>), AllocError>
+    ensures { IfOk result (λ parts. vec_len parts.0 ≡ vec_len jobs) }
+{
+    let mut seats = Vec::new(alloc);
+    let (mut tasks, mut hits, mut misses) = (0u64, 0u64, 0u64);
+    let mut answers = Vec::new(alloc);
+    for job in jobs {
+        tasks = tasks.saturating_add(job.source.deliveries());
+        hits = hits.saturating_add(job.hits);
+        misses = misses.saturating_add(job.misses);
+        gather(alloc, &job.source, &mut answers)?;
+        seats.push(job.seat)?;
+    }
+    answers.sort_by_key(|answer| answer.task)?;
+    let tally = Tally {
+        tasks,
+        hits,
+        misses,
+    };
+    Ok((seats, tally, answers))
+}
+
+/// Opens a host, serves the histories, drains the host and closes it.
+fn soak_with<
     R: Threads + Wait + Clock + Sync,
+    W: Workflow + Send,
     T: Ledger + Send,
     C: Ledger + Send,
     F: Ledger + Send,
 >(
     rt: &R,
     alloc: Global,
-    hands: Vec<Hand>,
+    files: &[File],
+    histories: u64,
     keys: &[RunKey],
-    cache: usize,
+    config: Config,
     taken: Blank,
     completed: Blank,
     failed: Blank,
-) -> Result<Findings, Failure>
-    requires sizes { IsWithin (vec_len hands) cache }
-    requires taken { (taken.name ≡ T.name) × (taken.parts ≡ T.parts) × (taken.parts ≡ vec_len hands) }
-    requires completed { (completed.name ≡ C.name) × (completed.parts ≡ C.parts) × (completed.parts ≡ vec_len hands) }
-    requires failed { (failed.name ≡ F.name) × (failed.parts ≡ F.parts) × (failed.parts ≡ vec_len hands) }
+) -> io::Result<Findings>
+    requires files { 0 < length files.now }
+    requires sizes { IsConfig config }
+    requires taken { (taken.name ≡ T.name) × (taken.parts ≡ T.parts) × (taken.parts ≡ config.seats) }
+    requires completed { (completed.name ≡ C.name) × (completed.parts ≡ C.parts) × (completed.parts ≡ config.seats) }
+    requires failed { (failed.name ≡ F.name) × (failed.parts ≡ F.parts) × (failed.parts ≡ config.seats) }
 {
-    let config = Config {
-        workflow_slots: SLOTS,
-        activity_slots: SLOTS,
-        cache,
-        cache_events: 0,
-        seats: hands.len(),
-    };
     let (host, seats) = match Host::<W, T, C, F>::open(alloc, config, taken, completed, failed) {
         Ok(opened) => opened,
-        Err(OpenFault::OutOfMemory) => return Err(Failure::OutOfMemory),
+        Err(OpenFault::OutOfMemory) => return Err(ErrorKind::OutOfMemory.into()),
         Err(OpenFault::BadConfig) => unreachable!(),
     };
-    let jobs = jobs_of(alloc, seats, hands)?;
+    let jobs = jobs_of(alloc, seats, files, histories)?;
     let begun = Instant::now(rt)?;
-    let (done, evictions) = serve_jobs(rt, alloc, &host, jobs, keys);
+    let (done, evicted) = serve_jobs(rt, alloc, &host, jobs, keys);
     let elapsed = begun.elapsed(rt)?;
     let is_drained = drain(rt, &host);
     let (seats, tally, answers) = taken_apart(alloc, done?)?;
@@ -261,58 +272,44 @@ fn serve_with<
     Ok(Findings {
         totals,
         tally,
-        evictions,
+        evicted,
         is_drained,
         micros: u64::try_from(elapsed.as_micros()).unwrap_or(u64::MAX),
         answers,
     })
 }
 
-/// The seats of the jobs, what their workers counted together, and the answers that were sent, in
-/// the order of the tasks.
-fn taken_apart<T: Ledger, C: Ledger, F: Ledger>(
-    alloc: Global,
-    jobs: Vec<Job<T, C, F>>,
-) -> Result<(Vec<Seat<T, C, F>>, Tally, Vec<Answered>), OutOfMemory>
-    ensures { IfOk result (λ parts. vec_len parts.0 ≡ vec_len jobs) }
-{
-    let mut seats = Vec::new(alloc);
-    let mut tally = Tally::none();
-    let mut answers = Vec::new(alloc);
-    for job in jobs {
-        let Job {
-            seat,
-            source,
-            tally: own,
-        } = job;
-        seats.push(seat)?;
-        tally = tally.with(own);
-        gather(alloc, &source, &mut answers)?;
-    }
-    answers.sort_by_key(|answer| answer.task)?;
-    Ok((seats, tally, answers))
-}
-
-/// Serves the hands with a worker for each, with a cache of so many runs, while runs of the keys are
-/// evicted at random; where there are no keys nothing is evicted.
-pub fn serve_hands<W: Workflow + Send, R: Threads + Wait + Clock + Sync>(
+/// Serves so many histories with so many workers and a cache of so many runs, while runs of the keys
+/// are evicted at random; where there are no keys nothing is evicted.
+pub fn soak_files<W: Workflow + Send, R: Threads + Wait + Clock + Sync>(
     rt: &R,
     alloc: Global,
-    hands: Vec<Hand>,
+    files: &[File],
+    histories: u64,
     keys: &[RunKey],
+    workers: usize,
     cache: usize,
-) -> Result<Findings, Failure>
-    requires { IsWithin (vec_len hands) cache }
+) -> io::Result<Findings>
+    requires files { 0 < length files.now }
+    requires sizes { IsWithin workers cache }
 {
-    let workers = hands.len() as u64;
-    serve_with::<W, R, Brand, Brand, Brand>(
+    let config = Config {
+        workflow_slots: SLOTS,
+        activity_slots: SLOTS,
+        cache,
+        cache_events: 0,
+        seats: workers,
+    };
+    let seats = workers as u64;
+    soak_with::<R, W, Brand, Brand, Brand>(
         rt,
         alloc,
-        hands,
+        files,
+        histories,
         keys,
-        cache,
-        Blank::new(workers),
-        Blank::new(workers),
-        Blank::new(workers),
+        config,
+        Blank::new(seats),
+        Blank::new(seats),
+        Blank::new(seats),
     )
 }

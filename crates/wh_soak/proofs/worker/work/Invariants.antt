@@ -3,6 +3,6 @@ use Rattle.wh_soak.proofs.worker.work.Given as goal
 
 abbrev pub invariant-loop-turn : goal.invariant-loop-turn
 invariant-loop-turn g l = record {
-  turns : l.hits + l.misses ≤ l._turn;
-  taken : l.fn.job.seat.taken + l.hits + l.misses ≤ l.seat.taken;
+  turns : l.job.hits + l.job.misses ≤ l._turn;
+  taken : l.fn.job.seat.taken + l.job.hits + l.job.misses ≤ l.job.seat.taken;
 }
