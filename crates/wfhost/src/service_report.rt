@@ -3,7 +3,7 @@
 ghost use Rattle.std.specs.Prelude.{◌≡◌, ◌++◌, OnOk, codes};
 ghost use Rattle.std.specs.List.{flat_map};
 ghost use Rattle.std.specs.Io.KnownBytes.{Appends};
-ghost use Rattle.wh_tester.specs.Report.{shown, line_text};
+ghost use Rattle.wh_tester.specs.Report.{shown};
 ghost use Rattle.wfhost.specs.Services.{tally_text, row_text, totals_text, service_text, is_good_outcome, all_served};
 
 use std::io;

@@ -1,4 +1,4 @@
-use Rattle.std.proofs.Common.{◌≡◌, length, vec_len, rules}
+use Rattle.std.proofs.Common.{rules}
 use Rattle.wfhost.proofs.Workers.{workers_length}
 use Rattle.wfhost.proofs.serving.work_all.Goals as goal
 
