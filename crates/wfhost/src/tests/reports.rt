@@ -1,0 +1,95 @@
+//! Reports of several files.
+
+use crate::replaying::{CommandFault, replay_command};
+use crate::tests::notation::{json, report_of, rows};
+use std::alloc::Global;
+use std::io;
+use std::io::Write;
+use std::test::Fail;
+use wh_samples::All;
+
+/// Files, each by its name and its history, with the lines of their report and the status.
+const REPORTS: &str = "\
+nap.json: nap => nap.json: ok, 2 tasks, 1 files, 1 ok, status 0
+b.json: nap; a.json: greet => b.json: ok, 2 tasks, a.json: ok, 2 tasks, 2 files, 2 ok, status 0
+b.json: nap; a.json: greet | 'name':'greet' -> 'name':'greets' => b.json: ok, 2 tasks, a.json: fault, event 5 differs, 2 files, 1 ok, status 1
+caller.json: caller => caller.json: ok, 2 tasks, 1 files, 1 ok, status 0
+x.json: nap/3; x.json: nap | 'eventId':'3' -> 'eventId':'4' => x.json: ok, 1 tasks, last live, x.json: unreadable, event 3 is out of order, 2 files, 1 ok, status 1
+b.json: nap; a.json: greet/2 C; c: S => b.json: ok, 2 tasks, a.json: ok, 0 tasks, c: fault, event 1 is not in place: FirstNotStart, 3 files, 2 ok, status 1
+\u{e9}.json: nap; a\tb\u{7f}~ .json: nap => ?.json: ok, 2 tasks, a?b?~ .json: ok, 2 tasks, 2 files, 2 ok, status 0
+ => 0 files, 0 ok, status 0
+";
+
+/// Files by their names and histories.
+fn named_files(alloc: Global, list: &'static str) -> Result<Vec<(String, Vec<u8>)>, Fail> {
+    let mut files = Vec::new(alloc);
+    for file in list.split("; ") {
+        if let Some((name, history)) = file.split_once(": ") {
+            let text = json(alloc, history)?;
+            files.push((String::from_str(alloc, name)?, text.into_bytes()))?;
+        }
+    }
+    Ok(files)
+}
+
+#[test]
+fn reports_files(rt: HostRuntime) -> Result<(), Fail> {
+    let alloc = rt.alloc();
+    for (list, wanted) in rows(alloc, REPORTS)? {
+        let files = named_files(alloc, list)?;
+        let (status, report) = report_of::<All, _>(&rt, alloc, files)?;
+        let lines = report.replace(alloc, "\n", ", ")?;
+        let text = format!(in alloc; "{lines}status {status}")?;
+        assert_eq!(rt; text.as_str(), wanted);
+    }
+    Ok(())
+}
+
+/// As many files of one history.
+fn equal_files(
+    alloc: Global,
+    history: &'static str,
+    count: usize,
+) -> Result<Vec<(String, Vec<u8>)>, Fail> {
+    let mut files = Vec::new(alloc);
+    let text = json(alloc, history)?;
+    for _ in 0..count {
+        let bytes = Vec::from_slice(alloc, text.as_bytes())?;
+        files.push((String::from_str(alloc, "nap.json")?, bytes))?;
+    }
+    Ok(files)
+}
+
+#[test]
+fn replays_many_files(rt: HostRuntime) -> Result<(), Fail> {
+    let alloc = rt.alloc();
+    let files = equal_files(alloc, "nap", 3_000)?;
+    let (status, report) = report_of::<All, _>(&rt, alloc, files)?;
+    let mut wanted = "nap.json: ok, 2 tasks\n".repeat(alloc, 3_000)?;
+    wanted.push_str("3000 files, 3000 ok\n")?;
+    assert_eq!(rt; status, 0);
+    assert!(rt; report.as_str() == wanted.as_str());
+    Ok(())
+}
+
+/// A writer without room.
+#[derive(Drop)]
+struct Full;
+
+impl Write for Full {
+    fn write(&mut self, _bytes: &[u8]) -> io::Result<usize> {
+        Err(io::Error::from(io::ErrorKind::StorageFull))
+    }
+
+    fn flush(&mut self) -> io::Result<()> {
+        Ok(())
+    }
+}
+
+#[test]
+fn refuses_failed_output(rt: HostRuntime) -> Result<(), Fail> {
+    let files = Vec::new(rt.alloc());
+    let answer = replay_command::<All, _, _>(&rt, rt.alloc(), files, &mut Full);
+    assert!(rt; matches!(answer, Err(CommandFault::Output)));
+    Ok(())
+}
