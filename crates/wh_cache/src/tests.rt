@@ -1,5 +1,7 @@
+ghost use Rattle.std.specs.Prelude.{◌≤◌};
+
 use super::*;
-use std::test::Fail;
+use std::process::Abort;
 use wh_events::{Event, EventKind, EventNo, Payload, Text};
 use wh_workflow::{Command, Job, Meter};
 
@@ -36,132 +38,149 @@ impl Workflow for Still {
     }
 }
 
-fn text(alloc: Global, text: &str) -> Result<Text, Fail> {
-    Ok(Text::new(String::from_str(alloc, text)?))
+fn text(rt: &impl Abort, alloc: Global, text: &str) -> Text {
+    Text::new(String::from_str(alloc, text).expect(rt, "memory"))
 }
 
-fn key(alloc: Global, name: &str) -> Result<RunKey, Fail> {
-    Ok(RunKey {
-        workflow_id: text(alloc, name)?,
-        run_id: text(alloc, "r")?,
-    })
-}
-
-fn event(number: u64, body: EventKind) -> Result<Event, Fail> {
-    match EventNo::new(number) {
-        Some(number) => Ok(Event {
-            number,
-            time: 0,
-            body,
-        }),
-        None => Err("number".into()),
+fn key(rt: &impl Abort, alloc: Global, name: &str) -> RunKey {
+    RunKey {
+        workflow_id: text(rt, alloc, name),
+        run_id: text(rt, alloc, "r"),
     }
 }
 
-/// A history of so many events: the first one, signals, and a started task.
-fn history(alloc: Global, len: u64) -> Result<Vec<Event>, Fail> {
-    let mut events = Vec::new(alloc);
+fn add(rt: &impl Abort, events: &mut Vec<Event>, number: u64, body: EventKind) {
+    let number = EventNo::new(number).expect(rt, "number");
+    let event = Event {
+        number,
+        time: 0,
+        body,
+    };
+    assert!(rt; events.push(event).is_ok());
+}
+
+/// A history of so many events: the first one, tasks to come, and a started task.
+fn history(rt: &impl Abort, alloc: Global, len: u64) -> Vec<Event> {
     let started = EventKind::WorkflowExecutionStarted {
-        workflow: text(alloc, "Still")?,
+        workflow: text(rt, alloc, "Still"),
         input: Items::new(Vec::<Payload>::new(alloc)),
     };
-    events.push(event(1, started)?).map_err(|_| "memory")?;
+    let mut events = Vec::new(alloc);
+    add(rt, &mut events, 1, started);
     for number in 2..len {
-        let signal = EventKind::WorkflowExecutionSignaled {
-            name: text(alloc, "s")?,
-            input: Items::new(Vec::<Payload>::new(alloc)),
-        };
-        events.push(event(number, signal)?).map_err(|_| "memory")?;
+        add(rt, &mut events, number, EventKind::WorkflowTaskScheduled);
     }
+    add(rt, &mut events, len, EventKind::WorkflowTaskStarted);
     events
-        .push(event(len, EventKind::WorkflowTaskStarted)?)
-        .map_err(|_| "memory")?;
-    Ok(events)
 }
 
-fn run(alloc: Global, name: &str, len: u64) -> Result<Run<Still>, Fail> {
-    let events = history(alloc, len)?;
-    match Run::from_first(alloc, key(alloc, name)?, events, &mut Meter::new()) {
-        Ok(run) => Ok(run),
-        Err(_) => Err("run".into()),
+/// A run of so many events.
+fn run(rt: &impl Abort, alloc: Global, name: &str, len: u64) -> Run<Still> {
+    let key = key(rt, alloc, name);
+    let events = history(rt, alloc, len);
+    match Run::from_first(alloc, key, events, &mut Meter::new()) {
+        Ok(run) => run,
+        Err(_) => panic!(rt; "run"),
+    }
+}
+
+fn open(rt: &impl Abort, alloc: Global, capacity: usize, events: u64) -> Sticky<Still>
+    requires capacity { capacity ≤ MOST_RUNS }
+    requires events { events ≤ MOST_CACHED_EVENTS }
+{
+    match Sticky::open(alloc, capacity, events) {
+        Ok(cache) => cache,
+        Err(_) => panic!(rt; "memory"),
     }
 }
 
 /// The names of the runs that had to go, in one word.
-fn names(alloc: Global, runs: &[Run<Still>]) -> Result<String, Fail> {
+fn names(rt: &impl Abort, alloc: Global, runs: &[Run<Still>]) -> String {
     let mut names = String::new(alloc);
     for run in runs {
-        names.push_str(run.key().workflow_id.get())?;
+        assert!(rt; names.push_str(run.key().workflow_id.get()).is_ok());
     }
-    Ok(names)
+    names
 }
 
-/// Puts a run of so many events, and fails unless this is the answer.
-fn put(
-    alloc: Global,
-    cache: &mut Sticky<Still>,
-    name: &str,
-    len: u64,
-    answer: &str,
-) -> Result<(), Fail> {
-    let put = cache.put(run(alloc, name, len)?);
-    let gone = match &put {
-        Put::PushedOut(gone) => names(alloc, gone.get())?,
-        _ => String::new(alloc),
-    };
-    let word = match &put {
+/// What became of a run, in one word.
+fn word(rt: &impl Abort, alloc: Global, put: &Put<Still>) -> String {
+    let word = match put {
         Put::Kept => "kept",
-        Put::PushedOut(_) => gone.as_str(),
+        Put::PushedOut(gone) => return names(rt, alloc, gone.get()),
         Put::Off(_) => "off",
         Put::Shorter(_) => "shorter",
         Put::TooLarge(_) => "too large",
         Put::NoMemory(_) => "no memory",
     };
-    if word == answer {
-        Ok(())
-    } else {
-        Err(answer.into())
-    }
+    String::from_str(alloc, word).expect(rt, "memory")
+}
+
+fn last_word(rt: &impl Abort, alloc: Global, put: Put<Still>) -> String {
+    word(rt, alloc, &put)
+}
+
+fn same(rt: &impl Abort, word: &str, answer: &str) {
+    assert_eq!(rt; word, answer);
+}
+
+/// Puts a run of so many events, which has this answer. The cached runs then hold so many events.
+fn put(
+    rt: &impl Abort,
+    alloc: Global,
+    cache: &mut Sticky<Still>,
+    name: &str,
+    len: u64,
+    answer: &str,
+    held: u64,
+) {
+    let put = cache.put(run(rt, alloc, name, len));
+    same(rt, last_word(rt, alloc, put).as_str(), answer);
+    assert_eq!(rt; cache.held(), held);
 }
 
 #[test]
-fn both_bounds_hold(rt: HostRuntime) -> Result<(), Fail> {
+fn both_bounds_hold(rt: HostRuntime) {
     let alloc = rt.alloc();
-    let mut cache = Sticky::<Still>::open(alloc, 10, 10)?;
-    put(alloc, &mut cache, "a", 3, "kept")?;
-    put(alloc, &mut cache, "b", 6, "kept")?;
-    put(alloc, &mut cache, "c", 3, "a")?;
-    assert_eq!(rt; cache.held(), 9);
-    put(alloc, &mut cache, "d", 10, "bc")?;
-    put(alloc, &mut cache, "e", 11, "too large")?;
-    put(alloc, &mut cache, "d", 11, "too large")?;
-    assert_eq!(rt; cache.peek_len(&key(alloc, "d")?), Some(10));
-    assert!(rt; cache.take(&key(alloc, "d")?).is_some());
+    let mut cache = open(&rt, alloc, 10, 10);
+    put(&rt, alloc, &mut cache, "a", 3, "kept", 3);
+    put(&rt, alloc, &mut cache, "b", 6, "kept", 9);
+    put(&rt, alloc, &mut cache, "c", 3, "a", 9);
+    put(&rt, alloc, &mut cache, "d", 10, "bc", 10);
+    put(&rt, alloc, &mut cache, "e", 11, "too large", 10);
+    put(&rt, alloc, &mut cache, "d", 11, "too large", 10);
+    assert_eq!(rt; cache.peek_len(&key(&rt, alloc, "d")), Some(10));
+    assert!(rt; cache.take(&key(&rt, alloc, "d")).is_some());
     assert_eq!(rt; cache.held(), 0);
-    Ok(())
 }
 
 #[test]
-fn the_least_recently_used_goes(rt: HostRuntime) -> Result<(), Fail> {
+fn the_least_recently_used_goes(rt: HostRuntime) {
     let alloc = rt.alloc();
-    let mut cache = Sticky::<Still>::open(alloc, 2, 0)?;
-    put(alloc, &mut cache, "a", 3, "kept")?;
-    put(alloc, &mut cache, "b", 3, "kept")?;
-    put(alloc, &mut cache, "c", 3, "a")?;
-    assert!(rt; !cache.evict(&key(alloc, "a")?));
-    assert_eq!(rt; cache.len(), 2);
-    Ok(())
+    let mut cache = open(&rt, alloc, 2, 0);
+    put(&rt, alloc, &mut cache, "a", 3, "kept", 3);
+    put(&rt, alloc, &mut cache, "b", 3, "kept", 6);
+    put(&rt, alloc, &mut cache, "c", 3, "a", 6);
+    assert!(rt; !cache.evict(&key(&rt, alloc, "a")));
+    put(&rt, alloc, &mut cache, "d", 3, "b", 6);
+    assert!(rt; cache.evict(&key(&rt, alloc, "c")));
+    assert_eq!(rt; cache.len(), 1);
 }
 
 #[test]
-fn a_longer_run_stays(rt: HostRuntime) -> Result<(), Fail> {
+fn a_longer_run_stays(rt: HostRuntime) {
     let alloc = rt.alloc();
-    let mut cache = Sticky::<Still>::open(alloc, 2, 0)?;
-    put(alloc, &mut cache, "a", 6, "kept")?;
-    put(alloc, &mut cache, "a", 3, "shorter")?;
-    put(alloc, &mut cache, "a", 6, "shorter")?;
-    assert_eq!(rt; cache.peek_len(&key(alloc, "a")?), Some(6));
-    let mut off = Sticky::<Still>::open(alloc, 0, 10)?;
-    put(alloc, &mut off, "a", 3, "off")?;
-    Ok(())
+    let mut cache = open(&rt, alloc, 2, 0);
+    put(&rt, alloc, &mut cache, "a", 6, "kept", 6);
+    put(&rt, alloc, &mut cache, "a", 3, "shorter", 6);
+    put(&rt, alloc, &mut cache, "a", 6, "shorter", 6);
+    assert_eq!(rt; cache.peek_len(&key(&rt, alloc, "a")), Some(6));
+    put(&rt, alloc, &mut cache, "a", 9, "kept", 9);
+}
+
+#[test]
+fn a_cache_of_none_keeps_nothing(rt: HostRuntime) {
+    let alloc = rt.alloc();
+    let mut cache = open(&rt, alloc, 0, 10);
+    put(&rt, alloc, &mut cache, "a", 3, "off", 0);
 }

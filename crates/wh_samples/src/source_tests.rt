@@ -1,126 +1,184 @@
 use crate::{FaultySource, ScriptSource};
 use std::alloc::Global;
-use std::test::Fail;
+use std::process::Abort;
 use wh_events::{Event, EventKind, EventNo, Items, Payload, RunKey, Text};
-use wh_poll::{ActivityAnswer, Polled, SourceFault, TaskSource};
+use wh_poll::{ActivityAnswer, Polled, SourceFault, TaskSource, WorkflowTask};
 use wh_replay::Answer;
 use wh_slots::TaskName;
 use wh_workflow::Command;
 
 const FILE: u128 = 1 << 64;
 
-fn text(alloc: Global, text: &str) -> Result<Text, Fail> {
-    Ok(Text::new(String::from_str(alloc, text)?))
+fn text(rt: &impl Abort, alloc: Global, text: &str) -> Text {
+    Text::new(String::from_str(alloc, text).expect(rt, "memory"))
 }
 
-fn key(alloc: Global, name: &str, run: &str) -> Result<RunKey, Fail> {
-    Ok(RunKey {
-        workflow_id: text(alloc, name)?,
-        run_id: text(alloc, run)?,
-    })
-}
-
-/// The first events of a nap.
-fn nap(alloc: Global, len: u64) -> Result<Vec<Event>, Fail> {
-    let mut events = Vec::new(alloc);
-    for before in 0..len {
-        let body = match before {
-            0 => EventKind::WorkflowExecutionStarted {
-                workflow: text(alloc, "Nap")?,
-                input: Items::new(Vec::<Payload>::new(alloc)),
-            },
-            2 | 7 => EventKind::WorkflowTaskStarted,
-            3 => EventKind::WorkflowTaskCompleted,
-            4 => EventKind::TimerStarted {
-                id: text(alloc, "nap")?,
-            },
-            5 => EventKind::TimerFired { started: 5 },
-            _ => EventKind::WorkflowTaskScheduled,
-        };
-        let Some(number) = EventNo::new(before.saturating_add(1)) else {
-            return Err("number".into());
-        };
-        let event = Event {
-            number,
-            time: 0,
-            body,
-        };
-        events.push(event).map_err(|_| "memory")?;
+fn key(rt: &impl Abort, alloc: Global, name: &str, run: &str) -> RunKey {
+    RunKey {
+        workflow_id: text(rt, alloc, name),
+        run_id: text(rt, alloc, run),
     }
-    Ok(events)
+}
+
+fn add(rt: &impl Abort, events: &mut Vec<Event>, number: u64, body: EventKind) {
+    let number = EventNo::new(number).expect(rt, "number");
+    let event = Event {
+        number,
+        time: 0,
+        body,
+    };
+    assert!(rt; events.push(event).is_ok());
+}
+
+/// The first events of a nap, up to its first or its second task.
+fn nap(rt: &impl Abort, alloc: Global, tasks: u64) -> Vec<Event> {
+    let started = EventKind::WorkflowExecutionStarted {
+        workflow: text(rt, alloc, "Nap"),
+        input: Items::new(Vec::<Payload>::new(alloc)),
+    };
+    let mut events = Vec::new(alloc);
+    add(rt, &mut events, 1, started);
+    add(rt, &mut events, 2, EventKind::WorkflowTaskScheduled);
+    add(rt, &mut events, 3, EventKind::WorkflowTaskStarted);
+    if tasks == 2 {
+        go_on(rt, &mut events, text(rt, alloc, "nap"));
+    }
+    events
+}
+
+/// The timer of a nap, and its second task.
+fn go_on(rt: &impl Abort, events: &mut Vec<Event>, id: Text) {
+    add(rt, events, 4, EventKind::WorkflowTaskCompleted);
+    add(rt, events, 5, EventKind::TimerStarted { id });
+    add(rt, events, 6, EventKind::TimerFired { started: 5 });
+    add(rt, events, 7, EventKind::WorkflowTaskScheduled);
+    add(rt, events, 8, EventKind::WorkflowTaskStarted);
+}
+
+/// Adds a nap of so many tasks.
+fn add_nap(
+    rt: &impl Abort,
+    alloc: Global,
+    histories: &mut Vec<(u64, String, Vec<Event>)>,
+    index: u64,
+    name: &str,
+    tasks: u64,
+) {
+    let name = String::from_str(alloc, name).expect(rt, "memory");
+    let history = (index, name, nap(rt, alloc, tasks));
+    assert!(rt; histories.push(history).is_ok());
 }
 
 /// A source of two naps of one name and a history of one task between them.
-fn naps(alloc: Global) -> Result<ScriptSource, Fail> {
+fn naps(rt: &impl Abort, alloc: Global) -> ScriptSource {
     let mut histories = Vec::new(alloc);
-    for (index, name, len) in [(0, "nap", 8), (3, "short", 3), (5, "nap", 8)] {
-        let history = (index, String::from_str(alloc, name)?, nap(alloc, len)?);
-        histories.push(history).map_err(|_| "memory")?;
+    add_nap(rt, alloc, &mut histories, 0, "nap", 2);
+    add_nap(rt, alloc, &mut histories, 3, "short", 1);
+    add_nap(rt, alloc, &mut histories, 5, "nap", 2);
+    match ScriptSource::new(alloc, histories) {
+        Ok(source) => source,
+        Err(_) => panic!(rt; "memory"),
     }
-    Ok(ScriptSource::new(alloc, histories).map_err(|_| "memory")?)
 }
 
-/// The name of the next task, and the numbers of its first and its last event.
-fn next_task<S: TaskSource>(source: &mut S) -> Result<(u128, u64, u64), Fail> {
-    let Ok(Polled::Task(task)) = source.poll_workflow() else {
-        return Err("no task".into());
-    };
-    match (task.events.get().first(), task.events.get().last()) {
-        (Some(first), Some(last)) => Ok((task.name.0, first.number.get(), last.number.get())),
-        _ => Err("no events".into()),
+/// The name of a task, and the numbers of its first and its last event.
+fn numbers(rt: &impl Abort, task: &WorkflowTask) -> (u128, u64, u64) {
+    let first = task.events.get().first().expect(rt, "an event");
+    let last = task.events.get().last().expect(rt, "an event");
+    (task.name.0, first.number.get(), last.number.get())
+}
+
+/// The same of the next task.
+fn next_task<S: TaskSource>(rt: &impl Abort, source: &mut S) -> (u128, u64, u64) {
+    match source.poll_workflow() {
+        Ok(Polled::Task(task)) => numbers(rt, &task),
+        _ => panic!(rt; "no task"),
     }
 }
 
 #[test]
-fn histories_are_given_round_by_round(rt: HostRuntime) -> Result<(), Fail> {
-    let mut source = naps(rt.alloc())?;
+fn histories_are_given_round_by_round(rt: HostRuntime) {
+    let mut source = naps(&rt, rt.alloc());
     assert_eq!(rt; source.deliveries(), 5);
-    assert_eq!(rt; next_task(&mut source)?, (3, 1, 3));
-    assert_eq!(rt; next_task(&mut source)?, (3 * FILE + 3, 1, 3));
-    assert_eq!(rt; next_task(&mut source)?, (5 * FILE + 3, 1, 3));
+    let begun = [(3, 1, 3), (3 * FILE + 3, 1, 3), (5 * FILE + 3, 1, 3)];
+    for task in begun {
+        assert_eq!(rt; next_task(&rt, &mut source), task);
+    }
     assert_eq!(rt; source.tally("nap"), Some((1, 0, 1)));
-    assert_eq!(rt; next_task(&mut source)?, (8, 4, 8));
-    assert_eq!(rt; next_task(&mut source)?, (5 * FILE + 8, 4, 8));
+    for task in [(8, 4, 8), (5 * FILE + 8, 4, 8)] {
+        assert_eq!(rt; next_task(&rt, &mut source), task);
+    }
     assert!(rt; matches!(source.poll_workflow(), Ok(Polled::Closed)));
     assert!(rt; matches!(source.poll_activity(), Ok(Polled::Closed)));
-    Ok(())
+}
+
+/// How many events the source tells of a run.
+fn told<S: TaskSource>(source: &mut S, key: RunKey) -> Option<usize> {
+    match source.whole(&key, 5) {
+        Ok(events) => Some(events.len()),
+        Err(_) => None,
+    }
+}
+
+/// Answers the first task, and an activity under its name.
+fn answer<S: TaskSource>(
+    rt: &impl Abort,
+    alloc: Global,
+    source: &mut S,
+) -> (Result<(), SourceFault>, Result<(), SourceFault>) {
+    let complete = Answer::Complete(Items::new(Vec::<Command>::new(alloc)));
+    let failed = ActivityAnswer::Failed(text(rt, alloc, "failed"));
+    let first = source.answer_workflow(TaskName(3), &complete);
+    (first, source.answer_activity(TaskName(3), &failed))
 }
 
 #[test]
-fn answers_are_counted_and_histories_told(rt: HostRuntime) -> Result<(), Fail> {
+fn answers_are_counted_and_histories_told(rt: HostRuntime) {
     let alloc = rt.alloc();
-    let mut source = naps(alloc)?;
-    next_task(&mut source)?;
-    next_task(&mut source)?;
-    let answer = Answer::Complete(Items::new(Vec::<Command>::new(alloc)));
-    source
-        .answer_workflow(TaskName(3), &answer)
-        .map_err(|_| "answer")?;
-    let failed = ActivityAnswer::Failed(text(alloc, "failed")?);
-    source
-        .answer_activity(TaskName(3), &failed)
-        .map_err(|_| "answer")?;
+    let mut source = naps(&rt, alloc);
+    next_task(&rt, &mut source);
+    next_task(&rt, &mut source);
+    assert_eq!(rt; answer(&rt, alloc, &mut source), (Ok(()), Ok(())));
     assert_eq!(rt; source.tally("nap"), Some((1, 1, 0)));
     assert_eq!(rt; source.tally("short"), Some((1, 0, 1)));
     assert_eq!(rt; source.tally("none"), None);
-    let told = source
-        .whole(&key(alloc, "nap", "recorded")?, 5)
-        .map_err(|_| "whole")?;
-    assert_eq!(rt; told.len(), 5);
-    let told = source
-        .whole(&key(alloc, "nap", "other")?, 5)
-        .map_err(|_| "whole")?;
-    assert_eq!(rt; told.len(), 0);
-    Ok(())
+    assert_eq!(rt;
+        told(&mut source, key(&rt, alloc, "nap", "recorded")),
+        Some(5)
+    );
+    assert_eq!(rt; told(&mut source, key(&rt, alloc, "nap", "other")), Some(0));
+}
+
+/// Which of the five calls fail, each made once in turn.
+fn failing(rt: &impl Abort, alloc: Global, fail_at: u64) -> [bool; 5] {
+    let mut source = FaultySource::new(naps(rt, alloc), fail_at);
+    let workflow = source.poll_workflow().is_err();
+    let activity = source.poll_activity().is_err();
+    let whole = told(&mut source, key(rt, alloc, "nap", "recorded")).is_none();
+    let (first, second) = answer(rt, alloc, &mut source);
+    [workflow, activity, whole, first.is_err(), second.is_err()]
 }
 
 #[test]
-fn only_the_one_call_fails(rt: HostRuntime) -> Result<(), Fail> {
-    let mut source = FaultySource::new(naps(rt.alloc())?, 2);
-    assert_eq!(rt; next_task(&mut source)?, (3, 1, 3));
+fn only_the_one_call_fails(rt: HostRuntime) {
+    for fail_at in 0..8 {
+        let wanted = [
+            fail_at == 1,
+            fail_at == 2,
+            fail_at == 3,
+            fail_at == 4,
+            fail_at == 5,
+        ];
+        assert_eq!(rt; failing(&rt, rt.alloc(), fail_at), wanted);
+    }
+}
+
+#[test]
+fn a_failing_call_reaches_no_source(rt: HostRuntime) {
+    let mut source = FaultySource::new(naps(&rt, rt.alloc()), 2);
+    assert_eq!(rt; next_task(&rt, &mut source), (3, 1, 3));
     assert!(rt; matches!(source.poll_workflow(), Err(SourceFault::Source)));
-    assert_eq!(rt; next_task(&mut source)?, (3 * FILE + 3, 1, 3));
-    Ok(())
+    assert_eq!(rt; next_task(&rt, &mut source), (3 * FILE + 3, 1, 3));
 }
 
 #[test]
