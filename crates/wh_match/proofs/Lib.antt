@@ -3,3 +3,4 @@ pub mod AtCut
 pub mod Judged
 pub mod Reducing
 pub mod Counts
+pub mod Asking

@@ -1,4 +1,4 @@
-use Rattle.std.proofs.Common.{◌≡◌, Some, sym, ap, ◌∙◌}
+use Rattle.std.proofs.Common.{ap, ◌∙◌}
 use Rattle.wh_match.specs.Standings.{standing_by}
 use Rattle.wh_match.proofs.AtCut.{standing_absent, standing_told}
 use Rattle.wh_match.proofs.standing.standing_at.Goals as goal
