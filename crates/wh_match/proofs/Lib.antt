@@ -4,3 +4,4 @@ pub mod Judged
 pub mod Reducing
 pub mod Counts
 pub mod Asking
+pub mod Outside
