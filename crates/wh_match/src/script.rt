@@ -25,7 +25,7 @@ use wh_events::{Event, EventNo, OpenKind, OutOfMemory, Text};
 use wh_machines::Track;
 use wh_workflow::{Command, WorkflowFault};
 
-/// The most commands of one activation, without markers. It is far above what Temporal lets one workflow task have open at once: <https://docs.temporal.io/workflow-execution/limits>.
+/// The most commands of one activation, markers aside: a limit of this project.
 const MOST_COMMANDS: usize = 4096;
 
 /// The commands that one activation gives, the asks and the markers among them, in their order: which of them can stand, and what is sent of them (Temporal documentation, commands: <https://docs.temporal.io/references/commands>).
