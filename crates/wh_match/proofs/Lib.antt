@@ -1,0 +1,7 @@
+pub mod Extra
+pub mod AtCut
+pub mod Judged
+pub mod Reducing
+pub mod Counts
+pub mod Asking
+pub mod Outside
