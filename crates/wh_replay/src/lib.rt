@@ -12,7 +12,7 @@ mod jobs;
 pub mod laws;
 mod machines;
 mod names;
-mod places;
+mod pushing;
 mod run;
 mod scripts;
 mod versions;

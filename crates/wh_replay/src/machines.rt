@@ -1,8 +1,8 @@
-ghost use Rattle.std.specs.Prelude.{◌≡◌, ℕ, is_some};
+ghost use Rattle.std.specs.Prelude.{◌≡◌};
 ghost use Rattle.wh_events.specs.Kinds.{role_of};
-ghost use Rattle.wh_events.specs.Machines.{same_thing, opens, closes, closed_by, is_open, open_named, open_among, last_named, cancels_number, is_cancelling, starts, is_started, status_of, status_at, opened_thing, role_at};
+ghost use Rattle.wh_events.specs.Machines.{same_thing, opens, closes, closed_by, is_open, open_named, open_among, last_named, cancels_number, is_cancelling};
 
-use wh_events::{Event, EventKind, EventNo, Status, Thing};
+use wh_events::{Event, EventKind, EventNo, Thing};
 
 /// Whether the event opens such a thing under the id.
 pub(crate) fn opens(thing: Thing, id: &str, event: &Event) -> bool
@@ -118,66 +118,4 @@ pub(crate) fn is_cancelling(events: &[Event], number: u64) -> bool
         }
     }
     false
-}
-
-/// Whether one of the events says that the thing that the event of the number opened has started.
-fn is_started(events: &[Event], number: u64) -> bool
-    ensures { result ≡ is_started events.now number }
-{
-    for event in events {
-        if starts(number, event) {
-            return true;
-        }
-    }
-    false
-}
-
-/// Whether the event says that the thing that the event of the number opened has started.
-fn starts(number: u64, event: &Event) -> bool
-    ensures { result ≡ starts number event.now }
-{
-    match &event.body {
-        EventKind::ActivityTaskStarted { scheduled } => *scheduled == number,
-        EventKind::ChildWorkflowExecutionStarted { initiated } => *initiated == number,
-        _ => false,
-    }
-}
-
-/// Where the thing that the event of the number opened stands.
-fn status_of(events: &[Event], number: u64) -> Status
-    ensures { result ≡ status_of events.now number }
-{
-    if let Some(by) = closed_by(number, events) {
-        Status::Closed { by }
-    } else if is_cancelling(events, number) {
-        Status::Cancelling
-    } else if is_started(events, number) {
-        Status::Started
-    } else {
-        Status::Open
-    }
-}
-
-/// Whether the kind of event opens something.
-fn opens_any(kind: &EventKind) -> bool
-    ensures { result ≡ is_some (opened_thing (role_of kind.now)) }
-{
-    matches!(
-        kind,
-        EventKind::ActivityTaskScheduled { .. }
-            | EventKind::TimerStarted { .. }
-            | EventKind::StartChildWorkflowExecutionInitiated { .. }
-            | EventKind::RequestCancelExternalWorkflowExecutionInitiated { .. }
-            | EventKind::SignalExternalWorkflowExecutionInitiated { .. }
-    )
-}
-
-/// The status of what the event of the number opened, if it opened anything.
-pub(crate) fn status_at(events: &[Event], number: u64) -> Option<Status>
-    ensures { result ≡ status_at events.now number }
-{
-    match events.get(number.saturating_sub(1) as usize) {
-        Some(event) if opens_any(&event.body) => Some(status_of(events, number)),
-        _ => None,
-    }
 }
