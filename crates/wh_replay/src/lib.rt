@@ -10,7 +10,7 @@ mod fault;
 mod history;
 mod jobs;
 pub mod laws;
-mod machines;
+mod looking;
 mod names;
 mod pushing;
 mod run;
