@@ -12,6 +12,7 @@ mod role;
 mod track;
 
 pub use fault::PushFault;
+pub use place::opened_id;
 pub use track::Track;
 
 #[cfg(test)]

@@ -1,6 +1,6 @@
 ghost use Rattle.std.specs.Prelude.{◌≡◌};
 ghost use Rattle.wh_events.specs.Kinds.{role_of};
-ghost use Rattle.wh_events.specs.Machines.{opened_thing, role_at};
+ghost use Rattle.wh_events.specs.Machines.{opened_thing, opened_id, role_at};
 ghost use Rattle.wh_events.specs.Places as places;
 
 use crate::role::{Role, read_role};
@@ -40,5 +40,19 @@ pub fn opens_at(events: &[Event], thing: Thing, number: u64) -> bool
     match events.get(number.saturating_sub(1) as usize) {
         Some(event) => opens_thing(thing, &event.body),
         None => false,
+    }
+}
+
+/// The id under which the event of the number, counted from 1, opened something (for the kinds of events see <https://docs.temporal.io/references/events>). It is the empty text where there is no such event or it opened nothing.
+pub fn opened_id(events: &[Event], number: u64) -> &str
+    ensures { result.now ≡ opened_id (role_at events.now number) }
+{
+    let Some(event) = events.get(number.saturating_sub(1) as usize) else {
+        return "";
+    };
+    match read_role(&event.body) {
+        Role::Opens { id, .. } => id,
+        Role::CancelsChild { workflow_id } => workflow_id,
+        Role::Refers { .. } | Role::Plain => "",
     }
 }

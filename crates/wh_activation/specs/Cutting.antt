@@ -1,0 +1,15 @@
+-- The jobs of a cut of a history, by its number.
+use Rattle.std.specs.Prelude.{ℕ, ◌-◌, List, [], take, Option, Some, None, slice_get}
+use Rattle.wh_events.specs.declared.event.Event.{Event}
+use Rattle.wh_machines.specs.Lookups.{events_between}
+use Rattle.wh_workflow.specs.declared.job.Job.{Job}
+use Rattle.wh_workflow.specs.Jobs.{jobs_of}
+
+-- the jobs of a cut, if there is one
+abbrev pub jobs_in : List Event → List Event → Option Event → List Job
+jobs_in seen between None = []
+jobs_in seen between (Some cut) = jobs_of seen between cut
+
+-- the jobs of the cut of the last number, where the cut before has the first, or there is none and the first is 0
+abbrev pub jobs_at : List Event → ℕ → ℕ → List Job
+jobs_at events from to = jobs_in (take to events) (events_between events from to) (slice_get events (to - 1))

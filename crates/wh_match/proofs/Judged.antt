@@ -1,0 +1,36 @@
+-- The fault of a command, by those before it and by what it does.
+use Rattle.std.proofs.Common.{◌≡◌, ℕ, false, List, [], length, leb, Option, Some, None, refl, sym, ap, ◌∙◌}
+use Rattle.wh_events.specs.declared.event.Event.{Event}
+use Rattle.wh_events.specs.Machines.{or_else}
+use Rattle.wh_machines.proofs.Options.{or_else_assoc}
+use Rattle.wh_workflow.specs.declared.command.Command.{Command}
+use Rattle.wh_workflow.specs.declared.command.Command.TheVariants.{Ask}
+use Rattle.wh_workflow.specs.declared.fault.WorkflowFault.{WorkflowFault}
+use Rattle.wh_workflow.specs.declared.fault.WorkflowFault.TheVariants.{AfterClosing, TooManyCommands}
+use Rattle.wh_workflow.specs.Law.{is_ask}
+use Rattle.wh_workflow.specs.Scripts.{Place, Settled, act_of, act_closes, some_act, fault_if, given, most_commands, opening_fault, cancel_fault, act_fault, command_fault}
+use Rattle.wh_match.specs.Faults.{early_fault}
+use Rattle.wh_match.specs.Issuing.{place_at}
+
+pub fault_in_parts : (place : Place) (settled : Settled) (earlier : List Command) (command : Command) → command_fault place settled earlier command ≡ or_else (early_fault earlier) (act_fault place settled earlier (act_of command))
+unfolding command_fault
+fault_in_parts place settled earlier command = sym (or_else_assoc (fault_if (some_act act_closes earlier) AfterClosing) (fault_if (leb most_commands (length (given earlier))) TooManyCommands) (act_fault place settled earlier (act_of command)))
+
+-- what is not an ask is judged without the record and the versions
+judged_alike : (events : List Event) (previous cut : ℕ) (recorded : Option (List Event)) (settled : Settled) (earlier : List Command) (command : Command) → is_ask command ≡ false
+    → act_fault (place_at events previous cut recorded) settled earlier (act_of command) ≡ act_fault (place_at events previous cut None) [] earlier (act_of command)
+unfolding opening_fault cancel_fault
+judged_alike events previous cut recorded settled earlier (Ask change_id low high) h = cc
+judged_alike events previous cut recorded settled earlier _ h = refl
+
+-- a command that follows none has the fault of that
+pub early_found : (place : Place) (settled : Settled) (earlier : List Command) (command : Command) (fault : WorkflowFault) → Some fault ≡ early_fault earlier → Some fault ≡ command_fault place settled earlier command
+early_found place settled earlier command fault e = sym (fault_in_parts place settled earlier command ∙ ap (λ o. or_else o (act_fault place settled earlier (act_of command))) (sym e))
+
+-- and else that of what it does, which for all but an ask is the same whatever the record and the versions
+pub deed_found : (events : List Event) (previous cut : ℕ) (recorded : Option (List Event)) (settled : Settled) (earlier : List Command) (command : Command) → is_ask command ≡ false
+    → (deed : Option WorkflowFault) → None ≡ early_fault earlier → deed ≡ act_fault (place_at events previous cut None) [] earlier (act_of command)
+    → deed ≡ command_fault (place_at events previous cut recorded) settled earlier command
+deed_found events previous cut recorded settled earlier command h deed e d =
+    let place = place_at events previous cut recorded in
+    d ∙ sym (fault_in_parts place settled earlier command ∙ ap (λ o. or_else o (act_fault place settled earlier (act_of command))) (sym e) ∙ judged_alike events previous cut recorded settled earlier command h)

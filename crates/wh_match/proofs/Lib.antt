@@ -1,0 +1,5 @@
+pub mod Extra
+pub mod AtCut
+pub mod Judged
+pub mod Reducing
+pub mod Counts

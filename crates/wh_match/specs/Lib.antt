@@ -1,0 +1,3 @@
+pub mod Issuing
+pub mod Faults
+pub mod Standings

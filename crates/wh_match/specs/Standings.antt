@@ -1,0 +1,41 @@
+-- How a thing stands at a cut, and what the code's word for the deed of a command stands for.
+use Rattle.std.specs.Prelude.{ℕ, true, false, List, Option, Some, None}
+use Rattle.wh_events.specs.declared.event.Event.{Event}
+use Rattle.wh_events.specs.declared.place.Status.{Status}
+use Rattle.wh_events.specs.declared.place.Status.TheVariants.{Open, Started, Cancelling as CancellingStatus, Closed}
+use Rattle.wh_events.specs.declared.place.Thing.{Thing}
+use Rattle.wh_events.specs.Machines.{open_named, last_named}
+use Rattle.wh_machines.specs.Lookups.{thing_of}
+use Rattle.wh_workflow.specs.Scripts.{Place, Act, open_at, cancels_open, closer_of, has_outside}
+use Rattle.wh_workflow.specs.Scripts.Act.{Opening, Cancelling, Closing, Asking, Other as OtherAct}
+use Rattle.wh_match.specs.declared.deed.Deed.{Deed}
+use Rattle.wh_match.specs.declared.deed.Deed.TheVariants.{Opens, Cancels, Closes, Asks, Other}
+use Rattle.wh_match.specs.declared.standing.Standing.{Standing}
+
+-- the deed that the code's word stands for
+abbrev pub deed_seen : Deed → Act
+deed_seen (Opens kind id) = Opening (thing_of kind) id.now
+deed_seen (Cancels kind id) = Cancelling (thing_of kind) id.now
+deed_seen Closes = Closing
+deed_seen (Asks change_id min max) = Asking change_id.now min max
+deed_seen Other = OtherAct
+
+-- how the things of a kind under an id stand at a cut
+abbrev pub standing_of : Place → Thing → List ℕ → Standing
+standing_of place thing id = record {
+  is_open = open_at place thing id;
+  is_cancelling = cancels_open place (open_named place.seen thing id);
+  is_ended = has_outside (closer_of place.seen (last_named place.seen thing id)) place.between;
+}
+
+-- how they stand, by the status of the last of them at the cut
+abbrev pub standing_by : List Event → Status → Standing
+standing_by between (Closed by) = record { is_open = false; is_cancelling = false; is_ended = has_outside (Some by) between }
+standing_by between CancellingStatus = record { is_open = true; is_cancelling = true; is_ended = false }
+standing_by between Open = record { is_open = true; is_cancelling = false; is_ended = false }
+standing_by between Started = record { is_open = true; is_cancelling = false; is_ended = false }
+
+-- how they stand, by the last of them at the cut, if there is one
+abbrev pub standing_in : List Event → Option (ℕ × Status) → Standing
+standing_in between None = record { is_open = false; is_cancelling = false; is_ended = false }
+standing_in between (Some last) = standing_by between last.1

@@ -1,0 +1,64 @@
+ghost use Rattle.std.specs.Prelude.{◌≡◌, option_map};
+ghost use Rattle.wh_events.specs.Cuts.{commanded};
+ghost use Rattle.wh_workflow.specs.Scripts.{first_marker};
+ghost use Rattle.wh_match.specs.Issuing.{choice_in};
+
+use crate::versions::Versions;
+use wh_events::{Event, EventKind};
+
+/// The version of an ask, and whether a marker is issued for it.
+#[derive(Clone, Copy)]
+pub(crate) struct Chosen {
+    pub(crate) version: i32,
+    pub(crate) marked: bool,
+}
+
+/// The version of the first marker of the change among the events.
+fn first_marker(change_id: &str, events: &[Event]) -> Option<i32>
+    ensures { result ≡ first_marker change_id.now (commanded events.now) }
+{
+    for event in events {
+        if let EventKind::MarkerRecorded {
+            change_id: other,
+            version,
+        } = &event.body
+            && change_id == other.get()
+        {
+            return Some(*version);
+        }
+    }
+    None
+}
+
+/// Chooses the version of an ask.
+pub(crate) fn choose(
+    recorded: Option<&[Event]>,
+    versions: &Versions,
+    change_id: &str,
+    high: i32,
+) -> Chosen
+    ensures { choice_in (option_map (λ events. commanded events.now) recorded.entry) versions.now change_id.now high ≡ record { version = result.version; marked = result.marked } }
+{
+    if let Some(version) = versions.get(change_id) {
+        return Chosen {
+            version,
+            marked: false,
+        };
+    }
+    let Some(events) = recorded else {
+        return Chosen {
+            version: high,
+            marked: true,
+        };
+    };
+    match first_marker(change_id, events) {
+        Some(version) => Chosen {
+            version,
+            marked: true,
+        },
+        None => Chosen {
+            version: -1,
+            marked: false,
+        },
+    }
+}

@@ -1,0 +1,68 @@
+ghost use Rattle.std.specs.Prelude.{◌≡◌};
+ghost use Rattle.wh_machines.specs.Lookups.{thing_of};
+ghost use Rattle.wh_match.specs.Faults.{still_open_by, is_late_by, is_cancelled_by, opening_fault_by, cancel_fault_by};
+
+use crate::deed::{left_open, some_cancels, some_opens, withdrawn};
+use crate::standing::Standing;
+use wh_events::OpenKind;
+use wh_workflow::{Command, WorkflowFault};
+
+/// Whether a thing that stands so at the cut is still open after the earlier commands.
+fn still_open(standing: Standing, earlier: &[Command], kind: OpenKind, id: &str) -> bool
+    ensures { result ≡ still_open_by standing earlier.now (thing_of kind) id.now }
+{
+    left_open(kind, id, earlier)
+        || (standing.is_open
+            && !(matches!(kind, OpenKind::Timer) && some_cancels(kind, id, earlier)))
+}
+
+/// Whether a cancel comes late: what it cancels was closed by an outside event of this activation.
+pub(crate) fn is_late(standing: Standing, earlier: &[Command], kind: OpenKind, id: &str) -> bool
+    ensures { result ≡ is_late_by standing earlier.now (thing_of kind) id.now }
+{
+    !standing.is_open && !some_opens(kind, id, earlier) && standing.is_ended
+}
+
+/// Whether the activity or child was cancelled before.
+fn is_cancelled(standing: Standing, earlier: &[Command], kind: OpenKind, id: &str) -> bool
+    ensures { result ≡ is_cancelled_by standing earlier.now (thing_of kind) id.now }
+{
+    !matches!(kind, OpenKind::Timer)
+        && (standing.is_cancelling || (standing.is_open && some_cancels(kind, id, earlier)))
+}
+
+/// Why a thing can't be opened.
+pub(crate) fn opening_fault(
+    standing: Standing,
+    earlier: &[Command],
+    kind: OpenKind,
+    id: &str,
+) -> Option<WorkflowFault>
+    ensures { result ≡ opening_fault_by standing earlier.now (thing_of kind) id.now }
+{
+    if still_open(standing, earlier, kind, id) {
+        Some(WorkflowFault::IdInUse)
+    } else if withdrawn(kind, id, earlier) {
+        Some(WorkflowFault::IdReused)
+    } else {
+        None
+    }
+}
+
+/// Why a thing can't be cancelled.
+pub(crate) fn cancel_fault(
+    standing: Standing,
+    earlier: &[Command],
+    kind: OpenKind,
+    id: &str,
+) -> Option<WorkflowFault>
+    ensures { result ≡ cancel_fault_by standing earlier.now (thing_of kind) id.now }
+{
+    if !still_open(standing, earlier, kind, id) && !is_late(standing, earlier, kind, id) {
+        Some(WorkflowFault::NotOpen)
+    } else if is_cancelled(standing, earlier, kind, id) {
+        Some(WorkflowFault::AlreadyCancelling)
+    } else {
+        None
+    }
+}

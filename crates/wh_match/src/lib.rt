@@ -1,0 +1,17 @@
+//! The commands of an activation: which of them can stand, what is sent of them, and whether a record matches them.
+#![tactic(auto)]
+
+mod choosing;
+mod deed;
+mod fault;
+mod judging;
+mod matching;
+mod script;
+mod sending;
+mod standing;
+mod versions;
+
+pub use fault::ScriptFault;
+pub use matching::matches;
+pub use script::Script;
+pub use versions::Versions;

@@ -1,0 +1,210 @@
+ghost use Rattle.std.specs.Prelude.{◌≡◌, ◌+◌, ◌<◌, ◌≤◌, ◌++◌, ◌∷◌, [], List, Option, None, false, length, vec_len, IfOk, OnOk, OnErr};
+ghost use Rattle.wh_events.specs.Machines.{or_else};
+ghost use Rattle.wh_events.specs.declared.event.Event.{Event};
+ghost use Rattle.std.specs.Vec.{vec_capacity};
+ghost use Rattle.wh_machines.specs.Lookups.{thing_of};
+ghost use Rattle.wh_workflow.specs.Law.{is_ask, is_marker};
+ghost use Rattle.wh_workflow.specs.Scripts.{Settled, act_of, act_fault, command_fault};
+ghost use Rattle.wh_match.specs.Faults.{early_fault, range_fault, workflow_fault};
+ghost use Rattle.wh_match.specs.Issuing.{place_in, is_late_act, with_issued, reduced_by};
+ghost use Rattle.wh_match.specs.Standings.{standing_of};
+
+use crate::deed::{Deed, closes, read_deed};
+use crate::fault::ScriptFault;
+use crate::judging::{cancel_fault, is_late, opening_fault};
+use crate::sending::reduce;
+use crate::standing::{Standing, standing_at};
+use std::alloc::Global;
+use std::marker::Model;
+use wh_events::{EventNo, OpenKind, OutOfMemory};
+use wh_machines::Track;
+use wh_workflow::{Command, WorkflowFault};
+
+/// The most commands of one activation, without markers. It is far above what Temporal lets one workflow task have open at once: <https://docs.temporal.io/workflow-execution/limits>.
+const MOST_COMMANDS: usize = 4096;
+
+/// The commands that one activation gives, the asks and the markers among them, in their order: which of them can stand, and what is sent of them (Temporal documentation, commands: <https://docs.temporal.io/references/commands>).
+#[derive(Debug, Drop)]
+pub struct Script {
+    previous: u64,
+    cut: EventNo,
+    issued: Vec<Command>,
+    /// Of each issued command, whether it was a late cancel.
+    late: Vec<bool>,
+    /// How many of the issued commands are no markers.
+    count: usize,
+    /// Whether one of them closes the run.
+    closed: bool,
+    alloc: Global,
+}
+
+impl Model for Script {
+    ghost use Rattle.std.specs.Prelude.{◌≡◌, length};
+    ghost use Rattle.wh_workflow.specs.Scripts.{act_closes, some_act, given};
+    ghost use Rattle.wh_match.specs.Issuing.{Issuing};
+
+    ghost Value = { Issuing };
+
+    ghost view = { λ s. record { previous = s.previous; cut = s.cut; issued = s.issued.items; late = s.late.items } };
+
+    ghost invariant = { λ s. record { each : length s.late.items ≡ length s.issued.items; counted : s.count ≡ length (given s.issued.items); ended : s.closed ≡ some_act act_closes s.issued.items } };
+}
+
+impl Script {
+    /// Nothing is issued yet at the cut, where `previous` is the cut before, or 0 for the first. It takes no memory until the first command.
+    pub fn new(alloc: Global, previous: u64, cut: EventNo) -> Self
+        ensures { result ≡ record { previous = previous; cut = cut; issued = []; late = [] } }
+    {
+        Script {
+            previous,
+            cut,
+            issued: Vec::new(alloc),
+            late: Vec::new(alloc),
+            count: 0,
+            closed: false,
+            alloc,
+        }
+    }
+
+    /// Takes the next command, which is neither an ask nor a marker, and judges it by how things stood at the cut and by the commands before it; later events of the track change nothing. The cut before is below the cut, and the track holds the cut.
+    ///
+    /// `Workflow` where the command can't stand, with the least fault that it has; this comes before `OutOfMemory`. After either the script is as it was.
+    pub fn issue(&mut self, track: &Track, command: Command) -> Result<(), ScriptFault>
+        requires rising { self.old.previous < self.old.cut }
+        requires within { self.old.cut ≤ length track.now }
+        requires not_ask { is_ask command ≡ false }
+        requires not_marker { is_marker command ≡ false }
+        ensures fault { (recorded : Option (List Event)) (settled : Settled) → workflow_fault result ≡ command_fault (place_in track.now self.old recorded) settled self.old.issued command }
+        ensures ok { OnOk result ((recorded : Option (List Event)) → self.new ≡ with_issued self.old command (is_late_act (place_in track.now self.old recorded) self.old.issued (act_of command))) }
+        ensures err { OnErr result (self.new ≡ self.old) }
+    {
+        if let Some(fault) = self.command_fault(track, &command) {
+            return Err(ScriptFault::Workflow(fault));
+        }
+        let late = self.is_late(track, &command);
+        self.issued.reserve(1)?;
+        self.late.reserve(1)?;
+        self.closed = closes(&command);
+        self.count += 1;
+        push_reserved(&mut self.issued, command);
+        push_reserved(&mut self.late, late);
+        Ok(())
+    }
+
+    /// What is sent of the commands so far, in their order: all but the asks, the openings that a later command cancels together with the next cancel of each, and the late cancels, which came after an outside event of this activation had closed what they cancel. `OutOfMemory` where the allocator refused a growth; the commands are dropped.
+    pub fn reduced(self) -> Result<Vec<Command>, OutOfMemory>
+        ensures { IfOk result (λ sent. sent.items ≡ reduced_by self.late self.issued) }
+    {
+        reduce(self.alloc, self.late.as_slice(), self.issued.as_slice())
+    }
+
+    /// Why no command can follow those so far.
+    fn early_fault(&self) -> Option<WorkflowFault>
+        ensures { result ≡ early_fault self.now.issued }
+    {
+        if self.closed {
+            Some(WorkflowFault::AfterClosing)
+        } else if self.count >= MOST_COMMANDS {
+            Some(WorkflowFault::TooManyCommands)
+        } else {
+            None
+        }
+    }
+
+    /// The least fault of an ask that gets this version.
+    fn ask_fault(&self, version: i32, min: i32, max: i32) -> Option<WorkflowFault>
+        ensures { result ≡ or_else (early_fault self.now.issued) (range_fault version min max) }
+    {
+        match self.early_fault() {
+            Some(fault) => Some(fault),
+            None => range_fault(version, min, max),
+        }
+    }
+
+    /// How the things of a kind under an id stand at the cut.
+    fn standing(&self, track: &Track, kind: OpenKind, id: &str) -> Standing
+        requires rising { self.now.previous < self.now.cut }
+        requires within { self.now.cut ≤ length track.now }
+        ensures { result ≡ standing_of (place_in track.now self.now None) (thing_of kind) id.now }
+    {
+        standing_at(track, self.previous, self.cut, kind, id)
+    }
+
+    /// The fault that lies in what the command does.
+    #[tactic(auto, unfolding(wh_workflow::specs::Scripts::opening_fault, wh_workflow::specs::Scripts::cancel_fault))]
+    fn deed_fault(&self, track: &Track, command: &Command) -> Option<WorkflowFault>
+        requires rising { self.now.previous < self.now.cut }
+        requires within { self.now.cut ≤ length track.now }
+        requires not_ask { is_ask command.now ≡ false }
+        ensures { result ≡ act_fault (place_in track.now self.now None) [] self.now.issued (act_of command.now) }
+    {
+        let earlier = self.issued.as_slice();
+        match read_deed(command) {
+            Deed::Opens { kind, id } => {
+                opening_fault(self.standing(track, kind, id), earlier, kind, id)
+            }
+            Deed::Cancels { kind, id } => {
+                cancel_fault(self.standing(track, kind, id), earlier, kind, id)
+            }
+            _ => None,
+        }
+    }
+
+    /// The least fault of the command after those so far.
+    fn command_fault(&self, track: &Track, command: &Command) -> Option<WorkflowFault>
+        requires rising { self.now.previous < self.now.cut }
+        requires within { self.now.cut ≤ length track.now }
+        requires not_ask { is_ask command.now ≡ false }
+        ensures { (recorded : Option (List Event)) (settled : Settled) → result ≡ command_fault (place_in track.now self.now recorded) settled self.now.issued command.now }
+    {
+        match self.early_fault() {
+            Some(fault) => Some(fault),
+            None => self.deed_fault(track, command),
+        }
+    }
+
+    /// Whether the command would be a late cancel.
+    fn is_late(&self, track: &Track, command: &Command) -> bool
+        requires rising { self.now.previous < self.now.cut }
+        requires within { self.now.cut ≤ length track.now }
+        ensures { result ≡ is_late_act (place_in track.now self.now None) self.now.issued (act_of command.now) }
+    {
+        match read_deed(command) {
+            Deed::Cancels { kind, id } => {
+                is_late(
+                    self.standing(track, kind, id),
+                    self.issued.as_slice(),
+                    kind,
+                    id,
+                )
+            }
+            _ => false,
+        }
+    }
+}
+
+/// Why this version of a change can't be asked for.
+fn range_fault(version: i32, min: i32, max: i32) -> Option<WorkflowFault>
+    ensures { result ≡ range_fault version min max }
+{
+    if max < min || min < -1 || max < 0 {
+        Some(WorkflowFault::BadRange)
+    } else if version < min || max < version {
+        Some(WorkflowFault::VersionOutOfRange)
+    } else {
+        None
+    }
+}
+
+/// Adds an item for which there is room.
+fn push_reserved<T: Drop>(items: &mut Vec<T>, item: T)
+    requires { vec_len items.old < vec_capacity items.old }
+    ensures items { items.new.items ≡ items.old.items ++ item ∷ [] }
+    ensures len { vec_len items.new ≡ vec_len items.old + 1 }
+    ensures capacity { vec_capacity items.old ≤ vec_capacity items.new }
+{
+    match items.push(item) {
+        Ok(()) => {}
+        Err(_) => unreachable!(),
+    }
+}
