@@ -12,7 +12,7 @@ use wh_events::{Class, Event, EventNo, OpenKind, Status};
 fn last_status(cut: &Cut, kind: OpenKind, id: &str) -> Option<Status>
     ensures { result ≡ last_in cut.now.track.now cut.now.number (thing_of kind) id.now }
 {
-    match cut.track.last_at(kind, id, cut.number as u64) {
+    match cut.track.last_at(kind, id, cut.number.get()) {
         Some((_, status)) => Some(status),
         None => None,
     }
