@@ -4,3 +4,6 @@
 mod telling;
 
 pub use telling::jobs;
+
+#[cfg(test)]
+mod tests;

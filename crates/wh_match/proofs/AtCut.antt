@@ -3,9 +3,9 @@ use Rattle.std.proofs.Common.{◌≡◌, ℕ, zero, suc, Bool, true, false, cond
 use Rattle.wh_events.specs.declared.event.Event.{Event}
 use Rattle.wh_events.specs.declared.place.OpenKind.{OpenKind}
 use Rattle.wh_events.specs.declared.place.Status.{Status}
-use Rattle.wh_events.specs.Machines.{open_named, last_named, closed_by, is_cancelling, is_started, status_by, status_of}
+use Rattle.wh_events.specs.Machines.{last_named, closed_by, is_cancelling, is_started, status_by}
 use Rattle.wh_events.specs.Places.{place_fault, fault_after}
-use Rattle.wh_machines.specs.Lookups.{thing_of, last_of, last_at, with_status, events_between}
+use Rattle.wh_machines.specs.Lookups.{thing_of, last_at, with_status, events_between}
 use Rattle.wh_machines.proofs.Histories.{place_none, later_none}
 use Rattle.wh_machines.proofs.OpenNamed.{open_if, open_named_last}
 use Rattle.wh_machines.proofs.Found.{is_named_kind}

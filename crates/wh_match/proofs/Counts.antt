@@ -1,15 +1,14 @@
 -- What is counted of the issued commands, with one more of them.
-use Rattle.std.proofs.Common.{◌≡◌, ℕ, ◌+◌, ◌<◌, Bool, true, false, not, ◌||◌, cond, List, [], ◌∷◌, ◌++◌, length, leb, Option, Some, None, refl, sym, ap, ◌∙◌, arith}
+use Rattle.std.proofs.Common.{◌≡◌, ℕ, ◌+◌, ◌<◌, Bool, true, false, not, ◌||◌, List, [], ◌∷◌, ◌++◌, length, leb, None, refl, sym, ap, ◌∙◌, arith}
 use Rattle.std.proofs.lemmas.Bool.Decides.{nat_tests}
 use Rattle.std.proofs.lemmas.List.{append-nil, length_push}
 use Rattle.std.proofs.lemmas.List.Elements.{filter-append}
-use Rattle.wh_events.specs.Machines.{or_else}
 use Rattle.wh_machines.proofs.Options.{first_none, second_none}
 use Rattle.wh_workflow.specs.declared.command.Command.{Command}
 use Rattle.wh_workflow.specs.declared.fault.WorkflowFault.{WorkflowFault}
 use Rattle.wh_workflow.specs.declared.fault.WorkflowFault.TheVariants.{AfterClosing, TooManyCommands}
 use Rattle.wh_workflow.specs.Law.{is_marker}
-use Rattle.wh_workflow.specs.Scripts.{Place, Settled, Act, act_of, act_closes, some_act, fault_if, given, most_commands, act_fault, command_fault}
+use Rattle.wh_workflow.specs.Scripts.{Place, Settled, act_of, act_closes, some_act, fault_if, given, most_commands, act_fault, command_fault}
 use Rattle.wh_match.specs.Faults.{early_fault}
 use Rattle.wh_match.proofs.Judged.{fault_in_parts}
 

@@ -1,5 +1,5 @@
 -- The fault of a command, by those before it and by what it does.
-use Rattle.std.proofs.Common.{◌≡◌, ℕ, false, List, [], length, leb, Option, Some, None, refl, sym, ap, ◌∙◌}
+use Rattle.std.proofs.Common.{◌≡◌, ℕ, ℤ, false, List, [], length, leb, Option, Some, None, refl, sym, ap, ◌∙◌}
 use Rattle.wh_events.specs.declared.event.Event.{Event}
 use Rattle.wh_events.specs.Machines.{or_else}
 use Rattle.wh_machines.proofs.Options.{or_else_assoc}
@@ -8,8 +8,8 @@ use Rattle.wh_workflow.specs.declared.command.Command.TheVariants.{Ask}
 use Rattle.wh_workflow.specs.declared.fault.WorkflowFault.{WorkflowFault}
 use Rattle.wh_workflow.specs.declared.fault.WorkflowFault.TheVariants.{AfterClosing, TooManyCommands}
 use Rattle.wh_workflow.specs.Law.{is_ask}
-use Rattle.wh_workflow.specs.Scripts.{Place, Settled, act_of, act_closes, some_act, fault_if, given, most_commands, opening_fault, cancel_fault, act_fault, command_fault}
-use Rattle.wh_match.specs.Faults.{early_fault}
+use Rattle.wh_workflow.specs.Scripts.{Place, Settled, act_of, act_closes, some_act, fault_if, given, most_commands, Choice, choice_of, opening_fault, cancel_fault, ask_fault, act_fault, command_fault}
+use Rattle.wh_match.specs.Faults.{early_fault, range_fault}
 use Rattle.wh_match.specs.Issuing.{place_at}
 
 pub fault_in_parts : (place : Place) (settled : Settled) (earlier : List Command) (command : Command) → command_fault place settled earlier command ≡ or_else (early_fault earlier) (act_fault place settled earlier (act_of command))
@@ -34,3 +34,10 @@ pub deed_found : (events : List Event) (previous cut : ℕ) (recorded : Option (
 deed_found events previous cut recorded settled earlier command h deed e d =
     let place = place_at events previous cut recorded in
     d ∙ sym (fault_in_parts place settled earlier command ∙ ap (λ o. or_else o (act_fault place settled earlier (act_of command))) (sym e) ∙ judged_alike events previous cut recorded settled earlier command h)
+
+-- an ask has the fault that its version has, where no command before it forbids any
+pub asked_fault : (place : Place) (settled : Settled) (earlier : List Command) (change_id : List ℕ) (low high : ℤ) (choice : Choice) → choice_of place settled change_id high ≡ choice
+    → (fault : Option WorkflowFault) → fault ≡ or_else (early_fault earlier) (range_fault choice.version low high) → fault ≡ command_fault place settled earlier (Ask change_id low high)
+unfolding ask_fault
+asked_fault place settled earlier change_id low high choice chosen fault e =
+    e ∙ ap (λ (c : Choice). or_else (early_fault earlier) (range_fault c.version low high)) (sym chosen) ∙ sym (fault_in_parts place settled earlier (Ask change_id low high))

@@ -3,3 +3,5 @@ pub mod AtCut
 pub mod Judged
 pub mod Reducing
 pub mod Counts
+pub mod Asking
+pub mod Outside

@@ -1,9 +1,9 @@
 -- The commands that an activation has issued, and what is sent of them.
-use Rattle.std.specs.Prelude.{ℕ, Bool, true, false, not, ◌&&◌, List, [], ◌∷◌, ◌++◌, take, Option, Some, None, Result, Ok, Err, if◌then◌else◌, ℤ}
+use Rattle.std.specs.Prelude.{ℕ, Bool, true, false, not, ◌&&◌, List, [], ◌∷◌, ◌++◌, take, Option, if◌then◌else◌, ℤ}
 use Rattle.wh_events.specs.declared.event.Event.{Event}
 use Rattle.wh_machines.specs.Lookups.{events_between}
 use Rattle.wh_workflow.specs.declared.command.Command.{Command}
-use Rattle.wh_workflow.specs.declared.command.Command.TheVariants.{Ask, Marker}
+use Rattle.wh_workflow.specs.declared.command.Command.TheVariants.{Ask}
 use Rattle.wh_workflow.specs.Scripts.{Place, Settled, Choice, Act, act_of, act_cancels, some_act, left_open, is_late, choice_by, lookup_version}
 use Rattle.wh_workflow.specs.Scripts.Act.{Opening, Cancelling, Asking}
 use Rattle.wh_workflow.specs.Activations.{marker_if}
@@ -41,16 +41,6 @@ late_marks place issued = late_after place [] issued
 -- with one more command
 abbrev pub with_issued : Issuing → Command → Bool → Issuing
 with_issued script command late = record { previous = script.previous; cut = script.cut; issued = script.issued ++ command ∷ []; late = script.late ++ late ∷ [] }
-
--- the marker of a version, where one is issued
-abbrev pub marker_at : Bool → List ℕ → ℤ → Option Command
-marker_at true change_id version = Some (Marker change_id version)
-marker_at false change_id version = None
-
--- the command, if there is one
-abbrev pub commands_of : Option Command → List Command
-commands_of None = []
-commands_of (Some command) = command ∷ []
 
 -- where a marker is issued, that it is no late cancel
 abbrev pub unmarked_if : Bool → List Bool

@@ -1,9 +1,10 @@
 -- How a thing stands at a cut, and what the code's word for the deed of a command stands for.
-use Rattle.std.specs.Prelude.{ℕ, true, false, List, Option, Some, None}
+use Rattle.std.specs.Prelude.{ℕ, Bool, true, false, List, Option, Some, None}
 use Rattle.wh_events.specs.declared.event.Event.{Event}
 use Rattle.wh_events.specs.declared.place.Status.{Status}
 use Rattle.wh_events.specs.declared.place.Status.TheVariants.{Open, Started, Cancelling as CancellingStatus, Closed}
 use Rattle.wh_events.specs.declared.place.Thing.{Thing}
+use Rattle.wh_events.specs.Cuts.{is_outside}
 use Rattle.wh_events.specs.Machines.{open_named, last_named}
 use Rattle.wh_machines.specs.Lookups.{thing_of}
 use Rattle.wh_workflow.specs.Scripts.{Place, Act, open_at, cancels_open, closer_of, has_outside}
@@ -39,3 +40,8 @@ standing_by between Started = record { is_open = true; is_cancelling = false; is
 abbrev pub standing_in : List Event → Option (ℕ × Status) → Standing
 standing_in between None = record { is_open = false; is_cancelling = false; is_ended = false }
 standing_in between (Some last) = standing_by between last.1
+
+-- there is an event, and the workflow did not cause it itself
+abbrev pub is_outside_in : Option Event → Bool
+is_outside_in None = false
+is_outside_in (Some event) = is_outside event

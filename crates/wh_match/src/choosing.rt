@@ -6,6 +6,14 @@ ghost use Rattle.wh_match.specs.Issuing.{choice_in};
 use crate::versions::Versions;
 use wh_events::{Event, EventKind};
 
+/// What an ask asks: for a version of a change in a range.
+#[derive(Clone, Copy)]
+pub(crate) struct Question<'a> {
+    pub(crate) change_id: &'a str,
+    pub(crate) min: i32,
+    pub(crate) max: i32,
+}
+
 /// The version of an ask, and whether a marker is issued for it.
 #[derive(Clone, Copy)]
 pub(crate) struct Chosen {
@@ -31,15 +39,10 @@ fn first_marker(change_id: &str, events: &[Event]) -> Option<i32>
 }
 
 /// Chooses the version of an ask.
-pub(crate) fn choose(
-    recorded: Option<&[Event]>,
-    versions: &Versions,
-    change_id: &str,
-    high: i32,
-) -> Chosen
-    ensures { choice_in (option_map (λ events. commanded events.now) recorded.entry) versions.now change_id.now high ≡ record { version = result.version; marked = result.marked } }
+pub(crate) fn choose(recorded: Option<&[Event]>, versions: &Versions, question: Question) -> Chosen
+    ensures { choice_in (option_map (λ events. commanded events.now) recorded.entry) versions.now question.entry.change_id.now question.entry.max ≡ record { version = result.version; marked = result.marked } }
 {
-    if let Some(version) = versions.get(change_id) {
+    if let Some(version) = versions.get(question.change_id) {
         return Chosen {
             version,
             marked: false,
@@ -47,11 +50,11 @@ pub(crate) fn choose(
     }
     let Some(events) = recorded else {
         return Chosen {
-            version: high,
+            version: question.max,
             marked: true,
         };
     };
-    match first_marker(change_id, events) {
+    match first_marker(question.change_id, events) {
         Some(version) => Chosen {
             version,
             marked: true,

@@ -15,3 +15,6 @@ pub use fault::ScriptFault;
 pub use matching::matches;
 pub use script::Script;
 pub use versions::Versions;
+
+#[cfg(test)]
+mod tests;

@@ -1,22 +1,27 @@
-ghost use Rattle.std.specs.Prelude.{◌≡◌, ◌+◌, ◌<◌, ◌≤◌, ◌++◌, ◌∷◌, [], List, Option, None, false, length, vec_len, IfOk, OnOk, OnErr};
+ghost use Rattle.std.specs.Prelude.{◌≡◌, ◌+◌, ◌<◌, ◌≤◌, ◌++◌, ◌∷◌, [], List, Option, None, false, length, vec_len, IfOk, OnOk, OnErr, option_map};
+ghost use Rattle.wh_workflow.specs.Activations.{marker_if};
+ghost use Rattle.wh_events.specs.Cuts.{commanded};
+ghost use Rattle.wh_workflow.specs.declared.command.Command.{Command};
 ghost use Rattle.wh_events.specs.Machines.{or_else};
 ghost use Rattle.wh_events.specs.declared.event.Event.{Event};
 ghost use Rattle.std.specs.Vec.{vec_capacity};
 ghost use Rattle.wh_machines.specs.Lookups.{thing_of};
 ghost use Rattle.wh_workflow.specs.Law.{is_ask, is_marker};
-ghost use Rattle.wh_workflow.specs.Scripts.{Settled, act_of, act_fault, command_fault};
+ghost use Rattle.wh_workflow.specs.Scripts.{Settled, act_of, act_fault, command_fault, with_version};
 ghost use Rattle.wh_match.specs.Faults.{early_fault, range_fault, workflow_fault};
-ghost use Rattle.wh_match.specs.Issuing.{place_in, is_late_act, with_issued, reduced_by};
+ghost use Rattle.wh_match.specs.Issuing.{place_in, is_late_act, with_issued, with_asked, choice_in, unmarked_if, reduced_by};
 ghost use Rattle.wh_match.specs.Standings.{standing_of};
 
+use crate::choosing::{Chosen, Question, choose};
 use crate::deed::{Deed, closes, read_deed};
 use crate::fault::ScriptFault;
 use crate::judging::{cancel_fault, is_late, opening_fault};
 use crate::sending::reduce;
 use crate::standing::{Standing, standing_at};
+use crate::versions::Versions;
 use std::alloc::Global;
 use std::marker::Model;
-use wh_events::{EventNo, OpenKind, OutOfMemory};
+use wh_events::{Event, EventNo, OpenKind, OutOfMemory, Text};
 use wh_machines::Track;
 use wh_workflow::{Command, WorkflowFault};
 
@@ -91,11 +96,64 @@ impl Script {
         Ok(())
     }
 
+    /// Asks for the version of a change between `min` and `max`, where `recorded` is what stands in the history between the completion of the cut and the next completed task or the end, or `None` for a live cut. The first rule that applies decides: the version that is settled; that of the first marker of the change in the record, for which a marker is issued; -1 where the cut is recorded; and else `max`, for which a marker is issued. The version is settled from then on, and the ask counts as a command. (Temporal documentation, patching and `GetVersion`: <https://docs.temporal.io/patching>.)
+    ///
+    /// `Workflow` where the ask can't stand, with the least fault that it has; this comes before `OutOfMemory`. After either the script and the versions are as they were.
+    pub fn ask(
+        &mut self,
+        recorded: Option<&[Event]>,
+        versions: &mut Versions,
+        change_id: &str,
+        min: i32,
+        max: i32,
+    ) -> Result<i32, ScriptFault>
+        ensures fault { (seen between : List Event) → workflow_fault result ≡ command_fault (record { seen = seen; between = between; recorded = option_map (λ events. commanded events.now) recorded.entry }) versions.old self.old.issued (Command.Ask change_id.now min max) }
+        ensures version { IfOk result (λ version. version ≡ (choice_in (option_map (λ events. commanded events.now) recorded.entry) versions.old change_id.now max).version) }
+        ensures asked { OnOk result (self.new ≡ with_asked self.old change_id.now min max (choice_in (option_map (λ events. commanded events.now) recorded.entry) versions.old change_id.now max)) }
+        ensures settled { OnOk result (versions.new ≡ with_version versions.old change_id.now (choice_in (option_map (λ events. commanded events.now) recorded.entry) versions.old change_id.now max).version) }
+        ensures kept { OnErr result (self.new ≡ self.old) }
+        ensures unsettled { OnErr result (versions.new ≡ versions.old) }
+    {
+        let question = Question {
+            change_id,
+            min,
+            max,
+        };
+        self.answer(recorded, versions, question)
+    }
+
     /// What is sent of the commands so far, in their order: all but the asks, the openings that a later command cancels together with the next cancel of each, and the late cancels, which came after an outside event of this activation had closed what they cancel. `OutOfMemory` where the allocator refused a growth; the commands are dropped.
     pub fn reduced(self) -> Result<Vec<Command>, OutOfMemory>
         ensures { IfOk result (λ sent. sent.items ≡ reduced_by self.late self.issued) }
     {
         reduce(self.alloc, self.late.as_slice(), self.issued.as_slice())
+    }
+
+    /// Answers a question by a version.
+    fn answer(
+        &mut self,
+        recorded: Option<&[Event]>,
+        versions: &mut Versions,
+        question: Question,
+    ) -> Result<i32, ScriptFault>
+        ensures fault { (seen between : List Event) → workflow_fault result ≡ command_fault (record { seen = seen; between = between; recorded = option_map (λ events. commanded events.now) recorded.entry }) versions.old self.old.issued (Command.Ask question.entry.change_id.now question.entry.min question.entry.max) }
+        ensures version { IfOk result (λ version. version ≡ (choice_in (option_map (λ events. commanded events.now) recorded.entry) versions.old question.entry.change_id.now question.entry.max).version) }
+        ensures asked { OnOk result (self.new ≡ with_asked self.old question.entry.change_id.now question.entry.min question.entry.max (choice_in (option_map (λ events. commanded events.now) recorded.entry) versions.old question.entry.change_id.now question.entry.max)) }
+        ensures settled { OnOk result (versions.new ≡ with_version versions.old question.entry.change_id.now (choice_in (option_map (λ events. commanded events.now) recorded.entry) versions.old question.entry.change_id.now question.entry.max).version) }
+        ensures kept { OnErr result (self.new ≡ self.old) }
+        ensures unsettled { OnErr result (versions.new ≡ versions.old) }
+    {
+        let chosen = choose(recorded, versions, question);
+        if let Some(fault) = self.ask_fault(chosen, question) {
+            return Err(ScriptFault::Workflow(fault));
+        }
+        self.issued.reserve(2)?;
+        self.late.reserve(2)?;
+        let asked = settle_asked(self.alloc, versions, question, chosen)?;
+        self.count += 1;
+        append_reserved(&mut self.issued, asked);
+        push_marks(&mut self.late, chosen.marked);
+        Ok(chosen.version)
     }
 
     /// Why no command can follow those so far.
@@ -112,12 +170,12 @@ impl Script {
     }
 
     /// The least fault of an ask that gets this version.
-    fn ask_fault(&self, version: i32, min: i32, max: i32) -> Option<WorkflowFault>
-        ensures { result ≡ or_else (early_fault self.now.issued) (range_fault version min max) }
+    fn ask_fault(&self, chosen: Chosen, question: Question) -> Option<WorkflowFault>
+        ensures { result ≡ or_else (early_fault self.now.issued) (range_fault chosen.version question.entry.min question.entry.max) }
     {
         match self.early_fault() {
             Some(fault) => Some(fault),
-            None => range_fault(version, min, max),
+            None => range_fault(chosen, question),
         }
     }
 
@@ -184,15 +242,79 @@ impl Script {
 }
 
 /// Why this version of a change can't be asked for.
-fn range_fault(version: i32, min: i32, max: i32) -> Option<WorkflowFault>
-    ensures { result ≡ range_fault version min max }
+fn range_fault(chosen: Chosen, question: Question) -> Option<WorkflowFault>
+    ensures { result ≡ range_fault chosen.version question.entry.min question.entry.max }
 {
+    let Question { min, max, .. } = question;
     if max < min || min < -1 || max < 0 {
         Some(WorkflowFault::BadRange)
-    } else if version < min || max < version {
+    } else if chosen.version < min || max < chosen.version {
         Some(WorkflowFault::VersionOutOfRange)
     } else {
         None
+    }
+}
+
+/// An ask, and the marker of its version, where one is issued.
+fn asked_commands(
+    alloc: Global,
+    question: Question,
+    chosen: Chosen,
+) -> Result<Vec<Command>, OutOfMemory>
+    ensures items { IfOk result (λ asked. asked.items ≡ Command.Ask question.entry.change_id.now question.entry.min question.entry.max ∷ marker_if chosen.marked question.entry.change_id.now chosen.version) }
+    ensures few { IfOk result (λ asked. vec_len asked ≤ 2) }
+{
+    let mut asked = Vec::new(alloc);
+    asked.push(Command::Ask {
+        change_id: Text::new(String::from_str(alloc, question.change_id)?),
+        min: question.min,
+        max: question.max,
+    })?;
+    if chosen.marked {
+        asked.push(Command::Marker {
+            change_id: Text::new(String::from_str(alloc, question.change_id)?),
+            version: chosen.version,
+        })?;
+    }
+    Ok(asked)
+}
+
+/// Settles the version of an ask, and makes the commands that it issues.
+fn settle_asked(
+    alloc: Global,
+    versions: &mut Versions,
+    question: Question,
+    chosen: Chosen,
+) -> Result<Vec<Command>, OutOfMemory>
+    ensures items { IfOk result (λ asked. asked.items ≡ Command.Ask question.entry.change_id.now question.entry.min question.entry.max ∷ marker_if chosen.marked question.entry.change_id.now chosen.version) }
+    ensures few { IfOk result (λ asked. vec_len asked ≤ 2) }
+    ensures settled { OnOk result (versions.new ≡ with_version versions.old question.entry.change_id.now chosen.version) }
+    ensures unsettled { OnErr result (versions.new ≡ versions.old) }
+{
+    let asked = asked_commands(alloc, question, chosen)?;
+    versions.settle(question.change_id, chosen.version)?;
+    Ok(asked)
+}
+
+/// Marks an ask, and its marker where one is issued: neither is a late cancel. There is room for both.
+fn push_marks(late: &mut Vec<bool>, marked: bool)
+    requires { vec_len late.old + 2 ≤ vec_capacity late.old }
+    ensures { late.new.items ≡ (late.old.items ++ false ∷ []) ++ unmarked_if marked }
+{
+    push_reserved(late, false);
+    if marked {
+        push_reserved(late, false);
+    }
+}
+
+/// Adds commands for which there is room.
+fn append_reserved(items: &mut Vec<Command>, mut more: Vec<Command>)
+    requires { vec_len items.old + vec_len more ≤ vec_capacity items.old }
+    ensures { items.new.items ≡ items.old.items ++ more.items }
+{
+    match items.append(&mut more) {
+        Ok(()) => {}
+        Err(_) => unreachable!(),
     }
 }
 

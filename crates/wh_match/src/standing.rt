@@ -1,8 +1,9 @@
-ghost use Rattle.std.specs.Prelude.{◌≡◌, ◌<◌, ◌≤◌, length, Some, None};
-ghost use Rattle.wh_machines.specs.Lookups.{thing_of};
+ghost use Rattle.std.specs.Prelude.{◌≡◌, ◌<◌, ◌≤◌, ◌-◌, [], length, Some, None, slice_get};
+ghost use Rattle.wh_events.specs.Places.{fault_after};
+ghost use Rattle.wh_machines.specs.Lookups.{thing_of, events_between};
 ghost use Rattle.wh_workflow.specs.Scripts.{has_outside};
 ghost use Rattle.wh_match.specs.Issuing.{place_at};
-ghost use Rattle.wh_match.specs.Standings.{standing_of, standing_by};
+ghost use Rattle.wh_match.specs.Standings.{standing_of, standing_by, is_outside_in};
 
 use wh_events::{Class, Event, EventNo, OpenKind, Status};
 use wh_machines::Track;
@@ -18,27 +19,44 @@ pub(crate) struct Standing {
     pub(crate) is_ended: bool,
 }
 
-/// Whether an outside event with the number is among the events.
-fn has_outside(number: EventNo, events: &[Event]) -> bool
-    ensures { result ≡ has_outside (Some number) events.now }
+/// Whether the event of the number is an outside one.
+fn is_outside_at(events: &[Event], number: u64) -> bool
+    ensures { result ≡ is_outside_in (slice_get events.now (number - 1)) }
 {
-    for event in events {
-        if matches!(event.class(), Class::Outside) && event.number.get() == number.get() {
-            return true;
-        }
+    match events.get(number.saturating_sub(1) as usize) {
+        Some(event) => matches!(event.class(), Class::Outside),
+        None => false,
     }
-    false
 }
 
-/// How things stand at a cut whose last one has the status there, where these events stand since the cut before.
-fn standing_by(between: &[Event], status: Status) -> Standing
-    ensures { result ≡ standing_by between.now status }
+/// Whether an outside event of the number stands strictly between two others, where the events are in place.
+fn is_outside_between(events: &[Event], previous: u64, cut: u64, number: u64) -> bool
+    requires placed { fault_after [] events.now ≡ None }
+    requires rising { previous < cut }
+    requires within { cut ≤ length events.now }
+    ensures { result ≡ has_outside (Some number) (events_between events.now previous cut) }
+{
+    if number <= previous {
+        false
+    } else if cut <= number {
+        false
+    } else {
+        is_outside_at(events, number)
+    }
+}
+
+/// How things stand at a cut whose last one has the status there.
+fn standing_by(events: &[Event], previous: u64, cut: u64, status: Status) -> Standing
+    requires placed { fault_after [] events.now ≡ None }
+    requires rising { previous < cut }
+    requires within { cut ≤ length events.now }
+    ensures { result ≡ standing_by (events_between events.now previous cut) status }
 {
     match status {
         Status::Closed { by } => Standing {
             is_open: false,
             is_cancelling: false,
-            is_ended: has_outside(by, between),
+            is_ended: is_outside_between(events, previous, cut, by.get()),
         },
         Status::Open | Status::Started | Status::Cancelling => Standing {
             is_open: true,
@@ -60,7 +78,7 @@ pub(crate) fn standing_at(
     requires within { cut ≤ length track.now }
     ensures { result ≡ standing_of (place_at track.now previous cut None) (thing_of kind) id.now }
 {
-    let _events = track.events();
+    let events = track.events();
     let place = cut.get();
     let Some((_, status)) = track.last_at(kind, id, place) else {
         return Standing {
@@ -69,5 +87,5 @@ pub(crate) fn standing_at(
             is_ended: false,
         };
     };
-    standing_by(track.between(previous, place), status)
+    standing_by(events, previous, place, status)
 }

@@ -1,4 +1,4 @@
-use Rattle.std.proofs.Common.{◌≡◌, ◌++◌, ◌∷◌, [], sym, ap, ◌∙◌}
+use Rattle.std.proofs.Common.{◌≡◌, ◌++◌, ◌∷◌, [], ap, ◌∙◌}
 use Rattle.wh_match.specs.Issuing.{reduced_by}
 use Rattle.wh_match.proofs.Reducing.{step_sent, step_dropped}
 use Rattle.wh_match.proofs.sending.reduce.Goals as goal

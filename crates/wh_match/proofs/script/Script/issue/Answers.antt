@@ -1,4 +1,4 @@
-use Rattle.std.proofs.Common.{◌≡◌, ◌+◌, ◌<◌, ◌++◌, ◌∷◌, [], None, length, sym, ap, ◌∙◌, arith}
+use Rattle.std.proofs.Common.{◌≡◌, ◌<◌, ◌++◌, ◌∷◌, [], None, length, sym, ap, ◌∙◌, arith}
 use Rattle.wh_workflow.specs.Scripts.{given}
 use Rattle.wh_match.specs.Faults.{early_fault}
 use Rattle.wh_match.specs.Issuing.{Issuing, place_in}
