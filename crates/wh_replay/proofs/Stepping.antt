@@ -95,7 +95,7 @@ pub record IsNext (events : List Event) (last number : ℕ) : Type 0 where
   pub counts : cuts (drop last events) ≡ number ∷ cuts (drop number events)
   pub lives : ends_live (drop last events) ≡ cond (is_recorded (drop number events)) (ends_live (drop number events)) true
 
-slice_get-seam : {A : Type 0} (xs : List A) (y : A) (ys : List A) → slice_get (xs ++ y ∷ ys) (length xs) ≡ Some y
+pub slice_get-seam : {A : Type 0} (xs : List A) (y : A) (ys : List A) → slice_get (xs ++ y ∷ ys) (length xs) ≡ Some y
 slice_get-seam [] y ys = refl
 slice_get-seam (x ∷ xs) y ys = slice_get-seam xs y ys
 

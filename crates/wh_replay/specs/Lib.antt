@@ -3,7 +3,6 @@ pub mod Activating
 pub mod Replays
 pub mod Runs
 pub mod Tracking
-pub mod Looking
 pub mod Checks
 pub mod Advances
 pub mod Laws

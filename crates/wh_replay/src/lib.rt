@@ -9,14 +9,11 @@ mod cuts;
 mod fault;
 mod history;
 pub mod laws;
-mod looking;
 mod pushing;
 mod run;
-mod scripts;
-mod versions;
 
 pub use checking::check;
 pub use fault::{Checked, Fault, RunFault};
 pub use history::{MOST_EVENTS, ReplayedHistory};
 pub use run::{AdvanceFault, Answer, Run};
-pub use versions::Versions;
+pub use wh_match::Versions;
