@@ -18,8 +18,9 @@ use Rattle.wh_replay.proofs.Raising.{top}
 use Rattle.wh_replay.specs.declared.fault.RunFault.{RunFault}
 use Rattle.wh_replay.specs.declared.fault.RunFault.TheVariants.{Fault as Faulty, OutOfMemory}
 use Rattle.wh_replay.specs.Checks.{Answers}
+use Rattle.wh_replay.specs.Tracking.{joined}
 use Rattle.wh_replay.specs.Advances.{GivesHistory}
-use Rattle.wh_replay.proofs.Resuming.{run_replay, replay_parts, replayed_gives, replayed_fault, advanced_gives, advanced_counts, advanced_fault}
+use Rattle.wh_replay.proofs.Resuming.{run_replay, replay_parts, replayed_gives, replayed_fault, misplaced, advanced_gives, advanced_counts, advanced_fault}
 use Rattle.wh_events.proofs.Standing.{no_fault_where_in_place}
 use Rattle.wh_workflow.specs.Counting.{risen}
 
@@ -142,3 +143,10 @@ module _ {S : Type 0} where
       run_fault program (before ++ new) fault (ends_joined before new h.ends)
       (advanced_fault program lawful before new meter state settled unsent fault h.run h.below (parted program before new joined held meter state settled unsent h ∙ (is ∙ answers)))
   longer_err program lawful before new joined held meter state settled unsent OutOfMemory defined seen h is answers = ends_joined before new h.ends
+
+  -- the fault of new events that are not in place is that of the joined history
+  pub refused_err : {A : Type 0} (program : Program S) (before new : List Event) (state : S) (settled : Settled) (unsent : List Command) (fault : RunFault) (seen : A → List Event) → IsRun program before state settled unsent → ends_in_task new ≡ true
+      → Answers (Err fault) (joined before new) seen → GivesHistory program (before ++ new) (Err fault)
+  refused_err program before new state settled unsent (Faulty fault) seen run ends answers =
+      run_fault program (before ++ new) fault (ends_joined before new ends) (misplaced program before new state settled unsent fault run answers)
+  refused_err program before new state settled unsent OutOfMemory seen run ends answers = ends_joined before new ends

@@ -1,4 +1,5 @@
 ghost use Rattle.std.specs.Prelude.{◌≡◌, ◌++◌, ◌≤◌, length, true, OnOk, IsOkAnd};
+ghost use Rattle.wh_events.specs.Machines.{status_at};
 ghost use Rattle.wh_workflow.specs.Counting.{risen};
 ghost use Rattle.wh_workflow.specs.Scripts.{lookup_version};
 ghost use Rattle.wh_replay.specs.Replays.{ends_in_task};
@@ -8,9 +9,11 @@ ghost use Rattle.wh_replay.specs.Advances.{GivesHistory};
 use crate::checking::{Outcome, replay};
 use crate::continuing::{advance, ends_in_task};
 use crate::fault::{Fault, RunFault};
+use crate::pushing::push_all;
 use std::alloc::Global;
 use std::marker::Model;
-use wh_events::Event;
+use wh_events::{Event, EventNo, Status};
+use wh_machines::Track;
 use wh_workflow::{Command, Meter, Workflow};
 
 /// The most events that a history may have: Temporal ends a run whose history grows beyond them.
@@ -20,7 +23,7 @@ pub const MOST_EVENTS: usize = 51_200;
 /// events.
 #[derive(Drop)]
 pub struct ReplayedHistory<W: Workflow> {
-    events: Vec<Event>,
+    track: Track,
     outcome: Outcome<W::State>,
 }
 
@@ -31,9 +34,9 @@ impl<W: Workflow> Model for ReplayedHistory<W> {
 
     ghost Value = { List Event };
 
-    ghost view = { λ history. history.events.items };
+    ghost view = { λ history. history.track };
 
-    ghost invariant = { λ history. IsRun W.program history.events.items history.outcome.state history.outcome.versions history.outcome.unsent.items };
+    ghost invariant = { λ history. IsRun W.program history.track history.outcome.state history.outcome.versions history.outcome.unsent.items };
 }
 
 impl<W: Workflow> ReplayedHistory<W> {
@@ -52,15 +55,15 @@ impl<W: Workflow> ReplayedHistory<W> {
         }
         // Its contract is how proofs learn that the meter fits 64 bits.
         let _before = meter.count();
-        let outcome = replay::<W>(alloc, events.as_slice(), meter)?;
-        Ok(ReplayedHistory { events, outcome })
+        let (track, outcome) = replay::<W>(alloc, events, meter)?;
+        Ok(ReplayedHistory { track, outcome })
     }
 
     /// Goes on with events that end in a started task.
     pub(crate) fn advance(
         self,
         alloc: Global,
-        mut events: Vec<Event>,
+        events: Vec<Event>,
         meter: &mut Meter,
     ) -> Result<Self, RunFault>
         requires ends { ends_in_task events.items ≡ true }
@@ -68,19 +71,13 @@ impl<W: Workflow> ReplayedHistory<W> {
         ensures meter { OnOk result (meter.new ≡ risen meter.old (advance_steps W.program self events.items)) }
         ensures never_lowered { meter.old ≤ meter.new }
     {
-        let ReplayedHistory {
-            events: mut history,
-            outcome,
-        } = self;
-        let held = history.len();
-        history.append(&mut events)?;
+        let ReplayedHistory { mut track, outcome } = self;
+        let held = track.len();
+        push_all(&mut track, events)?;
         // Its contract is how proofs learn that the meter fits 64 bits.
         let _before = meter.count();
-        let outcome = advance::<W>(alloc, history.as_slice(), held, outcome, meter)?;
-        Ok(ReplayedHistory {
-            events: history,
-            outcome,
-        })
+        let outcome = advance::<W>(alloc, &track, held, outcome, meter)?;
+        Ok(ReplayedHistory { track, outcome })
     }
 
     /// The number of events. Its contract says what holds of every replayed history.
@@ -89,14 +86,21 @@ impl<W: Workflow> ReplayedHistory<W> {
         ensures most { result ≤ MOST_EVENTS }
         ensures replayed { IsReplayed W.program self.now }
     {
-        self.events.len()
+        self.track.len()
     }
 
     /// The events.
     pub(crate) fn events(&self) -> &[Event]
         ensures { result.now ≡ self.now }
     {
-        self.events.as_slice()
+        self.track.events()
+    }
+
+    /// Where the thing stands that the event of a number opened, if it opened one.
+    pub(crate) fn status(&self, number: EventNo) -> Option<Status>
+        ensures { result ≡ status_at self.now number }
+    {
+        self.track.status(number)
     }
 
     /// The state of the workflow.

@@ -8,7 +8,6 @@ ghost use Rattle.wh_workflow.specs.Counting.{risen};
 use crate::continuing::{ends_in_task, follows};
 use crate::fault::{Fault, RunFault};
 use crate::history::{MOST_EVENTS, ReplayedHistory};
-use crate::machines::status_at;
 use std::alloc::Global;
 use std::marker::Model;
 use wh_events::{Event, EventNo, Items, OutOfMemory, RunKey, Status};
@@ -167,7 +166,7 @@ impl<W: Workflow> Run<W> {
     pub fn status(&self, number: EventNo) -> Option<Status>
         ensures { result ≡ status_at self.now.events number }
     {
-        status_at(self.history.events(), number.get())
+        self.history.status(number)
     }
 
     /// The state of the workflow.

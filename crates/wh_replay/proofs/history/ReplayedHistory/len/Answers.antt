@@ -5,11 +5,11 @@ use Rattle.wh_replay.proofs.history.ReplayedHistory.len.Goals as goal
 pub returns-clause-most : goal.returns-clause-most
 returns-clause-most g c =
     let inside = c.self.inside in
-    let most = (is_replayed g.W.Workflow.program inside.events.items inside.outcome.state inside.outcome.versions inside.outcome.unsent.items c.self.invariant).most in
-    let is : c.len.result ≡ length inside.events.items = search rules in
+    let most = (is_replayed g.W.Workflow.program inside.track inside.outcome.state inside.outcome.versions inside.outcome.unsent.items c.self.invariant).most in
+    let is : c.len.result ≡ length inside.track = search rules in
     omega (arith, most, is)
 
 pub returns-clause-replayed : goal.returns-clause-replayed
 returns-clause-replayed g c =
     let inside = c.self.inside in
-    rw (← c.self.view_is) (is_replayed g.W.Workflow.program inside.events.items inside.outcome.state inside.outcome.versions inside.outcome.unsent.items c.self.invariant)
+    rw (← c.self.view_is) (is_replayed g.W.Workflow.program inside.track inside.outcome.state inside.outcome.versions inside.outcome.unsent.items c.self.invariant)

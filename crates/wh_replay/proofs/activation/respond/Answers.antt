@@ -1,0 +1,44 @@
+use Rattle.std.proofs.Common.{◌≡◌, ◌++◌, ◌∷◌, ◌∙◌, [], sym, ap}
+use Rattle.std.specs.Prelude.{option_to_list}
+use Rattle.std.proofs.lemmas.Result.{err_from_is_err_and}
+use Rattle.wh_workflow.specs.Law.{asks_last, records_none}
+use Rattle.wh_workflow.specs.Activations.{and_then, issue_all, respond}
+use Rattle.wh_replay.specs.Views.{place_of, script}
+use Rattle.wh_replay.proofs.Settling.{gives_err}
+use Rattle.wh_replay.proofs.Responding.{plain_front, respond-push, gives_along}
+use Rattle.wh_replay.proofs.activation.respond.Goals as goal
+
+pub issue_all-requires-clause-plain : goal.issue_all-requires-clause-plain
+issue_all-requires-clause-plain c =
+    let front = c.pop.new.self.items in
+    let parted : c.args.given.items ≡ front ++ c.in-Some.last ∷ [] = c.pop.ensures.items ∙ ap (λ o. front ++ option_to_list o) c.in-Some.is in
+    (plain_front front c.in-Some.last (ap asks_last (sym parted) ∙ c.requires.answer.asks) (ap records_none (sym parted) ∙ c.requires.answer.records)).0
+
+pub issue_last-requires-clause-not_marker : goal.issue_last-requires-clause-not_marker
+issue_last-requires-clause-not_marker c =
+    let front = c.pop.new.self.items in
+    let parted : c.args.given.items ≡ front ++ c.in-Some.last ∷ [] = c.pop.ensures.items ∙ ap (λ o. front ++ option_to_list o) c.in-Some.is in
+    (plain_front front c.in-Some.last (ap asks_last (sym parted) ∙ c.requires.answer.asks) (ap records_none (sym parted) ∙ c.requires.answer.records)).1
+
+pub returns-in_err-issue_all-clause-issued : goal.returns-in_err-issue_all-clause-issued
+returns-in_err-issue_all-clause-issued c =
+    let place = place_of c.args.cut.now in
+    let s = script c.args.versions.now c.args.script.now.issued in
+    let front = c.pop.new.self.items in
+    let last = c.in-Some.last in
+    let parted : c.args.given.items ≡ front ++ last ∷ [] = c.pop.ensures.items ∙ ap (λ o. front ++ option_to_list o) c.in-Some.is in
+    let p = err_from_is_err_and c.from_residual.result c.from_residual.ensures.1 in
+    rw (p.1, p.2) (gives_err c.in_err-issue_all.field-0.0 (issue_all place s front) (respond place s c.args.given.items) _ _
+    (λ fault e. ap (respond place s) parted ∙ (respond-push place s front last ∙ ap (λ r. and_then r (λ next. respond place next (last ∷ []))) e))
+    (c.in_err-issue_all.ensures.issued c.args.versions.now))
+
+pub returns-clause-issued : goal.returns-clause-issued
+returns-clause-issued c =
+    let place = place_of c.args.cut.now in
+    let s = script c.args.versions.now c.args.script.now.issued in
+    let front = c.pop.new.self.items in
+    let last = c.in-Some.last in
+    let parted : c.args.given.items ≡ front ++ last ∷ [] = c.pop.ensures.items ∙ ap (λ o. front ++ option_to_list o) c.in-Some.is in
+    gives_along c.issue_last.result _ (respond place s c.args.given.items) _
+    (ap (respond place s) parted ∙ (respond-push place s front last ∙ ap (λ r. and_then r (λ next. respond place next (last ∷ []))) (c.in_ok-issue_all.ensures.issued c.args.versions.now)))
+    c.issue_last.ensures.issued
