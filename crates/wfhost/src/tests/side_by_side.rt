@@ -170,13 +170,13 @@ fn day_of_two<
     (cached_events, close(rt, host, seats))
 }
 
-/// The first task of one run waits until that of the other has entered: two tasks are in hand and replayed at once.
+/// The first task of each run waits until that of the other has entered: two tasks are in hand and replayed at once.
 #[test]
 fn workers_overlap(rt: HostRuntime) -> Result<(), Fail> {
     let alloc = rt.alloc();
     let first = script(alloc, 0, "one => nap")?;
     let second = script(alloc, 1, "two => nap")?;
-    let gate = Order::new(alloc, [(3, FILE + 3), (3, FILE + 3)]);
+    let gate = Order::new(alloc, [(3, FILE + 3), (FILE + 3, 3)]);
     let (_cached, totals) = day_of_two::<HostRuntime, Brand, Brand, Brand>(
         &rt,
         alloc,
