@@ -2,7 +2,7 @@
 use Rattle.std.proofs.Common.{◌≡◌, ℕ, suc, ◌-◌, ◌≤◌, Bool, true, false, List, [], ◌∷◌, ◌++◌, length, take, drop, slice_get, Option, Some, None, Result, Ok, Err, cond, refl, sym, ap, ◌∙◌, subst}
 use Rattle.std.proofs.Math.Numerals.{sub-one}
 use Rattle.std.proofs.Math.Seq.{take-append_seam, drop-append_seam}
-use Rattle.std.specs.Result.{is_ok, is_err, IsOk, IsOkAnd}
+use Rattle.std.specs.Result.{is_ok, IsOk, IsOkAnd}
 use Rattle.wh_events.specs.declared.event.Event.{Event}
 use Rattle.wh_events.specs.declared.kind.EventKind.{EventKind}
 use Rattle.wh_events.specs.declared.kind.EventKind.TheVariants.{WorkflowTaskStarted}
@@ -46,10 +46,6 @@ ends_joined [] new e = e
 ends_joined (event ∷ []) [] e = cc
 ends_joined (event ∷ []) (next ∷ rest) e = e
 ends_joined (event ∷ next ∷ rest) new e = ends_joined (next ∷ rest) new e
-
-pub appended : {T E A : Type 0} (result : Result T E) (failed : Bool) (joined before : List A) → failed ≡ is_err result → failed ≡ false → cond (is_ok result) joined before ≡ joined
-appended (Ok x) failed joined before e h = refl
-appended (Err x) failed joined before e h = cc
 
 pub front_is : {A : Type 0} (xs ys whole : List A) (n : ℕ) → whole ≡ xs ++ ys → n ≡ length xs → take n whole ≡ xs
 front_is xs ys whole n e h = rw (e, h) (take-append_seam xs ys)

@@ -182,15 +182,6 @@ lives_next events last number live n is =
     by true e = rw e refl
     by false e = rw e refl
 
--- a test with its value, and one without
-pub some_if : {A : Type 0} (test : Bool) (x y : A) → Path (Option A) (Some x) (cond test (Some y) None) → (test ≡ true) × (x ≡ y)
-some_if true x y e = (refl, cc)
-some_if false x y e = cc
-
-pub none_if : {A : Type 0} (test : Bool) (y : A) → Path (Option A) None (cond test (Some y) None) → test ≡ false
-none_if true y e = cc
-none_if false y e = refl
-
 module _ {S : Type 0} (program : Program S) where
   pass : (before between front : List Event) (cut : Event) (more : List Event) (current : Replayed S) → Passed front (cut ∷ more)
       → replay_after program before between (front ++ cut ∷ more) current ≡ replay_after program (before ++ front) (between ++ front) (cut ∷ more) current
