@@ -1,5 +1,5 @@
 -- The count of the runs that stay is that of the longest beginning that fits.
-use Rattle.std.proofs.Common.{◌≡◌, ◌≢◌, ℕ, zero, suc, ◌+◌, ◌-◌, ◌*◌, ◌<◌, ◌≤◌, ◌==◌, ◌||◌, true, false, cond, List, [], ◌∷◌, ◌++◌, length, take, reverse, refl, sym, ap, ◌∙◌, subst, arith, add-one, length-append}
+use Rattle.std.proofs.Common.{◌≡◌, ◌≢◌, ℕ, zero, suc, ◌+◌, ◌-◌, ◌*◌, ◌<◌, ◌≤◌, ◌==◌, ◌||◌, true, false, cond, List, [], ◌∷◌, ◌++◌, length, take, reverse, refl, sym, ap, ◌∙◌, subst, arith, add-one, length-append, append-nil}
 use Rattle.std.specs.Prelude.{map, nat_lt}
 use Rattle.std.specs.List.{IsDistinct, AllByRecursion}
 use Rattle.std.specs.Map.{keys_of, remove_entry}
@@ -11,32 +11,44 @@ use Rattle.wh_events.specs.declared.key.RunKey.{RunKey}
 use Rattle.wh_events.specs.Keys.{same_key, same_key-true}
 use Rattle.wh_workflow.specs.Law.{Program}
 use Rattle.wh_replay.specs.Runs.{Held, IsReplayed}
-use Rattle.wh_cache.specs.Cache.{CacheView, Entry, entry_of, held_by, AllReplayed, Fits, FitMost, IsSound, KeepsMost, Enters, with_first, kept_count, Reply, IsKept, HasPushedOut, IsOff, IsShort, IsLarge, HasNoMemory, Puts}
-use Rattle.wh_cache.proofs.Runs.{held_by-remove_le, AllReplayed-remove, IsDistinct-remove}
+use Rattle.wh_cache.specs.Cache.{CacheView, Entry, entry_of, held_by, AllReplayed, Fits, FitMost, IsSound, KeepsMost, Enters, with_first, fitting, Reply, IsKept, HasPushedOut, IsOff, IsShort, IsLarge, HasNoMemory, Puts}
+use Rattle.wh_cache.proofs.Runs.{held_by-append, held_by-remove_le, AllReplayed-remove, IsDistinct-remove}
 
--- how many runs fit, from the front on
-abbrev pub fitting : ℕ → ℕ → List Entry → ℕ
-fitting room left [] = 0
-fitting room left (r ∷ rs) = cond (room == 0 || nat_lt left (length r.1)) 0 (fitting (room - 1) (left - length r.1) rs + 1)
+-- the runs of other keys
+abbrev pub beside : RunKey → List Entry → List Entry
+beside key [] = []
+beside key (r ∷ rs) = cond (same_key key r.0) (beside key rs) (r ∷ beside key rs)
 
 -- no run has the key
-kept_count-no_key : (key : RunKey) (room left : ℕ) (rs : List Entry) → AllByRecursion (λ y. same_key key y ≡ false) (keys_of rs) → kept_count key room left rs ≡ fitting room left rs
-kept_count-no_key key room left [] none = refl
-kept_count-no_key key room left (r ∷ rs) none =
-    rw (none.0) (ap (λ n. cond (room == 0 || nat_lt left (length r.1)) 0 (n + 1)) (kept_count-no_key key (room - 1) (left - length r.1) rs none.1))
+beside-no_key : (key : RunKey) (rs : List Entry) → AllByRecursion (λ y. same_key key y ≡ false) (keys_of rs) → beside key rs ≡ rs
+beside-no_key key [] none = refl
+beside-no_key key (r ∷ rs) none = rw (none.0) (ap (λ (l : List Entry). r ∷ l) (beside-no_key key rs none.1))
 
--- the run of the key is passed over
-pub kept_count-fitting : (key : RunKey) (room left : ℕ) (rs : List Entry) → IsDistinct same_key (keys_of rs) → kept_count key room left rs ≡ fitting room left (remove_entry (same_key key) rs)
-kept_count-fitting key room left [] apart = refl
-kept_count-fitting key room left (r ∷ rs) apart = (elim (same_key key r.0) as (λ b. same_key key r.0 ≡ b → kept_count key room left (r ∷ rs) ≡ fitting room left (remove_entry (same_key key) (r ∷ rs))) [
+-- at most one run has the key
+pub beside-others : (key : RunKey) (rs : List Entry) → IsDistinct same_key (keys_of rs) → beside key rs ≡ remove_entry (same_key key) rs
+beside-others key [] apart = refl
+beside-others key (r ∷ rs) apart = (elim (same_key key r.0) as (λ b. same_key key r.0 ≡ b → beside key (r ∷ rs) ≡ remove_entry (same_key key) (r ∷ rs)) [
   | true ↦ λ at.
-      let same = same_key-true key r.0 at in
       let others = IsDistinct-head same_key r.0 (keys_of rs) apart in
-      let none = subst (λ (k : RunKey). AllByRecursion (λ y. same_key k y ≡ false) (keys_of rs)) (sym same) others in
-      rw at (kept_count-no_key key room left rs none)
-  | false ↦ λ at.
-      rw at (ap (λ n. cond (room == 0 || nat_lt left (length r.1)) 0 (n + 1)) (kept_count-fitting key (room - 1) (left - length r.1) rs (IsDistinct-tail same_key r.0 (keys_of rs) apart)))
+      let none = subst (λ (k : RunKey). AllByRecursion (λ y. same_key k y ≡ false) (keys_of rs)) (sym (same_key-true key r.0 at)) others in
+      rw at (beside-no_key key rs none)
+  | false ↦ λ at. rw at (ap (λ (l : List Entry). r ∷ l) (beside-others key rs (IsDistinct-tail same_key r.0 (keys_of rs) apart)))
 ]) refl
+
+beside-last : (key : RunKey) (rs : List Entry) (r : Entry) → beside key (rs ++ r ∷ []) ≡ beside key rs ++ beside key (r ∷ [])
+beside-last key [] r = refl
+beside-last key (x ∷ rs) r = elim (same_key key x.0) as (λ b. cond b (beside key (rs ++ r ∷ [])) (x ∷ beside key (rs ++ r ∷ [])) ≡ cond b (beside key rs) (x ∷ beside key rs) ++ beside key (r ∷ [])) [
+  | true ↦ beside-last key rs r
+  | false ↦ ap (λ (l : List Entry). x ∷ l) (beside-last key rs r)
+]
+
+-- the last run has the key
+pub beside-last_same : (key : RunKey) (rs : List Entry) (r : Entry) → same_key key r.0 ≡ true → beside key (rs ++ r ∷ []) ≡ beside key rs
+beside-last_same key rs r at = let last : beside key (r ∷ []) ≡ [] = rw at refl in beside-last key rs r ∙ ap (λ (l : List Entry). beside key rs ++ l) last ∙ append-nil (beside key rs)
+
+-- the last run has another key
+pub beside-last_other : (key : RunKey) (rs : List Entry) (r : Entry) → same_key key r.0 ≡ false → beside key (rs ++ r ∷ []) ≡ beside key rs ++ r ∷ []
+beside-last_other key rs r at = let last : beside key (r ∷ []) ≡ r ∷ [] = rw at refl in beside-last key rs r ∙ ap (λ (l : List Entry). beside key rs ++ l) last
 
 -- the count stops where there is no room or too few events are left
 stops : (room left len : ℕ) → (room == 0 || nat_lt left len) ≡ true → 0 < room → len ≤ left → ⊥
@@ -46,6 +58,45 @@ stops (suc room) left len e some enough = grind (arith, nat_tests)
 goes_on : (room left len : ℕ) → (room == 0 || nat_lt left len) ≡ false → (0 < room) × (len ≤ left)
 goes_on zero left len e = cc
 goes_on (suc room) left len e = grind (arith, nat_tests)
+
+-- where not all fit, the last run adds nothing to the count
+pub fitting-last : (room left : ℕ) (rs : List Entry) (r : Entry) → (length (rs ++ r ∷ []) ≤ room → held_by (rs ++ r ∷ []) ≤ left → ⊥) → fitting room left (rs ++ r ∷ []) ≡ fitting room left rs
+fitting-last room left [] r over = (elim (room == 0 || nat_lt left (length r.1)) as (λ b. (room == 0 || nat_lt left (length r.1)) ≡ b → cond b 0 (fitting (room - 1) (left - length r.1) [] + 1) ≡ 0) [
+  | true ↦ λ e. refl
+  | false ↦ λ e. let some = goes_on room left (length r.1) e in absurd (over (omega (arith, some.0)) (omega (arith, some.1)))
+]) refl
+fitting-last room left (x ∷ rs) r over = (elim (room == 0 || nat_lt left (length x.1)) as (λ b. (room == 0 || nat_lt left (length x.1)) ≡ b
+    → cond b 0 (fitting (room - 1) (left - length x.1) (rs ++ r ∷ []) + 1) ≡ cond b 0 (fitting (room - 1) (left - length x.1) rs + 1)) [
+      | true ↦ λ e. refl
+      | false ↦ λ e.
+          let some = goes_on room left (length x.1) e in
+          ap (λ n. n + 1) (fitting-last (room - 1) (left - length x.1) rs r (λ fits enough. over (omega (arith, some.0, fits)) (omega (arith, some.1, enough))))
+    ]) refl
+
+-- where all fit, the count is theirs
+pub fitting-all : (room left : ℕ) (rs : List Entry) → length rs ≤ room → held_by rs ≤ left → fitting room left rs ≡ length rs
+fitting-all room left [] fits enough = refl
+fitting-all room left (r ∷ rs) fits enough = (elim (room == 0 || nat_lt left (length r.1)) as (λ b. (room == 0 || nat_lt left (length r.1)) ≡ b → cond b 0 (fitting (room - 1) (left - length r.1) rs + 1) ≡ length (r ∷ rs)) [
+  | true ↦ λ e. absurd (stops room left (length r.1) e (omega arith) (omega arith))
+  | false ↦ λ e. let rest = fitting-all (room - 1) (left - length r.1) rs (omega arith) (omega arith) in omega (arith, rest)
+]) refl
+
+one_less : (room left : ℕ) (before after : List Entry) (r : Entry) → before ≡ after ++ r ∷ [] → (length before ≤ room → held_by before ≤ left → ⊥)
+    → (length before ≡ length after + 1) × (held_by before ≡ held_by after + length r.1) × (fitting room left before ≡ fitting room left after)
+one_less room left before after r last over =
+    let long = ap length last ∙ length-append after (r ∷ []) in
+    let sum = ap held_by last ∙ held_by-append after (r ∷ []) in
+    let over = subst (λ (l : List Entry). length l ≤ room → held_by l ≤ left → ⊥) last over in
+    (omega (arith, long), omega (arith, sum), ap (fitting room left) last ∙ fitting-last room left after r over)
+
+-- where not all fit, the last run goes with its events, and as many fit as before
+pub one_goes : (key : RunKey) (before after : List Entry) (r : Entry) (room left count held : ℕ) → before ≡ after ++ r ∷ [] → same_key key r.0 ≡ false
+    → count ≡ length (beside key before) → held ≡ held_by (beside key before) → (count ≤ room → held ≤ left → ⊥)
+    → (count ≡ length (beside key after) + 1) × (held ≡ held_by (beside key after) + length r.1) × (fitting room left (beside key after) ≡ fitting room left (beside key before))
+one_goes key before after r room left count held last at counted sum over =
+    let others = ap (beside key) last ∙ beside-last_other key after r at in
+    let less = one_less room left (beside key before) (beside key after) r others (λ fits enough. over (omega (arith, counted, fits)) (omega (arith, sum, enough))) in
+    (counted ∙ less.0, sum ∙ less.1, sym less.2)
 
 pub fitting-within : (room left : ℕ) (rs : List Entry) → (fitting room left rs ≤ length rs) × (fitting room left rs ≤ room) × (held_by (take (fitting room left rs) rs) ≤ left)
 fitting-within room left [] = (omega arith, omega arith, omega arith)
@@ -117,16 +168,13 @@ pub not_all_fit : (c : CacheView) (runs : List Entry) (going : ℕ) → FitMost 
 not_all_fit c runs going h some less fits =
     h.most (length runs) (omega arith) (omega arith) (subst (λ (rs : List Entry). Fits c.capacity c.bound rs) (sym (take-length runs)) fits)
 
-pub going_parts : (c : CacheView) (run : Entry) (left kept others : ℕ) → IsDistinct same_key (keys_of c.runs) → kept ≡ kept_count run.0 (c.capacity - 1) left c.runs → others ≡ length (remove_entry (same_key run.0) c.runs)
+pub going_parts : (c : CacheView) (run : Entry) (left going : ℕ) → going + fitting (c.capacity - 1) left (remove_entry (same_key run.0) c.runs) ≡ length (remove_entry (same_key run.0) c.runs)
     → 0 < c.capacity → held_by c.runs ≤ 512000000 → (c.bound ≢ 0 → left + length run.1 ≡ c.bound) → (c.bound ≡ 0 → 512000000 ≤ left)
-    → (kept ≤ others) × FitMost c (with_first run c.runs) (length (with_first run c.runs) - (others - kept))
-going_parts c run left kept others apart counted rest some few bounded free =
-    let same = counted ∙ kept_count-fitting run.0 (c.capacity - 1) left c.runs apart in
+    → FitMost c (with_first run c.runs) (length (with_first run c.runs) - going)
+going_parts c run left going rest some few bounded free =
     let most = FitMost-fitting c run left some few bounded free in
-    let within = fitting-within (c.capacity - 1) left (remove_entry (same_key run.0) c.runs) in
-    let less : kept ≤ others = omega (arith, within.0, same) in
-    let stays : suc (fitting (c.capacity - 1) left (remove_entry (same_key run.0) c.runs)) ≡ length (with_first run c.runs) - (others - kept) = omega (arith, within.0, same) in
-    (less, subst (λ (n : ℕ). FitMost c (with_first run c.runs) n) stays most)
+    let stays : suc (fitting (c.capacity - 1) left (remove_entry (same_key run.0) c.runs)) ≡ length (with_first run c.runs) - going = omega (arith, rest) in
+    subst (λ (n : ℕ). FitMost c (with_first run c.runs) n) stays most
 
 AllReplayed-front : {S : Type 0} (program : Program S) (xs ys : List Entry) → AllReplayed program (xs ++ ys) → AllReplayed program xs
 AllReplayed-front program [] ys all = tt

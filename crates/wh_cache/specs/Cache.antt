@@ -57,11 +57,10 @@ pub record IsSound {S : Type 0} (program : Program S) (c : CacheView) : Type 0 w
 abbrev pub with_first : Entry → List Entry → List Entry
 with_first run runs = run ∷ remove_entry (same_key run.0) runs
 
--- how many runs of other keys fit, from the front on, where there is room for so many runs and so many events are left
-abbrev pub kept_count : RunKey → ℕ → ℕ → List Entry → ℕ
-kept_count key room left [] = 0
-kept_count key room left (r ∷ rs) =
-    cond (same_key key r.0) (kept_count key room left rs) (cond (room == 0 || nat_lt left (length r.1)) 0 (kept_count key (room - 1) (left - length r.1) rs + 1))
+-- how many runs fit, from the front on, where there is room for so many runs and so many events are left
+abbrev pub fitting : ℕ → ℕ → List Entry → ℕ
+fitting room left [] = 0
+fitting room left (r ∷ rs) = cond (room == 0 || nat_lt left (length r.1)) 0 (fitting (room - 1) (left - length r.1) rs + 1)
 
 -- the first n runs fit, and no longer beginning does
 pub record FitMost (c : CacheView) (runs : List Entry) (n : ℕ) : Type 0 where

@@ -6,7 +6,7 @@ ghost use Rattle.std.specs.Map.{keys_of, lookup, lookup_entry, remove_entry};
 ghost use Rattle.std.specs.List.{IsDistinct};
 ghost use Rattle.wh_events.specs.Keys.{same_key};
 ghost use Rattle.wh_replay.specs.Runs.{IsReplayed};
-ghost use Rattle.wh_cache.specs.Cache.{cache_view, entry_of, held_of, held_by, IsSound, IsShorter, IsTooLarge, MayEnter, FitMost, with_first, kept_count, reply_of, Puts};
+ghost use Rattle.wh_cache.specs.Cache.{cache_view, entry_of, held_of, held_by, IsSound, IsShorter, IsTooLarge, MayEnter, FitMost, with_first, fitting, reply_of, Puts};
 
 use lru::LruCache;
 use std::alloc::Global;
@@ -177,8 +177,9 @@ impl<W: Workflow> Sticky<W> {
         ensures replayed { IsReplayed W.program run.now.events }
     {
         let left = room_beside(self.bound, run.held_len() as u64);
-        let kept = kept_beside(&self.runs, run.key(), self.capacity - 1, left);
-        self.others(run.key()) - kept
+        let count = self.others(run.key());
+        let held = self.held - replaced_len(&self.runs, run.key());
+        going_beside(&self.runs, run.key(), count, held, self.capacity - 1, left)
     }
 
     // How many runs of other keys are cached. No two runs have one key.
@@ -253,31 +254,37 @@ fn replaced_len<W: Workflow>(runs: &LruCache<RunKey, ReplayedHistory<W>>, key: &
     }
 }
 
-// How many of the other runs stay beside one of this key, where `room` runs with `left` events fit.
-fn kept_beside<W: Workflow>(
+// How many of the other runs, `count` with `held` events, have to go beside one of this key, the last first, where `room` runs
+// with `left` events fit. It visits those that go, and at most the run of the key besides.
+fn going_beside<W: Workflow>(
     runs: &LruCache<RunKey, ReplayedHistory<W>>,
     key: &RunKey,
+    count: usize,
+    held: u64,
     room: usize,
     left: u64,
 ) -> usize
-    ensures count { result ≡ kept_count key.now room left runs.now.entries }
+    requires distinct { IsDistinct same_key (keys_of runs.now.entries) }
+    requires count { count ≡ length (remove_entry (same_key key.now) runs.now.entries) }
+    requires held { held ≡ held_by (remove_entry (same_key key.now) runs.now.entries) }
+    ensures { result + fitting room left (remove_entry (same_key key.now) runs.now.entries) ≡ length (remove_entry (same_key key.now) runs.now.entries) }
 {
-    let mut room = room;
-    let mut left = left;
-    let mut kept = 0;
-    for (other, history) in runs.iter() {
+    let mut count = count;
+    let mut held = held;
+    let mut going = 0;
+    let mut rest = runs.iter();
+    'last: while room < count || left < held {
+        let Some((other, history)) = rest.next_back() else {
+            unreachable!()
+        };
         if key == other {
             continue;
         }
-        let len = history.len() as u64;
-        if room == 0 || left < len {
-            break;
-        }
-        room -= 1;
-        left -= len;
-        kept += 1;
+        count -= 1;
+        held -= history.len() as u64;
+        going += 1;
     }
-    kept
+    going
 }
 
 // Moves the last runs out, the least recently used first.
