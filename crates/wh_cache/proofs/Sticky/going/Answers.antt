@@ -6,4 +6,4 @@ use Rattle.wh_cache.proofs.Sticky.going.Goals as goal
 pub returns-clause-most : goal.returns-clause-most
 returns-clause-most g c =
     let sound = subst (λ (v : CacheView). IsSound g.W.Workflow.program v) c.self.view_is c.self.invariant.2 in
-    going_parts c.args.self.now (entry_of c.args.run.now) c.room_beside-left.result c.going_beside.result (search rules) (omega arith) (held_by-few g.W.Workflow.program c.args.self.now sound) (search rules) (search rules)
+    going_parts c.args.self.now (entry_of c.args.run.now) c.room_beside-left.result _ (search rules) (omega arith) (held_by-few g.W.Workflow.program c.args.self.now sound) (search rules) (search rules)
