@@ -1,5 +1,5 @@
 //! The lock round the state.
-ghost use Rattle.std.specs.Prelude.{◌≡◌, ◌<◌, ◌↔◌, IfOk, IfErr, IsErr, Err, vec_len, replicate};
+ghost use Rattle.std.specs.Prelude.{◌≡◌, ◌<◌, ◌+◌, ◌↔◌, IfOk, IfErr, IsErr, Err, vec_len, replicate};
 ghost use Rattle.std.specs.Sync.Mutex.{mutex_guard_value};
 ghost use Rattle.wh_ledger.specs.Shares.{no_shares, sums_of};
 ghost use Rattle.wh_host.specs.Machine.{IsConfig, IsHost, totals_of};
@@ -58,13 +58,14 @@ impl<W: Workflow, T: Ledger, C: Ledger, F: Ledger> Host<W, T, C, F> {
         guard
     }
 
-    /// Gathers what all seats have counted, which is what the books show. `SeatsMissing` where not all of them are brought: the
-    /// host and the seats come back.
+    /// Gathers what all seats have counted, which is what the books show: each task taken is completed, failed or in hand.
+    /// `SeatsMissing` where not all of them are brought: the host and the seats come back.
     pub fn close(
         self,
         seats: Vec<Seat<T, C, F>>,
     ) -> Result<Totals, (Self, Vec<Seat<T, C, F>>, SeatsMissing)>
         ensures gathered { IfOk result (λ totals. totals ≡ totals_of (sums_of seats.items)) }
+        ensures balanced { IfOk result (λ totals. totals.taken ≡ totals.completed + totals.failed + totals.in_hand) }
         ensures missing { IsErr result ↔ (vec_len seats < T.parts) }
         ensures back { IfErr result (λ refused. refused.1 ≡ seats) }
     {

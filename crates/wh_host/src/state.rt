@@ -256,12 +256,14 @@ impl<W: Workflow, T: Ledger, C: Ledger, F: Ledger> HostState<W, T, C, F> {
         totals.taken - totals.completed - totals.failed
     }
 
-    /// Gathers what all seats have counted. `SeatsMissing` where not all of them are brought: the state and the seats come back.
+    /// Gathers what all seats have counted: each task taken is completed, failed or in hand. `SeatsMissing` where not all of them
+    /// are brought: the state and the seats come back.
     pub fn close(
         self,
         seats: Vec<Seat<T, C, F>>,
     ) -> Result<Totals, (Self, Vec<Seat<T, C, F>>, SeatsMissing)>
         ensures gathered { IfOk result (λ totals. (totals ≡ totals_of (sums_of seats.items)) × (sums_of seats.items ≡ self.counts) × (totals.in_hand ≡ in_hand self)) }
+        ensures balanced { IfOk result (λ totals. totals.taken ≡ totals.completed + totals.failed + totals.in_hand) }
         ensures missing { IsErr result ↔ (vec_len seats < T.parts) }
         ensures back { IfErr result (λ refused. (refused.0 ≡ self) × (refused.1 ≡ seats)) }
     {

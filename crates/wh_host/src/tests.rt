@@ -173,6 +173,18 @@ fn hold<R: Wait + Abort, T: Ledger, C: Ledger, F: Ledger>(
     key: RunKey,
 ) -> (Held, usize) {
     let permit = reserve(rt, host, SlotKind::Workflow);
+    use_place(rt, host, seat, permit, name, key)
+}
+
+/// The same at a place that was reserved before.
+fn use_place<R: Wait + Abort, T: Ledger, C: Ledger, F: Ledger>(
+    rt: &R,
+    host: &Host<Still, T, C, F>,
+    seat: &mut Seat<T, C, F>,
+    permit: Permit,
+    name: u128,
+    key: RunKey,
+) -> (Held, usize) {
     let used = host
         .lock(rt)
         .use_workflow(permit, TaskName(name), key, seat);
@@ -369,20 +381,26 @@ fn a_day<R: Wait + Abort, T: Ledger, C: Ledger, F: Ledger>(
     runs_go_in_turn(rt, alloc, &host, &mut seat);
     names_are_in_hand_once(rt, alloc, &host, &mut seat);
     let (_held, _) = hold(rt, &host, &mut seat, 9, key(rt, alloc, "h"));
+    let permit = reserve(rt, &host, SlotKind::Workflow);
     places_are_numbered(rt, &host);
-    close(rt, host, seats, seat)
+    close(rt, alloc, host, seats, seat, permit)
 }
 
-/// Closes the host, first with a seat missing.
-fn close<R: Abort, T: Ledger, C: Ledger, F: Ledger>(
+/// Closes the host, first with a seat missing: the host that comes back serves one more task, of a run that it still caches.
+fn close<R: Wait + Abort, T: Ledger, C: Ledger, F: Ledger>(
     rt: &R,
+    alloc: Global,
     host: Host<Still, T, C, F>,
     seats: Vec<Seat<T, C, F>>,
-    seat: Seat<T, C, F>,
+    mut seat: Seat<T, C, F>,
+    permit: Permit,
 ) -> Totals {
     let Err((host, mut seats, _missing)) = host.close(seats) else {
         panic!(rt; "closed with a seat missing")
     };
+    let (held, found) = use_place(rt, &host, &mut seat, permit, 10, key(rt, alloc, "c"));
+    assert_eq!(rt; found, 3);
+    finish(rt, &host, &mut seat, held, Outcome::Completed);
     assert!(rt; seats.push(seat).is_ok());
     match host.close(seats) {
         Ok(totals) => totals,
@@ -400,8 +418,8 @@ fn tasks_and_runs(rt: HostRuntime) {
         Blank::new(3),
     );
     let counted = Totals {
-        taken: 12,
-        completed: 10,
+        taken: 13,
+        completed: 11,
         failed: 1,
         in_hand: 1,
     };

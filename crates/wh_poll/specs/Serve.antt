@@ -23,7 +23,7 @@ use Rattle.wh_poll.specs.declared.serve.Served.{Served}
 use Rattle.wh_poll.specs.declared.serve.Served.TheVariants.{Workflow, Activity, NoMemory, Repeated, Idle, Closed, NoSlot, Draining, NumbersSpent}
 use Rattle.wh_poll.specs.declared.source.Sent.{Sent}
 use Rattle.wh_poll.specs.declared.source.Sent.TheVariants.{Workflow as OfWorkflow, Activity as OfActivity}
-use Rattle.wh_poll.specs.Source.{Delivery, Workflow as WorkflowDelivery, Activity as ActivityDelivery}
+use Rattle.wh_poll.specs.Source.{Delivery, Workflow as WorkflowDelivery, Activity as ActivityDelivery, RoseIfFailed}
 use Rattle.wh_poll.specs.Tasks.{Steps, IsAnswer}
 
 -- a workflow task that is answered `Complete` is completed, else failed
@@ -116,3 +116,9 @@ abbrev pub WithinTurns : List Shares → List ℕ → List Shares → Type 0
 WithinTurns [] [] [] = Unit {0}
 WithinTurns (old ∷ olds) (turns ∷ rest) (new ∷ news) = (new.taken ≤ old.taken + turns) × WithinTurns olds rest news
 WithinTurns _ _ _ = ⊥
+
+-- where a worker kept a fault, the failures of its source rose: those of each source at first, the faults, and those of the sources in the end
+abbrev pub AllRoseIfFailed : List ℕ → List (Option SourceFault) → List ℕ → Type 0
+AllRoseIfFailed [] [] [] = Unit {0}
+AllRoseIfFailed (old ∷ olds) (fault ∷ faults) (new ∷ news) = RoseIfFailed fault old new × AllRoseIfFailed olds faults news
+AllRoseIfFailed _ _ _ = ⊥

@@ -2,7 +2,7 @@
 ghost use Rattle.std.specs.Prelude.{◌≡◌, ◌≤◌, ◌<◌, ◌+◌, ℕ, IfOk, map, vec_len, slice_index_or};
 ghost use denote.Param.Send.{IsSend};
 ghost use Rattle.wh_poll.specs.Source.{RoseIfFailed};
-ghost use Rattle.wh_poll.specs.Serve.{WithinTurns};
+ghost use Rattle.wh_poll.specs.Serve.{WithinTurns, AllRoseIfFailed};
 
 use crate::handler::{ActivityHandler, Gate};
 use crate::serve::{Served, serve_one};
@@ -112,9 +112,9 @@ fn other(kind: SlotKind) -> SlotKind {
 }
 
 /// Runs a worker in a thread of its own for each seat, with the source, the handler and the turns of the same place. The four
-/// lists are equally long. The workers come back in the order of the seats, and the taken share of each has risen by at most its
-/// turns. `OutOfMemory` where no room was found; then the seats are given up. (Temporal documentation, "Workers": a Worker
-/// Process runs many task executors.)
+/// lists are equally long. The workers come back in the order of the seats, the taken share of each has risen by at most its
+/// turns, and where one kept a fault, its own source has failed. `OutOfMemory` where no room was found; then the seats are given
+/// up. (Temporal documentation, "Workers": a Worker Process runs many task executors.)
 pub fn run_workers<
     R: Threads + Wait + Sync,
     W: Workflow + Send,
@@ -137,7 +137,8 @@ pub fn run_workers<
     requires sources { vec_len sources ≡ vec_len seats }
     requires handlers { vec_len handlers ≡ vec_len seats }
     requires turns { vec_len turns ≡ vec_len seats }
-    ensures { IfOk result (λ workers. WithinTurns seats.items turns.items (map (λ worker. worker.seat) workers.items)) }
+    ensures turns { IfOk result (λ workers. WithinTurns seats.items turns.items (map (λ worker. worker.seat) workers.items)) }
+    ensures faults { IfOk result (λ workers. AllRoseIfFailed (map (λ source. S.failures source) sources.items) (map (λ worker. worker.fault) workers.items) (map (λ worker. S.failures worker.source) workers.items)) }
 {
     let jobs = jobs_of(alloc, seats, sources, handlers, turns)?;
     Ok(run_jobs(rt, alloc, host, gate, jobs)?)
@@ -162,6 +163,7 @@ fn run_jobs<
 ) -> Result<Vec<Worker<T, C, F, S>>, AllocError>
     ensures count { IfOk result (λ workers. vec_len workers ≡ vec_len jobs) }
     ensures turns { IfOk result (λ workers. (i : ℕ) (j : _) (w : _) → i < vec_len jobs → (slice_index_or workers.items i w).seat.taken ≤ (slice_index_or jobs.items i j).seat.taken + (slice_index_or jobs.items i j).turns) }
+    ensures faults { IfOk result (λ workers. (i : ℕ) (j : _) (w : _) → i < vec_len jobs → RoseIfFailed (slice_index_or workers.items i w).fault (S.failures (slice_index_or jobs.items i j).source) (S.failures (slice_index_or workers.items i w).source)) }
 {
     thread::map_vec(
         rt,
@@ -169,7 +171,8 @@ fn run_jobs<
         &|job: Job<T, C, F, S, A>| -> Worker<T, C, F, S>
             requires workflow { IsSend W.row }
             requires state { IsSend W.State.row }
-            ensures { result.seat.taken ≤ job.seat.taken + job.turns }
+            ensures turns { result.seat.taken ≤ job.seat.taken + job.turns }
+            ensures fault { RoseIfFailed result.fault (S.failures job.source) (S.failures result.source) }
         { work_job(rt, alloc, host, gate, job) },
     )
 }
@@ -191,7 +194,8 @@ fn work_job<
     gate: &G,
     job: Job<T, C, F, S, A>,
 ) -> Worker<T, C, F, S>
-    ensures { result.seat.taken ≤ job.seat.taken + job.turns }
+    ensures turns { result.seat.taken ≤ job.seat.taken + job.turns }
+    ensures fault { RoseIfFailed result.fault (S.failures job.source) (S.failures result.source) }
 {
     let Job {
         seat,
@@ -214,6 +218,7 @@ fn jobs_of<T: Ledger, C: Ledger, F: Ledger, S: Drop, A: Drop>(
     requires handlers { vec_len handlers ≡ vec_len seats }
     requires turns { vec_len turns ≡ vec_len seats }
     ensures seats { IfOk result (λ jobs. map (λ job. job.seat) jobs.items ≡ seats.items) }
+    ensures sources { IfOk result (λ jobs. map (λ job. job.source) jobs.items ≡ sources.items) }
     ensures turns { IfOk result (λ jobs. map (λ job. job.turns) jobs.items ≡ turns.items) }
 {
     let mut jobs = Vec::new(alloc);
