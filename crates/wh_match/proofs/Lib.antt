@@ -5,3 +5,4 @@ pub mod Reducing
 pub mod Counts
 pub mod Asking
 pub mod Outside
+pub mod Marking

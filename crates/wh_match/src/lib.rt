@@ -5,6 +5,7 @@ mod choosing;
 mod deed;
 mod fault;
 mod judging;
+pub mod laws;
 mod matching;
 mod script;
 mod sending;
@@ -15,6 +16,7 @@ pub use fault::ScriptFault;
 pub use matching::matches;
 pub use script::Script;
 pub use versions::Versions;
+pub use wh_workflow::{Mismatch, WorkflowFault};
 
 #[cfg(test)]
 mod tests;
