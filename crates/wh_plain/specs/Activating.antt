@@ -1,0 +1,11 @@
+-- What the code's activation has to do with the definition.
+use Rattle.std.specs.Prelude.{◌≡◌, Result, Ok, Err}
+use Rattle.wh_workflow.specs.declared.fault.WorkflowFault.{WorkflowFault}
+use Rattle.wh_plain.specs.declared.activation.ActivationFault.{ActivationFault}
+use Rattle.wh_plain.specs.declared.activation.ActivationFault.TheVariants.{Workflow, OutOfMemory}
+
+-- the call answers what is defined, seen by what it answers and leaves, unless memory ran out
+abbrev pub Gives : {A B : Type 0} → Result A ActivationFault → Result B WorkflowFault → (A → B) → Type 0
+Gives (Ok answer) defined seen = defined ≡ Ok (seen answer)
+Gives (Err (Workflow fault)) defined seen = defined ≡ Err fault
+Gives (Err OutOfMemory) defined seen = Unit {0}
