@@ -1,9 +1,8 @@
 -- One event of a history, as replay goes over it.
-use Rattle.std.proofs.Common.{◌≡◌, ℕ, suc, ◌+◌, ◌<◌, ◌≤◌, true, false, List, [], ◌∷◌, ◌++◌, length, get_or, take, drop, None, Result, Ok, Err, refl, sym, ap, ◌∙◌, arith, add-one}
+use Rattle.std.proofs.Common.{◌≡◌, ℕ, suc, ◌+◌, ◌<◌, ◌≤◌, true, false, List, [], ◌∷◌, ◌++◌, length, get_or, take, drop, Result, Ok, Err, refl, sym, ap, ◌∙◌, arith, add-one}
 use Rattle.std.proofs.Math.Seq.{take-suc, drop-cons, take-length}
 use Rattle.std.proofs.Common.{◌-◌}
 use Rattle.std.proofs.lemmas.List.{length-drop}
-use Rattle.wh_events.specs.Places.{history_fault}
 use Rattle.wh_replay.specs.declared.fault.RunFault.{RunFault}
 use Rattle.wh_replay.specs.declared.fault.RunFault.TheVariants.{Fault as Faulty, OutOfMemory}
 use Rattle.wh_replay.specs.Checks.{Answers}
@@ -17,7 +16,7 @@ use Rattle.wh_workflow.specs.Scripts.{Place}
 use Rattle.wh_workflow.specs.Activations.{and_then, activate}
 use Rattle.wh_replay.specs.declared.fault.Fault.{Fault}
 use Rattle.wh_plain.specs.Views.{place_in}
-use Rattle.wh_replay.specs.Replays.{Replayed, place_at, task, task_after, begin_at, replay_after, start, workflow_of, replay}
+use Rattle.wh_replay.specs.Replays.{Replayed, place_at, task, task_after, begin_at, replay_after}
 
 taken : (events : List Event) (place : ℕ) (event : Event) → place < length events → event ≡ get_or events place event → take (place + 1) events ≡ take place events ++ event ∷ []
 taken events place event h e = rw add-one (take-suc events place event h ∙ ap (λ (x : Event). take place events ++ x ∷ []) (sym e))
@@ -89,9 +88,3 @@ tail_slice events k = let e = length-drop k events in rw (← e) (take-length (d
 pub answers_err : {A B C D : Type 0} (fault : RunFault) (defined : Result B Fault) (whole : Result D Fault) (seen : A → B) (whole_seen : C → D) → ((f : Fault) → defined ≡ Err f → whole ≡ Err f) → Answers (Err fault) defined seen → Answers (Err fault) whole whole_seen
 answers_err (Faulty f) defined whole seen whole_seen h given_here = h f given_here
 answers_err OutOfMemory defined whole seen whole_seen h given_here = tt
-
-module _ {S : Type 0} where
-  -- a fault of the tasks is that of the replay
-  pub replay_fault : (program : Program S) (events : List Event) (meter : ℕ) (fault : Fault) → history_fault events ≡ None → program.knows (workflow_of events) ≡ true → replay_after program [] [] events (start program (workflow_of events) meter) ≡ Err fault → replay program events meter ≡ Err fault
-  unfolding replay
-  replay_fault program events meter fault placed known e = rw (placed, known) e

@@ -15,3 +15,6 @@ mod scripts;
 mod versions;
 
 pub use checking::check;
+
+#[cfg(test)]
+mod tests;
