@@ -142,15 +142,15 @@ fn jobs_of(
 {
     let mut jobs = Vec::new(alloc);
     jobs.push(Job::Time(cut.time))?;
+    let mut signals = Vec::new(alloc);
+    let mut others = Vec::new(alloc);
     for event in between {
         push_start(&mut jobs, &event.body)?;
+        push_signal(&mut signals, &event.body)?;
+        push_outside(alloc, &mut others, seen, &event.body)?;
     }
-    for event in between {
-        push_signal(&mut jobs, &event.body)?;
-    }
-    for event in between {
-        push_outside(alloc, &mut jobs, seen, &event.body)?;
-    }
+    jobs.append(&mut signals)?;
+    jobs.append(&mut others)?;
     Ok(jobs)
 }
 

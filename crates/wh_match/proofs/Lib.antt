@@ -6,3 +6,4 @@ pub mod Counts
 pub mod Asking
 pub mod Outside
 pub mod Marking
+pub mod Settled

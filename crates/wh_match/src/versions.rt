@@ -2,6 +2,7 @@ ghost use Rattle.std.specs.Prelude.{◌≡◌, [], OnOk, OnErr};
 ghost use Rattle.wh_workflow.specs.Scripts.{lookup_version, with_version};
 
 use std::alloc::Global;
+use std::collections::BTreeMap;
 use std::marker::Model;
 use wh_events::{OutOfMemory, Text};
 
@@ -9,15 +10,21 @@ use wh_events::{OutOfMemory, Text};
 #[derive(Debug, Drop)]
 pub struct Versions {
     entries: Vec<(Text, i32)>,
+    /// The same versions, ordered by change id for the look-up.
+    by_change: BTreeMap<String, i32>,
     alloc: Global,
 }
 
 impl Model for Versions {
-    ghost use Rattle.std.specs.Prelude.{ℕ, ℤ, List};
+    ghost use Rattle.std.specs.Prelude.{◌≡◌, ℕ, ℤ, List};
+    ghost use Rattle.std.specs.BTreeMap.{get_by_text};
+    ghost use Rattle.wh_workflow.specs.Scripts.{lookup_version};
 
     ghost Value = { List (List ℕ × ℤ) };
 
     ghost view = { λ v. v.entries.items };
+
+    ghost invariant = { λ v. (change_id : List ℕ) → get_by_text v.by_change change_id ≡ lookup_version change_id v.entries.items };
 }
 
 impl Versions {
@@ -27,6 +34,7 @@ impl Versions {
     {
         Versions {
             entries: Vec::new(alloc),
+            by_change: BTreeMap::new(alloc),
             alloc,
         }
     }
@@ -35,7 +43,7 @@ impl Versions {
     pub fn get(&self, change_id: &str) -> Option<i32>
         ensures { result ≡ lookup_version change_id.now self.now }
     {
-        find_version(self.entries.as_slice(), change_id)
+        self.by_change.get(change_id).copied()
     }
 
     /// Settles the version of a change, unless it is settled. After `OutOfMemory` nothing has changed.
@@ -45,19 +53,11 @@ impl Versions {
     {
         if self.get(change_id).is_none() {
             let text = Text::new(String::from_str(self.alloc, change_id)?);
-            self.entries.push((text, version))?;
+            let key = String::from_str(self.alloc, change_id)?;
+            self.entries.reserve(1)?;
+            self.by_change.insert(key, version)?;
+            self.entries.push_reserved((text, version));
         }
         Ok(())
     }
-}
-
-fn find_version(entries: &[(Text, i32)], change_id: &str) -> Option<i32>
-    ensures { result ≡ lookup_version change_id.now entries.now }
-{
-    for entry in entries {
-        if change_id == entry.0.get() {
-            return Some(entry.1);
-        }
-    }
-    None
 }
