@@ -41,6 +41,19 @@ const BRANCH: Recorded<'static> = (
     ],
 );
 
+const CALLER: Recorded<'static> = (
+    "caller.json",
+    "Caller",
+    &[
+        "'SignalExternalWorkflowExecutionInitiated','signalExternalWorkflowExecutionInitiatedEventAttributes':{'workflowExecution':{'workflowId':'other'},'signalName':'go'}",
+        "'ExternalWorkflowExecutionSignaled','externalWorkflowExecutionSignaledEventAttributes':{'initiatedEventId':'5'}",
+        SCHEDULED,
+        STARTED,
+        COMPLETED,
+        DONE,
+    ],
+);
+
 const FAMILY: Recorded<'static> = (
     "family.json",
     "Family",
@@ -203,7 +216,7 @@ fn served<R: Threads + Wait + Sync>(
 
 #[test]
 fn serves_whatever_the_sizes(rt: HostRuntime) -> Result<(), Fail> {
-    let recorded = [BRANCH, FAMILY, GREET, NAP, RACER];
+    let recorded = [BRANCH, CALLER, FAMILY, GREET, NAP, RACER];
     for workers in [1, 4] {
         for cache in [0, 1, 2, 100] {
             for cache_events in [0, 3] {
@@ -213,11 +226,12 @@ fn serves_whatever_the_sizes(rt: HostRuntime) -> Result<(), Fail> {
                     report.as_str(),
                     "\
 branch.json: 2 tasks, 2 completed, 0 failed
+caller.json: 2 tasks, 2 completed, 0 failed
 family.json: 3 tasks, 3 completed, 0 failed
 greet.json: 2 tasks, 2 completed, 0 failed
 nap.json: 2 tasks, 2 completed, 0 failed
 racer.json: 4 tasks, 4 completed, 0 failed
-taken 13, completed 13, failed 0, in hand 0
+taken 15, completed 15, failed 0, in hand 0
 ",
                     "{workers} workers, {cache} runs, {cache_events} events"
                 );
