@@ -13,8 +13,8 @@ use wh_events::{Event, OutOfMemory, RunKey, Text};
 use wh_host::{Config, Counts, Host, Outcome, Totals};
 use wh_ledger::Seat;
 use wh_poll::{
-    ActivityAnswer, ActivityHandler, ActivityTask, Gate, Served, TaskSource, Worker, serve_one,
-    work,
+    ActivityAnswer, ActivityHandler, ActivityTask, Gate, Served, SourceFault, TaskSource, Worker,
+    serve_one, work,
 };
 use wh_replay::{AdvanceFault, Run};
 use wh_samples::{All, FaultySource, Nap, ScriptSource};
@@ -104,7 +104,7 @@ pub(super) fn counts<R: Wait, W: Workflow, T: Ledger, C: Ledger, F: Ledger>(
     host.lock(rt).counts(seat)
 }
 
-/// One turn for workflow tasks, `None` where the source fails.
+/// One turn for workflow tasks.
 pub(super) fn turn<R: Wait, W: Workflow, T: Ledger, C: Ledger, F: Ledger, S: TaskSource, G: Gate>(
     rt: &R,
     alloc: Global,
@@ -112,14 +112,14 @@ pub(super) fn turn<R: Wait, W: Workflow, T: Ledger, C: Ledger, F: Ledger, S: Tas
     seat: &mut Seat<T, C, F>,
     source: &mut S,
     gate: &G,
-) -> Option<Served> {
+) -> Result<Served, SourceFault> {
     let kind = SlotKind::Workflow;
-    serve_one(rt, alloc, host, seat, source, &mut NoActivity, gate, kind).ok()
+    serve_one(rt, alloc, host, seat, source, &mut NoActivity, gate, kind)
 }
 
 /// The answer to a completed task, by its name, whether a cached run served, and the steps that replay took.
-fn completed(name: u128, hit: bool, steps: u64) -> Option<Served> {
-    Some(Served::Workflow {
+fn completed(name: u128, hit: bool, steps: u64) -> Result<Served, SourceFault> {
+    Ok(Served::Workflow {
         name: TaskName(name),
         hit,
         steps,
@@ -141,7 +141,7 @@ fn serves<R: Wait + Abort, W: Workflow, T: Ledger, C: Ledger, F: Ledger, S: Task
         assert_eq!(rt; served, completed(*name, *hit, *steps));
     }
     let served = turn(rt, alloc, host, seat, source, &OpenGate);
-    assert_eq!(rt; served, Some(Served::Closed));
+    assert_eq!(rt; served, Ok(Served::Closed));
 }
 
 /// A host with a cache of so many runs serves these tasks of the source and no more.
@@ -149,7 +149,7 @@ fn day<R: Wait + Abort, T: Ledger, C: Ledger, F: Ledger>(
     rt: &R,
     alloc: Global,
     cache: usize,
-    source: ScriptSource,
+    source: &mut ScriptSource,
     tasks: &[(u128, bool, u64)],
     taken: Blank,
     completed: Blank,
@@ -162,8 +162,7 @@ fn day<R: Wait + Abort, T: Ledger, C: Ledger, F: Ledger>(
     let config = Config { cache, ..SMALL };
     let (host, mut seats) = open::<R, Nap, T, C, F>(rt, alloc, config, taken, completed, failed);
     let mut seat = seats.pop().expect(rt, "seat");
-    let mut source = source;
-    serves(rt, alloc, &host, &mut seat, &mut source, tasks);
+    serves(rt, alloc, &host, &mut seat, source, tasks);
     counts(rt, &host, &mut seat)
 }
 
@@ -177,7 +176,7 @@ fn a_cached_run_goes_on(rt: HostRuntime) -> Result<(), Fail> {
             &rt,
             alloc,
             cache,
-            script(alloc, 0, "nap => nap")?,
+            &mut script(alloc, 0, "nap => nap")?,
             &tasks,
             Blank::new(1),
             Blank::new(1),
@@ -191,10 +190,13 @@ fn a_cached_run_goes_on(rt: HostRuntime) -> Result<(), Fail> {
     Ok(())
 }
 
-/// Three runs, of which the cache holds none or two: each is gone when its next task comes.
-#[test]
-fn a_run_that_went_is_asked_for(rt: HostRuntime) -> Result<(), Fail> {
-    let alloc = rt.alloc();
+/// What is counted of three runs with a cache for none or two of them, and the answers that were sent. Each run is gone when
+/// its next task comes.
+fn three_runs<R: Wait + Abort>(
+    rt: &R,
+    alloc: Global,
+    cache: usize,
+) -> Result<(Counts, String), Fail> {
     let tasks = [
         (3, false, 2),
         (FILE + 3, false, 2),
@@ -203,22 +205,33 @@ fn a_run_that_went_is_asked_for(rt: HostRuntime) -> Result<(), Fail> {
         (FILE + 8, false, 4),
         (2 * FILE + 8, false, 4),
     ];
-    for cache in [0, 2] {
-        let counts = day::<HostRuntime, Brand, Brand, Brand>(
-            &rt,
-            alloc,
-            cache,
-            script(alloc, 0, "a => nap\nb => nap\nc => nap")?,
-            &tasks,
-            Blank::new(1),
-            Blank::new(1),
-            Blank::new(1),
-        );
-        assert_eq!(rt;
-            (counts.taken, counts.completed, counts.cached),
-            (6, 6, cache)
-        );
-    }
+    let mut source = script(alloc, 0, "a => nap\nb => nap\nc => nap")?;
+    let counts = day::<R, Brand, Brand, Brand>(
+        rt,
+        alloc,
+        cache,
+        &mut source,
+        &tasks,
+        Blank::new(1),
+        Blank::new(1),
+        Blank::new(1),
+    );
+    let answers = source.answers();
+    Ok((counts, format!(in alloc; "{answers:?}")?))
+}
+
+/// A run that is no longer cached answers as one that never was.
+#[test]
+fn a_run_that_went_is_asked_for(rt: HostRuntime) -> Result<(), Fail> {
+    let alloc = rt.alloc();
+    let (replayed, answers) = three_runs(&rt, alloc, 0)?;
+    assert_eq!(rt;
+        (replayed.taken, replayed.completed, replayed.cached),
+        (6, 6, 0)
+    );
+    let (cached, others) = three_runs(&rt, alloc, 2)?;
+    assert_eq!(rt; (cached.taken, cached.completed, cached.cached), (6, 6, 2));
+    assert_eq!(rt; others, answers);
     Ok(())
 }
 
@@ -226,6 +239,7 @@ fn a_run_that_went_is_asked_for(rt: HostRuntime) -> Result<(), Fail> {
 fn day_of_a_failed_answer<R: Wait + Abort, T: Ledger, C: Ledger, F: Ledger>(
     rt: &R,
     alloc: Global,
+    cache: usize,
     source: ScriptSource,
     taken: Blank,
     completed: Blank,
@@ -235,13 +249,13 @@ fn day_of_a_failed_answer<R: Wait + Abort, T: Ledger, C: Ledger, F: Ledger>(
     requires completed { (completed.name ≡ C.name) × (completed.parts ≡ C.parts) × (completed.parts ≡ 1) }
     requires failed { (failed.name ≡ F.name) × (failed.parts ≡ F.parts) × (failed.parts ≡ 1) }
 {
-    let config = Config { cache: 1, ..SMALL };
+    let config = Config { cache, ..SMALL };
     let (host, mut seats) = open::<R, Nap, T, C, F>(rt, alloc, config, taken, completed, failed);
     let mut seat = seats.pop().expect(rt, "seat");
     let mut source = FaultySource::new(source, 2);
     assert_eq!(rt;
         turn(rt, alloc, &host, &mut seat, &mut source, &OpenGate),
-        None
+        Err(SourceFault::Source)
     );
     let counted = counts(rt, &host, &mut seat);
     serves(rt, alloc, &host, &mut seat, &mut source, &[(8, true, 2)]);
@@ -251,19 +265,22 @@ fn day_of_a_failed_answer<R: Wait + Abort, T: Ledger, C: Ledger, F: Ledger>(
 #[test]
 fn a_failed_answer(rt: HostRuntime) -> Result<(), Fail> {
     let alloc = rt.alloc();
-    let counts = day_of_a_failed_answer::<HostRuntime, Brand, Brand, Brand>(
-        &rt,
-        alloc,
-        script(alloc, 0, "nap => nap")?,
-        Blank::new(1),
-        Blank::new(1),
-        Blank::new(1),
-    );
-    assert_eq!(rt; (counts.taken, counts.completed, counts.failed), (1, 0, 1));
-    assert_eq!(rt;
-        (counts.in_hand, counts.cached, counts.workflow.free),
-        (0, 1, 2)
-    );
+    for cache in [1, 100] {
+        let counts = day_of_a_failed_answer::<HostRuntime, Brand, Brand, Brand>(
+            &rt,
+            alloc,
+            cache,
+            script(alloc, 0, "nap => nap")?,
+            Blank::new(1),
+            Blank::new(1),
+            Blank::new(1),
+        );
+        assert_eq!(rt; (counts.taken, counts.completed, counts.failed), (1, 0, 1));
+        assert_eq!(rt;
+            (counts.in_hand, counts.cached, counts.workflow.free),
+            (0, 1, 2)
+        );
+    }
     Ok(())
 }
 
@@ -302,7 +319,7 @@ fn day_of_a_repeated_task<R: Wait + Abort, T: Ledger, C: Ledger, F: Ledger>(
     taken: Blank,
     completed: Blank,
     failed: Blank,
-) -> (Option<Served>, Counts)
+) -> (Result<Served, SourceFault>, Counts)
     requires taken { (taken.name ≡ T.name) × (taken.parts ≡ T.parts) × (taken.parts ≡ 1) }
     requires completed { (completed.name ≡ C.name) × (completed.parts ≡ C.parts) × (completed.parts ≡ 1) }
     requires failed { (failed.name ≡ F.name) × (failed.parts ≡ F.parts) × (failed.parts ≡ 1) }
@@ -326,10 +343,11 @@ fn a_repeated_task(rt: HostRuntime) -> Result<(), Fail> {
         Blank::new(1),
         Blank::new(1),
     );
-    assert_eq!(rt; served, Some(Served::Repeated { name: TaskName(7) }));
+    assert_eq!(rt; served, Ok(Served::Repeated { name: TaskName(7) }));
     assert_eq!(rt; (counts.taken, counts.in_hand), (1, 1));
     assert_eq!(rt; (counts.workflow.reserved, counts.workflow.held), (0, 1));
     assert_eq!(rt; source.tally("nap"), Some((1, 0, 1)));
+    assert!(rt; source.answers().is_empty());
     Ok(())
 }
 
@@ -344,7 +362,7 @@ fn worked<R: Wait + Abort, W: Workflow, T: Ledger, C: Ledger, F: Ledger>(
     taken: Blank,
     completed: Blank,
     failed: Blank,
-) -> (Totals, bool)
+) -> (Totals, Option<SourceFault>)
     requires taken { (taken.name ≡ T.name) × (taken.parts ≡ T.parts) × (taken.parts ≡ 1) }
     requires completed { (completed.name ≡ C.name) × (completed.parts ≡ C.parts) × (completed.parts ≡ 1) }
     requires failed { (failed.name ≡ F.name) × (failed.parts ≡ F.parts) × (failed.parts ≡ 1) }
@@ -356,7 +374,16 @@ fn worked<R: Wait + Abort, W: Workflow, T: Ledger, C: Ledger, F: Ledger>(
     let worker = work(rt, alloc, &host, seat, source, NoActivity, &OpenGate, turns);
     let Worker { seat, fault, .. } = worker;
     assert!(rt; seats.push(seat).is_ok());
-    (close(rt, host, seats), fault.is_some())
+    (close(rt, host, seats), fault)
+}
+
+/// The fault of a worker of whose source one call fails, if any does.
+fn fault_where(fails: bool) -> Option<SourceFault> {
+    if fails {
+        Some(SourceFault::Source)
+    } else {
+        None
+    }
 }
 
 /// One worker on one nap, with and without a cache. The calls are a poll, its answer, a poll of activities and so on.
@@ -389,7 +416,7 @@ fn one_call_fails(rt: HostRuntime) -> Result<(), Fail> {
             in_hand: 0,
         };
         assert_eq!(rt; totals, wanted, "at {fail_at}");
-        assert_eq!(rt; fault, fail_at != 7, "at {fail_at}");
+        assert_eq!(rt; fault, fault_where(fail_at != 7), "at {fail_at}");
     }
     Ok(())
 }
@@ -420,7 +447,8 @@ fn each_call_fails(rt: HostRuntime) -> Result<(), Fail> {
         );
         assert_eq!(rt; (totals.taken, totals.in_hand), (13, 0), "at {fail_at}");
         assert!(rt; totals.failed <= 1, "at {fail_at}");
-        assert_eq!(rt; fault, 1 <= fail_at && fail_at <= 28, "at {fail_at}");
+        let fails = 1 <= fail_at && fail_at <= 28;
+        assert_eq!(rt; fault, fault_where(fails), "at {fail_at}");
     }
     Ok(())
 }

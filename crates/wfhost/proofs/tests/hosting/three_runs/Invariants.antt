@@ -1,4 +1,4 @@
-use Rattle.wfhost.proofs.tests.hosting.a_run_that_went_is_asked_for.Given as goal
+use Rattle.wfhost.proofs.tests.hosting.three_runs.Given as goal
 
 abbrev pub ghosts-day-T-Ledger : goal.ghosts-day-T-Ledger
 ghosts-day-T-Ledger g a = record { name = a.taken.name; parts = a.taken.parts }
