@@ -1,5 +1,5 @@
 #!/usr/bin/env python3
-"""Measures `wfhost replay` on files that it makes itself in a temporary folder: seconds, seconds of
+"""Measures `wfhost replay` and `wfhost serve` on files that it makes itself in a temporary folder: seconds, seconds of
 all processors, peak memory in MiB, and how many times the size of the files that is. It is no part
 of the gate, and its figures are those of the machine that it runs on and of what else runs there."""
 
@@ -63,8 +63,8 @@ def write(folder, files):
         Path(folder, name).write_text(json.dumps({"events": make()}))
 
 
-def measure(title, files, processors=None):
-    """Replays files, each a name and what makes its events, and prints a row."""
+def measure(title, files, processors=None, does=("replay",)):
+    """Replays or serves files, each a name and what makes its events, and prints a row."""
     with tempfile.TemporaryDirectory() as folder, tempfile.TemporaryFile() as out:
         # In a process of its own, since a child's peak memory begins with that of its parent.
         writer = get_context("fork").Process(target=write, args=(folder, files))
@@ -72,7 +72,7 @@ def measure(title, files, processors=None):
         writer.join()
         size = sum(path.stat().st_size for path in Path(folder).iterdir())
         pinned = ["taskset", "-c", processors] if processors else []
-        command = [*pinned, "timeout", str(LIMIT_SECONDS), PROGRAM, "replay", folder]
+        command = [*pinned, "timeout", str(LIMIT_SECONDS), PROGRAM, does[0], folder, *does[1:]]
         begun = time.monotonic()
         child = subprocess.Popen(command, stdout=out)
         _, _, used = os.wait4(child.pid, 0)
@@ -97,9 +97,14 @@ def main():
         big = [("x.json", lambda: signals(count, data))]
         measure(f"one file of 60 MB, {count:,} events", big)
     for kind in [signals, tasks, timers]:
-        for count in [1_000, 10_000, 51_200]:
+        for count in [1_000, 10_000, 50_000]:
             history = [("x.json", lambda: kind(count))]
             measure(f"one history of {count:,}, {kind.__name__}", history)
+    # Three events are a task: with a cache each is stepped alone, without one it is replayed from the first.
+    for count, cache in [(1_000, 1), (10_000, 1), (50_000, 1), (1_000, 0), (10_000, 0)]:
+        history = [("x.json", lambda: tasks(count))]
+        does = ("serve", "--cache", str(cache))
+        measure(f"one history of {count:,} served, cache {cache}", history, does=does)
 
 
 main()

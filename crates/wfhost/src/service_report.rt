@@ -16,15 +16,20 @@ use wh_tester::{Line, Shown, Verdict, write_line};
 /// How many tasks of a file were polled, and how they ended.
 #[derive(Clone, Copy)]
 pub struct Tally {
+    /// Tasks that were polled.
     pub tasks: u64,
+    /// Tasks to which `Complete` was sent.
     pub completed: u64,
+    /// The other tasks.
     pub failed: u64,
 }
 
 /// A file by its name, with what came of its tasks, or why it cannot be read.
 #[derive(Drop)]
 pub struct Row {
+    /// The name of the file.
     pub name: Text,
+    /// Its tally, or the fault of reading it.
     pub outcome: Result<Tally, ReadFault>,
 }
 

@@ -6,7 +6,9 @@ use wh_workflow::Workflow;
 /// How a task ended.
 #[derive(Clone, Copy, PartialEq, Eq, Debug)]
 pub enum Outcome {
+    /// Its answer was sent, and was no failure.
     Completed,
+    /// It was answered with a failure, or not at all.
     Failed,
 }
 
@@ -56,8 +58,12 @@ pub struct Counts {
 /// What all seats of a closed host have counted. What `taken` leaves over `completed` and `failed` was in hand.
 #[derive(Clone, Copy, PartialEq, Eq, Debug)]
 pub struct Totals {
+    /// Tasks that used a slot.
     pub taken: u64,
+    /// Tasks that were finished as completed.
     pub completed: u64,
+    /// Tasks that were finished as failed.
     pub failed: u64,
+    /// Tasks that were not finished.
     pub in_hand: u64,
 }

@@ -23,7 +23,9 @@ use wh_workflow::Workflow;
 /// The run of a held workflow place, and whether it is to be evicted.
 #[derive(Drop, Debug)]
 pub struct Mark {
+    /// The key of the run.
     pub key: RunKey,
+    /// Whether the run is not to be cached when it comes back.
     pub evicted: bool,
 }
 

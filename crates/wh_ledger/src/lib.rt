@@ -17,8 +17,11 @@ use wh_events::OutOfMemory;
 /// Numbers of tasks that were taken, completed and failed.
 #[derive(Clone, Copy, PartialEq, Eq, Debug)]
 pub struct Shares {
+    /// Tasks that used a slot.
     pub taken: u64,
+    /// Tasks that were finished as completed.
     pub completed: u64,
+    /// Tasks that were finished as failed.
     pub failed: u64,
 }
 

@@ -32,6 +32,7 @@ fn put(
 impl Names {
     ghost use Rattle.wh_machines.specs.Tables.{named_in};
 
+    /// No thing has an id yet. It takes no memory.
     pub fn new(alloc: Global) -> Self
         ensures { (thing : Thing) (id : List ℕ) → named_in result thing id ≡ None }
     {

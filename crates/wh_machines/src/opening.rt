@@ -18,6 +18,7 @@ pub struct Opening {
 }
 
 impl Opening {
+    /// What the event of the number opened, of which nothing more is known; `previous` is the opening of its kind and id before it.
     pub fn new(number: EventNo, previous: Option<EventNo>) -> Self
         ensures { result ≡ fresh number previous }
     {

@@ -19,6 +19,7 @@ pub struct Openings {
 impl Openings {
     ghost use Rattle.wh_machines.specs.Tables.{IsSound, opening_in};
 
+    /// Nothing is opened yet. It takes no memory.
     pub fn new(alloc: Global) -> Self
         ensures sound { IsSound result }
         ensures empty { (number : ℕ) → opening_in result number ≡ None }
@@ -37,6 +38,7 @@ impl Openings {
         self.entries.get(key).copied()
     }
 
+    /// Enters an opening whose number is not there. After `OutOfMemory` the table is as it was.
     pub fn insert(&mut self, opening: Opening) -> Result<(), OutOfMemory>
         requires sound { IsSound self.old }
         requires unknown { opening_in self.old opening.number ≡ None }

@@ -9,6 +9,7 @@ use wh_events::{Class, Event, EventKind, Thing};
 /// The most events of one run. Temporal ends a run whose history grows longer: <https://docs.temporal.io/workflow-execution/limits>.
 pub const MOST_EVENTS: u64 = 51_200;
 
+/// Whether the event starts the run.
 pub fn is_start(event: &Event) -> bool
     ensures { result ≡ places.is_start event.now }
 {

@@ -18,7 +18,9 @@ use wh_events::OutOfMemory;
 /// What a slot is for: workflow tasks or activity tasks.
 #[derive(Clone, Copy, PartialEq, Eq, Debug)]
 pub enum SlotKind {
+    /// For a workflow task.
     Workflow,
+    /// For an activity task.
     Activity,
 }
 
@@ -29,8 +31,11 @@ pub struct TaskName(pub u128);
 /// One place, as contracts see it: free, reserved under a number, or held under a number by a named task.
 #[derive(Clone, Copy, Debug)]
 pub enum Place {
+    /// Nobody has it.
     Free,
+    /// A poll has it, under this number.
     Reserved(u64),
+    /// The named task has it, under this number.
     InHand(u64, TaskName),
 }
 
@@ -65,8 +70,11 @@ pub struct NotHeld;
 /// How many places are free, reserved and held. Together they are all places of the kind.
 #[derive(Clone, Copy, PartialEq, Eq, Debug)]
 pub struct SlotCount {
+    /// Places that nobody has.
     pub free: usize,
+    /// Places that a poll has.
     pub reserved: usize,
+    /// Places that a task has.
     pub held: usize,
 }
 

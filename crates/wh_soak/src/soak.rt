@@ -39,14 +39,18 @@ const PAUSE: u64 = 2_000;
 /// An answer as a text, with the name of its task.
 #[derive(Drop)]
 pub struct Answered {
+    /// The name of the task.
     pub task: u128,
+    /// The answer as a text.
     pub text: Text,
 }
 
 /// What a soak gave.
 #[derive(Drop)]
 pub struct Findings {
+    /// What the closed host counted.
     pub totals: Totals,
+    /// What the workers counted.
     pub tally: Tally,
     /// How many runs were cached when they were evicted.
     pub evicted: u64,

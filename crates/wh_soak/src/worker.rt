@@ -46,9 +46,13 @@ pub struct Tally {
 /// What a worker begins with, and what it hands back, with the hits and the misses that it counted.
 #[derive(Drop)]
 pub struct Job<T: Ledger, C: Ledger, F: Ledger> {
+    /// The seat of the worker.
     pub seat: Seat<T, C, F>,
+    /// Its source.
     pub source: ScriptSource,
+    /// Tasks that found their run in the cache.
     pub hits: u64,
+    /// Tasks that did not.
     pub misses: u64,
 }
 

@@ -15,6 +15,7 @@ pub fn next_core(events: &[Event]) -> Option<&Event>
     None
 }
 
+/// Whether the event starts a workflow task.
 pub fn is_task_started(event: &Event) -> bool
     ensures { result ≡ is_task_started event.now }
 {
