@@ -180,20 +180,3 @@ fn a_failing_call_reaches_no_source(rt: HostRuntime) {
     assert!(rt; matches!(source.poll_workflow(), Err(SourceFault::Source)));
     assert_eq!(rt; next_task(&rt, &mut source), (3 * FILE + 3, 1, 3));
 }
-
-#[test]
-fn each_call_is_passed_on(rt: HostRuntime) -> Result<(), Fail> {
-    let alloc = rt.alloc();
-    let mut source = FaultySource::new(naps(alloc)?, 0);
-    assert_eq!(rt; next_task(&mut source)?, (3, 1, 3));
-    assert!(rt; matches!(source.poll_activity(), Ok(Polled::Closed)));
-    let told = source
-        .whole(&key(alloc, "nap", "recorded")?, 5)
-        .map_err(|_| "whole")?;
-    assert_eq!(rt; told.len(), 5);
-    let answer = Answer::Complete(Items::new(Vec::<Command>::new(alloc)));
-    assert!(rt; source.answer_workflow(TaskName(3), &answer).is_ok());
-    let failed = ActivityAnswer::Failed(text(alloc, "failed")?);
-    assert!(rt; source.answer_activity(TaskName(3), &failed).is_ok());
-    Ok(())
-}
