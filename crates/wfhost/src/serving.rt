@@ -22,36 +22,9 @@ use wh_events::{Event, OutOfMemory, Text};
 use wh_host::{Config, Host, OpenFault, Totals};
 use wh_json::{ReadFault, read_events};
 use wh_ledger::Seat;
-use wh_poll::{ActivityAnswer, ActivityHandler, ActivityTask, Gate, Worker, run_workers};
+use wh_poll::{NoActivities, OpenGate, Worker, run_workers};
 use wh_samples::ScriptSource;
-use wh_slots::TaskName;
 use wh_workflow::Workflow;
-
-/// Fails each activity.
-#[derive(Drop)]
-struct NoActivities {
-    alloc: Global,
-}
-
-impl ActivityHandler for NoActivities {
-    ghost use Rattle.std.specs.Prelude.{◌≡◌, codes};
-    ghost use Rattle.wh_poll.specs.declared.source.ActivityAnswer.TheVariants.{Failed};
-
-    ghost may = { λ handler task answer. answer ≡ Failed (codes "no activities") };
-
-    fn run(&mut self, _task: &ActivityTask) -> Result<ActivityAnswer, OutOfMemory> {
-        let reason = String::from_str(self.alloc, "no activities")?;
-        Ok(ActivityAnswer::Failed(Text::new(reason)))
-    }
-}
-
-/// Lets each task go on at once.
-#[derive(Drop)]
-struct OpenGate;
-
-impl Gate for OpenGate {
-    fn enter<R: Wait>(&self, _rt: &R, _name: TaskName) {}
-}
 
 /// A file by its name, and why it cannot be read, if so.
 #[derive(Drop)]

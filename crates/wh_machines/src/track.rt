@@ -70,8 +70,8 @@ impl Track {
         self.jumps.reserve(1)?;
         note(self.alloc, &mut self.openings, &mut self.names, &event)?;
         self.over = event.closes_run();
-        push_reserved(&mut self.events, event);
-        push_reserved(&mut self.jumps, jump);
+        self.events.push_reserved(event);
+        self.jumps.push_reserved(jump);
         Ok(())
     }
 
@@ -278,16 +278,5 @@ impl Track {
             Some(opening) if opening.closed.is_some() => Some(PlaceFault::AlreadyClosed),
             _ => None,
         }
-    }
-}
-
-/// Adds an item for which there is room.
-fn push_reserved<T: Drop>(items: &mut Vec<T>, item: T)
-    requires { vec_len items.old < vec_capacity items.old }
-    ensures { items.new.items ≡ items.old.items ++ item ∷ [] }
-{
-    match items.push(item) {
-        Ok(()) => {}
-        Err(_) => unreachable!(),
     }
 }

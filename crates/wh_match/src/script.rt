@@ -91,8 +91,8 @@ impl Script {
         self.late.reserve(1)?;
         self.closed = closes(&command);
         self.count += 1;
-        push_reserved(&mut self.issued, command);
-        push_reserved(&mut self.late, late);
+        self.issued.push_reserved(command);
+        self.late.push_reserved(late);
         Ok(())
     }
 
@@ -301,9 +301,9 @@ fn push_marks(late: &mut Vec<bool>, marked: bool)
     requires { vec_len late.old + 2 ≤ vec_capacity late.old }
     ensures { late.new.items ≡ (late.old.items ++ false ∷ []) ++ unmarked_if marked }
 {
-    push_reserved(late, false);
+    late.push_reserved(false);
     if marked {
-        push_reserved(late, false);
+        late.push_reserved(false);
     }
 }
 
@@ -313,19 +313,6 @@ fn append_reserved(items: &mut Vec<Command>, mut more: Vec<Command>)
     ensures { items.new.items ≡ items.old.items ++ more.items }
 {
     match items.append(&mut more) {
-        Ok(()) => {}
-        Err(_) => unreachable!(),
-    }
-}
-
-/// Adds an item for which there is room.
-fn push_reserved<T: Drop>(items: &mut Vec<T>, item: T)
-    requires { vec_len items.old < vec_capacity items.old }
-    ensures items { items.new.items ≡ items.old.items ++ item ∷ [] }
-    ensures len { vec_len items.new ≡ vec_len items.old + 1 }
-    ensures capacity { vec_capacity items.old ≤ vec_capacity items.new }
-{
-    match items.push(item) {
         Ok(()) => {}
         Err(_) => unreachable!(),
     }

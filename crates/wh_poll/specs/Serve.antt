@@ -1,5 +1,7 @@
 -- What one turn of a worker does.
 use Rattle.std.specs.Prelude.{◌≡◌, ◌⊎◌, ℕ, ◌+◌, ◌≤◌, Bool, List, [], ◌∷◌, ◌++◌, Option, Some, None, Result, Ok, Err, IfSome}
+use Rattle.wh_slots.specs.declared.SlotKind.{SlotKind}
+use Rattle.wh_slots.specs.declared.SlotKind.TheVariants.{Workflow as WorkflowKind, Activity as ActivityKind}
 use Rattle.wh_slots.specs.declared.TaskName.{TaskName}
 use Rattle.wh_events.specs.declared.event.Event.{Event}
 use Rattle.wh_replay.specs.declared.fault.Fault.{Fault}
@@ -77,6 +79,19 @@ Serves program tells delivers may old new (Ok NoSlot) = new ≡ old
 Serves program tells delivers may old new (Ok Draining) = new ≡ old
 Serves program tells delivers may old new (Ok NumbersSpent) = new ≡ old
 Serves program tells delivers may old new (Err fault) = new ≡ old
+
+-- a task that was answered is of the kind
+abbrev pub IsOfKind : SlotKind → Result Served SourceFault → Type 0
+IsOfKind kind (Ok (Workflow name hit steps outcome)) = kind ≡ WorkflowKind
+IsOfKind kind (Ok (Activity name outcome)) = kind ≡ ActivityKind
+IsOfKind kind (Ok (NoMemory name)) = Unit {0}
+IsOfKind kind (Ok (Repeated name)) = Unit {0}
+IsOfKind kind (Ok Idle) = Unit {0}
+IsOfKind kind (Ok Closed) = Unit {0}
+IsOfKind kind (Ok NoSlot) = Unit {0}
+IsOfKind kind (Ok Draining) = Unit {0}
+IsOfKind kind (Ok NumbersSpent) = Unit {0}
+IsOfKind kind (Err fault) = Unit {0}
 
 -- the outcome was counted, or nothing
 abbrev pub MayCount : Shares → Shares → Outcome → Type 0

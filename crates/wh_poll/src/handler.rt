@@ -2,8 +2,9 @@
 ghost use Rattle.std.specs.Prelude.{IfOk};
 
 use crate::source::{ActivityAnswer, ActivityTask};
+use std::alloc::Global;
 use std::sync::Wait;
-use wh_events::OutOfMemory;
+use wh_events::{OutOfMemory, Text};
 use wh_slots::TaskName;
 
 /// Runs activities, one for each worker. What an activity does is its own; contracts see what it may answer.
@@ -26,4 +27,31 @@ pub trait ActivityHandler {
 pub trait Gate {
     /// Lets the task go on, now or later.
     fn enter<R: Wait>(&self, rt: &R, name: TaskName);
+}
+
+/// The handler of a worker that has no activities: it fails each task with the reason "no activities".
+#[derive(Drop)]
+pub struct NoActivities {
+    /// Where the reason is made.
+    pub alloc: Global,
+}
+
+impl ActivityHandler for NoActivities {
+    ghost use Rattle.std.specs.Prelude.{◌≡◌, codes};
+    ghost use Rattle.wh_poll.specs.declared.source.ActivityAnswer.TheVariants.{Failed};
+
+    ghost may = { λ handler task answer. answer ≡ Failed (codes "no activities") };
+
+    fn run(&mut self, _task: &ActivityTask) -> Result<ActivityAnswer, OutOfMemory> {
+        let reason = String::from_str(self.alloc, "no activities")?;
+        Ok(ActivityAnswer::Failed(Text::new(reason)))
+    }
+}
+
+/// The gate that lets each task go on at once.
+#[derive(Drop)]
+pub struct OpenGate;
+
+impl Gate for OpenGate {
+    fn enter<R: Wait>(&self, _rt: &R, _name: TaskName) {}
 }

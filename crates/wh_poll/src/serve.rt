@@ -1,7 +1,8 @@
 //! One turn of a worker.
 ghost use Rattle.std.specs.Prelude.{◌≡◌, ◌+◌, IfSome, MatchOption};
 ghost use Rattle.wh_poll.specs.Source.{SameRelation, SameTelling, SameMay, FailsOnly};
-ghost use Rattle.wh_poll.specs.Serve.{Serves, Counts, MayCount};
+ghost use Rattle.wh_poll.specs.Serve.{Serves, IsOfKind, Counts, MayCount};
+ghost use Rattle.wh_slots.specs.declared.SlotKind.TheVariants.{Workflow as WorkflowKind, Activity as ActivityKind};
 
 use crate::answer::{Answered, answer_activity, answer_workflow};
 use crate::handler::{ActivityHandler, Gate};
@@ -65,7 +66,8 @@ pub enum Served {
 /// alone; its lock is not held while the source is called, the gate is entered, workflow code is stepped or an activity is run.
 ///
 /// `Workflow` and `Activity` are answered where exactly one answer was sent, under the name of a task that the source delivers:
-/// that of `replay_task` with no run or one of the task's key, and of the handler. Everything else sends nothing. The seat's taken
+/// that of `replay_task` with no run or one of the task's key, and of the handler. Everything else sends nothing. A task that is
+/// answered is of the kind that was asked for. The seat's taken
 /// share rises by one where a task was taken in hand, and its completed or failed share by at most one, as the task's outcome
 /// says. A fault is the source's, after which no slot is left reserved or held by this turn. (Temporal documentation, "Workers",
 /// "Task Queues", "Sticky Execution".)
@@ -89,6 +91,7 @@ pub fn serve_one<
     kind: SlotKind,
 ) -> Result<Served, SourceFault>
     ensures serves { Serves W.program (S.tells source.old) (S.delivers source.old) (A.may handler.old) (S.answers source.old) (S.answers source.new) result }
+    ensures kind { IsOfKind kind result }
     ensures counts { Counts seat.old seat.new result }
     ensures failures { FailsOnly result (S.failures source.old) (S.failures source.new) }
     ensures delivers { SameRelation (S.delivers source.old) (S.delivers source.new) }
@@ -129,6 +132,7 @@ fn serve_workflow<
     permit: Permit,
 ) -> Result<Served, SourceFault>
     ensures serves { Serves W.program (S.tells source.old) (S.delivers source.old) (A.may _handler.now) (S.answers source.old) (S.answers source.new) result }
+    ensures kind { IsOfKind WorkflowKind result }
     ensures counts { Counts seat.old seat.new result }
     ensures failures { FailsOnly result (S.failures source.old) (S.failures source.new) }
     ensures delivers { SameRelation (S.delivers source.old) (S.delivers source.new) }
@@ -204,6 +208,7 @@ fn serve_activity<
     permit: Permit,
 ) -> Result<Served, SourceFault>
     ensures serves { Serves W.program (S.tells source.old) (S.delivers source.old) (A.may handler.old) (S.answers source.old) (S.answers source.new) result }
+    ensures kind { IsOfKind ActivityKind result }
     ensures counts { Counts seat.old seat.new result }
     ensures failures { FailsOnly result (S.failures source.old) (S.failures source.new) }
     ensures delivers { SameRelation (S.delivers source.old) (S.delivers source.new) }

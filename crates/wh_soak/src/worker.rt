@@ -4,33 +4,12 @@ ghost use Rattle.std.specs.Prelude.{◌+◌, ◌≤◌};
 use std::alloc::Global;
 use std::sync::Wait;
 use std::sync::ledger::Ledger;
-use wh_events::OutOfMemory;
 use wh_host::Host;
 use wh_ledger::Seat;
-use wh_poll::{ActivityAnswer, ActivityHandler, ActivityTask, Gate, Served, serve_one};
+use wh_poll::{NoActivities, OpenGate, Served, serve_one};
 use wh_samples::ScriptSource;
-use wh_slots::{SlotKind, TaskName};
+use wh_slots::SlotKind;
 use wh_workflow::Workflow;
-
-/// Runs no activity.
-#[derive(Drop)]
-struct NoActivities;
-
-impl ActivityHandler for NoActivities {
-    ghost may = { λ handler task answer. ⊥ };
-
-    fn run(&mut self, _task: &ActivityTask) -> Result<ActivityAnswer, OutOfMemory> {
-        Err(OutOfMemory)
-    }
-}
-
-/// Lets each task go on at once.
-#[derive(Drop)]
-struct OpenGate;
-
-impl Gate for OpenGate {
-    fn enter<R: Wait>(&self, _rt: &R, _name: TaskName) {}
-}
 
 /// What workers counted.
 #[derive(Clone, Copy)]
@@ -76,7 +55,7 @@ pub fn work<R: Wait, W: Workflow, T: Ledger, C: Ledger, F: Ledger>(
             host,
             &mut job.seat,
             &mut job.source,
-            &mut NoActivities,
+            &mut NoActivities { alloc },
             &OpenGate,
             SlotKind::Workflow,
         );

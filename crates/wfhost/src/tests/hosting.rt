@@ -9,12 +9,11 @@ use std::process::Abort;
 use std::sync::Wait;
 use std::sync::ledger::{Blank, Ledger};
 use std::test::Fail;
-use wh_events::{Event, OutOfMemory, RunKey, Text};
+use wh_events::{Event, RunKey, Text};
 use wh_host::{Config, Counts, Host, Outcome, Totals};
 use wh_ledger::Seat;
 use wh_poll::{
-    ActivityAnswer, ActivityHandler, ActivityTask, Gate, Served, SourceFault, TaskSource, Worker,
-    serve_one, work,
+    Gate, NoActivities, OpenGate, Served, SourceFault, TaskSource, Worker, serve_one, work,
 };
 use wh_replay::{AdvanceFault, Run};
 use wh_samples::{All, FaultySource, Nap, ScriptSource};
@@ -32,25 +31,6 @@ pub(super) const SMALL: Config = Config {
     cache_events: 0,
     seats: 1,
 };
-
-/// Runs no activity.
-#[derive(Drop)]
-pub(super) struct NoActivity;
-
-impl ActivityHandler for NoActivity {
-    ghost may = { λ handler task answer. Unit {0} };
-
-    fn run(&mut self, _task: &ActivityTask) -> Result<ActivityAnswer, OutOfMemory> {
-        Err(OutOfMemory)
-    }
-}
-
-/// Lets each task go on.
-struct OpenGate;
-
-impl Gate for OpenGate {
-    fn enter<R: Wait>(&self, _rt: &R, _name: TaskName) {}
-}
 
 /// A source of histories, each with a name. Their indices begin at `first`.
 pub(super) fn script(alloc: Global, first: u64, table: &'static str) -> Result<ScriptSource, Fail> {
@@ -114,7 +94,16 @@ pub(super) fn turn<R: Wait, W: Workflow, T: Ledger, C: Ledger, F: Ledger, S: Tas
     gate: &G,
 ) -> Result<Served, SourceFault> {
     let kind = SlotKind::Workflow;
-    serve_one(rt, alloc, host, seat, source, &mut NoActivity, gate, kind)
+    serve_one(
+        rt,
+        alloc,
+        host,
+        seat,
+        source,
+        &mut NoActivities { alloc },
+        gate,
+        kind,
+    )
 }
 
 /// The answer to a completed task, by its name, whether a cached run served, and the steps that replay took.
@@ -371,7 +360,16 @@ fn worked<R: Wait + Abort, W: Workflow, T: Ledger, C: Ledger, F: Ledger>(
     let (host, mut seats) = open::<R, W, T, C, F>(rt, alloc, config, taken, completed, failed);
     let seat = seats.pop().expect(rt, "seat");
     let source = FaultySource::new(source, fail_at);
-    let worker = work(rt, alloc, &host, seat, source, NoActivity, &OpenGate, turns);
+    let worker = work(
+        rt,
+        alloc,
+        &host,
+        seat,
+        source,
+        NoActivities { alloc },
+        &OpenGate,
+        turns,
+    );
     let Worker { seat, fault, .. } = worker;
     assert!(rt; seats.push(seat).is_ok());
     (close(rt, host, seats), fault)

@@ -2,7 +2,7 @@
 
 ghost use Rattle.std.specs.Prelude.{◌≡◌};
 
-use crate::tests::hosting::{FILE, NoActivity, SMALL, close, counts, key, open, script, turn};
+use crate::tests::hosting::{FILE, SMALL, close, counts, key, open, script, turn};
 use std::alloc::Global;
 use std::marker::Brand;
 use std::process::Abort;
@@ -14,7 +14,7 @@ use std::thread::Threads;
 use wh_events::RunKey;
 use wh_host::{Config, Counts, Evict, Host, Totals};
 use wh_ledger::Seat;
-use wh_poll::{Gate, Worker, run_workers};
+use wh_poll::{Gate, NoActivities, Worker, run_workers};
 use wh_samples::{Nap, ScriptSource};
 use wh_slots::TaskName;
 
@@ -108,10 +108,10 @@ fn seats_after<
     }
 }
 
-fn handlers(rt: &impl Abort, alloc: Global, count: usize) -> Vec<NoActivity> {
+fn handlers(rt: &impl Abort, alloc: Global, count: usize) -> Vec<NoActivities> {
     let mut handlers = Vec::new(alloc);
     for _handler in 0..count {
-        assert!(rt; handlers.push(NoActivity).is_ok());
+        assert!(rt; handlers.push(NoActivities { alloc }).is_ok());
     }
     handlers
 }

@@ -21,8 +21,8 @@ invariant_of-self-2 c =
     let none = unfaulted (place_in c.args.track.now script None) [] script.issued c.args.command (c.in_default.ensures None []) in
     let issued : script.issued ≡ inside.issued.items = ap (λ (s : Issuing). s.issued) (sym c.self.view_is) in
     let fits : early_fault inside.issued.items ≡ None = sym (ap early_fault issued) ∙ none in
-    let more : c.push_reserved.new.items.items ≡ inside.issued.items ++ c.args.command ∷ [] = c.push_reserved.ensures.items ∙ ap (λ l. l ++ c.args.command ∷ []) c.in_ok-reserve.ensures.items in
-    let marks : c.push_reserved-2.new.items.items ≡ inside.late.items ++ c.is_late-late.result ∷ [] = c.push_reserved-2.ensures.items ∙ ap (λ l. l ++ c.is_late-late.result ∷ []) c.in_ok-reserve-2.ensures.items in
+    let more : c.push_reserved.new.self.items ≡ inside.issued.items ++ c.args.command ∷ [] = c.push_reserved.ensures.items ∙ ap (λ l. l ++ c.args.command ∷ []) c.in_ok-reserve.ensures.items in
+    let marks : c.push_reserved-2.new.self.items ≡ inside.late.items ++ c.is_late-late.result ∷ [] = c.push_reserved-2.ensures.items ∙ ap (λ l. l ++ c.is_late-late.result ∷ []) c.in_ok-reserve-2.ensures.items in
     record {
       each = rw (more, marks) (each_more inside.late.items inside.issued.items c.is_late-late.result c.args.command c.self.invariant.each);
       counted = rw more (count_more inside.count inside.issued.items c.args.command c.requires.not_marker c.self.invariant.counted);

@@ -1,0 +1,108 @@
+#!/usr/bin/env python3
+"""Starts the built program in each way that ends with another status, and compares the status and both streams with what
+README's table of statuses says. It is no part of the gate. It ends with status 1 where something differs."""
+
+import resource
+import subprocess
+import sys
+import tempfile
+from pathlib import Path
+
+TOP = Path(__file__).resolve().parent.parent
+PROGRAM = TOP / "crates/wfhost/out/wfhost"
+NAP = (TOP / "examples/histories/nap.json").read_bytes()
+LIMIT_SECONDS = 60
+# Too little for a file of this size, and enough for the program to start.
+SMALL_MEMORY = 64 << 20
+LARGE_FILE = b'{"events":[' + b'"' + b"x" * (60 << 20) + b'"]}'
+
+SERVED = "nap.json: 2 tasks, 2 completed, 0 failed\ntaken 2, completed 2, failed 0, in hand 0\n"
+UNREAD = "nap.json: unreadable, not JSON\n"
+
+
+def folder_with(room, name, files):
+    """A folder below the room, with these files."""
+    made = Path(room, name)
+    made.mkdir()
+    for file, data in files.items():
+        (made / file).write_bytes(data)
+    return str(made)
+
+
+def cases(room):
+    """What is tried: the words, the status, the standard output, what the standard error begins with, and how."""
+    well = folder_with(room, "well", {"nap.json": NAP})
+    empty = folder_with(room, "empty", {})
+    bad = folder_with(room, "bad", {"nap.json": b"{"})
+    large = folder_with(room, "large", {"large.json": LARGE_FILE})
+    broken = folder_with(room, "broken", {"nap.json": NAP})
+    Path(broken, "gone.json").symlink_to("nowhere")
+    inner = folder_with(room, "inner", {"nap.json": NAP})
+    Path(inner, "folder.json").mkdir()
+    missing = str(Path(room, "missing"))
+    cannot = "wfhost: cannot read "
+    return [
+        (["replay", well], 0, "nap.json: ok, 2 tasks\n1 files, 1 ok\n", "", {}),
+        (["serve", well], 0, SERVED, "", {}),
+        (["replay", empty], 0, "0 files, 0 ok\n", "", {}),
+        (["serve", empty], 0, "taken 0, completed 0, failed 0, in hand 0\n", "", {}),
+        (["replay", bad], 1, UNREAD + "1 files, 0 ok\n", "", {}),
+        (["serve", bad], 1, UNREAD + "taken 0, completed 0, failed 0, in hand 0\n", "", {}),
+        ([], 2, "", "error: ", {}),
+        (["replay"], 2, "", "error: ", {}),
+        (["replay", well, empty], 2, "", "error: ", {}),
+        (["no-such-command"], 2, "", "error: ", {}),
+        (["serve", well, "--workers", "0"], 2, "", "error: ", {}),
+        (["serve", well, "--workers", "65"], 2, "", "error: ", {}),
+        (["serve", well, "--workers", "3", "--slots", "2"], 2, "", "wfhost: slots must be at least workers\n", {}),
+        ([b"replay", b"\xff"], 2, "", "wfhost: arguments must be UTF-8 text\n", {}),
+        (["replay", missing], 2, "", f"{cannot}{missing}\n", {}),
+        (["serve", missing], 2, "", f"{cannot}{missing}\n", {}),
+        (["replay", broken], 2, "", f"{cannot}{broken}\n", {}),
+        (["replay", inner], 2, "", f"{cannot}{inner}\n", {}),
+        (["replay", well], 2, None, "wfhost: cannot write\n", {"full": True}),
+        (["serve", well], 2, None, "wfhost: cannot write\n", {"full": True}),
+        (["--help"], 2, None, "wfhost: cannot write\n", {"full": True}),
+        (["serve", large], 2, "", "wfhost: out of memory\n", {"memory": SMALL_MEMORY}),
+    ]
+
+
+def run(words, full=False, memory=0):
+    """Runs the program, with a device that takes nothing as its standard output or a limit on its memory where wanted."""
+    before = (lambda: resource.setrlimit(resource.RLIMIT_AS, (memory, memory))) if memory else None
+    with open("/dev/full", "w") as device:
+        out = device if full else subprocess.PIPE
+        return subprocess.run(
+            [PROGRAM, *words], stdout=out, stderr=subprocess.PIPE, timeout=LIMIT_SECONDS, preexec_fn=before
+        )
+
+
+def differs(ran, status, out, error):
+    """What is not as it should be."""
+    stdout, stderr = (ran.stdout or b"").decode(), ran.stderr.decode()
+    if ran.returncode != status:
+        return f"status {ran.returncode}, not {status}"
+    if out is not None and stdout != out:
+        return f"standard output {stdout!r}"
+    if not stderr.startswith(error) or bool(stderr) != bool(error):
+        return f"standard error {stderr!r}"
+    return ""
+
+
+def main():
+    if not PROGRAM.exists():
+        sys.exit("the program is not built: start ./wfhost once")
+    wrong = 0
+    with tempfile.TemporaryDirectory() as room:
+        tried = cases(room)
+        for words, status, out, error, how in tried:
+            why = differs(run(words, **how), status, out, error)
+            if why:
+                wrong += 1
+                print(f"wfhost {words} {how}: {why}")
+    print(f"{len(tried)} tried, {wrong} wrong")
+    return 1 if wrong else 0
+
+
+if __name__ == "__main__":
+    sys.exit(main())
