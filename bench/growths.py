@@ -1,0 +1,39 @@
+#!/usr/bin/env python3
+"""Counts with valgrind the growths of memory that one `Run::advance` makes on a long run whose tasks start 64 timers each:
+those of wh_growth where it makes the call, beyond those where it makes all but the call. It is no part of the gate. It ends
+with status 1 where a call makes more than 4,000, which a replay of 100 such tasks makes by far."""
+
+import re
+import subprocess
+import sys
+from pathlib import Path
+
+TOP = Path(__file__).resolve().parent.parent
+CRATE = TOP / "crates/wh_growth"
+PROGRAM = CRATE / "out/wh_growth"
+LIMIT_SECONDS = 300
+MOST = 4_000
+
+
+def growths(tasks, does):
+    """How often the program asks for memory, and what it prints."""
+    command = ["valgrind", PROGRAM, str(tasks), does]
+    ran = subprocess.run(command, capture_output=True, text=True, timeout=LIMIT_SECONDS, check=True)
+    count = re.search(r"total heap usage: ([\d,]+) allocs", ran.stderr)[1]
+    return int(count.replace(",", "")), ran.stdout.strip()
+
+
+def main():
+    if not PROGRAM.exists():
+        sys.exit("the program is not built: run `rt run -- 100 advance` in crates/wh_growth")
+    worst = 0
+    for tasks in (1, 10, 100, 700):
+        without, _ = growths(tasks, "leave")
+        growing, told = growths(tasks, "advance")
+        worst = max(worst, growing - without)
+        print(f"{told}: {growing - without} growths, and {without} for all before it")
+    return 1 if MOST < worst else 0
+
+
+if __name__ == "__main__":
+    sys.exit(main())
