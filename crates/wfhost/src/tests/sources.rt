@@ -1,9 +1,11 @@
-use crate::{FaultySource, ScriptSource};
+//! Sources of recorded histories, and one of which one call fails.
+
 use std::alloc::Global;
 use std::process::Abort;
 use wh_events::{Event, EventKind, EventNo, Items, Payload, RunKey, Text};
 use wh_poll::{ActivityAnswer, Polled, SourceFault, TaskSource, WorkflowTask};
 use wh_replay::Answer;
+use wh_samples::{FaultySource, ScriptSource};
 use wh_slots::TaskName;
 use wh_workflow::Command;
 

@@ -1,4 +1,4 @@
-use Rattle.wh_poll.proofs.tests.tasks_of_both_kinds.Given as goal
+use Rattle.wfhost.proofs.tests.kinds.tasks_of_both_kinds.Given as goal
 
 abbrev pub ghosts-four_turns-T-Ledger : goal.ghosts-four_turns-T-Ledger
 ghosts-four_turns-T-Ledger g a = record { name = a.taken.name; parts = a.taken.parts }
