@@ -1,7 +1,7 @@
 use crate::{Answer, Checked, Fault, Run, RunFault, check};
 use std::alloc::Global;
-use std::test::Fail;
-use wh_events::{Event, EventKind, EventNo, Items, OutOfMemory, Payload, PlaceFault, RunKey, Text};
+use std::process::Abort;
+use wh_events::{Event, EventKind, EventNo, Items, OutOfMemory, PlaceFault, RunKey, Text};
 use wh_workflow::{Command, Job, Meter, Workflow};
 
 /// A workflow that answers nothing.
@@ -37,134 +37,118 @@ impl Workflow for Still {
     }
 }
 
-fn text(alloc: Global, text: &str) -> Result<Text, Fail> {
-    Ok(Text::new(String::from_str(alloc, text)?))
+fn text(rt: &impl Abort, alloc: Global, content: &str) -> Text {
+    Text::new(String::from_str(alloc, content).expect(rt, "memory"))
 }
 
-fn key(alloc: Global) -> Result<RunKey, Fail> {
-    Ok(RunKey {
-        workflow_id: text(alloc, "w")?,
-        run_id: text(alloc, "r")?,
-    })
+fn key(rt: &impl Abort, alloc: Global) -> RunKey {
+    RunKey {
+        workflow_id: text(rt, alloc, "w"),
+        run_id: text(rt, alloc, "r"),
+    }
 }
 
-fn add(events: &mut Vec<Event>, number: u64, body: EventKind) -> Result<(), Fail> {
-    let Some(number) = EventNo::new(number) else {
-        return Err("number".into());
-    };
+fn add(rt: &impl Abort, events: &mut Vec<Event>, number: u64, body: EventKind) {
     let event = Event {
-        number,
+        number: EventNo::new(number).expect(rt, "number"),
         time: 0,
         body,
     };
-    match events.push(event) {
-        Ok(()) => Ok(()),
-        Err(_) => Err("memory".into()),
-    }
+    assert!(rt; events.push(event).is_ok());
 }
 
 /// Adds the start of a run and the first task.
-fn add_first(alloc: Global, events: &mut Vec<Event>) -> Result<(), Fail> {
+fn add_first(rt: &impl Abort, alloc: Global, events: &mut Vec<Event>) {
     let started = EventKind::WorkflowExecutionStarted {
-        workflow: text(alloc, "Still")?,
-        input: Items::new(Vec::<Payload>::new(alloc)),
+        workflow: text(rt, alloc, "Still"),
+        input: Items::new(Vec::new(alloc)),
     };
-    add(events, 1, started)?;
-    add(events, 2, EventKind::WorkflowTaskStarted)
+    add(rt, events, 1, started);
+    add(rt, events, 2, EventKind::WorkflowTaskStarted);
 }
 
 /// Adds what ended the first task, a signal and the next task.
-fn add_next(alloc: Global, events: &mut Vec<Event>, end: EventKind) -> Result<(), Fail> {
+fn add_next(rt: &impl Abort, alloc: Global, events: &mut Vec<Event>, end: EventKind) {
     let signal = EventKind::WorkflowExecutionSignaled {
-        name: text(alloc, "s")?,
-        input: Items::new(Vec::<Payload>::new(alloc)),
+        name: text(rt, alloc, "s"),
+        input: Items::new(Vec::new(alloc)),
     };
-    add(events, 3, end)?;
-    add(events, 4, signal)?;
-    add(events, 5, EventKind::WorkflowTaskStarted)
+    add(rt, events, 3, end);
+    add(rt, events, 4, signal);
+    add(rt, events, 5, EventKind::WorkflowTaskStarted);
 }
 
 /// A run whose first task is live.
-fn first_task(alloc: Global, meter: &mut Meter) -> Result<Run<Still>, Fail> {
+fn first_task(rt: &impl Abort, alloc: Global, meter: &mut Meter) -> Run<Still> {
     let mut events = Vec::new(alloc);
-    add_first(alloc, &mut events)?;
-    match Run::from_first(alloc, key(alloc)?, events, meter) {
-        Ok(run) => Ok(run),
-        Err(_) => Err("run".into()),
+    add_first(rt, alloc, &mut events);
+    match Run::from_first(alloc, key(rt, alloc), events, meter) {
+        Ok(run) => run,
+        Err(_) => panic!(rt; "no run"),
     }
 }
 
-/// The run after the end of the first task, with the second one live.
-fn second_task(
-    alloc: Global,
-    run: Run<Still>,
-    end: EventKind,
-    meter: &mut Meter,
-) -> Result<Run<Still>, Fail> {
+/// The number of steps after the first task, then after the second one, which follows the end of the
+/// first.
+fn steps_around(rt: &impl Abort, alloc: Global, end: EventKind) -> (u64, u64) {
+    let mut meter = Meter::new();
+    let run = first_task(rt, alloc, &mut meter);
+    let first = meter.count();
     let mut events = Vec::new(alloc);
-    add_next(alloc, &mut events, end)?;
-    match run.advance(alloc, events, meter) {
-        Ok(run) => Ok(run),
-        Err(_) => Err("advance".into()),
+    add_next(rt, alloc, &mut events, end);
+    match run.advance(alloc, events, &mut meter) {
+        Ok(run) => assert_eq!(rt; run.held_len(), 5),
+        Err(_) => panic!(rt; "no advance"),
     }
+    (first, meter.count())
 }
 
 /// The time and the start; then the time and the signal alone.
 #[test]
-fn a_completed_task_is_not_stepped_again(rt: HostRuntime) -> Result<(), Fail> {
-    let alloc = rt.alloc();
-    let mut meter = Meter::new();
-    let run = first_task(alloc, &mut meter)?;
-    assert_eq!(rt; meter.count(), 2);
-    let run = second_task(alloc, run, EventKind::WorkflowTaskCompleted, &mut meter)?;
-    assert_eq!(rt; meter.count(), 4);
-    assert_eq!(rt; run.held_len(), 5);
-    Ok(())
+fn a_completed_task_is_not_stepped_again(rt: HostRuntime) {
+    let steps = steps_around(&rt, rt.alloc(), EventKind::WorkflowTaskCompleted);
+    assert_eq!(rt; steps, (2, 4));
 }
 
 /// The time and the start; then the time, the start and the signal.
 #[test]
-fn a_task_that_timed_out_is_stepped_again(rt: HostRuntime) -> Result<(), Fail> {
-    let alloc = rt.alloc();
-    let mut meter = Meter::new();
-    let run = first_task(alloc, &mut meter)?;
-    let run = second_task(alloc, run, EventKind::WorkflowTaskTimedOut, &mut meter)?;
-    assert_eq!(rt; meter.count(), 5);
-    assert_eq!(rt; run.held_len(), 5);
-    Ok(())
+fn a_task_that_timed_out_is_stepped_again(rt: HostRuntime) {
+    let steps = steps_around(&rt, rt.alloc(), EventKind::WorkflowTaskTimedOut);
+    assert_eq!(rt; steps, (2, 5));
 }
 
 #[test]
-fn an_answer_is_copied(rt: HostRuntime) -> Result<(), Fail> {
+fn an_answer_is_copied(rt: HostRuntime) {
     let alloc = rt.alloc();
-    let run = first_task(alloc, &mut Meter::new())?;
-    let answer = run.answer(alloc)?;
-    match answer.try_copy(alloc)? {
+    let run = first_task(&rt, alloc, &mut Meter::new());
+    let answer = run.answer(alloc).expect(&rt, "memory");
+    match answer.try_copy(alloc).expect(&rt, "memory") {
         Answer::Complete(commands) => assert!(rt; commands.get().is_empty()),
-        Answer::Fail(_) => return Err("fault".into()),
+        Answer::Fail(_) => panic!(rt; "fault"),
     }
-    Ok(())
 }
 
 #[test]
-fn a_history_is_checked(rt: HostRuntime) -> Result<(), Fail> {
+fn a_history_is_checked(rt: HostRuntime) {
     let alloc = rt.alloc();
     let mut events = Vec::new(alloc);
-    add_first(alloc, &mut events)?;
-    add_next(alloc, &mut events, EventKind::WorkflowTaskCompleted)?;
-    assert_eq!(rt;
-        check::<Still>(alloc, events),
-        Ok(Checked {
-            tasks: 2,
-            live: true
-        })
-    );
-    let mut late = Vec::new(alloc);
-    add_next(alloc, &mut late, EventKind::WorkflowTaskCompleted)?;
+    add_first(&rt, alloc, &mut events);
+    add_next(&rt, alloc, &mut events, EventKind::WorkflowTaskCompleted);
+    let checked = Checked {
+        tasks: 2,
+        live: true,
+    };
+    assert_eq!(rt; check::<Still>(alloc, events), Ok(checked));
+}
+
+#[test]
+fn a_history_without_a_start_is_not_in_place(rt: HostRuntime) {
+    let alloc = rt.alloc();
+    let mut events = Vec::new(alloc);
+    add_next(&rt, alloc, &mut events, EventKind::WorkflowTaskCompleted);
     let fault = Fault::Place {
         at: 1,
         fault: PlaceFault::FirstNotStart,
     };
-    assert_eq!(rt; check::<Still>(alloc, late), Err(RunFault::Fault(fault)));
-    Ok(())
+    assert_eq!(rt; check::<Still>(alloc, events), Err(RunFault::Fault(fault)));
 }

@@ -1,5 +1,5 @@
 //! What must hold of a host after a soak.
-ghost use Rattle.std.specs.Prelude.{◌≡◌, IsTrue, OnOk, true};
+ghost use Rattle.std.specs.Prelude.{◌≡◌, ◌↔◌, IsOk, IsTrue, OnOk, true};
 ghost use Rattle.wh_soak.specs.Sound.{IsSound};
 
 use crate::soak::{Answered, Findings};
@@ -8,7 +8,7 @@ use wh_host::Totals;
 
 /// Checks the totals of a closed host, and what its workers counted.
 fn check(totals: Totals, tally: Tally) -> Result<(), &'static str>
-    ensures { OnOk result (IsSound totals tally) }
+    ensures { IsOk result ↔ IsSound totals tally }
 {
     let taken = u128::from(totals.taken);
     if u128::from(totals.completed) + u128::from(totals.failed) != taken {
@@ -25,14 +25,14 @@ fn check(totals: Totals, tally: Tally) -> Result<(), &'static str>
 
 /// Whether both are the same answer to the same task.
 fn is_same(left: &Answered, right: &Answered) -> bool
-    ensures { IsTrue result → left.now ≡ right.now }
+    ensures { IsTrue result ↔ (left.now ≡ right.now) }
 {
     left.task == right.task && left.text.get() == right.text.get()
 }
 
 /// Checks that the same tasks have the same answers. Both lists are in the order of the tasks.
 fn compare(answers: &[Answered], plain: &[Answered]) -> Result<(), &'static str>
-    ensures { OnOk result (answers.now ≡ plain.now) }
+    ensures { IsOk result ↔ (answers.now ≡ plain.now) }
 {
     if answers.len() != plain.len() {
         return Err("the answers are not as many as without a cache");
@@ -51,6 +51,7 @@ pub fn judge(found: &Findings, plain: &Findings) -> Result<(), &'static str>
     ensures sound { OnOk result (IsSound found.now.totals found.now.tally) }
     ensures drained { OnOk result (found.now.is_drained ≡ true) }
     ensures same { OnOk result (found.now.answers.items ≡ plain.now.answers.items) }
+    ensures passes { IsSound found.now.totals found.now.tally → found.now.is_drained ≡ true → found.now.answers.items ≡ plain.now.answers.items → IsOk result }
 {
     check(found.totals, found.tally)?;
     if !found.is_drained {

@@ -2,8 +2,8 @@
 //! random. What they answer is compared with what one worker answers without a cache.
 #![tactic(auto)]
 
-ghost use Rattle.std.specs.Prelude.{◌≤◌, IfSome};
-ghost use Rattle.wh_soak.specs.Sizes.{IsWithin};
+ghost use Rattle.std.specs.Prelude.{IfSome, SomeIff};
+ghost use Rattle.wh_soak.specs.Sizes.{IsNumber, IsWithin, number_in};
 
 mod histories;
 mod judging;
@@ -37,13 +37,30 @@ struct Plan {
 
 /// The number that the text is, where it is one within the bounds.
 fn number_of(text: &str, least: u64, most: u64) -> Option<u64>
-    ensures { IfSome result (λ n. (least ≤ n) × (n ≤ most)) }
+    ensures { SomeIff result (IsNumber least most text.now) (number_in text.now) }
 {
-    let number = text.parse::<u64>().ok()?;
+    let Ok(number) = text.parse::<u64>() else {
+        return None;
+    };
     if number < least || most < number {
         return None;
     }
     Some(number)
+}
+
+/// The plan of a folder and three numbers, where these are within their bounds.
+fn plan_for(dir: String, workers: &str, cache: &str, histories: &str) -> Option<Plan>
+    ensures { SomeIff result (IsNumber 1 64 workers.now × IsNumber 0 10000 cache.now × IsNumber 1 100000 histories.now) (record { dir = dir; workers = number_in workers.now; cache = number_in cache.now; histories = number_in histories.now }) }
+{
+    let workers = number_of(workers, 1, 64)?;
+    let cache = number_of(cache, 0, 10_000)?;
+    let histories = number_of(histories, 1, 100_000)?;
+    Some(Plan {
+        dir,
+        workers: workers as usize,
+        cache: cache as usize,
+        histories,
+    })
 }
 
 /// What the command line asks for.
@@ -54,14 +71,8 @@ fn plan_of<R: Runtime + AllocGlobal>(rt: &R) -> Option<Plan>
     if words.len() != 5 {
         return None;
     }
-    let workers = number_of(words[2].as_str(), 1, 64)?;
-    let cache = number_of(words[3].as_str(), 0, 10_000)?;
-    Some(Plan {
-        histories: number_of(words[4].as_str(), 1, 100_000)?,
-        dir: words.swap_remove(1),
-        workers: workers as usize,
-        cache: cache as usize,
-    })
+    let dir = words.remove(1);
+    plan_for(dir, words[1].as_str(), words[2].as_str(), words[3].as_str())
 }
 
 /// Writes the figures, in which no two soaks agree, to the standard error, and what was checked to the
