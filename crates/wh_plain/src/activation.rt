@@ -1,7 +1,7 @@
 ghost use Rattle.std.specs.Prelude.{◌≡◌, ◌++◌, ◌≤◌, length, drop, option_map, IfOk, OnOk};
 ghost use Rattle.wh_workflow.specs.Jobs.{jobs_of};
-ghost use Rattle.wh_workflow.specs.Scripts.{with_version};
-ghost use Rattle.wh_workflow.specs.Activations.{question_of, marker_if, reply, turn, settle, room, activate};
+ghost use Rattle.wh_workflow.specs.Scripts.{choice_of, with_version};
+ghost use Rattle.wh_workflow.specs.Activations.{question_of, marker_if, reply_with, reply, turn, settle, room, activate};
 ghost use Rattle.wh_plain.specs.Views.{place_of, script, progress};
 ghost use Rattle.wh_plain.specs.Activating.{Gives, asked};
 
@@ -73,6 +73,23 @@ fn note_choice(
     Ok(())
 }
 
+/// Answers a question, by the job that has to be next.
+fn answer(
+    cut: &Cut,
+    versions: &mut Versions,
+    issued: &mut Vec<Command>,
+    question: Question,
+) -> Result<Option<Job>, OutOfMemory>
+    ensures { IfOk result (λ next. reply_with (script versions.old issued.old.items) (asked question) (choice_of (place_of cut.now) versions.old question.change_id question.max) ≡ record { script = script versions.new issued.new.items; next = next }) }
+{
+    let chosen = choose(cut, versions, question.change_id.get(), question.max);
+    note_choice(versions, issued, &question.change_id, chosen)?;
+    Ok(Some(Job::Version {
+        change_id: question.change_id,
+        version: chosen.version,
+    }))
+}
+
 /// Answers what the last of the commands of a step asks, by the job that has to be next.
 fn reply(
     cut: &Cut,
@@ -83,15 +100,10 @@ fn reply(
     requires { from ≤ length issued.old.items }
     ensures { IfOk result (λ next. reply (place_of cut.now) (script versions.old issued.old.items) (question_of (drop from issued.old.items)) ≡ record { script = script versions.new issued.new.items; next = next }) }
 {
-    let Some(question) = read_question(&issued.as_slice()[from..])? else {
-        return Ok(None);
-    };
-    let chosen = choose(cut, versions, question.change_id.get(), question.max);
-    note_choice(versions, issued, &question.change_id, chosen)?;
-    Ok(Some(Job::Version {
-        change_id: question.change_id,
-        version: chosen.version,
-    }))
+    match read_question(&issued.as_slice()[from..])? {
+        Some(question) => answer(cut, versions, issued, question),
+        None => Ok(None),
+    }
 }
 
 /// Steps a workflow by one job, and answers what it asks.
