@@ -4,7 +4,7 @@ use Rattle.std.proofs.lemmas.Bool.Decides.{nat_tests}
 use Rattle.wh_workflow.specs.Counting.{ticked}
 use Rattle.wh_plain.specs.declared.activation.ActivationFault.{ActivationFault}
 use Rattle.wh_plain.specs.declared.activation.ActivationFault.TheVariants.{Workflow, OutOfMemory}
-use Rattle.wh_plain.specs.Activating.{Gives}
+use Rattle.wh_plain.specs.Activating.{Stops}
 use Rattle.std.proofs.lemmas.List.{append-nil}
 use Rattle.std.proofs.lemmas.List.Elements.{filter-append}
 use Rattle.wh_workflow.specs.declared.command.Command.{Command}
@@ -158,8 +158,7 @@ module _ {S : Type 0} where
   settled_less program place job progress next None e = omega arith
   settled_less program place job progress next (Some version) e = turn_room program place job progress (record { progress = next; next = Some version }) version e refl
 
--- an error of one call is the error of the whole
-pub gives_err : {A B C D : Type 0} (fault : ActivationFault) (defined : Result B WorkflowFault) (whole : Result D WorkflowFault) (seen : A → B) (whole_seen : C → D) → ((f : WorkflowFault) → defined ≡ Err f → whole ≡ Err f)
-    → Gives (Err fault) defined seen → Gives (Err fault) whole whole_seen
-gives_err (Workflow f) defined whole seen whole_seen h given_here = h f given_here
-gives_err OutOfMemory defined whole seen whole_seen h given_here = tt
+-- what stops one call stops the whole
+pub stops_whole : {B D : Type 0} (fault : ActivationFault) (defined : Result B WorkflowFault) (whole : Result D WorkflowFault) → ((f : WorkflowFault) → defined ≡ Err f → whole ≡ Err f) → Stops fault defined → Stops fault whole
+stops_whole (Workflow f) defined whole h given_here = h f given_here
+stops_whole OutOfMemory defined whole h given_here = tt

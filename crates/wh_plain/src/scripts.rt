@@ -279,7 +279,7 @@ fn count_given(commands: &[Command]) -> usize
 
 /// The least fault of a command after those issued before it.
 #[tactic(auto, unfolding(wh_workflow::specs::Scripts::command_fault))]
-pub(crate) fn command_fault(
+fn command_fault(
     cut: &Cut,
     versions: &Versions,
     earlier: &[Command],
