@@ -1,10 +1,11 @@
 -- An activation asks no more often than its commands allow, so any bound that is large enough gives the same.
-use Rattle.std.proofs.Common.{◌≡◌, ℕ, zero, suc, ◌+◌, ◌-◌, ◌<◌, ◌≤◌, Bool, true, false, List, [], ◌∷◌, ◌++◌, length, slice_get, leb, Option, Some, None, Result, Ok, Err, refl, sym, ap, ◌∙◌, arith, append_assoc, length-append, not, cond}
+use Rattle.std.proofs.Common.{◌≡◌, ℕ, zero, suc, ◌+◌, ◌-◌, ◌<◌, ◌≤◌, Bool, true, false, List, [], ◌∷◌, ◌++◌, length, slice_get, get_or, drop, add-one, leb, Option, Some, None, Result, Ok, Err, refl, sym, ap, ◌∙◌, arith, append_assoc, length-append, not, cond}
 use Rattle.std.proofs.lemmas.Bool.Decides.{nat_tests}
 use Rattle.wh_workflow.specs.Counting.{ticked}
 use Rattle.wh_plain.specs.declared.activation.ActivationFault.{ActivationFault}
 use Rattle.wh_plain.specs.declared.activation.ActivationFault.TheVariants.{Workflow, OutOfMemory}
-use Rattle.wh_plain.specs.Activating.{Gives}
+use Rattle.wh_plain.specs.Activating.{Stops}
+use Rattle.std.proofs.Math.Seq.{drop-cons}
 use Rattle.std.proofs.lemmas.List.{append-nil}
 use Rattle.std.proofs.lemmas.List.Elements.{filter-append}
 use Rattle.wh_workflow.specs.declared.command.Command.{Command}
@@ -15,7 +16,7 @@ use Rattle.wh_workflow.specs.declared.fault.WorkflowFault.TheVariants.{TooManyCo
 use Rattle.wh_events.specs.Machines.{or_else}
 use Rattle.wh_workflow.specs.Law.{Program, is_marker}
 use Rattle.wh_workflow.specs.Scripts.{Place, Settled, choice_of, act_fault, act_of, some_act, act_closes, command_fault, fault_if, given, most_commands}
-use Rattle.wh_workflow.specs.Activations.{and_then, follow, unless_fault, Script, issue_all, Question, question_in, question_at, question_of, marker_if, Reply, reply, respond, Progress, Turn, turn, settle, room}
+use Rattle.wh_workflow.specs.Activations.{and_then, follow, unless_fault, Script, issue_all, Question, question_in, question_at, question_of, marker_if, Reply, reply, respond, Progress, Turn, turn, settle, room, activate}
 
 no_fault : {A : Type 0} (fault : Option WorkflowFault) (rest : Result A WorkflowFault) (out : A) → unless_fault fault rest ≡ Ok out → (fault ≡ None) × (rest ≡ Ok out)
 no_fault None rest out e = (refl, e)
@@ -158,8 +159,24 @@ module _ {S : Type 0} where
   settled_less program place job progress next None e = omega arith
   settled_less program place job progress next (Some version) e = turn_room program place job progress (record { progress = next; next = Some version }) version e refl
 
--- an error of one call is the error of the whole
-pub gives_err : {A B C D : Type 0} (fault : ActivationFault) (defined : Result B WorkflowFault) (whole : Result D WorkflowFault) (seen : A → B) (whole_seen : C → D) → ((f : WorkflowFault) → defined ≡ Err f → whole ≡ Err f)
-    → Gives (Err fault) defined seen → Gives (Err fault) whole whole_seen
-gives_err (Workflow f) defined whole seen whole_seen h given_here = h f given_here
-gives_err OutOfMemory defined whole seen whole_seen h given_here = tt
+-- the job is the first that is left
+next_left : (jobs : List Job) (k : ℕ) (job : Job) → k < length jobs → job ≡ get_or jobs k job → drop k jobs ≡ job ∷ drop (k + 1) jobs
+next_left jobs k job h is = rw add-one (drop-cons jobs k job h ∙ ap (λ (x : Job). x ∷ drop (suc k) jobs) (sym is))
+
+module _ {S : Type 0} where
+  -- what a job leaves to do gives what the jobs from it on do
+  pub activate_job : (program : Program S) (place : Place) (jobs : List Job) (k : ℕ) (job : Job) (progress next : Progress S) → k < length jobs → job ≡ get_or jobs k job → settle program place (room progress) job progress ≡ Ok next
+      → activate program place (drop (k + 1) jobs) next ≡ activate program place (drop k jobs) progress
+  activate_job program place jobs k job progress next h is e =
+      rw (next_left jobs k job h is) (sym (ap (λ (r : Result (Progress S) WorkflowFault). and_then r (activate program place (drop (k + 1) jobs))) e))
+
+  -- a job that fails fails the jobs from it on
+  pub activate_stops : (program : Program S) (place : Place) (jobs : List Job) (k : ℕ) (job : Job) (progress : Progress S) (fault : WorkflowFault) → k < length jobs → job ≡ get_or jobs k job → settle program place (room progress) job progress ≡ Err fault
+      → activate program place (drop k jobs) progress ≡ Err fault
+  activate_stops program place jobs k job progress fault h is e =
+      rw (next_left jobs k job h is) (ap (λ (r : Result (Progress S) WorkflowFault). and_then r (activate program place (drop (k + 1) jobs))) e)
+
+-- what stops one call stops the whole
+pub stops_whole : {B D : Type 0} (fault : ActivationFault) (defined : Result B WorkflowFault) (whole : Result D WorkflowFault) → ((f : WorkflowFault) → defined ≡ Err f → whole ≡ Err f) → Stops fault defined → Stops fault whole
+stops_whole (Workflow f) defined whole h given_here = h f given_here
+stops_whole OutOfMemory defined whole h given_here = tt

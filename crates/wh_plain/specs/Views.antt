@@ -1,5 +1,5 @@
 -- What the definitions see of the code's values.
-use Rattle.std.specs.Prelude.{ℕ, ◌+◌, take, drop, if◌then◌else◌, List, Option, Some, None, Result, Ok, Err, option_map}
+use Rattle.std.specs.Prelude.{ℕ, ◌+◌, take, drop, if◌then◌else◌, List, [], ◌∷◌, Option, Some, None, Result, Ok, Err, option_map}
 use Rattle.wh_events.specs.declared.event.Event.{Event}
 use Rattle.wh_events.specs.Cuts.{commanded, is_recorded, record_of}
 use Rattle.wh_workflow.specs.declared.command.Command.{Command}
@@ -29,3 +29,8 @@ abbrev pub place_in : List Event → ℕ → ℕ → Place
 place_in events place last =
     let rest = drop (place + 1) events in
     record { seen = take (place + 1) events; between = drop last (take place events); recorded = if is_recorded rest then Some (record_of rest) else None }
+
+-- the list of a value that may be there
+abbrev pub listed : {A : Type 0} → Option A → List A
+listed None = []
+listed (Some x) = x ∷ []

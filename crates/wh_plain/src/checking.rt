@@ -1,15 +1,14 @@
-ghost use Rattle.std.specs.Prelude.{◌≡◌, ◌<◌, ◌≤◌, [], length, option_map, take, drop, IfOk, if◌then◌else◌};
+ghost use Rattle.std.specs.Prelude.{◌≡◌, ◌<◌, ◌≤◌, [], length, option_map, IfOk, if◌then◌else◌};
 ghost use Rattle.wh_events.specs.Cuts.{cuts, commanded, is_recorded, record_of};
 ghost use Rattle.wh_workflow.specs.Jobs.{jobs_of};
 ghost use Rattle.wh_workflow.specs.Activations.{activate};
 ghost use Rattle.wh_plain.specs.Views.{place_of, place_in, progress};
-ghost use Rattle.wh_replay.specs.Replays.{task_after, workflow_of, start, replay_after, replay_known, replay};
+ghost use Rattle.wh_replay.specs.Replays.{task_after, workflow_of, replay_after};
 ghost use Rattle.wh_replay.specs.Checks.{Answers, replayed, checked, ends_live};
 
-use crate::activation::{ActivationFault, activate};
+use crate::activation::{ActivationFault, tell};
 use crate::cut::Cut;
 use crate::cuts::{after_completed, is_cut, is_recorded, until_completed};
-use crate::jobs::jobs_of;
 use crate::names::mismatch;
 use crate::places::history_fault;
 use crate::scripts::reduced;
@@ -18,14 +17,6 @@ use std::alloc::Global;
 use wh_events::{Event, EventKind};
 use wh_replay::{Checked, Fault, RunFault};
 use wh_workflow::{Command, Meter, Workflow, WorkflowFault};
-
-/// What replay of a history gives.
-#[derive(Drop)]
-struct Outcome<S> {
-    state: S,
-    versions: Versions,
-    unsent: Vec<Command>,
-}
 
 /// Runs the task of a cut, and matches its commands with the record. Those of a live task are unsent.
 fn run_task<W: Workflow>(
@@ -37,40 +28,25 @@ fn run_task<W: Workflow>(
     versions: &mut Versions,
     meter: &mut Meter,
 ) -> Result<Vec<Command>, RunFault>
-    ensures ran { Answers result (task_after history.now (place_of cut.now) event.now.number (activate W.program (place_of cut.now) (jobs_of cut.now.seen.now cut.now.between.now event.now) (progress state.old versions.old [] meter.old))) (λ unsent. replayed state.new versions.new unsent.items meter.new) }
-    ensures never_lowered { meter.old ≤ meter.new }
+    ensures { Answers result (task_after history.now (place_of cut.now) event.now.number (activate W.program (place_of cut.now) (jobs_of cut.now.seen.now cut.now.between.now event.now) (progress state.old versions.old [] meter.old))) (λ unsent. replayed state.new versions.new unsent.items meter.new) }
 {
-    let jobs = jobs_of(alloc, cut.seen, cut.between, event)?;
+    let at = event.number.get();
     let mut issued = Vec::new(alloc);
-    match activate::<W>(
-        alloc,
-        cut,
-        jobs.as_slice(),
-        state,
-        versions,
-        &mut issued,
-        meter,
-    ) {
+    match tell::<W>(alloc, cut, event, state, versions, &mut issued, meter) {
         Ok(()) => {}
         Err(ActivationFault::OutOfMemory) => return Err(RunFault::OutOfMemory),
         Err(ActivationFault::Workflow(fault)) => {
-            return Err(RunFault::Fault(Fault::Workflow {
-                at: event.number.get(),
-                fault,
-            }));
+            return Err(RunFault::Fault(Fault::Workflow { at, fault }));
         }
     }
     let sent = reduced(alloc, cut, issued.as_slice())?;
     let Some(record) = cut.recorded else {
         return Ok(sent);
     };
-    if let Some(difference) = mismatch(history, sent.as_slice(), record) {
-        return Err(RunFault::Fault(Fault::Mismatch {
-            at: event.number.get(),
-            mismatch: difference,
-        }));
+    match mismatch(history, sent.as_slice(), record) {
+        None => Ok(Vec::new(alloc)),
+        Some(mismatch) => Err(RunFault::Fault(Fault::Mismatch { at, mismatch })),
     }
-    Ok(Vec::new(alloc))
 }
 
 /// Where a cut before the rest is recorded, what stands between its completion and the next.
@@ -110,71 +86,27 @@ fn workflow_of(events: &[Event]) -> &str
     ""
 }
 
-/// Goes over the tasks from a place of a history on, which no event before it belongs to.
-fn replay_since<W: Workflow>(
+/// Goes over the tasks of a history, from its first event on.
+fn replay_tasks<W: Workflow>(
     alloc: Global,
     events: &[Event],
-    from: usize,
-    mut state: W::State,
-    mut versions: Versions,
+    state: &mut W::State,
+    versions: &mut Versions,
+    unsent: &mut Vec<Command>,
     meter: &mut Meter,
-) -> Result<Outcome<W::State>, RunFault>
-    requires { from ≤ length events.now }
-    ensures replayed { Answers result (replay_after W.program (take from events.now) [] (drop from events.now) (replayed state versions [] meter.old)) (λ outcome. replayed outcome.state outcome.versions outcome.unsent.items meter.new) }
-    ensures never_lowered { meter.old ≤ meter.new }
+) -> Result<(), RunFault>
+    ensures { Answers result (replay_after W.program [] [] events.now (replayed state.old versions.old unsent.old.items meter.old)) (λ _. replayed state.new versions.new unsent.new.items meter.new) }
 {
-    let mut unsent = Vec::new(alloc);
-    let mut last = from;
-    for place in from..events.len() {
+    let mut last = 0;
+    for place in 0..events.len() {
         let event = &events[place];
-        let rest = &events[place + 1..];
-        if is_cut(event, rest) {
+        if is_cut(event, &events[place + 1..]) {
             let cut = cut_at(events, place, last);
-            unsent = run_task::<W>(alloc, events, &cut, event, &mut state, &mut versions, meter)?;
+            *unsent = run_task::<W>(alloc, events, &cut, event, state, versions, meter)?;
             last = place + 1;
         }
     }
-    Ok(Outcome {
-        state,
-        versions,
-        unsent,
-    })
-}
-
-/// Goes over all tasks of a history.
-fn replay_all<W: Workflow>(
-    alloc: Global,
-    events: &[Event],
-    meter: &mut Meter,
-) -> Result<Outcome<W::State>, RunFault>
-    ensures replayed { Answers result (replay_known (W.program.knows (workflow_of events.now)) (replay_after W.program [] [] events.now (start W.program (workflow_of events.now) meter.old))) (λ outcome. replayed outcome.state outcome.versions outcome.unsent.items meter.new) }
-    ensures never_lowered { meter.old ≤ meter.new }
-{
-    let kind = workflow_of(events);
-    if !W::handles(kind) {
-        return Err(RunFault::Fault(Fault::Workflow {
-            at: 1,
-            fault: WorkflowFault::UnknownWorkflow,
-        }));
-    }
-    let state = W::begin(alloc, kind)?;
-    replay_since::<W>(alloc, events, 0, state, Versions::new(alloc), meter)
-}
-
-/// Replays a history from its first event.
-#[tactic(auto, unfolding(wh_replay::specs::Replays::replay))]
-fn replay<W: Workflow>(
-    alloc: Global,
-    events: &[Event],
-    meter: &mut Meter,
-) -> Result<Outcome<W::State>, RunFault>
-    ensures replayed { Answers result (replay W.program events.now meter.old) (λ outcome. replayed outcome.state outcome.versions outcome.unsent.items meter.new) }
-    ensures never_lowered { meter.old ≤ meter.new }
-{
-    if let Some((at, fault)) = history_fault(events) {
-        return Err(RunFault::Fault(Fault::Place { at, fault }));
-    }
-    replay_all::<W>(alloc, events, meter)
+    Ok(())
 }
 
 /// The number of cuts of a history.
@@ -205,13 +137,32 @@ fn ends_live(events: &[Event]) -> bool
 
 /// Replays a history that may end anywhere. Gives what `wh_replay::check` gives, but for
 /// `OutOfMemory`, which may come in place of any fault.
+#[tactic(auto, unfolding(wh_replay::specs::Replays::replay))]
 pub fn check<W: Workflow>(alloc: Global, events: &[Event]) -> Result<Checked, RunFault>
     ensures checked { Answers result (checked W.program events.now) (λ answer. answer) }
     ensures tasks { IfOk result (λ answer. answer.tasks ≡ length (cuts events.now)) }
     ensures live { IfOk result (λ answer. answer.live ≡ ends_live events.now) }
 {
+    if let Some((at, fault)) = history_fault(events) {
+        return Err(RunFault::Fault(Fault::Place { at, fault }));
+    }
+    let kind = workflow_of(events);
+    if !W::handles(kind) {
+        let fault = WorkflowFault::UnknownWorkflow;
+        return Err(RunFault::Fault(Fault::Workflow { at: 1, fault }));
+    }
+    let mut state = W::begin(alloc, kind)?;
+    let mut versions = Versions::new(alloc);
+    let mut unsent = Vec::new(alloc);
     let mut meter = Meter::new();
-    let _outcome = replay::<W>(alloc, events, &mut meter)?;
+    replay_tasks::<W>(
+        alloc,
+        events,
+        &mut state,
+        &mut versions,
+        &mut unsent,
+        &mut meter,
+    )?;
     Ok(Checked {
         tasks: count_cuts(events),
         live: ends_live(events),

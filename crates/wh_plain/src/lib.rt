@@ -3,6 +3,7 @@
 //! with `wh_replay`, whose contract is the same and which takes the events once.
 #![tactic(auto)]
 
+mod act;
 mod activation;
 mod checking;
 mod cut;
@@ -11,6 +12,7 @@ mod jobs;
 mod machines;
 mod names;
 mod places;
+mod role;
 mod scripts;
 mod versions;
 

@@ -2,55 +2,32 @@ ghost use Rattle.std.specs.Prelude.{◌≡◌};
 ghost use Rattle.wh_events.specs.Kinds.{role_of};
 ghost use Rattle.wh_events.specs.Machines.{opens, closes, closed_by, open_named, last_named, cancels_number, is_cancelling};
 
-use wh_events::{Event, EventKind, EventNo, Thing};
+use crate::role::{Effect, Role, role_of};
+use wh_events::{Event, EventNo, Thing};
 
 /// Whether the event opens such a thing under the id.
-pub(crate) fn opens(thing: Thing, id: &str, event: &Event) -> bool
+fn opens(thing: Thing, id: &str, event: &Event) -> bool
     ensures { result ≡ opens thing id.now event.now }
 {
-    match (thing, &event.body) {
-        (Thing::Activity, EventKind::ActivityTaskScheduled { id: other, .. })
-        | (Thing::Timer, EventKind::TimerStarted { id: other }) => id == other.get(),
-        (
-            Thing::Child,
-            EventKind::StartChildWorkflowExecutionInitiated {
-                workflow_id: other,
-                ..
-            },
-        )
-        | (
-            Thing::SignalRequest,
-            EventKind::SignalExternalWorkflowExecutionInitiated {
-                workflow_id: other,
-                ..
-            },
-        ) => id == other.get(),
+    match role_of(&event.body) {
+        Role::Opens {
+            thing: other,
+            id: other_id,
+        } => thing == other && id == other_id,
         _ => false,
     }
 }
 
 /// Whether the event closes what the event of the number opened.
-pub(crate) fn closes(number: u64, event: &Event) -> bool
+fn closes(number: u64, event: &Event) -> bool
     ensures { result ≡ closes number event.now }
 {
-    match &event.body {
-        EventKind::TimerCanceled { started } | EventKind::TimerFired { started } => {
-            *started == number
-        }
-        EventKind::ActivityTaskCompleted { scheduled, .. }
-        | EventKind::ActivityTaskFailed { scheduled }
-        | EventKind::ActivityTaskTimedOut { scheduled }
-        | EventKind::ActivityTaskCanceled { scheduled } => *scheduled == number,
-        EventKind::ChildWorkflowExecutionCompleted { initiated, .. }
-        | EventKind::ChildWorkflowExecutionFailed { initiated }
-        | EventKind::ChildWorkflowExecutionCanceled { initiated }
-        | EventKind::ChildWorkflowExecutionTimedOut { initiated }
-        | EventKind::ChildWorkflowExecutionTerminated { initiated }
-        | EventKind::StartChildWorkflowExecutionFailed { initiated }
-        | EventKind::ExternalWorkflowExecutionCancelRequested { initiated }
-        | EventKind::RequestCancelExternalWorkflowExecutionFailed { initiated }
-        | EventKind::ExternalWorkflowExecutionSignaled { initiated }
-        | EventKind::SignalExternalWorkflowExecutionFailed { initiated } => *initiated == number,
+    match role_of(&event.body) {
+        Role::Refers {
+            number: other,
+            effect: Effect::Closes,
+            ..
+        } => other == number,
         _ => false,
     }
 }
@@ -96,10 +73,14 @@ pub(crate) fn last_named(events: &[Event], thing: Thing, id: &str) -> Option<Eve
 fn cancels(before: &[Event], number: u64, event: &Event) -> bool
     ensures { result ≡ cancels_number before.now number (role_of event.now.body) }
 {
-    match &event.body {
-        EventKind::ActivityTaskCancelRequested { scheduled } => *scheduled == number,
-        EventKind::RequestCancelExternalWorkflowExecutionInitiated { workflow_id } => {
-            match open_named(before, Thing::Child, workflow_id.get()) {
+    match role_of(&event.body) {
+        Role::Refers {
+            number: other,
+            effect: Effect::Cancels,
+            ..
+        } => other == number,
+        Role::CancelsChild { workflow_id } => {
+            match open_named(before, Thing::Child, workflow_id) {
                 Some(open) => open.get() == number,
                 None => false,
             }

@@ -5,6 +5,7 @@ ghost use Rattle.wh_workflow.specs.Scripts.{act_of, act_opens, act_cancels, act_
 ghost use Rattle.wh_workflow.specs.Activations.{issue_all};
 ghost use Rattle.wh_plain.specs.Views.{place_of, script, ok_unless};
 
+use crate::act::{Act, act_of};
 use crate::cut::Cut;
 use crate::machines::{closed_by, is_cancelling, last_named, open_named};
 use crate::versions::Versions;
@@ -16,10 +17,11 @@ use wh_workflow::{Command, WorkflowFault};
 fn opens(thing: Thing, id: &str, command: &Command) -> bool
     ensures { result ≡ act_opens thing id.now (act_of command.now) }
 {
-    match (thing, command) {
-        (Thing::Activity, Command::StartActivity { id: other, .. })
-        | (Thing::Timer, Command::StartTimer { id: other, .. }) => id == other.get(),
-        (Thing::Child, Command::StartChild { workflow_id, .. }) => id == workflow_id.get(),
+    match act_of(command) {
+        Act::Opening {
+            thing: other,
+            id: other_id,
+        } => thing == other && id == other_id,
         _ => false,
     }
 }
@@ -28,10 +30,11 @@ fn opens(thing: Thing, id: &str, command: &Command) -> bool
 fn cancels(thing: Thing, id: &str, command: &Command) -> bool
     ensures { result ≡ act_cancels thing id.now (act_of command.now) }
 {
-    match (thing, command) {
-        (Thing::Activity, Command::CancelActivity { id: other })
-        | (Thing::Timer, Command::CancelTimer { id: other }) => id == other.get(),
-        (Thing::Child, Command::CancelChild { workflow_id }) => id == workflow_id.get(),
+    match act_of(command) {
+        Act::Cancelling {
+            thing: other,
+            id: other_id,
+        } => thing == other && id == other_id,
         _ => false,
     }
 }
@@ -40,13 +43,7 @@ fn cancels(thing: Thing, id: &str, command: &Command) -> bool
 fn closes(command: &Command) -> bool
     ensures { result ≡ act_closes (act_of command.now) }
 {
-    matches!(
-        command,
-        Command::Complete { .. }
-            | Command::Fail { .. }
-            | Command::Cancel
-            | Command::ContinueAsNew { .. }
-    )
+    matches!(act_of(command), Act::Closing)
 }
 
 fn some_opens(thing: Thing, id: &str, commands: &[Command]) -> bool
@@ -282,7 +279,7 @@ fn count_given(commands: &[Command]) -> usize
 
 /// The least fault of a command after those issued before it.
 #[tactic(auto, unfolding(wh_workflow::specs::Scripts::command_fault))]
-pub(crate) fn command_fault(
+fn command_fault(
     cut: &Cut,
     versions: &Versions,
     earlier: &[Command],
@@ -296,25 +293,15 @@ pub(crate) fn command_fault(
     if count_given(earlier) >= MOST_COMMANDS {
         return Some(WorkflowFault::TooManyCommands);
     }
-    match command {
-        Command::StartActivity { id, .. } => {
-            opening_fault(cut, earlier, Thing::Activity, id.get())
-        }
-        Command::StartTimer { id, .. } => opening_fault(cut, earlier, Thing::Timer, id.get()),
-        Command::StartChild { workflow_id, .. } => {
-            opening_fault(cut, earlier, Thing::Child, workflow_id.get())
-        }
-        Command::CancelActivity { id } => cancel_fault(cut, earlier, Thing::Activity, id.get()),
-        Command::CancelTimer { id } => cancel_fault(cut, earlier, Thing::Timer, id.get()),
-        Command::CancelChild { workflow_id } => {
-            cancel_fault(cut, earlier, Thing::Child, workflow_id.get())
-        }
-        Command::Ask {
+    match act_of(command) {
+        Act::Opening { thing, id } => opening_fault(cut, earlier, thing, id),
+        Act::Cancelling { thing, id } => cancel_fault(cut, earlier, thing, id),
+        Act::Asking {
             change_id,
-            min,
-            max,
-        } => ask_fault(cut, versions, change_id.get(), *min, *max),
-        _ => None,
+            low,
+            high,
+        } => ask_fault(cut, versions, change_id, low, high),
+        Act::Closing | Act::Other => None,
     }
 }
 
@@ -344,19 +331,11 @@ pub(crate) fn judge(
 fn is_sent(cut: &Cut, earlier: &[Command], later: &[Command], command: &Command) -> bool
     ensures { result ≡ is_sent_act (place_of cut.now) earlier.now later.now (act_of command.now) }
 {
-    match command {
-        Command::StartActivity { id, .. } => !some_cancels(Thing::Activity, id.get(), later),
-        Command::StartTimer { id, .. } => !some_cancels(Thing::Timer, id.get(), later),
-        Command::StartChild { workflow_id, .. } => {
-            !some_cancels(Thing::Child, workflow_id.get(), later)
-        }
-        Command::CancelActivity { id } => is_cancel_sent(cut, earlier, Thing::Activity, id.get()),
-        Command::CancelTimer { id } => is_cancel_sent(cut, earlier, Thing::Timer, id.get()),
-        Command::CancelChild { workflow_id } => {
-            is_cancel_sent(cut, earlier, Thing::Child, workflow_id.get())
-        }
-        Command::Ask { .. } => false,
-        _ => true,
+    match act_of(command) {
+        Act::Opening { thing, id } => !some_cancels(thing, id, later),
+        Act::Cancelling { thing, id } => is_cancel_sent(cut, earlier, thing, id),
+        Act::Asking { .. } => false,
+        Act::Closing | Act::Other => true,
     }
 }
 

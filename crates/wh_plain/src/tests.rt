@@ -1,7 +1,7 @@
 //! Both replays answer alike.
 use crate::check;
 use std::alloc::Global;
-use std::test::Fail;
+use std::process::Abort;
 use wh_events::{Event, EventKind, EventNo, Items, OutOfMemory, PlaceFault, Text};
 use wh_replay::{Checked, Fault, RunFault};
 use wh_workflow::{Command, Job, Meter, Mismatch, Workflow, WorkflowFault};
@@ -37,73 +37,86 @@ impl Workflow for Blink {
     ) -> Result<(), OutOfMemory> {
         meter.tick();
         let id = Text::new(String::from_str(alloc, "t")?);
-        if *state {
-            out.push(Command::StartTimer { id, seconds: 60 })?;
+        let command = if *state {
+            Command::StartTimer { id, seconds: 60 }
         } else {
-            out.push(Command::CancelTimer { id })?;
-        }
+            Command::CancelTimer { id }
+        };
         *state = !*state;
+        out.push(command)?;
         Ok(())
     }
 }
 
-/// Adds an event of the kind, with the next number.
-fn add(events: &mut Vec<Event>, body: EventKind) -> Result<(), Fail> {
-    let number = EventNo::new((events.len() as u64).saturating_add(1)).ok_or("number")?;
-    events.push(Event {
-        number,
-        time: 0,
-        body,
-    })?;
-    Ok(())
+fn numbered(rt: &impl Abort, number: u64) -> EventNo {
+    EventNo::new(number).expect(rt, "number")
+}
+
+fn text(rt: &impl Abort, alloc: Global, content: &str) -> Text {
+    Text::new(String::from_str(alloc, content).expect(rt, "memory"))
 }
 
 /// The start of a run of a workflow type.
-fn start(alloc: Global, workflow: &str) -> Result<EventKind, Fail> {
-    Ok(EventKind::WorkflowExecutionStarted {
-        workflow: Text::new(String::from_str(alloc, workflow)?),
+fn start(rt: &impl Abort, alloc: Global, workflow: &str) -> EventKind {
+    EventKind::WorkflowExecutionStarted {
+        workflow: text(rt, alloc, workflow),
         input: Items::new(Vec::new(alloc)),
-    })
-}
-
-/// A timer with an id.
-fn timer(alloc: Global, id: &str) -> Result<EventKind, Fail> {
-    Ok(EventKind::TimerStarted {
-        id: Text::new(String::from_str(alloc, id)?),
-    })
-}
-
-fn signal(alloc: Global) -> Result<EventKind, Fail> {
-    Ok(EventKind::WorkflowExecutionSignaled {
-        name: Text::new(String::from_str(alloc, "signal")?),
-        input: Items::new(Vec::new(alloc)),
-    })
-}
-
-/// The event that a letter stands for. Where an event refers to a timer, it is event 6.
-fn kind_of(alloc: Global, letter: u8) -> Result<EventKind, Fail> {
-    match letter {
-        b'B' => start(alloc, "Blink"),
-        b'O' => start(alloc, "Other"),
-        b'q' => Ok(EventKind::WorkflowTaskScheduled),
-        b's' => Ok(EventKind::WorkflowTaskStarted),
-        b'c' => Ok(EventKind::WorkflowTaskCompleted),
-        b'f' => Ok(EventKind::WorkflowTaskFailed),
-        b'g' => signal(alloc),
-        b'T' => timer(alloc, "t"),
-        b'U' => timer(alloc, "u"),
-        b'F' => Ok(EventKind::TimerFired { started: 6 }),
-        b'C' => Ok(EventKind::TimerCanceled { started: 6 }),
-        b'D' => Ok(EventKind::WorkflowExecutionCompleted),
-        _ => Err("no such letter".into()),
     }
 }
 
-/// A history, a letter for each event, and what it is checked to be.
-#[derive(Drop)]
-struct Row {
-    letters: &'static [u8],
-    answer: Result<Checked, RunFault>,
+/// A timer with an id.
+fn timer(rt: &impl Abort, alloc: Global, id: &str) -> EventKind {
+    EventKind::TimerStarted {
+        id: text(rt, alloc, id),
+    }
+}
+
+fn signal(rt: &impl Abort, alloc: Global) -> EventKind {
+    EventKind::WorkflowExecutionSignaled {
+        name: text(rt, alloc, "signal"),
+        input: Items::new(Vec::new(alloc)),
+    }
+}
+
+/// The event that a letter stands for. Where an event refers to a timer, it is event 6.
+fn kind_of(rt: &impl Abort, alloc: Global, letter: u8) -> EventKind {
+    match letter {
+        b'B' => start(rt, alloc, "Blink"),
+        b'O' => start(rt, alloc, "Other"),
+        b'q' => EventKind::WorkflowTaskScheduled,
+        b's' => EventKind::WorkflowTaskStarted,
+        b'c' => EventKind::WorkflowTaskCompleted,
+        b'f' => EventKind::WorkflowTaskFailed,
+        b'g' => signal(rt, alloc),
+        b'T' => timer(rt, alloc, "t"),
+        b'U' => timer(rt, alloc, "u"),
+        b'F' => EventKind::TimerFired { started: 6 },
+        b'C' => EventKind::TimerCanceled { started: 6 },
+        b'D' => EventKind::WorkflowExecutionCompleted,
+        _ => panic!(rt; "no such letter"),
+    }
+}
+
+/// The events that the letters stand for.
+fn events_of(rt: &impl Abort, alloc: Global, letters: &[u8]) -> Vec<Event> {
+    let mut events = Vec::new(alloc);
+    for (place, letter) in letters.iter().enumerate() {
+        let event = Event {
+            number: numbered(rt, (place as u64).saturating_add(1)),
+            time: 0,
+            body: kind_of(rt, alloc, *letter),
+        };
+        events.push(event).expect(rt, "memory");
+    }
+    events
+}
+
+/// What both replays check the letters' events to be.
+fn checked(rt: &impl Abort, alloc: Global, letters: &[u8]) -> Result<Checked, RunFault> {
+    let events = events_of(rt, alloc, letters);
+    let plain = check::<Blink>(alloc, events.as_slice());
+    assert!(rt; wh_replay::check::<Blink>(alloc, events) == plain);
+    plain
 }
 
 fn good(tasks: u64, live: bool) -> Result<Checked, RunFault> {
@@ -122,53 +135,25 @@ fn differs(at: u64, mismatch: Mismatch) -> Result<Checked, RunFault> {
     Err(RunFault::Fault(Fault::Mismatch { at, mismatch }))
 }
 
-fn copies(alloc: Global, events: &[Event]) -> Result<Vec<Event>, Fail> {
-    let mut copies = Vec::new(alloc);
-    for event in events {
-        copies.push(event.try_copy()?)?;
+/// A history, a letter for each event, and what it is checked to be.
+#[derive(Drop)]
+struct Row {
+    letters: &'static [u8],
+    answer: Result<Checked, RunFault>,
+}
+
+/// Checks that the letters are checked to be what the row says, and that both replays answer alike for all shorter fronts of them.
+fn check_row(rt: &impl Abort, alloc: Global, row: &Row) {
+    for place in 0..row.letters.len() {
+        let _front = checked(rt, alloc, &row.letters[..place]);
     }
-    Ok(copies)
-}
-
-/// Whether both answers are the same.
-fn agree(alloc: Global, events: &[Event]) -> Result<bool, Fail> {
-    let plain = check::<Blink>(alloc, events);
-    Ok(wh_replay::check::<Blink>(alloc, copies(alloc, events)?) == plain)
-}
-
-/// The events that the letters stand for, if all shorter fronts of them have the same answers.
-fn events_of(alloc: Global, letters: &[u8]) -> Result<Vec<Event>, Fail> {
-    let mut events = Vec::new(alloc);
-    for letter in letters {
-        if !agree(alloc, &events)? {
-            return Err("the answers differ".into());
-        }
-        add(&mut events, kind_of(alloc, *letter)?)?;
-    }
-    Ok(events)
-}
-
-/// Whether a history is checked to be what its row says, by both.
-fn holds(alloc: Global, row: &Row) -> Result<bool, Fail> {
-    let events = events_of(alloc, row.letters)?;
-    Ok(agree(alloc, &events)? && check::<Blink>(alloc, &events) == row.answer)
-}
-
-/// The place of the first row that doesn't hold.
-fn first_wrong(alloc: Global, rows: &[Row]) -> Result<Option<usize>, Fail> {
-    for (place, row) in rows.iter().enumerate() {
-        if !holds(alloc, row)? {
-            return Ok(Some(place));
-        }
-    }
-    Ok(None)
+    assert!(rt; checked(rt, alloc, row.letters) == row.answer);
 }
 
 #[test]
-fn both_replays_answer_alike(rt: HostRuntime) -> Result<(), Fail> {
-    let alloc = rt.alloc();
-    let six = EventNo::new(6).ok_or("six")?;
-    let seven = EventNo::new(7).ok_or("seven")?;
+fn both_replays_answer_alike(rt: HostRuntime) {
+    let six = numbered(&rt, 6);
+    let seven = numbered(&rt, 7);
     #[rattlefmt::skip]
     let rows = [
         Row { letters: b"", answer: misplaced(1, PlaceFault::FirstNotStart) },
@@ -187,6 +172,7 @@ fn both_replays_answer_alike(rt: HostRuntime) -> Result<(), Fail> {
         Row { letters: b"BscscTT", answer: misplaced(7, PlaceFault::IdInUse) },
         Row { letters: b"BscF", answer: misplaced(4, PlaceFault::NoSuchRef) },
     ];
-    assert_eq!(rt; first_wrong(alloc, &rows)?, None);
-    Ok(())
+    for row in &rows {
+        check_row(&rt, rt.alloc(), row);
+    }
 }

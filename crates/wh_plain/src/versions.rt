@@ -1,4 +1,4 @@
-ghost use Rattle.std.specs.Prelude.{◌≡◌, [], OnOk, OnErr};
+ghost use Rattle.std.specs.Prelude.{◌≡◌, [], OnOk};
 ghost use Rattle.wh_workflow.specs.Scripts.{lookup_version, with_version};
 
 use std::alloc::Global;
@@ -7,7 +7,7 @@ use wh_events::{OutOfMemory, Text};
 
 /// The settled versions by change id: a change keeps the version that its first ask got (Temporal
 /// documentation, patching and `GetVersion`).
-#[derive(Debug, Drop)]
+#[derive(Drop)]
 pub(crate) struct Versions {
     entries: Vec<(Text, i32)>,
 }
@@ -38,17 +38,11 @@ impl Versions {
     }
 
     /// Settles the version of a change, unless it is settled.
-    pub(crate) fn settle(
-        &mut self,
-        alloc: Global,
-        change_id: &str,
-        version: i32,
-    ) -> Result<(), OutOfMemory>
-        ensures ok { OnOk result (self.new ≡ with_version self.old change_id.now version) }
-        ensures err { OnErr result (self.new ≡ self.old) }
+    pub(crate) fn settle(&mut self, change_id: &Text, version: i32) -> Result<(), OutOfMemory>
+        ensures { OnOk result (self.new ≡ with_version self.old change_id.now version) }
     {
-        if self.get(change_id).is_none() {
-            let text = Text::new(String::from_str(alloc, change_id)?);
+        if self.get(change_id.get()).is_none() {
+            let text = change_id.try_copy()?;
             self.entries.push((text, version))?;
         }
         Ok(())
