@@ -175,6 +175,12 @@ fn shows_faults_of_reading(rt: HostRuntime) {
     unreadable(&rt, alloc, ReadFault::TooLong, "file too long");
     unreadable(&rt, alloc, ReadFault::BadJson, "not JSON");
     unreadable(&rt, alloc, ReadFault::NoEvents, "no events");
+    unreadable(&rt, alloc, ReadFault::OutOfMemory, "out of memory");
+}
+
+#[test]
+fn shows_faults_of_events(rt: HostRuntime) {
+    let alloc = rt.alloc();
     unreadable(
         &rt,
         alloc,
@@ -211,7 +217,6 @@ fn shows_faults_of_reading(rt: HostRuntime) {
         ReadFault::ShorthandPayload { at: 7 },
         "event 7 has a shorthand payload",
     );
-    unreadable(&rt, alloc, ReadFault::OutOfMemory, "out of memory");
 }
 
 #[test]
