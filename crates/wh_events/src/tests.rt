@@ -1,42 +1,62 @@
 //! What no contract says: the text of an error, and that copies are made where there is memory.
 use crate::{Event, EventKind, EventNo, Items, OutOfMemory, Payload, RunKey, Text};
 use std::alloc::Global;
-use std::test::Fail;
+use std::process::Abort;
 
-fn text(alloc: Global, from: &str) -> Result<Text, OutOfMemory> {
-    Ok(Text::new(from.to_string(alloc)?))
+fn text(rt: &impl Abort, alloc: Global, from: &str) -> Text {
+    Text::new(String::from_str(alloc, from).expect(rt, "memory"))
 }
 
-#[test]
-fn shows_want_of_memory(rt: HostRuntime) -> Result<(), Fail> {
-    assert_eq!(rt;
-        format!(in rt.alloc(); "{OutOfMemory}")?.as_str(),
-        "out of memory"
-    );
-    Ok(())
+fn bytes(rt: &impl Abort, alloc: Global, from: &[u8]) -> Items<u8> {
+    Items::new(from.to_vec(alloc).expect(rt, "memory"))
 }
 
-#[test]
-fn copies_with_memory(rt: HostRuntime) -> Result<(), Fail> {
-    let alloc = rt.alloc();
-    let key = RunKey {
-        workflow_id: text(alloc, "order")?,
-        run_id: text(alloc, "first")?,
-    };
-    assert!(rt; key.try_copy()? == key);
-    let payload = Payload {
-        encoding: Items::new(vec![in alloc; 1, 2]?),
-        content: Items::new(vec![in alloc; 3]?),
-    };
-    assert_eq!(rt; payload.try_copy()?.content.get(), payload.content.get());
-    let event = Event {
-        number: EventNo::new(1).ok_or("no number")?,
+fn payload(rt: &impl Abort, alloc: Global) -> Payload {
+    Payload {
+        encoding: bytes(rt, alloc, &[1, 2]),
+        content: bytes(rt, alloc, &[3]),
+    }
+}
+
+/// A start whose input is one payload.
+fn start(rt: &impl Abort, alloc: Global) -> Event {
+    let input = vec![in alloc; payload(rt, alloc)].expect(rt, "memory");
+    Event {
+        number: EventNo::new(1).expect(rt, "number"),
         time: 0,
         body: EventKind::WorkflowExecutionStarted {
-            workflow: text(alloc, "Nap")?,
-            input: Items::new(vec![in alloc; payload]?),
+            workflow: text(rt, alloc, "Nap"),
+            input: Items::new(input),
         },
+    }
+}
+
+#[test]
+fn shows_want_of_memory(rt: HostRuntime) {
+    let shown = format!(in rt.alloc(); "{OutOfMemory}").expect(&rt, "memory");
+    assert_eq!(rt; shown.as_str(), "out of memory");
+}
+
+#[test]
+fn copies_keys_with_memory(rt: HostRuntime) {
+    let key = RunKey {
+        workflow_id: text(&rt, rt.alloc(), "order"),
+        run_id: text(&rt, rt.alloc(), "first"),
     };
-    assert_eq!(rt; event.try_copy()?.number, event.number);
-    Ok(())
+    let copy = key.try_copy().expect(&rt, "memory");
+    assert!(rt; copy == key);
+}
+
+#[test]
+fn copies_payloads_with_memory(rt: HostRuntime) {
+    let payload = payload(&rt, rt.alloc());
+    let copy = payload.try_copy().expect(&rt, "memory");
+    assert_eq!(rt; copy.content.get(), payload.content.get());
+}
+
+#[test]
+fn copies_events_with_memory(rt: HostRuntime) {
+    let event = start(&rt, rt.alloc());
+    let copy = event.try_copy().expect(&rt, "memory");
+    assert_eq!(rt; copy.number, event.number);
 }

@@ -2,47 +2,50 @@ ghost use Rattle.std.specs.Prelude.{◌≡◌};
 
 use super::*;
 use std::marker::Brand;
-use std::test::Fail;
+use std::process::Abort;
 
 // Three seats count. With two of them nothing is gathered, with all three their sums are.
 fn day<T: Ledger, C: Ledger, F: Ledger>(
+    rt: &impl Abort,
     alloc: Global,
     taken: Blank,
     completed: Blank,
     failed: Blank,
-) -> Result<(Shares, Shares), Fail>
+) -> (Shares, Shares)
     requires taken { (taken.name ≡ T.name) × (taken.parts ≡ T.parts) × (taken.parts ≡ 3) }
     requires completed { (completed.name ≡ C.name) × (completed.parts ≡ C.parts) × (completed.parts ≡ 3) }
     requires failed { (failed.name ≡ F.name) × (failed.parts ≡ F.parts) × (failed.parts ≡ 3) }
 {
-    let (mut books, mut seats) = Books::<T, C, F>::open(alloc, 3, taken, completed, failed)?;
-    let mut first = seats.pop().ok_or("no seat")?;
-    let mut second = seats.pop().ok_or("no seat")?;
+    let opened = Books::<T, C, F>::open(alloc, 3, taken, completed, failed);
+    let (mut books, mut seats) = opened.expect(rt, "memory");
+    let mut first = seats.pop().expect(rt, "seat");
+    let mut second = seats.pop().expect(rt, "seat");
     books.add_taken(&mut first);
     books.add_taken(&mut first);
     books.add_taken(&mut second);
     books.add_completed(&mut first);
     books.add_failed(&mut second);
     let totals = books.totals();
-    seats.push(second).map_err(|_| "push")?;
+    assert!(rt; seats.push(second).is_ok());
     let Err((books, mut seats, SeatsMissing)) = books.gather(seats) else {
-        return Err("gathered with a seat missing".into());
+        panic!(rt; "gathered with a seat missing")
     };
-    seats.push(first).map_err(|_| "push")?;
+    assert!(rt; seats.push(first).is_ok());
     match books.gather(seats) {
-        Ok(sums) => Ok((totals, sums)),
-        Err(_) => Err("not gathered".into()),
+        Ok(sums) => (totals, sums),
+        Err(_) => panic!(rt; "not gathered"),
     }
 }
 
 #[test]
-fn totals_are_sums(rt: HostRuntime) -> Result<(), Fail> {
+fn totals_are_sums(rt: HostRuntime) {
     let (totals, sums) = day::<Brand, Brand, Brand>(
+        &rt,
         rt.alloc(),
         Blank::new(3),
         Blank::new(3),
         Blank::new(3),
-    )?;
+    );
     let counted = Shares {
         taken: 3,
         completed: 1,
@@ -50,5 +53,4 @@ fn totals_are_sums(rt: HostRuntime) -> Result<(), Fail> {
     };
     assert_eq!(rt; totals, counted);
     assert_eq!(rt; sums, counted);
-    Ok(())
 }

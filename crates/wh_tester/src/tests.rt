@@ -2,7 +2,7 @@
 
 use crate::{Line, Verdict, all_good, write_report};
 use std::alloc::Global;
-use std::test::Fail;
+use std::process::Abort;
 use wh_events::{EventNo, PlaceFault, Text};
 use wh_json::ReadFault;
 use wh_replay::{Checked, Fault};
@@ -18,13 +18,6 @@ struct PlaceRow {
 struct WorkflowRow {
     fault: WorkflowFault,
     name: &'static str,
-}
-
-/// A fault of reading, and its text.
-#[derive(Drop)]
-struct ReadRow {
-    fault: ReadFault,
-    text: &'static str,
 }
 
 /// A name, and how it is shown.
@@ -70,33 +63,42 @@ static NAMES: [NameRow; 8] = [
     NameRow { name: "a: ok, 2 tasks", shown: "a: ok, 2 tasks" },
 ];
 
-fn text_of(alloc: Global, text: &str) -> Result<Text, Fail> {
-    Ok(Text::new(String::from_str(alloc, text)?))
+fn text_of(rt: &impl Abort, alloc: Global, text: &str) -> Text {
+    Text::new(String::from_str(alloc, text).expect(rt, "memory"))
+}
+
+fn add(rt: &impl Abort, alloc: Global, lines: &mut Vec<Line>, name: &str, verdict: Verdict) {
+    let name = text_of(rt, alloc, name);
+    assert!(rt; lines.push(Line { name, verdict }).is_ok());
 }
 
 /// The report of these lines.
-fn report_of(alloc: Global, lines: &[Line]) -> Result<String, Fail> {
+fn report_of(rt: &impl Abort, alloc: Global, lines: &[Line]) -> String {
     let mut out = Vec::new(alloc);
-    write_report(lines, &mut out)?;
-    String::from_utf8(out).map_err(|_| Fail::from("no text"))
+    assert!(rt; write_report(lines, &mut out).is_ok());
+    match String::from_utf8(out) {
+        Ok(report) => report,
+        Err(_) => panic!(rt; "no text"),
+    }
 }
 
-/// The report of one file.
-fn report_of_one(alloc: Global, name: &str, verdict: Verdict) -> Result<String, Fail> {
-    let name = text_of(alloc, name)?;
+/// The report of one file is this text.
+fn reports(rt: &impl Abort, alloc: Global, name: &str, verdict: Verdict, wanted: &str) {
     let mut lines = Vec::new(alloc);
-    lines.push(Line { name, verdict })?;
-    report_of(alloc, lines.as_slice())
+    add(rt, alloc, &mut lines, name, verdict);
+    let report = report_of(rt, alloc, lines.as_slice());
+    assert_eq!(rt; report.as_str(), wanted);
 }
 
-/// The line of a file with a fault, and the totals.
-fn faulty(alloc: Global, fault: Fault) -> Result<String, Fail> {
-    report_of_one(alloc, "x.json", Verdict::Faulty(fault))
+/// The form with the words in place of its `@`.
+fn filled(rt: &impl Abort, alloc: Global, form: &str, words: &str) -> String {
+    form.replace(alloc, "@", words).expect(rt, "memory")
 }
 
-/// What the report should be of one file that isn't good.
-fn wanted(alloc: Global, words: &str) -> Result<String, Fail> {
-    Ok(format!(in alloc; "x.json: {words}\n1 files, 0 ok\n")?)
+/// The report of one file that isn't good says these words of it.
+fn reports_bad(rt: &impl Abort, alloc: Global, verdict: Verdict, words: &str) {
+    let wanted = filled(rt, alloc, "x.json: @\n1 files, 0 ok\n", words);
+    reports(rt, alloc, "x.json", verdict, wanted.as_str());
 }
 
 fn good(tasks: u64, live: bool) -> Verdict {
@@ -104,191 +106,203 @@ fn good(tasks: u64, live: bool) -> Verdict {
 }
 
 #[test]
-fn shows_faults_of_place(rt: HostRuntime) -> Result<(), Fail> {
+fn shows_faults_of_place(rt: HostRuntime) {
     for row in &PLACE_FAULTS {
         let at = 9_223_372_036_854_775_807;
         let fault = row.fault;
-        let text = faulty(rt.alloc(), Fault::Place { at, fault })?;
-        let words = format!(in rt.alloc(); "fault, event {at} is not in place: {}", row.name)?;
-        let wanted = wanted(rt.alloc(), words.as_str())?;
-        assert_eq!(rt; text.as_str(), wanted.as_str());
+        let form = "fault, event 9223372036854775807 is not in place: @";
+        let words = filled(&rt, rt.alloc(), form, row.name);
+        let verdict = Verdict::Faulty(Fault::Place { at, fault });
+        reports_bad(&rt, rt.alloc(), verdict, words.as_str());
     }
-    Ok(())
 }
 
 #[test]
-fn shows_faults_of_workflows(rt: HostRuntime) -> Result<(), Fail> {
+fn shows_faults_of_workflows(rt: HostRuntime) {
     for row in &WORKFLOW_FAULTS {
         let fault = row.fault;
-        let text = faulty(rt.alloc(), Fault::Workflow { at: 67, fault })?;
-        let words = format!(in rt.alloc(); "fault, task at 67: {}", row.name)?;
-        let wanted = wanted(rt.alloc(), words.as_str())?;
-        assert_eq!(rt; text.as_str(), wanted.as_str());
+        let words = filled(&rt, rt.alloc(), "fault, task at 67: @", row.name);
+        let verdict = Verdict::Faulty(Fault::Workflow { at: 67, fault });
+        reports_bad(&rt, rt.alloc(), verdict, words.as_str());
     }
-    Ok(())
 }
 
-/// The line of a file whose task at 8 differs from its record, and the totals.
-fn differing(alloc: Global, mismatch: Mismatch) -> Result<String, Fail> {
-    faulty(alloc, Fault::Mismatch { at: 8, mismatch })
-}
-
-#[test]
-fn shows_differences(rt: HostRuntime) -> Result<(), Fail> {
-    let Some(event) = EventNo::new(5) else {
-        return Err(Fail::from("no number"));
-    };
-    let text = differing(rt.alloc(), Mismatch::Different { event })?;
-    assert_eq!(rt;
-        text.as_str(),
-        "x.json: fault, event 5 differs\n1 files, 0 ok\n"
-    );
-    let text = differing(rt.alloc(), Mismatch::CommandMissing { event })?;
-    assert_eq!(rt;
-        text.as_str(),
-        "x.json: fault, event 5 has no command\n1 files, 0 ok\n"
-    );
-    let text = differing(rt.alloc(), Mismatch::CommandExtra { index: 2 })?;
-    assert_eq!(rt;
-        text.as_str(),
-        "x.json: fault, command 2 of the task at 8 has no event\n1 files, 0 ok\n"
-    );
-    let text = faulty(rt.alloc(), Fault::NotATask)?;
-    assert_eq!(rt; text.as_str(), "x.json: fault, not a task\n1 files, 0 ok\n");
-    Ok(())
-}
-
-fn read_rows(alloc: Global) -> Result<Vec<ReadRow>, Fail> {
-    let name = text_of(alloc, "A\nB")?;
-    let marker = text_of(alloc, "Side\u{e9}ffect")?;
-    Ok(vec![in alloc;
-        ReadRow {
-            fault: ReadFault::TooLong,
-            text: "file too long"
-        },
-        ReadRow {
-            fault: ReadFault::BadJson,
-            text: "not JSON"
-        },
-        ReadRow {
-            fault: ReadFault::NoEvents,
-            text: "no events"
-        },
-        ReadRow {
-            fault: ReadFault::BadNumber { at: 1 },
-            text: "event 1 has a bad number"
-        },
-        ReadRow {
-            fault: ReadFault::OutOfOrder { at: 3 },
-            text: "event 3 is out of order"
-        },
-        ReadRow {
-            fault: ReadFault::UnsupportedEvent { at: 4, name },
-            text: "event 4 has the unsupported type A?B",
-        },
-        ReadRow {
-            fault: ReadFault::MissingField { at: 5 },
-            text: "event 5 lacks a field"
-        },
-        ReadRow {
-            fault: ReadFault::BadTime { at: 2 },
-            text: "event 2 has a bad time"
-        },
-        ReadRow {
-            fault: ReadFault::BadPayload { at: 7 },
-            text: "event 7 has a bad payload"
-        },
-        ReadRow {
-            fault: ReadFault::ShorthandPayload { at: 7 },
-            text: "event 7 has a shorthand payload",
-        },
-        ReadRow {
-            fault: ReadFault::UnsupportedMarker {
-                at: 5,
-                name: marker
-            },
-            text: "event 5 has the unsupported marker Side?ffect",
-        },
-        ReadRow {
-            fault: ReadFault::OutOfMemory,
-            text: "out of memory"
-        },
-    ]?)
+/// A task at 8 that differs from its record is reported so.
+fn differs(rt: &impl Abort, alloc: Global, mismatch: Mismatch, words: &str) {
+    let verdict = Verdict::Faulty(Fault::Mismatch { at: 8, mismatch });
+    reports_bad(rt, alloc, verdict, words);
 }
 
 #[test]
-fn shows_faults_of_reading(rt: HostRuntime) -> Result<(), Fail> {
-    for row in read_rows(rt.alloc())? {
-        let text = report_of_one(rt.alloc(), "x.json", Verdict::Unreadable(row.fault))?;
-        let words = format!(in rt.alloc(); "unreadable, {}", row.text)?;
-        let wanted = wanted(rt.alloc(), words.as_str())?;
-        assert_eq!(rt; text.as_str(), wanted.as_str());
-    }
-    Ok(())
+fn shows_differences(rt: HostRuntime) {
+    let alloc = rt.alloc();
+    let event = EventNo::new(5).expect(&rt, "number");
+    differs(
+        &rt,
+        alloc,
+        Mismatch::Different { event },
+        "fault, event 5 differs",
+    );
+    differs(
+        &rt,
+        alloc,
+        Mismatch::CommandMissing { event },
+        "fault, event 5 has no command",
+    );
+    differs(
+        &rt,
+        alloc,
+        Mismatch::CommandExtra { index: 2 },
+        "fault, command 2 of the task at 8 has no event",
+    );
+    reports_bad(
+        &rt,
+        alloc,
+        Verdict::Faulty(Fault::NotATask),
+        "fault, not a task",
+    );
+}
+
+/// A history that could not be read for this fault is reported so.
+fn unreadable(rt: &impl Abort, alloc: Global, fault: ReadFault, words: &str) {
+    let words = filled(rt, alloc, "unreadable, @", words);
+    reports_bad(rt, alloc, Verdict::Unreadable(fault), words.as_str());
 }
 
 #[test]
-fn shows_names(rt: HostRuntime) -> Result<(), Fail> {
+fn shows_faults_of_reading(rt: HostRuntime) {
+    let alloc = rt.alloc();
+    unreadable(&rt, alloc, ReadFault::TooLong, "file too long");
+    unreadable(&rt, alloc, ReadFault::BadJson, "not JSON");
+    unreadable(&rt, alloc, ReadFault::NoEvents, "no events");
+    unreadable(&rt, alloc, ReadFault::OutOfMemory, "out of memory");
+}
+
+#[test]
+fn shows_faults_of_events(rt: HostRuntime) {
+    let alloc = rt.alloc();
+    unreadable(
+        &rt,
+        alloc,
+        ReadFault::BadNumber { at: 1 },
+        "event 1 has a bad number",
+    );
+    unreadable(
+        &rt,
+        alloc,
+        ReadFault::OutOfOrder { at: 3 },
+        "event 3 is out of order",
+    );
+    unreadable(
+        &rt,
+        alloc,
+        ReadFault::MissingField { at: 5 },
+        "event 5 lacks a field",
+    );
+    unreadable(
+        &rt,
+        alloc,
+        ReadFault::BadTime { at: 2 },
+        "event 2 has a bad time",
+    );
+    unreadable(
+        &rt,
+        alloc,
+        ReadFault::BadPayload { at: 7 },
+        "event 7 has a bad payload",
+    );
+    unreadable(
+        &rt,
+        alloc,
+        ReadFault::ShorthandPayload { at: 7 },
+        "event 7 has a shorthand payload",
+    );
+}
+
+#[test]
+fn shows_what_is_not_supported(rt: HostRuntime) {
+    let name = text_of(&rt, rt.alloc(), "A\nB");
+    unreadable(
+        &rt,
+        rt.alloc(),
+        ReadFault::UnsupportedEvent { at: 4, name },
+        "event 4 has the unsupported type A?B",
+    );
+    let name = text_of(&rt, rt.alloc(), "Side\u{e9}ffect");
+    unreadable(
+        &rt,
+        rt.alloc(),
+        ReadFault::UnsupportedMarker { at: 5, name },
+        "event 5 has the unsupported marker Side?ffect",
+    );
+}
+
+#[test]
+fn shows_names(rt: HostRuntime) {
     for row in &NAMES {
-        let text = report_of_one(rt.alloc(), row.name, Verdict::OutOfMemory)?;
-        let wanted = format!(in rt.alloc(); "{}: out of memory\n1 files, 0 ok\n", row.shown)?;
-        assert_eq!(rt; text.as_str(), wanted.as_str());
+        let form = "@: out of memory\n1 files, 0 ok\n";
+        let wanted = filled(&rt, rt.alloc(), form, row.shown);
+        reports(
+            &rt,
+            rt.alloc(),
+            row.name,
+            Verdict::OutOfMemory,
+            wanted.as_str(),
+        );
     }
-    Ok(())
 }
 
 #[test]
-fn cuts_long_names(rt: HostRuntime) -> Result<(), Fail> {
-    for character in ["x", "\u{e9}"] {
-        let name = character.repeat(rt.alloc(), 256)?;
-        let shown = if character == "x" { "x" } else { "?" };
-        let text = report_of_one(rt.alloc(), name.as_str(), good(1, true))?;
-        let shown = shown.repeat(rt.alloc(), 255)?;
-        let wanted = format!(in rt.alloc(); "{shown}: ok, 1 tasks, last live\n1 files, 1 ok\n")?;
-        assert_eq!(rt; text.as_str(), wanted.as_str());
+fn cuts_long_names(rt: HostRuntime) {
+    for (character, shown) in [("x", "x"), ("\u{e9}", "?")] {
+        let name = character.repeat(rt.alloc(), 256).expect(&rt, "memory");
+        let shown = shown.repeat(rt.alloc(), 255).expect(&rt, "memory");
+        let form = "@: ok, 1 tasks, last live\n1 files, 1 ok\n";
+        let wanted = filled(&rt, rt.alloc(), form, shown.as_str());
+        reports(
+            &rt,
+            rt.alloc(),
+            name.as_str(),
+            good(1, true),
+            wanted.as_str(),
+        );
     }
-    Ok(())
 }
 
 #[test]
-fn keeps_the_order(rt: HostRuntime) -> Result<(), Fail> {
-    let mut lines = Vec::new(rt.alloc());
-    let empty = report_of(rt.alloc(), lines.as_slice())?;
+fn keeps_the_order(rt: HostRuntime) {
+    let alloc = rt.alloc();
+    let mut lines = Vec::new(alloc);
+    let empty = report_of(&rt, alloc, lines.as_slice());
     assert_eq!(rt; empty.as_str(), "0 files, 0 ok\n");
-    lines.push(Line {
-        name: text_of(rt.alloc(), "b.json")?,
-        verdict: good(2, false),
-    })?;
-    lines.push(Line {
-        name: text_of(rt.alloc(), "a.json")?,
-        verdict: good(0, false),
-    })?;
+    add(&rt, alloc, &mut lines, "b.json", good(2, false));
+    add(&rt, alloc, &mut lines, "a.json", good(0, false));
     assert!(rt; all_good(lines.as_slice()));
-    let name = text_of(rt.alloc(), "c.json")?;
-    lines.push(Line {
-        name,
-        verdict: Verdict::Unreadable(ReadFault::BadJson),
-    })?;
+    add(
+        &rt,
+        alloc,
+        &mut lines,
+        "c.json",
+        Verdict::Unreadable(ReadFault::BadJson),
+    );
     assert!(rt; !all_good(lines.as_slice()));
-    let text = report_of(rt.alloc(), lines.as_slice())?;
+    let text = report_of(&rt, alloc, lines.as_slice());
     let wanted =
         "b.json: ok, 2 tasks\na.json: ok, 0 tasks\nc.json: unreadable, not JSON\n3 files, 2 ok\n";
     assert_eq!(rt; text.as_str(), wanted);
-    Ok(())
 }
 
 #[test]
-fn reports_many_files(rt: HostRuntime) -> Result<(), Fail> {
-    let mut lines = Vec::new(rt.alloc());
+fn reports_many_files(rt: HostRuntime) {
+    let alloc = rt.alloc();
+    let mut lines = Vec::new(alloc);
     for _ in 0..3000 {
-        lines.push(Line {
-            name: text_of(rt.alloc(), "nap.json")?,
-            verdict: good(2, false),
-        })?;
+        add(&rt, alloc, &mut lines, "nap.json", good(2, false));
     }
-    let text = report_of(rt.alloc(), lines.as_slice())?;
-    let mut wanted = "nap.json: ok, 2 tasks\n".repeat(rt.alloc(), 3000)?;
-    wanted.push_str("3000 files, 3000 ok\n")?;
+    let text = report_of(&rt, alloc, lines.as_slice());
+    let mut wanted = "nap.json: ok, 2 tasks\n"
+        .repeat(alloc, 3000)
+        .expect(&rt, "memory");
+    assert!(rt; wanted.push_str("3000 files, 3000 ok\n").is_ok());
     assert_eq!(rt; text.as_str(), wanted.as_str());
-    Ok(())
 }
