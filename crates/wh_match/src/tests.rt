@@ -132,7 +132,8 @@ fn gives(
 ) {
     let (previous, cut) = cuts;
     assert!(rt; previous < cut && cut <= track.len() as u64);
-    let mut script = Script::new(alloc, previous, numbered(rt, cut));
+    let cut = EventNo::new(cut).expect(rt, "number");
+    let mut script = Script::new(alloc, previous, cut);
     for (deed, expected) in rows {
         let fault = give(rt, &mut script, track, command(rt, alloc, *deed));
         assert_eq!(rt; fault, *expected);
@@ -465,7 +466,8 @@ fn a_lost_task_is_asked_again(rt: HostRuntime) {
     task(&rt, &mut track);
     assert!(rt; track.len() == 6);
     let mut versions = Versions::new(alloc);
-    let mut script = Script::new(alloc, 0, numbered(&rt, 6));
+    let cut = EventNo::new(6).expect(&rt, "number");
+    let mut script = Script::new(alloc, 0, cut);
     let version = asked(&rt, &mut script, None, &mut versions, -1, 1);
     assert_eq!(rt; version, Ok(1));
     let activity = command(&rt, alloc, Deed::Activity("1", "new"));

@@ -1,4 +1,4 @@
-use Rattle.std.proofs.Common.{◌<◌, ◌≤◌, ◌×◌, length}
+use Rattle.std.proofs.Common.{◌<◌, ◌≤◌, length}
 use Rattle.wh_match.proofs.tests.gives.Given as goal
 
 abbrev pub invariant-loop-deed : goal.invariant-loop-deed
