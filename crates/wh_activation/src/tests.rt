@@ -1,55 +1,58 @@
 use crate::jobs;
 use std::alloc::Global;
-use std::test::Fail;
+use std::process::Abort;
 use wh_events::{Event, EventKind, EventNo, Items, Text};
 use wh_machines::Track;
 use wh_workflow::{ActivityEnd, ChildEnd, Job};
 
-fn text(alloc: Global, content: &str) -> Result<Text, Fail> {
-    Ok(Text::new(String::from_str(alloc, content)?))
+fn text(rt: &impl Abort, alloc: Global, content: &str) -> Text {
+    Text::new(String::from_str(alloc, content).expect(rt, "memory"))
+}
+
+fn numbered(rt: &impl Abort, number: u64) -> EventNo {
+    EventNo::new(number).expect(rt, "number")
 }
 
 /// 2024-05-01T10:00:00Z, in nanoseconds from 1970-01-01T00:00:00Z.
 const TEN: i128 = 1_714_557_600_000_000_000;
 
 /// Pushes an event that is in place, with the next number; event n has the time TEN and n seconds.
-fn add(track: &mut Track, body: EventKind) -> Result<(), Fail> {
+fn add(rt: &impl Abort, track: &mut Track, body: EventKind) {
     let next = (track.len() as u64).saturating_add(1);
-    let number = EventNo::new(next).ok_or("number")?;
-    let time = TEN.saturating_add((next as i128).saturating_mul(1_000_000_000));
-    track
-        .push(Event { number, time, body })
-        .ok()
-        .ok_or("not in place")?;
-    Ok(())
+    let event = Event {
+        number: numbered(rt, next),
+        time: TEN.saturating_add((next as i128).saturating_mul(1_000_000_000)),
+        body,
+    };
+    assert!(rt; track.push(event).is_ok());
 }
 
 /// A run of the workflow type up to its first started task: three events.
-fn started(alloc: Global, workflow: &str) -> Result<Track, Fail> {
+fn started(rt: &impl Abort, alloc: Global, workflow: &str) -> Track {
     let mut track = Track::new(alloc);
     add(
+        rt,
         &mut track,
         EventKind::WorkflowExecutionStarted {
-            workflow: text(alloc, workflow)?,
+            workflow: text(rt, alloc, workflow),
             input: Items::new(Vec::new(alloc)),
         },
-    )?;
-    add(&mut track, EventKind::WorkflowTaskScheduled)?;
-    add(&mut track, EventKind::WorkflowTaskStarted)?;
-    Ok(track)
+    );
+    task(rt, &mut track);
+    track
 }
 
 /// A task, scheduled and started.
-fn task(track: &mut Track) -> Result<(), Fail> {
-    add(track, EventKind::WorkflowTaskScheduled)?;
-    add(track, EventKind::WorkflowTaskStarted)
+fn task(rt: &impl Abort, track: &mut Track) {
+    add(rt, track, EventKind::WorkflowTaskScheduled);
+    add(rt, track, EventKind::WorkflowTaskStarted);
 }
 
-fn signal(alloc: Global, name: &str) -> Result<EventKind, Fail> {
-    Ok(EventKind::WorkflowExecutionSignaled {
-        name: text(alloc, name)?,
+fn signal(rt: &impl Abort, alloc: Global, name: &str) -> EventKind {
+    EventKind::WorkflowExecutionSignaled {
+        name: text(rt, alloc, name),
         input: Items::new(Vec::new(alloc)),
-    })
+    }
 }
 
 fn activity_end(end: &ActivityEnd) -> &'static str {
@@ -109,24 +112,21 @@ fn id(job: &Job) -> &str {
 }
 
 /// The jobs in words, each with its id.
-fn words(alloc: Global, told: &[Job]) -> Result<String, Fail> {
+fn words(rt: &impl Abort, alloc: Global, told: &[Job]) -> String {
     let mut all = String::new(alloc);
     for job in told {
-        all.push_str(kind(job))?;
-        all.push_str(" ")?;
-        all.push_str(id(job))?;
-        all.push_str(";")?;
+        all.push_str(kind(job)).expect(rt, "memory");
+        all.push_str(" ").expect(rt, "memory");
+        all.push_str(id(job)).expect(rt, "memory");
+        all.push_str(";").expect(rt, "memory");
     }
-    Ok(all)
+    all
 }
 
 /// The jobs of the cut of a number.
-fn jobs_at(alloc: Global, track: &Track, from: u64, to: u64) -> Result<Vec<Job>, Fail> {
-    let cut = EventNo::new(to).ok_or("cut")?;
-    if from >= cut.get() || cut.get() > track.len() as u64 {
-        return Err(Fail::new("no such cut"));
-    }
-    Ok(jobs(alloc, track, from, cut)?)
+fn jobs_at(rt: &impl Abort, alloc: Global, track: &Track, from: u64, to: u64) -> Vec<Job> {
+    assert!(rt; from < to && to <= track.len() as u64);
+    jobs(alloc, track, from, numbered(rt, to)).expect(rt, "memory")
 }
 
 /// The time that the first of the jobs tells.
@@ -145,179 +145,188 @@ fn last_signal(told: &[Job]) -> &str {
     }
 }
 
-#[test]
-fn tells_of_a_nap(rt: HostRuntime) -> Result<(), Fail> {
-    let alloc = rt.alloc();
-    let mut track = started(alloc, "Nap")?;
-    let first = jobs_at(alloc, &track, 0, 3)?;
-    assert_eq!(rt; time(&first), Some(1_714_557_603_000_000_000));
-    assert_eq!(rt; words(alloc, &first)?.as_str(), "time -;start Nap;");
-    add(&mut track, EventKind::WorkflowTaskCompleted)?;
+/// What a run does that naps after its first task, up to the task at which the timer has fired: five events.
+fn nap(rt: &impl Abort, alloc: Global, track: &mut Track) {
+    add(rt, track, EventKind::WorkflowTaskCompleted);
     add(
-        &mut track,
+        rt,
+        track,
         EventKind::TimerStarted {
-            id: text(alloc, "nap")?,
+            id: text(rt, alloc, "nap"),
         },
-    )?;
-    add(&mut track, EventKind::TimerFired { started: 5 })?;
-    task(&mut track)?;
-    let second = jobs_at(alloc, &track, 3, 8)?;
+    );
+    add(rt, track, EventKind::TimerFired { started: 5 });
+    task(rt, track);
+}
+
+#[test]
+fn tells_of_a_nap(rt: HostRuntime) {
+    let alloc = rt.alloc();
+    let mut track = started(&rt, alloc, "Nap");
+    let first = jobs_at(&rt, alloc, &track, 0, 3);
+    assert_eq!(rt; time(&first), Some(1_714_557_603_000_000_000));
+    assert_eq!(rt; words(&rt, alloc, &first).as_str(), "time -;start Nap;");
+    nap(&rt, alloc, &mut track);
+    let second = jobs_at(&rt, alloc, &track, 3, 8);
     assert_eq!(rt; time(&second), Some(1_714_557_608_000_000_000));
-    assert_eq!(rt; words(alloc, &second)?.as_str(), "time -;fired nap;");
-    Ok(())
+    assert_eq!(rt; words(&rt, alloc, &second).as_str(), "time -;fired nap;");
 }
 
 /// A run up to the activity 1 that its first task schedules: five events.
-fn scheduled(alloc: Global) -> Result<Track, Fail> {
-    let mut track = started(alloc, "Greet")?;
-    add(&mut track, EventKind::WorkflowTaskCompleted)?;
+fn scheduled(rt: &impl Abort, alloc: Global) -> Track {
+    let mut track = started(rt, alloc, "Greet");
+    add(rt, &mut track, EventKind::WorkflowTaskCompleted);
     add(
+        rt,
         &mut track,
         EventKind::ActivityTaskScheduled {
-            id: text(alloc, "1")?,
-            activity: text(alloc, "greet")?,
+            id: text(rt, alloc, "1"),
+            activity: text(rt, alloc, "greet"),
         },
-    )?;
-    Ok(track)
+    );
+    track
 }
 
 #[test]
-fn tells_signals_before_what_else_happened(rt: HostRuntime) -> Result<(), Fail> {
+fn tells_signals_before_what_else_happened(rt: HostRuntime) {
     let alloc = rt.alloc();
-    let mut track = scheduled(alloc)?;
-    add(&mut track, EventKind::ActivityTaskStarted { scheduled: 5 })?;
+    let mut track = scheduled(&rt, alloc);
     add(
+        &rt,
+        &mut track,
+        EventKind::ActivityTaskStarted { scheduled: 5 },
+    );
+    add(
+        &rt,
         &mut track,
         EventKind::ActivityTaskCompleted {
             scheduled: 5,
             result: Items::new(Vec::new(alloc)),
         },
-    )?;
-    add(&mut track, EventKind::WorkflowTaskScheduled)?;
-    add(&mut track, signal(alloc, "hello")?)?;
-    add(&mut track, EventKind::WorkflowTaskStarted)?;
-    let told = jobs_at(alloc, &track, 3, 10)?;
+    );
+    add(&rt, &mut track, EventKind::WorkflowTaskScheduled);
+    add(&rt, &mut track, signal(&rt, alloc, "hello"));
+    add(&rt, &mut track, EventKind::WorkflowTaskStarted);
+    let told = jobs_at(&rt, alloc, &track, 3, 10);
     assert_eq!(rt;
-        words(alloc, &told)?.as_str(),
+        words(&rt, alloc, &told).as_str(),
         "time -;signal hello;completed 1;"
     );
-    Ok(())
 }
 
 #[test]
-fn tells_what_a_lost_task_saw_at_the_next_one(rt: HostRuntime) -> Result<(), Fail> {
+fn tells_what_a_lost_task_saw_at_the_next_one(rt: HostRuntime) {
     let alloc = rt.alloc();
-    let mut track = started(alloc, "Branch")?;
-    add(&mut track, EventKind::WorkflowTaskTimedOut)?;
-    add(&mut track, signal(alloc, "one")?)?;
-    task(&mut track)?;
-    add(&mut track, EventKind::WorkflowTaskFailed)?;
-    add(&mut track, EventKind::WorkflowExecutionCancelRequested)?;
-    add(&mut track, signal(alloc, "two")?)?;
-    task(&mut track)?;
-    let told = jobs_at(alloc, &track, 0, 12)?;
+    let mut track = started(&rt, alloc, "Branch");
+    add(&rt, &mut track, EventKind::WorkflowTaskTimedOut);
+    add(&rt, &mut track, signal(&rt, alloc, "one"));
+    task(&rt, &mut track);
+    add(&rt, &mut track, EventKind::WorkflowTaskFailed);
+    add(&rt, &mut track, EventKind::WorkflowExecutionCancelRequested);
+    add(&rt, &mut track, signal(&rt, alloc, "two"));
+    task(&rt, &mut track);
+    let told = jobs_at(&rt, alloc, &track, 0, 12);
     assert_eq!(rt;
-        words(alloc, &told)?.as_str(),
+        words(&rt, alloc, &told).as_str(),
         "time -;start Branch;signal one;signal two;cancel requested -;"
     );
-    Ok(())
 }
 
 /// A run whose first task starts the child kid and asks for its cancellation: six events.
-fn with_child(alloc: Global) -> Result<Track, Fail> {
-    let mut track = started(alloc, "Family")?;
-    add(&mut track, EventKind::WorkflowTaskCompleted)?;
+fn with_child(rt: &impl Abort, alloc: Global) -> Track {
+    let mut track = started(rt, alloc, "Family");
+    add(rt, &mut track, EventKind::WorkflowTaskCompleted);
     add(
+        rt,
         &mut track,
         EventKind::StartChildWorkflowExecutionInitiated {
-            workflow_id: text(alloc, "kid")?,
-            workflow: text(alloc, "Nap")?,
+            workflow_id: text(rt, alloc, "kid"),
+            workflow: text(rt, alloc, "Nap"),
         },
-    )?;
+    );
     add(
+        rt,
         &mut track,
         EventKind::RequestCancelExternalWorkflowExecutionInitiated {
-            workflow_id: text(alloc, "kid")?,
+            workflow_id: text(rt, alloc, "kid"),
         },
-    )?;
-    Ok(track)
+    );
+    track
 }
 
 #[test]
-fn tells_of_a_child(rt: HostRuntime) -> Result<(), Fail> {
+fn tells_of_a_child(rt: HostRuntime) {
     let alloc = rt.alloc();
-    let mut track = with_child(alloc)?;
+    let mut track = with_child(&rt, alloc);
     add(
+        &rt,
         &mut track,
         EventKind::ChildWorkflowExecutionStarted { initiated: 5 },
-    )?;
+    );
     add(
+        &rt,
         &mut track,
         EventKind::ExternalWorkflowExecutionCancelRequested { initiated: 6 },
-    )?;
+    );
     add(
+        &rt,
         &mut track,
         EventKind::ChildWorkflowExecutionCanceled { initiated: 5 },
-    )?;
-    task(&mut track)?;
-    let told = jobs_at(alloc, &track, 3, 11)?;
+    );
+    task(&rt, &mut track);
+    let told = jobs_at(&rt, alloc, &track, 3, 11);
     assert_eq!(rt;
-        words(alloc, &told)?.as_str(),
+        words(&rt, alloc, &told).as_str(),
         "time -;child started kid;cancel sent kid;canceled kid;"
     );
-    Ok(())
 }
 
-/// A run whose first task signals another workflow: five events.
-fn signalling(alloc: Global) -> Result<Track, Fail> {
-    let mut track = started(alloc, "Caller")?;
-    add(&mut track, EventKind::WorkflowTaskCompleted)?;
+/// A run whose first task signals another workflow, up to the task after the event that ends the signal: eight events.
+fn signalled(rt: &impl Abort, alloc: Global, end: EventKind) -> Track {
+    let mut track = started(rt, alloc, "Caller");
+    add(rt, &mut track, EventKind::WorkflowTaskCompleted);
     add(
+        rt,
         &mut track,
         EventKind::SignalExternalWorkflowExecutionInitiated {
-            workflow_id: text(alloc, "other")?,
-            signal: text(alloc, "go")?,
+            workflow_id: text(rt, alloc, "other"),
+            signal: text(rt, alloc, "go"),
         },
-    )?;
-    Ok(track)
-}
-
-#[test]
-fn tells_how_a_signal_ended(rt: HostRuntime) -> Result<(), Fail> {
-    let alloc = rt.alloc();
-    let mut track = signalling(alloc)?;
-    add(
-        &mut track,
-        EventKind::ExternalWorkflowExecutionSignaled { initiated: 5 },
-    )?;
-    task(&mut track)?;
-    let told = jobs_at(alloc, &track, 3, 8)?;
-    assert_eq!(rt; words(alloc, &told)?.as_str(), "time -;signal sent other;");
-    assert_eq!(rt; last_signal(&told), "go");
-    let mut failing = signalling(alloc)?;
-    add(
-        &mut failing,
-        EventKind::SignalExternalWorkflowExecutionFailed { initiated: 5 },
-    )?;
-    task(&mut failing)?;
-    let told = jobs_at(alloc, &failing, 3, 8)?;
-    assert_eq!(rt;
-        words(alloc, &told)?.as_str(),
-        "time -;signal failed other;"
     );
+    add(rt, &mut track, end);
+    task(rt, &mut track);
+    track
+}
+
+/// Wants these words for a signal that ends so, and its name.
+fn wants_signal(rt: &impl Abort, alloc: Global, end: EventKind, expected: &str) {
+    let track = signalled(rt, alloc, end);
+    let told = jobs_at(rt, alloc, &track, 3, 8);
+    assert_eq!(rt; words(rt, alloc, &told).as_str(), expected);
     assert_eq!(rt; last_signal(&told), "go");
-    Ok(())
 }
 
 #[test]
-fn does_not_see_what_comes_later(rt: HostRuntime) -> Result<(), Fail> {
+fn tells_how_a_signal_ended(rt: HostRuntime) {
     let alloc = rt.alloc();
-    let mut track = scheduled(alloc)?;
-    task(&mut track)?;
-    add(&mut track, EventKind::WorkflowTaskCompleted)?;
-    add(&mut track, EventKind::ActivityTaskFailed { scheduled: 5 })?;
-    add(&mut track, signal(alloc, "late")?)?;
-    let told = jobs_at(alloc, &track, 3, 7)?;
-    assert_eq!(rt; words(alloc, &told)?.as_str(), "time -;");
-    Ok(())
+    let sent = EventKind::ExternalWorkflowExecutionSignaled { initiated: 5 };
+    wants_signal(&rt, alloc, sent, "time -;signal sent other;");
+    let failed = EventKind::SignalExternalWorkflowExecutionFailed { initiated: 5 };
+    wants_signal(&rt, alloc, failed, "time -;signal failed other;");
+}
+
+#[test]
+fn does_not_see_what_comes_later(rt: HostRuntime) {
+    let alloc = rt.alloc();
+    let mut track = scheduled(&rt, alloc);
+    task(&rt, &mut track);
+    add(&rt, &mut track, EventKind::WorkflowTaskCompleted);
+    add(
+        &rt,
+        &mut track,
+        EventKind::ActivityTaskFailed { scheduled: 5 },
+    );
+    add(&rt, &mut track, signal(&rt, alloc, "late"));
+    let told = jobs_at(&rt, alloc, &track, 3, 7);
+    assert_eq!(rt; words(&rt, alloc, &told).as_str(), "time -;");
 }
