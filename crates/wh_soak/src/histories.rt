@@ -1,5 +1,5 @@
 //! The histories that are served, made of a few files over and over.
-ghost use Rattle.std.specs.Prelude.{◌<◌, length};
+ghost use Rattle.std.specs.Prelude.{◌≡◌, ◌<◌, ◌%◌, IfOk, get_or, length};
 
 use std::alloc::{AllocError, Global};
 use std::io::ErrorKind;
@@ -35,6 +35,7 @@ pub fn read_files<R: Files + AllocGlobal + Clone + Drop>(
 /// The name and the bytes of the history of an index: `nap-17` is made of `nap.json`.
 fn history_at(alloc: Global, files: &[File], index: u64) -> Result<(String, &[u8]), AllocError>
     requires { 0 < length files.now }
+    ensures { IfOk result (λ given. (other : _) → given.1.now ≡ (get_or files.now (index % length files.now) other).1.items) }
 {
     let (stem, bytes) = &files[(index % files.len() as u64) as usize];
     Ok((format!(in alloc; "{stem}-{index}")?, bytes.as_slice()))

@@ -1,5 +1,5 @@
 //! A soak: workers with a thread each serve histories while another thread evicts runs at random.
-ghost use Rattle.std.specs.Prelude.{◌≡◌, ◌+◌, ◌<◌, IfOk, length, vec_len};
+ghost use Rattle.std.specs.Prelude.{◌≡◌, ◌+◌, ◌<◌, ◌≤◌, IfOk, length, map, reverse, vec_len};
 ghost use denote.Param.Send.{IsSend};
 ghost use Rattle.wh_host.specs.Machine.{IsConfig};
 ghost use Rattle.wh_soak.specs.Sizes.{IsWithin};
@@ -70,7 +70,8 @@ fn jobs_of<T: Ledger, C: Ledger, F: Ledger>(
     histories: u64,
 ) -> io::Result<Vec<Job<T, C, F>>>
     requires { 0 < length files.now }
-    ensures { IfOk result (λ jobs. vec_len jobs ≡ vec_len seats) }
+    ensures count { IfOk result (λ jobs. vec_len jobs ≡ vec_len seats) }
+    ensures seats { IfOk result (λ jobs. map (λ job. job.seat) jobs.items ≡ reverse seats.items) }
 {
     let workers = seats.len();
     let mut jobs = Vec::new(alloc);
@@ -92,6 +93,7 @@ fn evict_some<W: Workflow, T: Ledger, C: Ledger, F: Ledger>(
     random: &mut Pcg32,
 ) -> u64
     requires { 0 < length keys.now }
+    ensures { result ≤ 64 }
 {
     let mut evicted: u64 = 0;
     for _run in 0..ROUND {
