@@ -125,8 +125,10 @@ fn words(rt: &impl Abort, alloc: Global, told: &[Job]) -> String {
 
 /// The jobs of the cut of a number.
 fn jobs_at(rt: &impl Abort, alloc: Global, track: &Track, from: u64, to: u64) -> Vec<Job> {
-    assert!(rt; from < to && to <= track.len() as u64);
-    jobs(alloc, track, from, numbered(rt, to)).expect(rt, "memory")
+    let cut = EventNo::new(to).expect(rt, "number");
+    assert!(rt; from < cut.get());
+    assert!(rt; cut.get() <= track.len() as u64);
+    jobs(alloc, track, from, cut).expect(rt, "memory")
 }
 
 /// The time that the first of the jobs tells.
