@@ -488,18 +488,31 @@ fn given_and_taken<R: Wait + Abort, T: Ledger, C: Ledger, F: Ledger>(
     run.expect(rt, "the run is cached")
 }
 
+/// What a run does next, by a word.
+fn went(run: &Run<Nap>) -> &'static str {
+    match run.commands() {
+        [Command::Complete { .. }] => "completes",
+        _ => "goes on",
+    }
+}
+
+/// Why a run did not advance, and how many events it then holds.
+fn refused(fault: &AdvanceFault<Nap>) -> (&'static str, usize) {
+    match fault {
+        AdvanceFault::Gap(run) => ("gap", run.held_len()),
+        AdvanceFault::NotATask(run) => ("not a task", run.held_len()),
+        _ => ("spent", 0),
+    }
+}
+
 /// What becomes of a run that is advanced, the steps of that, and how many events it then holds.
 fn advanced(alloc: Global, run: Run<Nap>, events: Vec<Event>) -> (&'static str, u64, usize) {
     let mut meter = Meter::new();
-    match run.advance(alloc, events, &mut meter) {
-        Ok(run) if matches!(run.commands(), [Command::Complete { .. }]) => {
-            ("completes", meter.count(), run.held_len())
-        }
-        Ok(run) => ("goes on", meter.count(), run.held_len()),
-        Err(AdvanceFault::Gap(run)) => ("gap", meter.count(), run.held_len()),
-        Err(AdvanceFault::NotATask(run)) => ("not a task", meter.count(), run.held_len()),
-        Err(_) => ("spent", meter.count(), 0),
-    }
+    let (word, held) = match run.advance(alloc, events, &mut meter) {
+        Ok(run) => (went(&run), run.held_len()),
+        Err(fault) => refused(&fault),
+    };
+    (word, meter.count(), held)
 }
 
 /// Advances a run that was in the cache by these events.

@@ -3,7 +3,7 @@
 use crate::tests::notation::{events, key, numbered, owned, plain, push, row};
 use std::alloc::Global;
 use std::process::Abort;
-use wh_events::EventNo;
+use wh_events::{Event, EventNo};
 use wh_replay::{AdvanceFault, Answer, Run, RunFault};
 use wh_samples::{All, Flood};
 use wh_workflow::{Meter, Workflow};
@@ -152,10 +152,10 @@ fn returned_text<W: Workflow>(
 }
 
 /// Why a run did not advance.
-fn refusal_text<W: Workflow>(rt: &impl Abort, alloc: Global, fault: AdvanceFault<W>) -> String {
+fn refusal_text<W: Workflow>(rt: &impl Abort, alloc: Global, fault: &AdvanceFault<W>) -> String {
     match fault {
-        AdvanceFault::NotATask(run) => returned_text(rt, alloc, "NotATask", &run),
-        AdvanceFault::Gap(run) => returned_text(rt, alloc, "Gap", &run),
+        AdvanceFault::NotATask(run) => returned_text(rt, alloc, "NotATask", run),
+        AdvanceFault::Gap(run) => returned_text(rt, alloc, "Gap", run),
         AdvanceFault::Fault(fault) => {
             let text = format!(in alloc; "Fault({fault:?})").expect(rt, "memory");
             plain(rt, alloc, text)
@@ -164,17 +164,22 @@ fn refusal_text<W: Workflow>(rt: &impl Abort, alloc: Global, fault: AdvanceFault
     }
 }
 
+/// The events of a history behind so many, or behind the place that the history names.
+fn new_events(rt: &impl Abort, alloc: Global, history: &'static str, held: usize) -> Vec<Event> {
+    let (history, place) = numbered(rt, history, " behind ", held);
+    let mut all = events(rt, alloc, history);
+    assert!(rt; place <= all.len(), "{history}");
+    all.split_off(place).expect(rt, "memory")
+}
+
 /// What comes of a run that is advanced by the events of a history behind those that it holds, or
 /// behind the place that the history names.
 fn advanced_text(rt: &impl Abort, alloc: Global, run: Run<All>, history: &'static str) -> String {
     let mut meter = Meter::new();
-    let (history, place) = numbered(rt, history, " behind ", run.held_len());
-    let mut all = events(rt, alloc, history);
-    assert!(rt; place <= all.len(), "{history}");
-    let new = all.split_off(place).expect(rt, "memory");
+    let new = new_events(rt, alloc, history, run.held_len());
     match run.advance(alloc, new, &mut meter) {
         Ok(run) => stepped_text(rt, alloc, meter.count(), &run),
-        Err(fault) => refusal_text(rt, alloc, fault),
+        Err(fault) => refusal_text(rt, alloc, &fault),
     }
 }
 
