@@ -1,7 +1,6 @@
 //! What a task may command, and whether it is what was recorded.
 
 use crate::tests::notation::replays;
-use std::test::Fail;
 use wh_samples::{All, Asker, Flood};
 
 /// Commands that match their record or do not, versions of a change, and commands that cannot stand.
@@ -86,12 +85,12 @@ start:Asker S T => x.json: fault, task at 3: TooManyCommands
 ";
 
 #[test]
-fn judges_activations(rt: HostRuntime) -> Result<(), Fail> {
-    replays::<All, _>(&rt, rt.alloc(), ACTIVATIONS)
+fn judges_activations(rt: HostRuntime) {
+    replays::<All, _>(&rt, rt.alloc(), ACTIVATIONS);
 }
 
 #[test]
-fn bounds_commands(rt: HostRuntime) -> Result<(), Fail> {
-    replays::<Flood, _>(&rt, rt.alloc(), MANY)?;
-    replays::<Asker, _>(&rt, rt.alloc(), ASKS)
+fn bounds_commands(rt: HostRuntime) {
+    replays::<Flood, _>(&rt, rt.alloc(), MANY);
+    replays::<Asker, _>(&rt, rt.alloc(), ASKS);
 }

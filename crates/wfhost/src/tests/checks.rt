@@ -1,8 +1,8 @@
 //! How many tasks a history has, or its fault in full.
 
-use crate::tests::notation::{events, plain, rows};
+use crate::tests::notation::{events, plain, row};
 use std::alloc::Global;
-use std::test::Fail;
+use std::process::Abort;
 use wh_replay::check;
 use wh_samples::All;
 
@@ -27,16 +27,17 @@ start:Nap timer:nap S T => Err(Fault(Workflow at: 4, fault: IdInUse))
 ";
 
 /// What a history has, or its fault.
-fn checked_text(alloc: Global, history: &'static str) -> Result<String, Fail> {
-    let checked = check::<All>(alloc, events(alloc, history)?);
-    plain(alloc, format!(in alloc; "{checked:?}")?)
+fn checked_text(rt: &impl Abort, alloc: Global, history: &'static str) -> String {
+    let checked = check::<All>(alloc, events(rt, alloc, history));
+    let text = format!(in alloc; "{checked:?}").expect(rt, "memory");
+    plain(rt, alloc, text)
 }
 
 #[test]
-fn checks_histories(rt: HostRuntime) -> Result<(), Fail> {
-    for (history, wanted) in rows(rt.alloc(), CHECKED)? {
-        let text = checked_text(rt.alloc(), history)?;
+fn checks_histories(rt: HostRuntime) {
+    for line in CHECKED.lines() {
+        let (history, wanted) = row(&rt, line);
+        let text = checked_text(&rt, rt.alloc(), history);
         assert_eq!(rt; text.as_str(), wanted, "{history}");
     }
-    Ok(())
 }

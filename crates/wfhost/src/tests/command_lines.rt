@@ -1,9 +1,9 @@
 //! Command lines.
 
 use crate::command_line::{Plan, Refusal, parse};
-use crate::tests::notation::rows;
+use crate::tests::notation::{owned, row};
 use std::alloc::Global;
-use std::test::Fail;
+use std::process::Abort;
 
 /// What a line behind the program's name asks for.
 const LINES: &str = "\
@@ -40,9 +40,9 @@ replay --help => help
 ";
 
 /// A plan in words.
-fn plan_text(alloc: Global, plan: &Plan) -> Result<String, Fail> {
-    Ok(match plan {
-        Plan::Replay { dir } => format!(in alloc; "replay {}", dir.get())?,
+fn plan_text(rt: &impl Abort, alloc: Global, plan: &Plan) -> String {
+    let text = match plan {
+        Plan::Replay { dir } => format!(in alloc; "replay {}", dir.get()),
         Plan::Serve {
             dir,
             workers,
@@ -52,9 +52,10 @@ fn plan_text(alloc: Global, plan: &Plan) -> Result<String, Fail> {
         } => format!(in alloc;
             "serve {}, workers {workers}, cache {cache}, cache events {cache_events}, slots {slots}",
             dir.get()
-        )?,
-        Plan::Help { .. } => String::from_str(alloc, "help")?,
-    })
+        ),
+        Plan::Help { .. } => String::from_str(alloc, "help"),
+    };
+    text.expect(rt, "memory")
 }
 
 /// A refusal in words.
@@ -66,24 +67,34 @@ fn refusal_text(refusal: &Refusal) -> &'static str {
     }
 }
 
-/// What a line asks for, in words.
-fn line_text(alloc: Global, line: &'static str) -> Result<String, Fail> {
+/// The program's name and the words of a line behind it.
+fn words(rt: &impl Abort, alloc: Global, line: &str) -> Vec<String> {
     let mut words = Vec::new(alloc);
-    words.push(String::from_str(alloc, "wfhost")?)?;
+    push(rt, &mut words, owned(rt, alloc, "wfhost"));
     for word in line.split_whitespace() {
-        words.push(String::from_str(alloc, word)?)?;
+        push(rt, &mut words, owned(rt, alloc, word));
     }
+    words
+}
+
+fn push(rt: &impl Abort, words: &mut Vec<String>, word: String) {
+    assert!(rt; words.push(word).is_ok());
+}
+
+/// What a line asks for, in words.
+pub(super) fn line_text(rt: &impl Abort, alloc: Global, line: &str) -> String {
+    let words = words(rt, alloc, line);
     match parse(alloc, words.as_slice()) {
-        Ok(plan) => plan_text(alloc, &plan),
-        Err(refusal) => Ok(String::from_str(alloc, refusal_text(&refusal))?),
+        Ok(plan) => plan_text(rt, alloc, &plan),
+        Err(refusal) => owned(rt, alloc, refusal_text(&refusal)),
     }
 }
 
 #[test]
-fn reads_command_lines(rt: HostRuntime) -> Result<(), Fail> {
-    for (line, wanted) in rows(rt.alloc(), LINES)? {
-        let text = line_text(rt.alloc(), line)?;
-        assert_eq!(rt; text.as_str(), wanted, "{line}");
+fn reads_command_lines(rt: HostRuntime) {
+    for line in LINES.lines() {
+        let (words, wanted) = row(&rt, line);
+        let text = line_text(&rt, rt.alloc(), words);
+        assert_eq!(rt; text.as_str(), wanted, "{words}");
     }
-    Ok(())
 }

@@ -1,7 +1,6 @@
 //! Which tasks are cuts, what their records are, and which jobs they have.
 
 use crate::tests::notation::replays;
-use std::test::Fail;
 use wh_samples::All;
 
 /// Tasks that ended in one way or another; records, which go on to the next completion, whichever
@@ -44,6 +43,6 @@ nap/8 task_failed completed S T => x.json: fault, event 11 is not in place: Afte
 ";
 
 #[test]
-fn judges_cuts(rt: HostRuntime) -> Result<(), Fail> {
-    replays::<All, _>(&rt, rt.alloc(), CUTS)
+fn judges_cuts(rt: HostRuntime) {
+    replays::<All, _>(&rt, rt.alloc(), CUTS);
 }

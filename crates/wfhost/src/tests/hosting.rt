@@ -2,14 +2,13 @@
 
 ghost use Rattle.std.specs.Prelude.{◌≡◌};
 
-use crate::tests::notation::{events, rows};
+use crate::tests::notation::{events, key, owned, row};
 use std::alloc::Global;
 use std::marker::Brand;
 use std::process::Abort;
 use std::sync::Wait;
 use std::sync::ledger::{Blank, Ledger};
-use std::test::Fail;
-use wh_events::{Event, RunKey, Text};
+use wh_events::{Event, RunKey};
 use wh_host::{Config, Counts, Host, Outcome, Totals};
 use wh_ledger::Seat;
 use wh_poll::{
@@ -33,16 +32,24 @@ pub(super) const SMALL: Config = Config {
 };
 
 /// A source of histories, each with a name. Their indices begin at `first`.
-pub(super) fn script(alloc: Global, first: u64, table: &'static str) -> Result<ScriptSource, Fail> {
+pub(super) fn script(
+    rt: &impl Abort,
+    alloc: Global,
+    first: u64,
+    table: &'static str,
+) -> ScriptSource {
     let mut histories = Vec::new(alloc);
     let mut index = first;
-    for (name, history) in rows(alloc, table)? {
-        let name = String::from_str(alloc, name)?;
-        let history = (index, name, events(alloc, history)?);
-        histories.push(history).map_err(|_| "memory")?;
+    for line in table.lines() {
+        let (name, history) = row(rt, line);
+        let history = (index, owned(rt, alloc, name), events(rt, alloc, history));
+        assert!(rt; histories.push(history).is_ok());
         index = index.saturating_add(1);
     }
-    Ok(ScriptSource::new(alloc, histories).map_err(|_| "memory")?)
+    match ScriptSource::new(alloc, histories) {
+        Ok(source) => source,
+        Err(_) => panic!(rt; "memory"),
+    }
 }
 
 /// Opens a host with its seats.
@@ -157,7 +164,7 @@ fn day<R: Wait + Abort, T: Ledger, C: Ledger, F: Ledger>(
 
 /// A cached run replays its second task alone, without a cache both are replayed.
 #[test]
-fn a_cached_run_goes_on(rt: HostRuntime) -> Result<(), Fail> {
+fn a_cached_run_goes_on(rt: HostRuntime) {
     let alloc = rt.alloc();
     for (cache, steps) in [(1, 2), (0, 4)] {
         let tasks = [(3, false, 2), (8, cache == 1, steps)];
@@ -165,7 +172,7 @@ fn a_cached_run_goes_on(rt: HostRuntime) -> Result<(), Fail> {
             &rt,
             alloc,
             cache,
-            &mut script(alloc, 0, "nap => nap")?,
+            &mut script(&rt, alloc, 0, "nap => nap"),
             &tasks,
             Blank::new(1),
             Blank::new(1),
@@ -176,16 +183,11 @@ fn a_cached_run_goes_on(rt: HostRuntime) -> Result<(), Fail> {
             (2, 2, cache)
         );
     }
-    Ok(())
 }
 
 /// What is counted of three runs with a cache for none or two of them, and the answers that were sent. Each run is gone when
 /// its next task comes.
-fn three_runs<R: Wait + Abort>(
-    rt: &R,
-    alloc: Global,
-    cache: usize,
-) -> Result<(Counts, String), Fail> {
+fn three_runs<R: Wait + Abort>(rt: &R, alloc: Global, cache: usize) -> (Counts, String) {
     let tasks = [
         (3, false, 2),
         (FILE + 3, false, 2),
@@ -194,7 +196,7 @@ fn three_runs<R: Wait + Abort>(
         (FILE + 8, false, 4),
         (2 * FILE + 8, false, 4),
     ];
-    let mut source = script(alloc, 0, "a => nap\nb => nap\nc => nap")?;
+    let mut source = script(rt, alloc, 0, "a => nap\nb => nap\nc => nap");
     let counts = day::<R, Brand, Brand, Brand>(
         rt,
         alloc,
@@ -206,22 +208,22 @@ fn three_runs<R: Wait + Abort>(
         Blank::new(1),
     );
     let answers = source.answers();
-    Ok((counts, format!(in alloc; "{answers:?}")?))
+    let answers = format!(in alloc; "{answers:?}").expect(rt, "memory");
+    (counts, answers)
 }
 
 /// A run that is no longer cached answers as one that never was.
 #[test]
-fn a_run_that_went_is_asked_for(rt: HostRuntime) -> Result<(), Fail> {
+fn a_run_that_went_is_asked_for(rt: HostRuntime) {
     let alloc = rt.alloc();
-    let (replayed, answers) = three_runs(&rt, alloc, 0)?;
+    let (replayed, answers) = three_runs(&rt, alloc, 0);
     assert_eq!(rt;
         (replayed.taken, replayed.completed, replayed.cached),
         (6, 6, 0)
     );
-    let (cached, others) = three_runs(&rt, alloc, 2)?;
+    let (cached, others) = three_runs(&rt, alloc, 2);
     assert_eq!(rt; (cached.taken, cached.completed, cached.cached), (6, 6, 2));
     assert_eq!(rt; others, answers);
-    Ok(())
 }
 
 /// What is left after an answer that could not be sent: the run is cached, the slot free, and the task failed.
@@ -252,14 +254,14 @@ fn day_of_a_failed_answer<R: Wait + Abort, T: Ledger, C: Ledger, F: Ledger>(
 }
 
 #[test]
-fn a_failed_answer(rt: HostRuntime) -> Result<(), Fail> {
+fn a_failed_answer(rt: HostRuntime) {
     let alloc = rt.alloc();
     for cache in [1, 100] {
         let counts = day_of_a_failed_answer::<HostRuntime, Brand, Brand, Brand>(
             &rt,
             alloc,
             cache,
-            script(alloc, 0, "nap => nap")?,
+            script(&rt, alloc, 0, "nap => nap"),
             Blank::new(1),
             Blank::new(1),
             Blank::new(1),
@@ -270,7 +272,6 @@ fn a_failed_answer(rt: HostRuntime) -> Result<(), Fail> {
             (0, 1, 2)
         );
     }
-    Ok(())
 }
 
 /// Takes a workflow task in hand.
@@ -289,14 +290,6 @@ fn hold<R: Wait + Abort, W: Workflow, T: Ledger, C: Ledger, F: Ledger>(
     match used {
         Ok(used) => used,
         Err(_) => panic!(rt; "use"),
-    }
-}
-
-/// The key of a source's history.
-pub(super) fn key(rt: &impl Abort, alloc: Global, name: &str) -> RunKey {
-    RunKey {
-        workflow_id: Text::new(String::from_str(alloc, name).expect(rt, "memory")),
-        run_id: Text::new(String::from_str(alloc, "recorded").expect(rt, "memory")),
     }
 }
 
@@ -321,9 +314,9 @@ fn day_of_a_repeated_task<R: Wait + Abort, T: Ledger, C: Ledger, F: Ledger>(
 }
 
 #[test]
-fn a_repeated_task(rt: HostRuntime) -> Result<(), Fail> {
+fn a_repeated_task(rt: HostRuntime) {
     let alloc = rt.alloc();
-    let mut source = script(alloc, 0, "nap => start:Nap signal:s*4 S T")?;
+    let mut source = script(&rt, alloc, 0, "nap => start:Nap signal:s*4 S T");
     let (served, counts) = day_of_a_repeated_task::<HostRuntime, Brand, Brand, Brand>(
         &rt,
         alloc,
@@ -337,7 +330,6 @@ fn a_repeated_task(rt: HostRuntime) -> Result<(), Fail> {
     assert_eq!(rt; (counts.workflow.reserved, counts.workflow.held), (0, 1));
     assert_eq!(rt; source.tally("nap"), Some((1, 0, 1)));
     assert!(rt; source.answers().is_empty());
-    Ok(())
 }
 
 /// A worker with a source of which one call fails, and what is counted when the host is closed.
@@ -386,7 +378,7 @@ fn fault_where(fails: bool) -> Option<SourceFault> {
 
 /// One worker on one nap, with and without a cache. The calls are a poll, its answer, a poll of activities and so on.
 #[test]
-fn one_call_fails(rt: HostRuntime) -> Result<(), Fail> {
+fn one_call_fails(rt: HostRuntime) {
     let alloc = rt.alloc();
     let rows = [
         (100, 2, 1),
@@ -400,7 +392,7 @@ fn one_call_fails(rt: HostRuntime) -> Result<(), Fail> {
             &rt,
             alloc,
             cache,
-            script(alloc, 0, "nap => nap")?,
+            script(&rt, alloc, 0, "nap => nap"),
             fail_at,
             5,
             Blank::new(1),
@@ -416,7 +408,6 @@ fn one_call_fails(rt: HostRuntime) -> Result<(), Fail> {
         assert_eq!(rt; totals, wanted, "at {fail_at}");
         assert_eq!(rt; fault, fault_where(fail_at != 7), "at {fail_at}");
     }
-    Ok(())
 }
 
 /// The samples' histories.
@@ -429,14 +420,14 @@ racer.json => racer";
 
 /// One worker on five runs makes 28 calls. Whichever fails, each task is taken once, and at most one fails.
 #[test]
-fn each_call_fails(rt: HostRuntime) -> Result<(), Fail> {
+fn each_call_fails(rt: HostRuntime) {
     let alloc = rt.alloc();
     for fail_at in 0..=29 {
         let (totals, fault) = worked::<HostRuntime, All, Brand, Brand, Brand>(
             &rt,
             alloc,
             100,
-            script(alloc, 0, SAMPLES)?,
+            script(&rt, alloc, 0, SAMPLES),
             fail_at,
             16,
             Blank::new(1),
@@ -448,19 +439,18 @@ fn each_call_fails(rt: HostRuntime) -> Result<(), Fail> {
         let fails = 1 <= fail_at && fail_at <= 28;
         assert_eq!(rt; fault, fault_where(fails), "at {fail_at}");
     }
-    Ok(())
 }
 
 /// What is counted of five runs is the same with each cache.
 #[test]
-fn any_cache_serves(rt: HostRuntime) -> Result<(), Fail> {
+fn any_cache_serves(rt: HostRuntime) {
     let alloc = rt.alloc();
     for cache in [0, 1, 2, 100] {
         let (totals, _fault) = worked::<HostRuntime, All, Brand, Brand, Brand>(
             &rt,
             alloc,
             cache,
-            script(alloc, 0, SAMPLES)?,
+            script(&rt, alloc, 0, SAMPLES),
             0,
             16,
             Blank::new(1),
@@ -469,18 +459,17 @@ fn any_cache_serves(rt: HostRuntime) -> Result<(), Fail> {
         );
         assert_eq!(rt; (totals.taken, totals.completed), (13, 13), "with {cache}");
     }
-    Ok(())
 }
 
 /// The events from a number on.
-fn later(alloc: Global, history: &'static str, from: u64) -> Result<Vec<Event>, Fail> {
+fn later(rt: &impl Abort, alloc: Global, history: &'static str, from: u64) -> Vec<Event> {
     let mut later = Vec::new(alloc);
-    for event in events(alloc, history)? {
+    for event in events(rt, alloc, history) {
         if from <= event.number.get() {
-            later.push(event).map_err(|_| "memory")?;
+            assert!(rt; later.push(event).is_ok());
         }
     }
-    Ok(later)
+    later
 }
 
 /// Gives a run to the host with a task, and takes it with the next one.
@@ -499,18 +488,31 @@ fn given_and_taken<R: Wait + Abort, T: Ledger, C: Ledger, F: Ledger>(
     run.expect(rt, "the run is cached")
 }
 
+/// What a run does next, by a word.
+fn went(run: &Run<Nap>) -> &'static str {
+    match run.commands() {
+        [Command::Complete { .. }] => "completes",
+        _ => "goes on",
+    }
+}
+
+/// Why a run did not advance, and how many events it then holds.
+fn refused(fault: &AdvanceFault<Nap>) -> (&'static str, usize) {
+    match fault {
+        AdvanceFault::Gap(run) => ("gap", run.held_len()),
+        AdvanceFault::NotATask(run) => ("not a task", run.held_len()),
+        _ => ("spent", 0),
+    }
+}
+
 /// What becomes of a run that is advanced, the steps of that, and how many events it then holds.
 fn advanced(alloc: Global, run: Run<Nap>, events: Vec<Event>) -> (&'static str, u64, usize) {
     let mut meter = Meter::new();
-    match run.advance(alloc, events, &mut meter) {
-        Ok(run) if matches!(run.commands(), [Command::Complete { .. }]) => {
-            ("completes", meter.count(), run.held_len())
-        }
-        Ok(run) => ("goes on", meter.count(), run.held_len()),
-        Err(AdvanceFault::Gap(run)) => ("gap", meter.count(), run.held_len()),
-        Err(AdvanceFault::NotATask(run)) => ("not a task", meter.count(), run.held_len()),
-        Err(_) => ("spent", meter.count(), 0),
-    }
+    let (word, held) = match run.advance(alloc, events, &mut meter) {
+        Ok(run) => (went(&run), run.held_len()),
+        Err(fault) => refused(&fault),
+    };
+    (word, meter.count(), held)
 }
 
 /// Advances a run that was in the cache by these events.
@@ -544,14 +546,14 @@ fn run_of(rt: &impl Abort, alloc: Global, events: Vec<Event>) -> Run<Nap> {
 
 /// A run that comes out of the cache goes on as it would have.
 #[test]
-fn a_run_from_the_cache(rt: HostRuntime) -> Result<(), Fail> {
+fn a_run_from_the_cache(rt: HostRuntime) {
     let alloc = rt.alloc();
     for (history, from) in [("nap/8", 4), ("nap/3", 3), ("nap/6", 4)] {
         let advanced = day_of_one_run::<HostRuntime, Brand, Brand, Brand>(
             &rt,
             alloc,
-            events(alloc, "nap/3")?,
-            later(alloc, history, from)?,
+            events(&rt, alloc, "nap/3"),
+            later(&rt, alloc, history, from),
             Blank::new(1),
             Blank::new(1),
             Blank::new(1),
@@ -563,5 +565,4 @@ fn a_run_from_the_cache(rt: HostRuntime) -> Result<(), Fail> {
         };
         assert_eq!(rt; advanced, wanted);
     }
-    Ok(())
 }

@@ -1,10 +1,10 @@
 //! Which jobs a task has, and in which order.
 
 use crate::tests::echo::Echo;
-use crate::tests::notation::{rows, without};
+use crate::tests::notation::{row, without};
 use crate::tests::runs::{begins, begun_text};
 use std::alloc::Global;
-use std::test::Fail;
+use std::process::Abort;
 use wh_samples::Nap;
 use wh_workflow::{Pair, Workflow};
 
@@ -47,34 +47,31 @@ start:nap S T => 2 steps, [1714557603000000000 time, nap start]
 ";
 
 /// What the workflow of a history was told, in short.
-fn jobs_text<W: Workflow>(alloc: Global, history: &'static str) -> Result<String, Fail> {
-    let text = begun_text::<W>(alloc, history)?;
+fn jobs_text<W: Workflow>(rt: &impl Abort, alloc: Global, history: &'static str) -> String {
+    let text = begun_text::<W>(rt, alloc, history);
     let marks = ["SignalExternal workflow_id: ", ", signal:", ", input: []"];
-    without(alloc, text, &marks)
+    without(rt, alloc, text, &marks)
 }
 
 /// Compares what the workflow of each history was told.
-fn tells<W: Workflow>(alloc: Global, table: &'static str) -> Result<(), Fail> {
-    for (history, wanted) in rows(alloc, table)? {
-        let text = jobs_text::<W>(alloc, history)?;
-        if text.as_str() != wanted {
-            return Err(Fail::new(format_args!("{history}: {text}")));
-        }
+fn tells<W: Workflow>(rt: &impl Abort, alloc: Global, table: &'static str) {
+    for line in table.lines() {
+        let (history, wanted) = row(rt, line);
+        let text = jobs_text::<W>(rt, alloc, history);
+        assert_eq!(rt; text.as_str(), wanted, "{history}");
     }
-    Ok(())
 }
 
 #[test]
-fn tells_jobs_in_order(rt: HostRuntime) -> Result<(), Fail> {
+fn tells_jobs_in_order(rt: HostRuntime) {
     for table in [JOBS, LATER_JOBS] {
-        tells::<Echo>(rt.alloc(), table)?;
+        tells::<Echo>(&rt, rt.alloc(), table);
     }
-    Ok(())
 }
 
 #[test]
-fn takes_the_first_part(rt: HostRuntime) -> Result<(), Fail> {
-    begins::<Pair<Nap, Echo>>(rt.alloc(), FIRST_PART)?;
-    tells::<Pair<Nap, Echo>>(rt.alloc(), SECOND_PART)?;
-    tells::<Pair<Echo, Nap>>(rt.alloc(), JOBS)
+fn takes_the_first_part(rt: HostRuntime) {
+    begins::<Pair<Nap, Echo>>(&rt, rt.alloc(), FIRST_PART);
+    tells::<Pair<Nap, Echo>>(&rt, rt.alloc(), SECOND_PART);
+    tells::<Pair<Echo, Nap>>(&rt, rt.alloc(), JOBS);
 }

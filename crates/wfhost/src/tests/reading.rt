@@ -1,8 +1,8 @@
 //! What the reader takes, and what it refuses.
 
-use crate::tests::notation::{json, line_of, replays, rows};
+use crate::tests::notation::{json, line_of, replays, row};
 use std::alloc::Global;
-use std::test::Fail;
+use std::process::Abort;
 use std::thread::Threads;
 use wh_samples::All;
 
@@ -164,76 +164,72 @@ const FILES: &str = "\
 ";
 
 #[test]
-fn reads_events(rt: HostRuntime) -> Result<(), Fail> {
+fn reads_events(rt: HostRuntime) {
     for table in [READ, REFUSED, REFUSED_FIRST] {
-        replays::<All, _>(&rt, rt.alloc(), table)?;
+        replays::<All, _>(&rt, rt.alloc(), table);
     }
-    Ok(())
 }
 
 /// The line of a file is this one.
-fn is_line<R: Threads + Sync>(
-    rt: &R,
-    alloc: Global,
-    bytes: Vec<u8>,
-    wanted: &str,
-) -> Result<(), Fail> {
-    let line = line_of::<All, R>(rt, alloc, bytes)?;
-    if line.as_str() != wanted {
-        return Err(Fail::new(format_args!("not {wanted} but {line}")));
-    }
-    Ok(())
+fn is_line<R: Threads + Sync + Abort>(rt: &R, alloc: Global, bytes: Vec<u8>, wanted: &str) {
+    let line = line_of::<All, R>(rt, alloc, bytes);
+    assert_eq!(rt; line.as_str(), wanted);
+}
+
+/// The line of a file with these bytes is this one.
+fn reads<R: Threads + Sync + Abort>(rt: &R, alloc: Global, bytes: &[u8], wanted: &str) {
+    let bytes = Vec::from_slice(alloc, bytes).expect(rt, "memory");
+    is_line(rt, alloc, bytes, wanted);
 }
 
 #[test]
-fn refuses_files(rt: HostRuntime) -> Result<(), Fail> {
-    for (text, wanted) in rows(rt.alloc(), FILES)? {
-        let bytes = Vec::from_slice(rt.alloc(), text.as_bytes())?;
-        is_line(&rt, rt.alloc(), bytes, wanted)?;
+fn refuses_files(rt: HostRuntime) {
+    for line in FILES.lines() {
+        let (text, wanted) = row(&rt, line);
+        reads(&rt, rt.alloc(), text.as_bytes(), wanted);
     }
-    Ok(())
 }
 
 /// A byte many times, and then another as many times.
-fn many(alloc: Global, first: u8, second: u8, count: usize) -> Result<Vec<u8>, Fail> {
+fn many(rt: &impl Abort, alloc: Global, first: u8, second: u8, count: usize) -> Vec<u8> {
     let mut bytes = Vec::new(alloc);
-    bytes.resize(count, first)?;
-    bytes.resize(count.saturating_mul(2), second)?;
-    Ok(bytes)
+    assert!(rt; bytes.resize(count, first).is_ok());
+    assert!(rt; bytes.resize(count.saturating_mul(2), second).is_ok());
+    bytes
 }
 
 #[test]
-fn bounds_files(rt: HostRuntime) -> Result<(), Fail> {
-    let alloc = rt.alloc();
-    let longest = many(alloc, b' ', b' ', 33_554_432)?;
-    is_line(&rt, alloc, longest, "x.json: unreadable, not JSON")?;
-    let longer = many(alloc, b' ', b' ', 33_554_433)?;
-    is_line(&rt, alloc, longer, "x.json: unreadable, file too long")?;
-    let deep = many(alloc, b'[', b']', 1_000)?;
-    is_line(&rt, alloc, deep, "x.json: unreadable, not JSON")?;
-    let shallow = many(alloc, b'[', b']', 100)?;
-    let wanted = "x.json: unreadable, event 1 has a bad number";
-    is_line(&rt, alloc, shallow, wanted)
-}
-
-#[test]
-fn refuses_cut_files(rt: HostRuntime) -> Result<(), Fail> {
-    let alloc = rt.alloc();
-    let text = json(alloc, "nap | [{ -> {'events':[{ | }] -> }]}")?;
-    for count in 0..text.len() {
-        let bytes = Vec::from_slice(alloc, &text.as_bytes()[..count])?;
-        is_line(&rt, alloc, bytes, "x.json: unreadable, not JSON")?;
+fn bounds_files(rt: HostRuntime) {
+    for (first, second, count, wanted) in [
+        (b' ', b' ', 33_554_432, "x.json: unreadable, not JSON"),
+        (b' ', b' ', 33_554_433, "x.json: unreadable, file too long"),
+        (b'[', b']', 1_000, "x.json: unreadable, not JSON"),
+        (
+            b'[',
+            b']',
+            100,
+            "x.json: unreadable, event 1 has a bad number",
+        ),
+    ] {
+        let bytes = many(&rt, rt.alloc(), first, second, count);
+        is_line(&rt, rt.alloc(), bytes, wanted);
     }
-    Ok(())
 }
 
 #[test]
-fn refuses_bytes_that_are_no_text(rt: HostRuntime) -> Result<(), Fail> {
-    let alloc = rt.alloc();
-    let text = json(alloc, "nap")?;
-    let mut bytes = Vec::from_slice(alloc, text.as_bytes())?;
+fn refuses_cut_files(rt: HostRuntime) {
+    let text = json(&rt, rt.alloc(), "nap | [{ -> {'events':[{ | }] -> }]}");
+    for count in 0..text.len() {
+        let bytes = &text.as_bytes()[..count];
+        reads(&rt, rt.alloc(), bytes, "x.json: unreadable, not JSON");
+    }
+}
+
+#[test]
+fn refuses_bytes_that_are_no_text(rt: HostRuntime) {
+    let mut bytes = json(&rt, rt.alloc(), "nap").into_bytes();
     if let Some(byte) = bytes.get_mut(3) {
         *byte = 255;
     }
-    is_line(&rt, alloc, bytes, "x.json: unreadable, not JSON")
+    is_line(&rt, rt.alloc(), bytes, "x.json: unreadable, not JSON");
 }

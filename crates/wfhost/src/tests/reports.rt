@@ -1,11 +1,11 @@
 //! Reports of several files.
 
 use crate::replaying::{CommandFault, replay_command};
-use crate::tests::notation::{json, report_of, rows};
+use crate::tests::notation::{json, owned, push, push_file, replaced, report_of, row};
 use std::alloc::Global;
 use std::io;
 use std::io::Write;
-use std::test::Fail;
+use std::process::Abort;
 use wh_samples::All;
 
 /// Files, each by its name and its history, with the lines of their report and the status.
@@ -20,56 +20,68 @@ b.json: nap; a.json: greet/2 C; c: S => b.json: ok, 2 tasks, a.json: ok, 0 tasks
  => 0 files, 0 ok, status 0
 ";
 
-/// Files by their names and histories.
-fn named_files(alloc: Global, list: &'static str) -> Result<Vec<(String, Vec<u8>)>, Fail> {
+fn file_bytes(rt: &impl Abort, alloc: Global, history: &'static str) -> Vec<u8> {
+    if history.is_empty() {
+        return Vec::new(alloc);
+    }
+    json(rt, alloc, history).into_bytes()
+}
+
+/// Files by their names and histories. That of an empty history is empty.
+pub(super) fn named_files(
+    rt: &impl Abort,
+    alloc: Global,
+    list: &'static str,
+) -> Vec<(String, Vec<u8>)> {
     let mut files = Vec::new(alloc);
     for file in list.split("; ") {
         if let Some((name, history)) = file.split_once(": ") {
-            let text = json(alloc, history)?;
-            files.push((String::from_str(alloc, name)?, text.into_bytes()))?;
+            let bytes = file_bytes(rt, alloc, history);
+            push_file(rt, &mut files, owned(rt, alloc, name), bytes);
         }
     }
-    Ok(files)
+    files
 }
 
 #[test]
-fn reports_files(rt: HostRuntime) -> Result<(), Fail> {
+fn reports_files(rt: HostRuntime) {
     let alloc = rt.alloc();
-    for (list, wanted) in rows(alloc, REPORTS)? {
-        let files = named_files(alloc, list)?;
-        let (status, report) = report_of::<All, _>(&rt, alloc, files)?;
-        let lines = report.replace(alloc, "\n", ", ")?;
-        let text = format!(in alloc; "{lines}status {status}")?;
+    for line in REPORTS.lines() {
+        let (list, wanted) = row(&rt, line);
+        let files = named_files(&rt, alloc, list);
+        let (status, report) = report_of::<All, _>(&rt, alloc, files);
+        let lines = replaced(&rt, alloc, report.as_str(), "\n", ", ");
+        let text = format!(in alloc; "{lines}status {status}").expect(&rt, "memory");
         assert_eq!(rt; text.as_str(), wanted);
     }
-    Ok(())
 }
 
 /// As many files of one history.
 fn equal_files(
+    rt: &impl Abort,
     alloc: Global,
     history: &'static str,
     count: usize,
-) -> Result<Vec<(String, Vec<u8>)>, Fail> {
+) -> Vec<(String, Vec<u8>)> {
     let mut files = Vec::new(alloc);
-    let text = json(alloc, history)?;
+    let text = json(rt, alloc, history);
     for _ in 0..count {
-        let bytes = Vec::from_slice(alloc, text.as_bytes())?;
-        files.push((String::from_str(alloc, "nap.json")?, bytes))?;
+        let bytes = owned(rt, alloc, text.as_str()).into_bytes();
+        push_file(rt, &mut files, owned(rt, alloc, "nap.json"), bytes);
     }
-    Ok(files)
+    files
 }
 
 #[test]
-fn replays_many_files(rt: HostRuntime) -> Result<(), Fail> {
+fn replays_many_files(rt: HostRuntime) {
     let alloc = rt.alloc();
-    let files = equal_files(alloc, "nap", 3_000)?;
-    let (status, report) = report_of::<All, _>(&rt, alloc, files)?;
-    let mut wanted = "nap.json: ok, 2 tasks\n".repeat(alloc, 3_000)?;
-    wanted.push_str("3000 files, 3000 ok\n")?;
+    let files = equal_files(&rt, alloc, "nap", 3_000);
+    let (status, report) = report_of::<All, _>(&rt, alloc, files);
+    let line = "nap.json: ok, 2 tasks\n";
+    let mut wanted = line.repeat(alloc, 3_000).expect(&rt, "memory");
+    push(&rt, &mut wanted, "3000 files, 3000 ok\n");
     assert_eq!(rt; status, 0);
     assert!(rt; report.as_str() == wanted.as_str());
-    Ok(())
 }
 
 /// A writer without room.
@@ -87,9 +99,8 @@ impl Write for Full {
 }
 
 #[test]
-fn refuses_failed_output(rt: HostRuntime) -> Result<(), Fail> {
+fn refuses_failed_output(rt: HostRuntime) {
     let files = Vec::new(rt.alloc());
     let answer = replay_command::<All, _, _>(&rt, rt.alloc(), files, &mut Full);
     assert!(rt; matches!(answer, Err(CommandFault::Output)));
-    Ok(())
 }

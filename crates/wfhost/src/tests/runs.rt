@@ -1,9 +1,9 @@
 //! Runs, from their first event and as they go on.
 
-use crate::tests::notation::{events, numbered, plain, rows};
+use crate::tests::notation::{events, key, numbered, owned, plain, push, row};
 use std::alloc::Global;
-use std::test::Fail;
-use wh_events::{EventNo, RunKey, Text};
+use std::process::Abort;
+use wh_events::{Event, EventNo};
 use wh_replay::{AdvanceFault, Answer, Run, RunFault};
 use wh_samples::{All, Flood};
 use wh_workflow::{Meter, Workflow};
@@ -94,164 +94,150 @@ caller/8 at 5 => Some(Closed by: 6)
 ";
 
 /// The unsent commands of a run, and the version of the change `chg`.
-fn run_text<W: Workflow>(alloc: Global, run: &Run<W>) -> Result<String, Fail> {
+fn run_text<W: Workflow>(rt: &impl Abort, alloc: Global, run: &Run<W>) -> String {
     let commands = run.commands();
-    let mut text = plain(alloc, format!(in alloc; "{commands:?}")?)?;
+    let text = format!(in alloc; "{commands:?}").expect(rt, "memory");
+    let mut text = plain(rt, alloc, text);
     if let Some(version) = run.version("chg") {
-        text.push_str(format!(in alloc; ", chg is {version}")?.as_str())?;
+        let version = format!(in alloc; ", chg is {version}").expect(rt, "memory");
+        push(rt, &mut text, version.as_str());
     }
-    Ok(text)
+    text
 }
 
 /// The steps that were taken, and the run that they gave.
-fn stepped_text<W: Workflow>(alloc: Global, steps: u64, run: &Run<W>) -> Result<String, Fail> {
-    let run = run_text(alloc, run)?;
-    Ok(format!(in alloc; "{steps} steps, {run}")?)
-}
-
-/// A key for any run.
-fn key(alloc: Global) -> Result<RunKey, Fail> {
-    Ok(RunKey {
-        workflow_id: Text::new(String::from_str(alloc, "x")?),
-        run_id: Text::new(String::from_str(alloc, "recorded")?),
-    })
+fn stepped_text<W: Workflow>(rt: &impl Abort, alloc: Global, steps: u64, run: &Run<W>) -> String {
+    let run = run_text(rt, alloc, run);
+    format!(in alloc; "{steps} steps, {run}").expect(rt, "memory")
 }
 
 /// The run of a history.
-fn begun<W: Workflow>(alloc: Global, history: &'static str) -> Result<Run<W>, Fail> {
-    let events = events(alloc, history)?;
-    match Run::from_first(alloc, key(alloc)?, events, &mut Meter::new()) {
-        Ok(run) => Ok(run),
-        Err(fault) => Err(Fail::new(format_args!("{history}: {fault:?}"))),
-    }
-}
-
-/// What came of the first events of a run.
-fn first_text<W: Workflow>(
-    alloc: Global,
-    steps: u64,
-    run: Result<Run<W>, RunFault>,
-) -> Result<String, Fail> {
-    match run {
-        Ok(run) => stepped_text(alloc, steps, &run),
-        Err(fault) => plain(alloc, format!(in alloc; "{fault:?}")?),
+fn begun<W: Workflow>(rt: &impl Abort, alloc: Global, history: &'static str) -> Run<W> {
+    let events = events(rt, alloc, history);
+    match Run::from_first(alloc, key(rt, alloc, "x"), events, &mut Meter::new()) {
+        Ok(run) => run,
+        Err(fault) => panic!(rt; "{history}: {fault:?}"),
     }
 }
 
 /// What comes of a history from its first event.
 pub(super) fn begun_text<W: Workflow>(
+    rt: &impl Abort,
     alloc: Global,
     history: &'static str,
-) -> Result<String, Fail> {
+) -> String {
     let mut meter = Meter::new();
-    let events = events(alloc, history)?;
-    let run = Run::<W>::from_first(alloc, key(alloc)?, events, &mut meter);
-    first_text(alloc, meter.count(), run)
+    let events = events(rt, alloc, history);
+    match Run::<W>::from_first(alloc, key(rt, alloc, "x"), events, &mut meter) {
+        Ok(run) => stepped_text(rt, alloc, meter.count(), &run),
+        Err(fault) => fault_text(rt, alloc, &fault),
+    }
+}
+
+/// A fault with nothing around its names and numbers.
+fn fault_text(rt: &impl Abort, alloc: Global, fault: &RunFault) -> String {
+    let text = format!(in alloc; "{fault:?}").expect(rt, "memory");
+    plain(rt, alloc, text)
 }
 
 /// A run that was handed back, behind the reason.
-fn returned_text<W: Workflow>(alloc: Global, reason: &str, run: &Run<W>) -> Result<String, Fail> {
-    let run = run_text(alloc, run)?;
-    Ok(format!(in alloc; "{reason}, {run}")?)
+fn returned_text<W: Workflow>(
+    rt: &impl Abort,
+    alloc: Global,
+    reason: &str,
+    run: &Run<W>,
+) -> String {
+    let run = run_text(rt, alloc, run);
+    format!(in alloc; "{reason}, {run}").expect(rt, "memory")
 }
 
 /// Why a run did not advance.
-fn refusal_text<W: Workflow>(alloc: Global, fault: AdvanceFault<W>) -> Result<String, Fail> {
+fn refusal_text<W: Workflow>(rt: &impl Abort, alloc: Global, fault: &AdvanceFault<W>) -> String {
     match fault {
-        AdvanceFault::NotATask(run) => returned_text(alloc, "NotATask", &run),
-        AdvanceFault::Gap(run) => returned_text(alloc, "Gap", &run),
-        AdvanceFault::Fault(fault) => plain(alloc, format!(in alloc; "Fault({fault:?})")?),
-        AdvanceFault::OutOfMemory => Ok(String::from_str(alloc, "out of memory")?),
+        AdvanceFault::NotATask(run) => returned_text(rt, alloc, "NotATask", run),
+        AdvanceFault::Gap(run) => returned_text(rt, alloc, "Gap", run),
+        AdvanceFault::Fault(fault) => {
+            let text = format!(in alloc; "Fault({fault:?})").expect(rt, "memory");
+            plain(rt, alloc, text)
+        }
+        AdvanceFault::OutOfMemory => owned(rt, alloc, "out of memory"),
     }
 }
 
-/// What came of new events.
-fn next_text<W: Workflow>(
-    alloc: Global,
-    steps: u64,
-    run: Result<Run<W>, AdvanceFault<W>>,
-) -> Result<String, Fail> {
-    match run {
-        Ok(run) => stepped_text(alloc, steps, &run),
-        Err(fault) => refusal_text(alloc, fault),
-    }
+/// The events of a history behind so many, or behind the place that the history names.
+fn new_events(rt: &impl Abort, alloc: Global, history: &'static str, held: usize) -> Vec<Event> {
+    let (history, place) = numbered(rt, history, " behind ", held);
+    let mut all = events(rt, alloc, history);
+    assert!(rt; place <= all.len(), "{history}");
+    all.split_off(place).expect(rt, "memory")
 }
 
 /// What comes of a run that is advanced by the events of a history behind those that it holds, or
 /// behind the place that the history names.
-fn advanced_text(alloc: Global, run: Run<All>, history: &'static str) -> Result<String, Fail> {
+fn advanced_text(rt: &impl Abort, alloc: Global, run: Run<All>, history: &'static str) -> String {
     let mut meter = Meter::new();
-    let (history, place) = numbered(history, " behind ", run.held_len())?;
-    let mut all = events(alloc, history)?;
-    if all.len() < place {
-        return Err(Fail::new(history));
+    let new = new_events(rt, alloc, history, run.held_len());
+    match run.advance(alloc, new, &mut meter) {
+        Ok(run) => stepped_text(rt, alloc, meter.count(), &run),
+        Err(fault) => refusal_text(rt, alloc, &fault),
     }
-    let new = all.split_off(place)?;
-    let run = run.advance(alloc, new, &mut meter);
-    next_text(alloc, meter.count(), run)
 }
 
 /// Replays the history of each row as a run, and compares what came of it.
-pub(super) fn begins<W: Workflow>(alloc: Global, table: &'static str) -> Result<(), Fail> {
-    for (history, wanted) in rows(alloc, table)? {
-        let text = begun_text::<W>(alloc, history)?;
-        if text.as_str() != wanted {
-            return Err(Fail::new(format_args!("{history}: {text}")));
-        }
+pub(super) fn begins<W: Workflow>(rt: &impl Abort, alloc: Global, table: &'static str) {
+    for line in table.lines() {
+        let (history, wanted) = row(rt, line);
+        let text = begun_text::<W>(rt, alloc, history);
+        assert_eq!(rt; text.as_str(), wanted, "{history}");
     }
-    Ok(())
 }
 
 #[test]
-fn begins_runs(rt: HostRuntime) -> Result<(), Fail> {
-    begins::<All>(rt.alloc(), BEGUN)
+fn begins_runs(rt: HostRuntime) {
+    begins::<All>(&rt, rt.alloc(), BEGUN);
 }
 
 #[test]
-fn advances_runs(rt: HostRuntime) -> Result<(), Fail> {
-    for (both, wanted) in rows(rt.alloc(), ADVANCED)? {
-        let Some((before, after)) = both.split_once(" then ") else {
-            return Err(Fail::new(both));
-        };
-        let run = begun::<All>(rt.alloc(), before)?;
-        let text = advanced_text(rt.alloc(), run, after)?;
+fn advances_runs(rt: HostRuntime) {
+    for line in ADVANCED.lines() {
+        let (both, wanted) = row(&rt, line);
+        let (before, after) = both.split_once(" then ").expect(&rt, "then");
+        let run = begun::<All>(&rt, rt.alloc(), before);
+        let text = advanced_text(&rt, rt.alloc(), run, after);
         assert_eq!(rt; text.as_str(), wanted, "{both}");
     }
-    Ok(())
 }
 
 /// Where something stands that the event of a number opened.
-fn status_text(alloc: Global, history: &'static str, number: usize) -> Result<String, Fail> {
-    let run = begun::<All>(alloc, history)?;
-    let Some(number) = EventNo::new(number as u64) else {
-        return Err(Fail::new(history));
-    };
+fn status_text(rt: &impl Abort, alloc: Global, history: &'static str, number: usize) -> String {
+    let run = begun::<All>(rt, alloc, history);
+    let number = EventNo::new(number as u64).expect(rt, "a number");
     let status = run.status(number);
-    plain(alloc, format!(in alloc; "{status:?}")?)
+    let text = format!(in alloc; "{status:?}").expect(rt, "memory");
+    plain(rt, alloc, text)
 }
 
 #[test]
-fn shows_statuses(rt: HostRuntime) -> Result<(), Fail> {
-    for (row, wanted) in rows(rt.alloc(), STATUSES)? {
-        let (history, number) = numbered(row, " at ", 0)?;
-        let text = status_text(rt.alloc(), history, number)?;
-        assert_eq!(rt; text.as_str(), wanted, "{row}");
+fn shows_statuses(rt: HostRuntime) {
+    for line in STATUSES.lines() {
+        let (place, wanted) = row(&rt, line);
+        let (history, number) = numbered(&rt, place, " at ", 0);
+        let text = status_text(&rt, rt.alloc(), history, number);
+        assert_eq!(rt; text.as_str(), wanted, "{place}");
     }
-    Ok(())
 }
 
 /// How many commands complete the last task of a run.
-fn answered<W: Workflow>(alloc: Global, run: &Run<W>) -> Result<usize, Fail> {
+fn answered<W: Workflow>(rt: &impl Abort, alloc: Global, run: &Run<W>) -> usize {
     match run.answer(alloc) {
-        Ok(Answer::Complete(commands)) => Ok(commands.get().len()),
-        _ => Err(Fail::new("no commands")),
+        Ok(Answer::Complete(commands)) => commands.get().len(),
+        _ => panic!(rt; "no commands"),
     }
 }
 
 #[test]
-fn keeps_many_commands(rt: HostRuntime) -> Result<(), Fail> {
-    let run = begun::<Flood>(rt.alloc(), "start:Flood signal:s*63 S T")?;
+fn keeps_many_commands(rt: HostRuntime) {
+    let run = begun::<Flood>(&rt, rt.alloc(), "start:Flood signal:s*63 S T");
     assert_eq!(rt; run.commands().len(), 4_096);
-    assert_eq!(rt; answered(rt.alloc(), &run)?, 4_096);
-    Ok(())
+    assert_eq!(rt; answered(&rt, rt.alloc(), &run), 4_096);
 }

@@ -3,7 +3,6 @@
 use crate::tests::notation::replays;
 use crate::tests::runs::begins;
 use crate::tests::scripted::Scripted;
-use std::test::Fail;
 
 /// What is opened and cancelled in one task, of which nothing was open before.
 const WITHDRAWN: &str = "\
@@ -167,17 +166,15 @@ start:Scripted timer:t timer_fired:2 signal:cancel_timer S T C => x.json: ok, 1 
 ";
 
 #[test]
-fn judges_scripts(rt: HostRuntime) -> Result<(), Fail> {
+fn judges_scripts(rt: HostRuntime) {
     for table in [WITHDRAWN, OPEN, LATE, CLOSING, VERSIONS] {
-        begins::<Scripted>(rt.alloc(), table)?;
+        begins::<Scripted>(&rt, rt.alloc(), table);
     }
-    Ok(())
 }
 
 #[test]
-fn counts_and_compares_commands(rt: HostRuntime) -> Result<(), Fail> {
+fn counts_and_compares_commands(rt: HostRuntime) {
     for table in [COUNTED, RECORDED] {
-        replays::<Scripted, _>(&rt, rt.alloc(), table)?;
+        replays::<Scripted, _>(&rt, rt.alloc(), table);
     }
-    Ok(())
 }

@@ -2,13 +2,13 @@
 
 ghost use Rattle.std.specs.Prelude.{◌≡◌};
 
-use crate::tests::hosting::{FILE, SMALL, close, counts, key, open, script, turn};
+use crate::tests::hosting::{FILE, SMALL, close, counts, open, script, turn};
+use crate::tests::notation::key;
 use std::alloc::Global;
 use std::marker::Brand;
 use std::process::Abort;
 use std::sync::ledger::{Blank, Ledger};
 use std::sync::{Mutex, Wait};
-use std::test::Fail;
 use std::thread;
 use std::thread::Threads;
 use wh_events::RunKey;
@@ -138,6 +138,16 @@ fn seats_of<T: Ledger, C: Ledger, F: Ledger>(
     seats
 }
 
+/// Sources, each with its first index and its histories.
+fn sources(rt: &impl Abort, alloc: Global, scripts: &[(u64, &'static str)]) -> Vec<ScriptSource> {
+    let mut sources = Vec::new(alloc);
+    for (first, table) in scripts {
+        let source = script(rt, alloc, *first, table);
+        assert!(rt; sources.push(source).is_ok());
+    }
+    sources
+}
+
 /// What two workers leave in the cache, and what they have counted.
 fn day_of_two<
     R: Threads + Wait + Abort + Sync,
@@ -172,15 +182,13 @@ fn day_of_two<
 
 /// The first task of each run waits until that of the other has entered: two tasks are in hand and replayed at once.
 #[test]
-fn workers_overlap(rt: HostRuntime) -> Result<(), Fail> {
+fn workers_overlap(rt: HostRuntime) {
     let alloc = rt.alloc();
-    let first = script(alloc, 0, "one => nap")?;
-    let second = script(alloc, 1, "two => nap")?;
     let gate = Order::new(alloc, [(3, FILE + 3), (FILE + 3, 3)]);
     let (_cached, totals) = day_of_two::<HostRuntime, Brand, Brand, Brand>(
         &rt,
         alloc,
-        vec![in alloc; first, second].map_err(|_| "memory")?,
+        sources(&rt, alloc, &[(0, "one => nap"), (1, "two => nap")]),
         &gate,
         Blank::new(2),
         Blank::new(2),
@@ -188,21 +196,18 @@ fn workers_overlap(rt: HostRuntime) -> Result<(), Fail> {
     );
     assert!(rt; !gate.in_vain(&rt));
     assert_eq!(rt; (totals.taken, totals.completed), (4, 4));
-    Ok(())
 }
 
 /// Two tasks of run `a` are in hand. That with six events comes back first, and that with three does not take its place.
 #[test]
-fn the_longer_run_stays(rt: HostRuntime) -> Result<(), Fail> {
+fn the_longer_run_stays(rt: HostRuntime) {
     let alloc = rt.alloc();
-    let short = script(alloc, 0, "a => nap/3")?;
     let long = "a => start:Nap S T task_timed_out S T\nb => start:Nap S T task_timed_out S T";
-    let long = script(alloc, 1, long)?;
     let gate = Order::new(alloc, [(3, 2 * FILE + 6), (FILE + 3, 3)]);
     let (cached_events, totals) = day_of_two::<HostRuntime, Brand, Brand, Brand>(
         &rt,
         alloc,
-        vec![in alloc; short, long].map_err(|_| "memory")?,
+        sources(&rt, alloc, &[(0, "a => nap/3"), (1, long)]),
         &gate,
         Blank::new(2),
         Blank::new(2),
@@ -211,7 +216,6 @@ fn the_longer_run_stays(rt: HostRuntime) -> Result<(), Fail> {
     assert!(rt; !gate.in_vain(&rt));
     assert_eq!(rt; cached_events, 12);
     assert_eq!(rt; (totals.taken, totals.completed), (5, 5));
-    Ok(())
 }
 
 /// Evicts a run when its task enters.
@@ -256,9 +260,9 @@ fn day_of_an_eviction<R: Wait + Abort, T: Ledger, C: Ledger, F: Ledger>(
 }
 
 #[test]
-fn a_run_in_hand_is_evicted(rt: HostRuntime) -> Result<(), Fail> {
+fn a_run_in_hand_is_evicted(rt: HostRuntime) {
     let alloc = rt.alloc();
-    let mut source = script(alloc, 0, "nap => nap")?;
+    let mut source = script(&rt, alloc, 0, "nap => nap");
     let (answer, counts) = day_of_an_eviction::<HostRuntime, Brand, Brand, Brand>(
         &rt,
         alloc,
@@ -269,7 +273,6 @@ fn a_run_in_hand_is_evicted(rt: HostRuntime) -> Result<(), Fail> {
     );
     assert_eq!(rt; answer, Some(Evict::Marked));
     assert_eq!(rt; (counts.completed, counts.cached), (1, 0));
-    Ok(())
 }
 
 /// Drains the host when a task enters.
@@ -321,16 +324,13 @@ fn day_of_a_drain<
 }
 
 #[test]
-fn a_drain_ends_the_workers(rt: HostRuntime) -> Result<(), Fail> {
+fn a_drain_ends_the_workers(rt: HostRuntime) {
     let alloc = rt.alloc();
-    let first = script(alloc, 0, "nap => nap\nthen => nap")?;
-    let second = script(alloc, 2, "nap => nap\nthen => nap")?;
-    let third = script(alloc, 4, "nap => nap\nthen => nap")?;
-    let fourth = script(alloc, 6, "nap => nap\nthen => nap")?;
+    let two = "nap => nap\nthen => nap";
     let totals = day_of_a_drain::<HostRuntime, Brand, Brand, Brand>(
         &rt,
         alloc,
-        vec![in alloc; first, second, third, fourth].map_err(|_| "memory")?,
+        sources(&rt, alloc, &[(0, two), (2, two), (4, two), (6, two)]),
         Blank::new(4),
         Blank::new(4),
         Blank::new(4),
@@ -338,5 +338,4 @@ fn a_drain_ends_the_workers(rt: HostRuntime) -> Result<(), Fail> {
     assert_eq!(rt; (totals.failed, totals.in_hand), (0, 0));
     assert_eq!(rt; totals.taken, totals.completed);
     assert!(rt; 3 <= totals.taken && totals.taken < 16);
-    Ok(())
 }
