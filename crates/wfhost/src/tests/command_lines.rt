@@ -82,7 +82,7 @@ fn push(rt: &impl Abort, words: &mut Vec<String>, word: String) {
 }
 
 /// What a line asks for, in words.
-pub(super) fn line_text(rt: &impl Abort, alloc: Global, line: &str) -> String {
+fn line_text(rt: &impl Abort, alloc: Global, line: &str) -> String {
     let words = words(rt, alloc, line);
     match parse(alloc, words.as_slice()) {
         Ok(plan) => plan_text(rt, alloc, &plan),

@@ -2,7 +2,6 @@
 
 use crate::replaying::CommandFault;
 use crate::serving::serve_command;
-use crate::tests::command_lines::line_text;
 use crate::tests::notation::text_of;
 use crate::tests::reports::named_files;
 use std::alloc::Global;
@@ -132,18 +131,4 @@ fn tells_a_writer_that_fails(rt: HostRuntime) {
     let list = "nap.json: nap; greet.json: greet";
     let answer = serve(&rt, rt.alloc(), list, (1, 100, 0), &mut writer);
     assert!(rt; matches!(answer, Err(CommandFault::Output)));
-}
-
-#[test]
-fn refuses_sizes_beyond_limits(rt: HostRuntime) {
-    for (line, wanted) in [
-        ("serve d --workers 65", "bad line"),
-        ("serve d --workers 4 --slots 3", "too few slots"),
-        (
-            "serve d",
-            "serve d, workers 1, cache 100, cache events 0, slots 100",
-        ),
-    ] {
-        assert_eq!(rt; line_text(&rt, rt.alloc(), line).as_str(), wanted);
-    }
 }
