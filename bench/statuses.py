@@ -18,6 +18,27 @@ LARGE_FILE = b'{"events":[' + b'"' + b"x" * (60 << 20) + b'"]}'
 
 SERVED = "nap.json: 2 tasks, 2 completed, 0 failed\ntaken 2, completed 2, failed 0, in hand 0\n"
 UNREAD = "nap.json: unreadable, not JSON\n"
+HELP = """Usage: wfhost [COMMAND]
+
+Commands:
+  replay  Replays each history of a folder, and prints a line for each
+  serve   Serves each history of a folder as workflow tasks, and prints how they ended
+  help    Print this message or the help of the given subcommand(s)
+
+Options:
+  -h, --help  Print help
+"""
+EXAMPLES = """branch.json: ok, 2 tasks
+caller.json: ok, 2 tasks
+family.json: ok, 3 tasks
+greet.json: ok, 2 tasks
+greet_from_cli.json: ok, 2 tasks
+nap.json: ok, 2 tasks
+racer.json: ok, 4 tasks
+7 files, 7 ok
+"""
+# Of these the first three are histories, in the order of the bytes of their names.
+NAMES = [".json", "B.json", "a.json", "C.JSON", "d.json.bak", "e.txt"]
 
 
 def folder_with(room, name, files):
@@ -40,10 +61,15 @@ def cases(room):
     inner = folder_with(room, "inner", {"nap.json": NAP})
     Path(inner, "folder.json").mkdir()
     missing = str(Path(room, "missing"))
+    mixed = folder_with(room, "mixed", {name: NAP for name in reversed(NAMES)})
+    chosen = "".join(f"{name}: ok, 2 tasks\n" for name in NAMES[:3]) + "3 files, 3 ok\n"
     cannot = "wfhost: cannot read "
     return [
         (["replay", well], 0, "nap.json: ok, 2 tasks\n1 files, 1 ok\n", "", {}),
         (["serve", well], 0, SERVED, "", {}),
+        (["replay", mixed], 0, chosen, "", {}),
+        (["replay", str(TOP / "examples/histories")], 0, EXAMPLES, "", {}),
+        (["--help"], 0, HELP, "", {}),
         (["replay", empty], 0, "0 files, 0 ok\n", "", {}),
         (["serve", empty], 0, "taken 0, completed 0, failed 0, in hand 0\n", "", {}),
         (["replay", bad], 1, UNREAD + "1 files, 0 ok\n", "", {}),
