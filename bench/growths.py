@@ -1,7 +1,7 @@
 #!/usr/bin/env python3
 """Counts with valgrind the growths of memory that one `Run::advance` makes on a long run whose tasks start 64 timers each:
 those of wh_growth where it makes the call, beyond those where it makes all but the call. It is no part of the gate. It ends
-with status 1 where a call makes more than 4,000, which a replay of 100 such tasks makes by far."""
+with status 1 where a call makes more than 4,000. A replay of 100 such tasks makes 6,400 texts for its timers alone."""
 
 import re
 import subprocess
