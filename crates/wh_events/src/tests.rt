@@ -18,6 +18,24 @@ fn payload(rt: &impl Abort, alloc: Global) -> Payload {
     }
 }
 
+/// That it is the payload above.
+fn assert_payload(rt: &impl Abort, payload: &Payload) {
+    assert!(rt; payload.encoding.get() == &[1, 2][..]);
+    assert!(rt; payload.content.get() == &[3][..]);
+}
+
+/// That it is the kind of the start below.
+fn assert_start(rt: &impl Abort, kind: &EventKind) {
+    let EventKind::WorkflowExecutionStarted { workflow, input } = kind else {
+        panic!(rt; "no start")
+    };
+    assert_eq!(rt; workflow.get(), "Nap");
+    assert_eq!(rt; input.get().len(), 1);
+    for payload in input.get() {
+        assert_payload(rt, payload);
+    }
+}
+
 /// A start whose input is one payload.
 fn start(rt: &impl Abort, alloc: Global) -> Event {
     let input = vec![in alloc; payload(rt, alloc)].expect(rt, "memory");
@@ -51,12 +69,24 @@ fn copies_keys_with_memory(rt: HostRuntime) {
 fn copies_payloads_with_memory(rt: HostRuntime) {
     let payload = payload(&rt, rt.alloc());
     let copy = payload.try_copy().expect(&rt, "memory");
-    assert_eq!(rt; copy.content.get(), payload.content.get());
+    assert_payload(&rt, &copy);
 }
 
 #[test]
 fn copies_events_with_memory(rt: HostRuntime) {
     let event = start(&rt, rt.alloc());
     let copy = event.try_copy().expect(&rt, "memory");
-    assert_eq!(rt; copy.number, event.number);
+    assert_eq!(rt; copy.number.get(), 1);
+    assert_eq!(rt; copy.time, 0);
+    assert_start(&rt, &copy.body);
+}
+
+#[test]
+fn copies_texts_and_kinds_with_memory(rt: HostRuntime) {
+    let copy = text(&rt, rt.alloc(), "order")
+        .try_copy()
+        .expect(&rt, "memory");
+    assert_eq!(rt; copy.get(), "order");
+    let kind = start(&rt, rt.alloc()).body.try_copy().expect(&rt, "memory");
+    assert_start(&rt, &kind);
 }
