@@ -1,10 +1,12 @@
 #!/usr/bin/env python3
 """Measures `wfhost replay` and `wfhost serve` on files that it makes itself in a temporary folder: seconds, seconds of
-all processors, peak memory in MiB, and how many times the size of the files that is. It is no part
+all processors, peak memory in MiB, and how many times the size of the files that is; then what an event costs in short and
+long histories, in microseconds and in instructions, which valgrind counts. It is no part
 of the gate, and its figures are those of the machine that it runs on and of what else runs there."""
 
 import json
 import os
+import re
 import subprocess
 import tempfile
 import time
@@ -14,6 +16,10 @@ from pathlib import Path
 TOP = Path(__file__).resolve().parent.parent
 PROGRAM = TOP / "crates/wfhost/out/wfhost"
 LIMIT_SECONDS = 120
+RUNS = 25
+# The functions' names in the program, whatever workflows it is made for.
+FUNCTIONS = ["wh_json::events::read_events*", "wh_replay::checking::replay::*"]
+EACH = "{:<42}{:>9.2f} microseconds, instructions: {:,.0f} to read, {:,.0f} to replay"
 ROW = "{:<42}{:>9}{:>9}{:>7}{:>7}  {}"
 TASK = ["WorkflowTaskScheduled", "WorkflowTaskStarted", "WorkflowTaskCompleted"]
 
@@ -86,6 +92,39 @@ def measure(title, files, processors=None, does=("replay",)):
     print(ROW.format(title, seconds, spent, memory, times, said), flush=True)
 
 
+def fastest(folder):
+    """The least microseconds of many replays of a folder."""
+    took = []
+    for _ in range(RUNS):
+        begun = time.perf_counter()
+        subprocess.run([PROGRAM, "replay", folder], stdout=subprocess.DEVNULL, timeout=LIMIT_SECONDS, check=True)
+        took.append(time.perf_counter() - begun)
+    return 1e6 * min(took)
+
+
+def instructions(folder, function):
+    """How many instructions the program executes within a function while it replays a folder."""
+    within = ["--collect-atstart=no", f"--toggle-collect={function}"]
+    command = ["valgrind", "--tool=callgrind", "--callgrind-out-file=/dev/null", *within, PROGRAM, "replay", folder]
+    ran = subprocess.run(command, capture_output=True, text=True, timeout=LIMIT_SECONDS, check=True)
+    return int(re.search(r"Collected : (\d+)", ran.stderr)[1])
+
+
+def costs(make):
+    """What the program spends on one history: microseconds, and the instructions of reading and of replay."""
+    with tempfile.TemporaryDirectory() as folder:
+        write(folder, [("x.json", make)])
+        return [fastest(folder), *(instructions(folder, function) for function in FUNCTIONS)]
+
+
+def grows(kind):
+    """Prints what an event costs in histories of one kind, without what the program takes for ten events."""
+    least = costs(nap)
+    for count in (1_000, 10_000, 50_000):
+        spent = [(cost - at_least) / count for cost, at_least in zip(costs(lambda: kind(count)), least)]
+        print(EACH.format(f"an event of {count:,}, {kind.__name__}", *spent), flush=True)
+
+
 def main():
     subprocess.run([TOP / "wfhost", "--help"], stdout=subprocess.DEVNULL, check=True)
     print(ROW.format("files", "seconds", "of all", "MiB", "times", "answer"))
@@ -105,6 +144,9 @@ def main():
         history = [("x.json", lambda: tasks(count))]
         does = ("serve", "--cache", str(cache))
         measure(f"one history of {count:,} served, cache {cache}", history, does=does)
+    for kind in [signals, tasks, timers]:
+        grows(kind)
 
 
-main()
+if __name__ == "__main__":
+    main()

@@ -37,6 +37,15 @@ nap.json: ok, 2 tasks
 racer.json: ok, 4 tasks
 7 files, 7 ok
 """
+SERVED_EXAMPLES = """branch.json: 2 tasks, 2 completed, 0 failed
+caller.json: 2 tasks, 2 completed, 0 failed
+family.json: 3 tasks, 3 completed, 0 failed
+greet.json: 2 tasks, 2 completed, 0 failed
+greet_from_cli.json: 2 tasks, 2 completed, 0 failed
+nap.json: 2 tasks, 2 completed, 0 failed
+racer.json: 4 tasks, 4 completed, 0 failed
+taken 17, completed 17, failed 0, in hand 0
+"""
 # Of these the first three are histories, in the order of the bytes of their names.
 NAMES = [".json", "B.json", "a.json", "C.JSON", "d.json.bak", "e.txt"]
 
@@ -64,11 +73,14 @@ def cases(room):
     mixed = folder_with(room, "mixed", {name: NAP for name in reversed(NAMES)})
     chosen = "".join(f"{name}: ok, 2 tasks\n" for name in NAMES[:3]) + "3 files, 3 ok\n"
     cannot = "wfhost: cannot read "
+    examples = str(TOP / "examples/histories")
     return [
         (["replay", well], 0, "nap.json: ok, 2 tasks\n1 files, 1 ok\n", "", {}),
         (["serve", well], 0, SERVED, "", {}),
         (["replay", mixed], 0, chosen, "", {}),
-        (["replay", str(TOP / "examples/histories")], 0, EXAMPLES, "", {}),
+        (["replay", examples], 0, EXAMPLES, "", {}),
+        (["serve", examples, "--workers", "4"], 0, SERVED_EXAMPLES, "", {}),
+        (["serve", examples, "--cache-events", "3"], 0, SERVED_EXAMPLES, "", {}),
         (["--help"], 0, HELP, "", {}),
         (["replay", empty], 0, "0 files, 0 ok\n", "", {}),
         (["serve", empty], 0, "taken 0, completed 0, failed 0, in hand 0\n", "", {}),
@@ -80,7 +92,8 @@ def cases(room):
         (["no-such-command"], 2, "", "error: ", {}),
         (["serve", well, "--workers", "0"], 2, "", "error: ", {}),
         (["serve", well, "--workers", "65"], 2, "", "error: ", {}),
-        (["serve", well, "--workers", "3", "--slots", "2"], 2, "", "wfhost: slots must be at least workers\n", {}),
+        (["serve", well, "--cache-events", "512000001"], 2, "", "error: ", {}),
+        (["serve", well, "--workers", "4", "--slots", "3"], 2, "", "wfhost: slots must be at least workers\n", {}),
         ([b"replay", b"\xff"], 2, "", "wfhost: arguments must be UTF-8 text\n", {}),
         (["replay", missing], 2, "", f"{cannot}{missing}\n", {}),
         (["serve", missing], 2, "", f"{cannot}{missing}\n", {}),
@@ -89,6 +102,7 @@ def cases(room):
         (["replay", well], 2, None, "wfhost: cannot write\n", {"full": True}),
         (["serve", well], 2, None, "wfhost: cannot write\n", {"full": True}),
         (["--help"], 2, None, "wfhost: cannot write\n", {"full": True}),
+        (["replay", large], 2, "", "wfhost: out of memory\n", {"memory": SMALL_MEMORY}),
         (["serve", large], 2, "", "wfhost: out of memory\n", {"memory": SMALL_MEMORY}),
     ]
 
