@@ -18,6 +18,7 @@ nap | 'startedEventId':'5' -> 'startedEventId':'9' => x.json: fault, event 6 is 
 nap | 'startedEventId':'5' -> 'startedEventId':'6' => x.json: fault, event 6 is not in place: NoSuchRef
 nap | 'startedEventId':'5' -> 'startedEventId':null => x.json: fault, event 6 is not in place: NoSuchRef
 nap | {'startedEventId':'5'} -> 7 => x.json: fault, event 6 is not in place: NoSuchRef
+nap | 'timerFiredEventAttributes' -> 'attributes' => x.json: fault, event 6 is not in place: NoSuchRef
 nap/4 timer:x timer_fired:9 => x.json: fault, event 6 is not in place: NoSuchRef
 nap/4 cancel_child:kid => x.json: fault, event 5 is not in place: NoSuchRef
 start:Family child:kid:Nap child_completed:2 cancel_child:kid => x.json: fault, event 4 is not in place: NoSuchRef

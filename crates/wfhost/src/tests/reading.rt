@@ -22,6 +22,9 @@ greet | 'WorkflowExecutionCompleted' -> 'WorkflowExecutionCompleted','workflowEx
 start:Nap S T ignored C timer:nap timer_fired:6 S T C completed => x.json: ok, 2 tasks
 nap/3 ignored | 'EVENT_TYPE_SOMETHING_NEW' -> null => x.json: ok, 1 tasks, last live
 nap/3 ignored | 'EVENT_TYPE_SOMETHING_NEW' -> 5 => x.json: ok, 1 tasks, last live
+nap/3 ignored | 'eventType':'EVENT_TYPE_SOMETHING_NEW' -> 'type':'x' => x.json: ok, 1 tasks, last live
+caller/5 external_failed:5 S T C failed | 'SignalExternalWorkflowExecutionFailed' -> 'SignalExternalWorkflowExecutionFailed','workerMayIgnore':true => x.json: ok, 2 tasks
+nap | 'eventTime':'2024-05-01T10:00:02Z' -> 'eventTime':'2024-05-01T12:00:02+02' => x.json: ok, 2 tasks
 nap/3 attributes_upserted properties_modified => x.json: ok, 1 tasks, last live
 start:Branch S T C chg_marker:IDEg activity:1:new => x.json: ok, 1 tasks
 start:Branch S T C chg_marker:MQ== activity:1:new | 'ImNoZyI=' -> 'Ilx1MDA2M2hnIg==' => x.json: ok, 1 tasks
@@ -114,6 +117,9 @@ nap | 'eventId':'1' -> 'eventId':['1'] => x.json: unreadable, event 1 has a bad 
 nap | 'eventTime':'2024-05-01T10:00:06Z' -> 'eventTime':null | 'startedEventId':'5' -> 'startedEventId':'x' => x.json: unreadable, event 6 has a bad number
 nap | 'eventId':'6' -> 'eventId':'8' | 'TimerFired' -> 'Timer' => x.json: unreadable, event 6 is out of order
 nap/3 ignored | 'eventId':'4' -> 'eventId':'9' => x.json: unreadable, event 4 is out of order
+nap/3 ignored | 'eventId':'4' -> 'eventId':'x' => x.json: unreadable, event 4 has a bad number
+nap/3 unknown | 'eventType':'EVENT_TYPE_SOMETHING_NEW' -> 'type':'x' => x.json: unreadable, event 4 has the unsupported type\x20
+nap | 'TimerFired' -> 'Timer' | 'startedEventId':'5' -> 'startedEventId':'x' => x.json: unreadable, event 6 has the unsupported type Timer
 nap/3 ignored | 'eventTime':'2024-05-01T10:00:04Z' -> 'eventTime':'yesterday' => x.json: unreadable, event 4 has a bad time
 nap/3 ignored | 'workerMayIgnore':true -> 'workerMayIgnore':null => x.json: unreadable, event 4 has the unsupported type EVENT_TYPE_SOMETHING_NEW
 nap/3 ignored | 'workerMayIgnore':true -> 'workerMayIgnore':false => x.json: unreadable, event 4 has the unsupported type EVENT_TYPE_SOMETHING_NEW
