@@ -1,5 +1,5 @@
 -- What one turn of a worker does.
-use Rattle.std.specs.Prelude.{◌≡◌, ◌⊎◌, ℕ, ◌+◌, ◌≤◌, Bool, List, [], ◌∷◌, ◌++◌, Option, Some, None, Result, Ok, Err, IfSome}
+use Rattle.std.specs.Prelude.{◌≡◌, ◌⊎◌, ℕ, ◌+◌, ◌≤◌, Bool, List, [], ◌∷◌, ◌++◌, Option, Result, Ok, Err, IfSome}
 use Rattle.wh_slots.specs.declared.SlotKind.{SlotKind}
 use Rattle.wh_slots.specs.declared.SlotKind.TheVariants.{Workflow as WorkflowKind, Activity as ActivityKind}
 use Rattle.wh_slots.specs.declared.TaskName.{TaskName}

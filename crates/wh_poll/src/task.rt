@@ -209,8 +209,8 @@ fn is_whole(events: &[Event]) -> bool
     }
 }
 
-// The number of the last event, 0 where there is none.
-fn last_number(events: &[Event]) -> u64
+/// The number of the last event, 0 where there is none.
+pub fn last_number(events: &[Event]) -> u64
     ensures { result ≡ last_number events.now }
 {
     match events.last() {
