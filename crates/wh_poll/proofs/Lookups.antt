@@ -1,5 +1,5 @@
 -- A run that is looked up by a key has that key.
-use Rattle.std.proofs.Common.{◌≡◌, true, false, cond, List, [], ◌∷◌, Option, Some, None, refl, sym}
+use Rattle.std.proofs.Common.{◌≡◌, true, false, cond, List, [], ◌∷◌, Some, refl, sym}
 use Rattle.std.specs.Prelude.{IfSome, option_map}
 use Rattle.std.specs.Map.{lookup_entry}
 use Rattle.wh_events.specs.declared.key.RunKey.{RunKey}

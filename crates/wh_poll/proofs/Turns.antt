@@ -1,6 +1,6 @@
 -- What a turn that answered has done.
-use Rattle.std.proofs.Common.{◌≡◌, ℕ, Bool, List, [], ◌∷◌, ◌++◌, Option, Some, None, sym, ap, subst, ◌∙◌, refl}
-use Rattle.std.specs.Prelude.{Result, Ok, Err, IfSome}
+use Rattle.std.proofs.Common.{◌≡◌, ℕ, Bool, List, [], ◌∷◌, ◌++◌, Option, ap, subst, ◌∙◌, refl}
+use Rattle.std.specs.Prelude.{Result, Ok, IfSome}
 use Rattle.wh_slots.specs.declared.TaskName.{TaskName}
 use Rattle.wh_events.specs.declared.event.Event.{Event}
 use Rattle.wh_replay.specs.declared.fault.Fault.{Fault}
@@ -14,7 +14,7 @@ use Rattle.wh_poll.specs.declared.source.Sent.{Sent}
 use Rattle.wh_poll.specs.declared.source.Sent.TheVariants.{Workflow as OfWorkflow}
 use Rattle.wh_poll.specs.Source.{Delivery, Workflow, SameTelling}
 use Rattle.wh_poll.specs.Tasks.{Basis, Own, Nothing, Joined, Told, basis_of, StepsFrom}
-use Rattle.wh_poll.specs.Serve.{AnswersWorkflow, IsReply, Sends}
+use Rattle.wh_poll.specs.Serve.{AnswersWorkflow, Sends}
 
 -- what a task gives stays what it gives where the same is told
 StepsFrom-same : {S : Type 0} (program : Program S) (basis : Basis) (p q : RunKey → ℕ → List Event → Type 0) (run : Option Held) (key : RunKey) (events : List Event) (stepped : Option Held) (fault : Option Fault) (hit : Bool) (before after : ℕ)

@@ -1,33 +1,30 @@
 -- The cache cannot be seen in the answers.
-use Rattle.std.proofs.Common.{◌≡◌, ℕ, zero, suc, ◌+◌, ◌<◌, ◌≤◌, ◌==◌, Bool, true, false, cond, List, [], ◌∷◌, ◌++◌, length, take, drop, reverse, Option, Some, None, refl, sym, ap, ◌∙◌, subst, arith, rules, length-append, append_assoc, length-drop, ◌-◌}
+use Rattle.std.proofs.Common.{◌≡◌, ℕ, suc, ◌+◌, ◌<◌, Bool, true, false, cond, List, [], ◌∷◌, ◌++◌, length, take, drop, reverse, Option, Some, None, refl, sym, ap, ◌∙◌, subst, arith, length-append, append_assoc, length-drop, ◌-◌}
 use Rattle.std.specs.Prelude.{Result, Ok, Err, if◌then◌else◌, slice_get, option_map, map}
 use Rattle.std.specs.Map.{lookup_entry, remove_entry}
 use Rattle.std.proofs.Math.Seq.{take-append_seam}
 use Rattle.std.proofs.lemmas.List.{take-append-drop, length-take-le}
 use Rattle.std.proofs.lemmas.Bool.{eqb-true}
-use Rattle.std.proofs.lemmas.Option.{same_Some}
 use Rattle.wh_events.specs.declared.event.Event.{Event as HistoryEvent}
 use Rattle.wh_replay.specs.declared.fault.Fault.{Fault}
 use Rattle.wh_events.specs.declared.key.RunKey.{RunKey}
 use Rattle.wh_replay.specs.declared.run.Answer.{Answer}
-use Rattle.wh_replay.specs.declared.run.Answer.TheVariants.{Fail}
 use Rattle.wh_replay.specs.Replays.{ends_in_task}
 use Rattle.wh_poll.specs.Numbers.{number_or_zero, last_number}
 use Rattle.wh_events.specs.Keys.{same_key, same_key-true}
 use Rattle.wh_workflow.specs.Law.{Program}
 use Rattle.wh_poll.specs.Tasks.{answer_to}
 use Rattle.wh_replay.specs.Runs.{Held, follows, steps, advance_steps}
-use Rattle.wh_poll.specs.Tasks.{Basis, Own, Nothing, Joined, Told, later_basis, basis_of, Replays, ReplaysTold, StepsFrom, Steps, IsAnswer}
+use Rattle.wh_poll.specs.Tasks.{Own, Nothing, Joined, Told, later_basis, Replays, ReplaysTold, StepsFrom, Steps, IsAnswer}
 use Rattle.wh_slots.specs.declared.SlotKind.{SlotKind}
 use Rattle.wh_slots.specs.declared.SlotKind.TheVariants.{Workflow, Activity}
 use Rattle.wh_slots.specs.declared.ReserveFault.{ReserveFault}
 use Rattle.wh_slots.specs.declared.NotReserved.{NotReserved}
-use Rattle.wh_slots.specs.declared.NotHeld.{NotHeld}
-use Rattle.wh_cache.specs.Cache.{Entry, CacheView, entry_of, held_of, with_first, Enters, Reply, IsKept, HasPushedOut, IsOff, IsShort, IsLarge, HasNoMemory, Puts}
+use Rattle.wh_cache.specs.Cache.{Entry, CacheView, entry_of, held_of, Enters, Reply, IsKept, HasPushedOut, IsOff, IsShort, IsLarge, HasNoMemory, Puts}
 use Rattle.wh_host.specs.declared.reply.Outcome.{Outcome}
 use Rattle.wh_host.specs.Machine.{Claim, HostView, Event, Reserve, Release, UseWorkflow, UseActivity, GiveRun, EvictRun, Finish, Drain, ReadCounts, IsPut, IsMarked, IsNotHeld, step, reserve_step, release_step, give_step, finishes}
 use Rattle.wh_host.specs.Machine.{Answer as GiveReply}
-use Rattle.wh_poll.specs.Steady.{Table, IsTable, IsNumbered, told_by, HoldsBeginning, AllHoldBeginnings, Steady, Use, task_of, with_run, IsUse, BringsNoRun, Move, Uses, Gives, Happens, move, Moves, IsAnswered, AllAnswered, IsSteady}
+use Rattle.wh_poll.specs.Steady.{Table, IsTable, IsNumbered, told_by, HoldsBeginning, AllHoldBeginnings, Steady, Use, with_run, IsUse, BringsNoRun, Move, Uses, Gives, Happens, move, Moves, IsAnswered, AllAnswered, IsSteady}
 
 IsNumbered-append : (n : ℕ) (xs ys : List HistoryEvent) → IsNumbered n (xs ++ ys) → IsNumbered (n + length xs) ys
 IsNumbered-append n [] ys h = let same : n ≡ n + length {A = HistoryEvent} [] = omega arith in subst (λ (k : ℕ). IsNumbered k ys) same h

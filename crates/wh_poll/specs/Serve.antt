@@ -1,5 +1,5 @@
 -- What one turn of a worker does.
-use Rattle.std.specs.Prelude.{◌≡◌, ◌⊎◌, ℕ, ◌+◌, ◌≤◌, Bool, List, [], ◌∷◌, ◌++◌, Option, Some, None, Result, Ok, Err, IfSome}
+use Rattle.std.specs.Prelude.{◌≡◌, ◌⊎◌, ℕ, ◌+◌, ◌≤◌, Bool, List, [], ◌∷◌, ◌++◌, Option, Result, Ok, Err, IfSome}
 use Rattle.wh_slots.specs.declared.SlotKind.{SlotKind}
 use Rattle.wh_slots.specs.declared.SlotKind.TheVariants.{Workflow as WorkflowKind, Activity as ActivityKind}
 use Rattle.wh_slots.specs.declared.TaskName.{TaskName}
@@ -37,6 +37,11 @@ outcome_of (Fail fault) = Failed
 abbrev pub activity_outcome : ActivityAnswer → Outcome
 activity_outcome (Done result) = Completed
 activity_outcome (Undone reason) = Failed
+
+-- a workflow task to which nothing was sent is failed
+abbrev pub ended : Result Reply StepFault → Outcome
+ended (Ok reply) = reply.outcome
+ended (Err fault) = Failed
 
 -- the answer is that of replay of the task, with no run or one of its key, over a new meter
 pub record IsReply {S : Type 0} (program : Program S) (tells : RunKey → ℕ → List Event → Type 0) (run : Option Held) (key : RunKey) (events : List Event) (hit : Bool) (steps : ℕ) (outcome : Outcome) (answer : Answer) : Type 0 where

@@ -1,8 +1,7 @@
 -- Words on sources of tasks.
-use Rattle.std.specs.Prelude.{◌≡◌, ◌↔◌, ℕ, ◌<◌, ◌≤◌, ◌==◌, cond, List, Option, Some, None, Result, Ok, Err}
+use Rattle.std.specs.Prelude.{◌↔◌, ℕ, ◌<◌, ◌≤◌, ◌==◌, cond, List, Option, Some, None, Result, Ok, Err}
 use Rattle.wh_events.specs.declared.event.Event.{Event}
 use Rattle.wh_events.specs.declared.key.RunKey.{RunKey}
-use Rattle.wh_replay.specs.declared.run.Answer.{Answer}
 use Rattle.wh_poll.specs.declared.source.Polled.{Polled}
 use Rattle.wh_poll.specs.declared.source.Polled.TheVariants.{Task, Nothing, Closed}
 use Rattle.wh_poll.specs.declared.source.SourceFault.{SourceFault}

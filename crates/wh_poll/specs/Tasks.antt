@@ -5,7 +5,7 @@ use Rattle.wh_replay.specs.declared.fault.Fault.{Fault}
 use Rattle.wh_replay.specs.declared.fault.Fault.TheVariants.{NotATask}
 use Rattle.wh_events.specs.declared.key.RunKey.{RunKey}
 use Rattle.wh_replay.specs.declared.run.Answer.{Answer}
-use Rattle.wh_replay.specs.declared.run.Answer.TheVariants.{Complete, Fail}
+use Rattle.wh_replay.specs.declared.run.Answer.TheVariants.{Fail}
 use Rattle.wh_replay.specs.Replays.{ends_in_task}
 use Rattle.wh_poll.specs.Numbers.{last_number}
 use Rattle.wh_workflow.specs.Law.{Program}

@@ -1,10 +1,10 @@
 //! One turn of a worker.
 ghost use Rattle.std.specs.Prelude.{◌≡◌, ◌+◌, IfSome, MatchOption};
 ghost use Rattle.wh_poll.specs.Source.{SameRelation, SameTelling, SameMay, FailsOnly};
-ghost use Rattle.wh_poll.specs.Serve.{Serves, IsOfKind, Counts, MayCount};
+ghost use Rattle.wh_poll.specs.Serve.{Serves, IsOfKind, Counts, MayCount, ended};
 ghost use Rattle.wh_slots.specs.declared.SlotKind.TheVariants.{Workflow as WorkflowKind, Activity as ActivityKind};
 
-use crate::answer::{Answered, answer_activity, answer_workflow};
+use crate::answer::{Answered, Reply, answer_activity, answer_workflow};
 use crate::handler::{ActivityHandler, Gate};
 use crate::source::{Polled, SourceFault, TaskSource, WorkflowTask};
 use crate::task::StepFault;
@@ -141,18 +141,9 @@ fn serve_workflow<
     let polled = source.poll_workflow();
     let task = match polled {
         Ok(Polled::Task(task)) => task,
-        Ok(Polled::Nothing) => {
-            release(rt, host, permit);
-            return Ok(Served::Idle);
-        }
-        Ok(Polled::Closed) => {
-            release(rt, host, permit);
-            return Ok(Served::Closed);
-        }
-        Err(fault) => {
-            release(rt, host, permit);
-            return Err(fault);
-        }
+        Ok(Polled::Nothing) => return released(rt, host, permit, Ok(Served::Idle)),
+        Ok(Polled::Closed) => return released(rt, host, permit, Ok(Served::Closed)),
+        Err(fault) => return released(rt, host, permit, Err(fault)),
     };
     let WorkflowTask {
         name,
@@ -161,8 +152,7 @@ fn serve_workflow<
     } = task;
     let copied = key.try_copy();
     let Ok(copy) = copied else {
-        release(rt, host, permit);
-        return Ok(Served::NoMemory { name });
+        return released(rt, host, permit, Ok(Served::NoMemory { name }));
     };
     let Some((held, cached)) = use_workflow(rt, host, permit, name, copy, seat) else {
         return Ok(Served::Repeated { name });
@@ -170,14 +160,8 @@ fn serve_workflow<
     gate.enter(rt, name);
     let answered = answer_workflow(alloc, cached, &key, name, events.into_inner(), source);
     let Answered { run, sent } = answered;
-    if let Some(run) = run {
-        give(rt, host, &held, run);
-    }
-    let outcome = match sent {
-        Ok(reply) => reply.outcome,
-        Err(_) => Outcome::Failed,
-    };
-    finish(rt, host, held, outcome, seat);
+    give(rt, host, &held, run);
+    finish(rt, host, held, ended(sent), seat);
     match sent {
         Ok(reply) => Ok(Served::Workflow {
             name,
@@ -218,29 +202,16 @@ fn serve_activity<
     let polled = source.poll_activity();
     let task = match polled {
         Ok(Polled::Task(task)) => task,
-        Ok(Polled::Nothing) => {
-            release(rt, host, permit);
-            return Ok(Served::Idle);
-        }
-        Ok(Polled::Closed) => {
-            release(rt, host, permit);
-            return Ok(Served::Closed);
-        }
-        Err(fault) => {
-            release(rt, host, permit);
-            return Err(fault);
-        }
+        Ok(Polled::Nothing) => return released(rt, host, permit, Ok(Served::Idle)),
+        Ok(Polled::Closed) => return released(rt, host, permit, Ok(Served::Closed)),
+        Err(fault) => return released(rt, host, permit, Err(fault)),
     };
     let name = task.name;
     let Some(held) = use_activity(rt, host, permit, name, seat) else {
         return Ok(Served::Repeated { name });
     };
     let sent = answer_activity(&task, source, handler);
-    let outcome = match sent {
-        Ok(outcome) => outcome,
-        Err(_) => Outcome::Failed,
-    };
-    finish(rt, host, held, outcome, seat);
+    finish(rt, host, held, sent.unwrap_or(Outcome::Failed), seat);
     match sent {
         Ok(outcome) => Ok(Served::Activity { name, outcome }),
         Err(StepFault::OutOfMemory) => Ok(Served::NoMemory { name }),
@@ -299,14 +270,41 @@ fn release<R: Wait, W: Workflow, T: Ledger, C: Ledger, F: Ledger>(
     let _released = host.lock(rt).release(permit);
 }
 
-// Gives the run that replay gave.
+// The permit was not used, and this was served.
+fn released<R: Wait, W: Workflow, T: Ledger, C: Ledger, F: Ledger>(
+    rt: &R,
+    host: &Host<W, T, C, F>,
+    permit: Permit,
+    served: Result<Served, SourceFault>,
+) -> Result<Served, SourceFault>
+    ensures { result ≡ served }
+{
+    release(rt, host, permit);
+    served
+}
+
+// Gives the run that replay gave, if it gave one.
 fn give<R: Wait, W: Workflow, T: Ledger, C: Ledger, F: Ledger>(
     rt: &R,
     host: &Host<W, T, C, F>,
     held: &Held,
-    run: Run<W>,
+    run: Option<Run<W>>,
 ) {
-    let _given = host.lock(rt).give_run(held, run);
+    let Some(run) = run else {
+        return;
+    };
+    let given = host.lock(rt).give_run(held, run);
+    drop(given);
+}
+
+// How a workflow task ends, by what was sent.
+fn ended(sent: Result<Reply, StepFault>) -> Outcome
+    ensures { result ≡ ended sent }
+{
+    match sent {
+        Ok(reply) => reply.outcome,
+        Err(_) => Outcome::Failed,
+    }
 }
 
 // Frees the held place, and counts the outcome.

@@ -1,9 +1,9 @@
 //! Replay of one workflow task.
-ghost use Rattle.std.specs.Prelude.{◌≡◌, ◌≤◌, false, IfOk, IfSome};
+ghost use Rattle.std.specs.Prelude.{◌≡◌, ◌≤◌, false, Some, None, IfOk, IfSome};
 ghost use Rattle.wh_poll.specs.Source.{SameRelation, SameTelling};
 ghost use Rattle.wh_replay.specs.Runs.{follows, steps};
 ghost use Rattle.wh_poll.specs.Numbers.{last_number};
-ghost use Rattle.wh_poll.specs.Tasks.{Steps, Replays, ReplaysTold, HasAnswer, FailsOnlySource};
+ghost use Rattle.wh_poll.specs.Tasks.{later_basis, StepsFrom, Steps, Replays, ReplaysTold, HasAnswer, FailsOnlySource};
 
 use crate::source::{SourceFault, TaskSource};
 use std::alloc::Global;
@@ -75,17 +75,32 @@ pub fn replay_task<W: Workflow, S: TaskSource>(
     if is_whole(events.as_slice()) {
         return Ok(replay_first(alloc, key, events, meter)?);
     }
+    match run {
+        Some(run) => replay_held(alloc, run, key, events, source, meter),
+        None => replay_unheld(alloc, key, events.as_slice(), source, meter),
+    }
+}
+
+// Replays events that do not begin with the first, from a run.
+fn replay_held<W: Workflow, S: TaskSource>(
+    alloc: Global,
+    run: Run<W>,
+    key: &RunKey,
+    events: Vec<Event>,
+    source: &mut S,
+    meter: &mut Meter,
+) -> Result<Stepped<W>, StepFault>
+    requires { run.key ≡ key.now }
+    ensures stepped { IfOk result (λ stepped. StepsFrom W.program (later_basis (Some run) events.items) (S.tells source.old) (Some run) key.now events.items stepped.run stepped.fault stepped.hit meter.old meter.new) }
+    ensures key { IfOk result (λ stepped. IfSome stepped.run (λ run. run.key ≡ key.now)) }
+    ensures one { IfOk result (λ stepped. HasAnswer stepped.run stepped.fault) }
+    ensures never_lowered { meter.old ≤ meter.new }
+    ensures answers { S.answers source.new ≡ S.answers source.old }
+    ensures failures { FailsOnlySource result (S.failures source.old) (S.failures source.new) }
+    ensures delivers { SameRelation (S.delivers source.old) (S.delivers source.new) }
+    ensures tells { SameTelling (S.tells source.old) (S.tells source.new) }
+{
     let up_to = last_number(events.as_slice());
-    let Some(run) = run else {
-        if events.is_empty() {
-            return Ok(Stepped {
-                run: None,
-                fault: Some(Fault::NotATask),
-                hit: false,
-            });
-        }
-        return replay_told(alloc, key, up_to, source, meter);
-    };
     match run.advance(alloc, events, meter) {
         Ok(run) => Ok(Stepped {
             run: Some(run),
@@ -105,6 +120,33 @@ pub fn replay_task<W: Workflow, S: TaskSource>(
         }),
         Err(AdvanceFault::OutOfMemory) => Err(StepFault::OutOfMemory),
     }
+}
+
+// Replays events that do not begin with the first, without a run.
+fn replay_unheld<W: Workflow, S: TaskSource>(
+    alloc: Global,
+    key: &RunKey,
+    events: &[Event],
+    source: &mut S,
+    meter: &mut Meter,
+) -> Result<Stepped<W>, StepFault>
+    ensures stepped { IfOk result (λ stepped. StepsFrom W.program (later_basis None events.now) (S.tells source.old) None key.now events.now stepped.run stepped.fault stepped.hit meter.old meter.new) }
+    ensures key { IfOk result (λ stepped. IfSome stepped.run (λ run. run.key ≡ key.now)) }
+    ensures one { IfOk result (λ stepped. HasAnswer stepped.run stepped.fault) }
+    ensures never_lowered { meter.old ≤ meter.new }
+    ensures answers { S.answers source.new ≡ S.answers source.old }
+    ensures failures { FailsOnlySource result (S.failures source.old) (S.failures source.new) }
+    ensures delivers { SameRelation (S.delivers source.old) (S.delivers source.new) }
+    ensures tells { SameTelling (S.tells source.old) (S.tells source.new) }
+{
+    if events.is_empty() {
+        return Ok(Stepped {
+            run: None,
+            fault: Some(Fault::NotATask),
+            hit: false,
+        });
+    }
+    replay_told(alloc, key, last_number(events), source, meter)
 }
 
 // Replays events from the first.
@@ -167,8 +209,8 @@ fn is_whole(events: &[Event]) -> bool
     }
 }
 
-// The number of the last event, 0 where there is none.
-fn last_number(events: &[Event]) -> u64
+/// The number of the last event, 0 where there is none.
+pub fn last_number(events: &[Event]) -> u64
     ensures { result ≡ last_number events.now }
 {
     match events.last() {

@@ -1,7 +1,6 @@
 //! A source that gives the tasks of recorded histories.
 ghost use Rattle.std.specs.Prelude.{◌≡◌, ◌<◌, ◌-◌, ◌++◌, ◌∷◌, [], get_or, length, map, take, drop, option_map, IfOk, IfErr, IfSome, OnOk, OnErr};
 ghost use Rattle.wh_samples.specs.Rounds.{scripted, ends_of, tasks_in, begin_at, task_of, key_of, events_up_to, first_named, completed_of, tally_of, deliveries_of, first_with, upcoming, told, Gives, Polls};
-ghost use Rattle.wh_poll.specs.Numbers.{last_number};
 ghost use Rattle.wh_poll.specs.Source.{Delivery, FailsOnly, IfTask, SameRelation, SameTelling};
 ghost use Rattle.wh_poll.specs.declared.source.Polled.{Polled};
 ghost use Rattle.wh_poll.specs.declared.source.Sent.{Sent};
@@ -10,7 +9,9 @@ ghost use Rattle.wh_poll.specs.declared.source.SourceFault.{SourceFault};
 use std::alloc::Global;
 use std::marker::Model;
 use wh_events::{Event, EventKind, Items, OutOfMemory, RunKey, Text};
-use wh_poll::{ActivityAnswer, ActivityTask, Polled, Sent, SourceFault, TaskSource, WorkflowTask};
+use wh_poll::{
+    ActivityAnswer, ActivityTask, Polled, Sent, SourceFault, TaskSource, WorkflowTask, last_number,
+};
 use wh_replay::Answer;
 use wh_slots::TaskName;
 
@@ -82,16 +83,6 @@ fn copy_up_to(alloc: Global, events: &[Event], up_to: u64) -> Result<Vec<Event>,
         copies.push(event.try_copy()?)?;
     }
     Ok(copies)
-}
-
-/// The number of the last event, 0 where there is none.
-fn last_number(events: &[Event]) -> u64
-    ensures { result ≡ last_number events.now }
-{
-    match events.last() {
-        Some(event) => event.number.get(),
-        None => 0,
-    }
 }
 
 /// The key of a history of this name.
