@@ -1,5 +1,5 @@
 -- The jobs of a cut of a history, by its number.
-use Rattle.std.specs.Prelude.{ℕ, ◌-◌, List, [], take, Option, Some, None, slice_get}
+use Rattle.std.specs.Prelude.{ℕ, ◌-◌, List, [], ◌∷◌, take, Option, Some, None, slice_get}
 use Rattle.wh_events.specs.declared.event.Event.{Event}
 use Rattle.wh_machines.specs.Lookups.{events_between}
 use Rattle.wh_workflow.specs.declared.job.Job.{Job}
@@ -13,3 +13,8 @@ jobs_in seen between (Some cut) = jobs_of seen between cut
 -- the jobs of the cut of the last number, where the cut before has the first, or there is none and the first is 0
 abbrev pub jobs_at : List Event → ℕ → ℕ → List Job
 jobs_at events from to = jobs_in (take to events) (events_between events from to) (slice_get events (to - 1))
+
+-- the list of a value that may be there
+abbrev pub listed : {A : Type 0} → Option A → List A
+listed None = []
+listed (Some x) = x ∷ []

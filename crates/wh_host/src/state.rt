@@ -1,5 +1,5 @@
 //! Slots, the run key and the mark of each workflow place, cached runs and books, as one machine.
-ghost use Rattle.std.specs.Prelude.{◌≡◌, ◌<◌, ◌+◌, ◌-◌, ◌^◌, ◌↔◌, Bool, Some, length, map, option_map, slice_get, replicate, IsTrue, IfOk, IfErr, IsErr, Err, MatchOption, MatchResult, vec_len};
+ghost use Rattle.std.specs.Prelude.{◌≡◌, ◌<◌, ◌+◌, ◌-◌, ◌^◌, ◌↔◌, Bool, None, Some, length, map, option_map, slice_get, replicate, IsTrue, IfOk, IfErr, IsErr, Err, MatchOption, MatchResult, vec_len};
 ghost use Rattle.std.specs.Map.{lookup_entry, remove_entry};
 ghost use Rattle.wh_events.specs.Keys.{same_key};
 ghost use Rattle.wh_cache.specs.Cache.{held_of};
@@ -12,7 +12,7 @@ use std::alloc::Global;
 use std::marker::Model;
 use std::sync::ledger::{Blank, Ledger};
 use wh_cache::Sticky;
-use wh_events::RunKey;
+use wh_events::{OutOfMemory, RunKey};
 use wh_ledger::{Books, Seat, SeatsMissing};
 use wh_replay::Run;
 use wh_slots::{
@@ -74,11 +74,7 @@ impl<W: Workflow, T: Ledger, C: Ledger, F: Ledger> HostState<W, T, C, F> {
         }
         let workflow = Slots::open(alloc, SlotKind::Workflow, config.workflow_slots)?;
         let activity = Slots::open(alloc, SlotKind::Activity, config.activity_slots)?;
-        let mut marks = Vec::new(alloc);
-        marks.reserve(config.workflow_slots)?;
-        for _place in 0..config.workflow_slots {
-            marks.push_reserved(None);
-        }
+        let marks = no_marks(alloc, config.workflow_slots)?;
         let cache = Sticky::open(alloc, config.cache, config.cache_events)?;
         let (books, seats) = Books::open(alloc, config.seats, taken, completed, failed)?;
         Ok((
@@ -297,6 +293,18 @@ impl<W: Workflow, T: Ledger, C: Ledger, F: Ledger> HostState<W, T, C, F> {
             )),
         }
     }
+}
+
+// As many places, none of which has a mark.
+fn no_marks(alloc: Global, count: usize) -> Result<Vec<Option<Mark>>, OutOfMemory>
+    ensures { IfOk result (λ marks. marks.items ≡ replicate count None) }
+{
+    let mut marks = Vec::new(alloc);
+    marks.reserve(count)?;
+    for _place in 0..count {
+        marks.push_reserved(None);
+    }
+    Ok(marks)
 }
 
 // Takes the run of the key out of the cache, for the task that is now in hand.

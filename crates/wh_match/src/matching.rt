@@ -1,73 +1,86 @@
-ghost use Rattle.std.specs.Prelude.{◌≡◌, ◌+◌, ◌<◌, ◌≤◌, length};
+ghost use Rattle.std.specs.Prelude.{◌≡◌, ◌+◌, ◌<◌, ◌≤◌, length, bytes_eq};
 ghost use Rattle.std.specs.Result.{result_err};
 ghost use Rattle.wh_events.specs.Cuts.{commanded};
 ghost use Rattle.wh_machines.specs.Lookups.{events_between};
 ghost use Rattle.wh_workflow.specs.Names.{names, mismatch};
 
-use wh_events::{Class, Event, EventKind};
+use wh_events::{Class, Event, EventKind, Text};
 use wh_machines::{Track, opened_id};
 use wh_workflow::{Command, Mismatch};
+
+/// Whether both texts are the same.
+fn same(text: &Text, other: &Text) -> bool
+    ensures { result ≡ bytes_eq text.now other.now }
+{
+    text.get() == other.get()
+}
 
 /// Whether the command and the kind of event are named alike.
 fn names(history: &[Event], command: &Command, kind: &EventKind) -> bool
     ensures { result ≡ names history.now command.now kind.now }
 {
-    match (command, kind) {
-        (
-            Command::StartActivity { id, activity, .. },
+    match command {
+        Command::StartActivity { id, activity, .. } => match kind {
             EventKind::ActivityTaskScheduled {
                 id: other_id,
                 activity: other_activity,
-            },
-        ) => id.get() == other_id.get() && activity.get() == other_activity.get(),
-        (Command::CancelActivity { id }, EventKind::ActivityTaskCancelRequested { scheduled }) =>
-            id.get() == opened_id(history, *scheduled),
-        (Command::StartTimer { id, .. }, EventKind::TimerStarted { id: other_id }) => {
-            id.get() == other_id.get()
-        }
-        (Command::CancelTimer { id }, EventKind::TimerCanceled { started }) => {
-            id.get() == opened_id(history, *started)
-        }
-        (
-            Command::StartChild {
-                workflow_id,
-                workflow,
-                ..
-            },
+            } => same(id, other_id) && same(activity, other_activity),
+            _ => false,
+        },
+        Command::CancelActivity { id } => match kind {
+            EventKind::ActivityTaskCancelRequested { scheduled } => {
+                id.get() == opened_id(history, *scheduled)
+            }
+            _ => false,
+        },
+        Command::StartTimer { id, .. } => match kind {
+            EventKind::TimerStarted { id: other_id } => same(id, other_id),
+            _ => false,
+        },
+        Command::CancelTimer { id } => match kind {
+            EventKind::TimerCanceled { started } => id.get() == opened_id(history, *started),
+            _ => false,
+        },
+        Command::StartChild {
+            workflow_id,
+            workflow,
+            ..
+        } => match kind {
             EventKind::StartChildWorkflowExecutionInitiated {
                 workflow_id: other_id,
                 workflow: other_workflow,
-            },
-        ) => workflow_id.get() == other_id.get() && workflow.get() == other_workflow.get(),
-        (
-            Command::CancelChild { workflow_id },
+            } => same(workflow_id, other_id) && same(workflow, other_workflow),
+            _ => false,
+        },
+        Command::CancelChild { workflow_id } => match kind {
             EventKind::RequestCancelExternalWorkflowExecutionInitiated {
                 workflow_id: other_id,
-            },
-        ) => workflow_id.get() == other_id.get(),
-        (
-            Command::SignalExternal {
-                workflow_id,
-                signal,
-                ..
-            },
+            } => same(workflow_id, other_id),
+            _ => false,
+        },
+        Command::SignalExternal {
+            workflow_id,
+            signal,
+            ..
+        } => match kind {
             EventKind::SignalExternalWorkflowExecutionInitiated {
                 workflow_id: other_id,
                 signal: other_signal,
-            },
-        ) => workflow_id.get() == other_id.get() && signal.get() == other_signal.get(),
-        (
-            Command::Marker { change_id, version },
+            } => same(workflow_id, other_id) && same(signal, other_signal),
+            _ => false,
+        },
+        Command::Marker { change_id, version } => match kind {
             EventKind::MarkerRecorded {
                 change_id: other_id,
                 version: other_version,
-            },
-        ) => change_id.get() == other_id.get() && *version == *other_version,
-        (Command::Complete { .. }, EventKind::WorkflowExecutionCompleted)
-        | (Command::Fail { .. }, EventKind::WorkflowExecutionFailed)
-        | (Command::Cancel, EventKind::WorkflowExecutionCanceled)
-        | (Command::ContinueAsNew { .. }, EventKind::WorkflowExecutionContinuedAsNew) => true,
-        _ => false,
+            } => same(change_id, other_id) && *version == *other_version,
+            _ => false,
+        },
+        Command::Complete { .. } => matches!(kind, EventKind::WorkflowExecutionCompleted),
+        Command::Fail { .. } => matches!(kind, EventKind::WorkflowExecutionFailed),
+        Command::Cancel => matches!(kind, EventKind::WorkflowExecutionCanceled),
+        Command::ContinueAsNew { .. } => matches!(kind, EventKind::WorkflowExecutionContinuedAsNew),
+        Command::Ask { .. } => false,
     }
 }
 

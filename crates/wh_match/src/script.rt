@@ -87,12 +87,7 @@ impl Script {
             return Err(ScriptFault::Workflow(fault));
         }
         let late = self.is_late(track, &command);
-        self.issued.reserve(1)?;
-        self.late.reserve(1)?;
-        self.closed = closes(&command);
-        self.count += 1;
-        self.issued.push_reserved(command);
-        self.late.push_reserved(late);
+        self.push(command, late)?;
         Ok(())
     }
 
@@ -127,6 +122,22 @@ impl Script {
         ensures { IfOk result (λ sent. sent.items ≡ reduced_by self.late self.issued) }
     {
         reduce(self.alloc, self.late.as_slice(), self.issued.as_slice())
+    }
+
+    /// Adds a command that can stand, marked whether it is a late cancel.
+    fn push(&mut self, command: Command, late: bool) -> Result<(), OutOfMemory>
+        requires unfaulted { early_fault self.old.issued ≡ None }
+        requires not_marker { is_marker command ≡ false }
+        ensures ok { OnOk result (self.new ≡ with_issued self.old command late) }
+        ensures err { OnErr result (self.new ≡ self.old) }
+    {
+        self.issued.reserve(1)?;
+        self.late.reserve(1)?;
+        self.closed = closes(&command);
+        self.count += 1;
+        self.issued.push_reserved(command);
+        self.late.push_reserved(late);
+        Ok(())
     }
 
     /// Answers a question by a version.
