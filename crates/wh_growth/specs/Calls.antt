@@ -1,9 +1,11 @@
 -- What the one call counts.
-use Rattle.std.specs.Prelude.{ℕ, ◌+◌, ◌*◌, ◌-◌, List, codes, if◌then◌else◌}
+use Rattle.std.specs.Prelude.{◌≡◌, ℕ, ◌+◌, ◌*◌, ◌-◌, List, Err, codes, if◌then◌else◌}
 use Rattle.wh_events.specs.declared.event.Event.{Event}
 use Rattle.wh_events.specs.declared.key.RunKey.{RunKey}
 use Rattle.wh_workflow.specs.Counting.{risen}
-use Rattle.wh_replay.specs.Runs.{steps, advance_steps}
+use Rattle.wh_replay.specs.Runs.{run_of, steps, advance_steps}
+use Rattle.wh_replay.specs.declared.fault.RunFault.{RunFault}
+use Rattle.wh_replay.specs.declared.fault.RunFault.TheVariants.{Fault, OutOfMemory}
 use Rattle.wh_samples.specs.Flood.{flood}
 use Rattle.wh_growth.specs.Histories.{happened, between, numbered}
 use Rattle.wh_growth.specs.declared.Plan.{Plan}
@@ -19,6 +21,11 @@ held tasks = numbered 1 (happened tasks)
 -- the events of the task after so many, and of the start of the next one
 abbrev pub new : ℕ → List Event
 new tasks = numbered (tasks * 68 + 4) (between tasks)
+
+-- the fault is that of the replay of these events, unless memory ran out
+abbrev pub IsFaultOf : List Event → RunFault → Type 0
+IsFaultOf events (Fault fault) = run_of flood events ≡ Err fault
+IsFaultOf events OutOfMemory = Unit {0}
 
 -- by how much a meter rises that is raised so much: less than that at the top of 64 bits
 abbrev pub rise : ℕ → ℕ → ℕ

@@ -2,8 +2,8 @@
 //! that the first has beyond the second are those of the one call, and bench/growths.py counts them.
 #![tactic(auto)]
 
-ghost use Rattle.std.specs.Prelude.{◌≡◌, ◌≤◌, IfOk, IfSome, IsTrue, OnOk, SomeIff, Some, None, if◌then◌else◌};
-ghost use Rattle.wh_growth.specs.Calls.{call_steps, flood_key, held, rise};
+ghost use Rattle.std.specs.Prelude.{◌≡◌, ◌≤◌, IfErr, IfOk, IfSome, IsTrue, OnOk, SomeIff, Some, None, if◌then◌else◌};
+ghost use Rattle.wh_growth.specs.Calls.{IsFaultOf, call_steps, flood_key, held, rise};
 ghost use Rattle.wh_replay.specs.Runs.{advance_steps, steps};
 ghost use Rattle.wh_samples.specs.Flood.{flood};
 ghost use Rattle.wh_workflow.specs.Counting.{risen};
@@ -92,6 +92,7 @@ fn key(alloc: Global) -> Result<RunKey, OutOfMemory>
 fn run_of(alloc: Global, tasks: u64, meter: &mut Meter) -> Result<Run<Flood>, RunFault>
     ensures run { IfOk result (λ run. run ≡ record { key = flood_key; events = held tasks }) }
     ensures meter { OnOk result (meter.new ≡ risen meter.old (steps flood (held tasks))) }
+    ensures fault { IfErr result (IsFaultOf (held tasks)) }
 {
     let events = first_tasks(alloc, tasks)?;
     let key = key(alloc)?;
