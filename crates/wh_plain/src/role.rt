@@ -1,9 +1,10 @@
 ghost use Rattle.std.specs.Prelude.{◌≡◌};
 ghost use Rattle.wh_events.specs.Kinds.{role_of};
-ghost use Rattle.wh_events.specs.Kinds.Role.{Refers};
-ghost use Rattle.wh_plain.specs.Roles.{effect_seen, role_seen};
+ghost use Rattle.wh_events.specs.Kinds.Effect.{Starts, Cancels, Closes};
+ghost use Rattle.wh_events.specs.Kinds.Role.{Opens, Refers};
+ghost use Rattle.wh_plain.specs.Roles.{role_seen};
 
-use wh_events::{EventKind, Thing};
+use wh_events::{EventKind, Text, Thing};
 
 /// What a reference does to the thing that it names.
 #[derive(Clone, Copy)]
@@ -32,13 +33,46 @@ pub(crate) enum Role<'a> {
     Plain,
 }
 
-fn refers<'a>(thing: Thing, number: u64, effect: Effect) -> Role<'a>
-    ensures { role_seen result ≡ Refers thing number (effect_seen effect) }
+/// The role of what opens a thing under an id.
+fn opens<'a>(thing: Thing, id: &'a Text) -> Role<'a>
+    ensures { role_seen result ≡ Opens thing id.now }
+{
+    Role::Opens {
+        thing,
+        id: id.get(),
+    }
+}
+
+/// The role of what says that a thing has begun.
+fn starts<'a>(thing: Thing, number: u64) -> Role<'a>
+    ensures { role_seen result ≡ Refers thing number Starts }
 {
     Role::Refers {
         thing,
         number,
-        effect,
+        effect: Effect::Starts,
+    }
+}
+
+/// The role of what asks a thing to end.
+fn cancels<'a>(thing: Thing, number: u64) -> Role<'a>
+    ensures { role_seen result ≡ Refers thing number Cancels }
+{
+    Role::Refers {
+        thing,
+        number,
+        effect: Effect::Cancels,
+    }
+}
+
+/// The role of what says that a thing is over.
+fn closes<'a>(thing: Thing, number: u64) -> Role<'a>
+    ensures { role_seen result ≡ Refers thing number Closes }
+{
+    Role::Refers {
+        thing,
+        number,
+        effect: Effect::Closes,
     }
 }
 
@@ -47,76 +81,48 @@ pub(crate) fn role_of(kind: &EventKind) -> Role<'_>
     ensures { role_seen result ≡ role_of kind.now }
 {
     match kind {
-        EventKind::ActivityTaskScheduled { id, .. } => Role::Opens {
-            thing: Thing::Activity,
-            id: id.get(),
-        },
-        EventKind::TimerStarted { id } => Role::Opens {
-            thing: Thing::Timer,
-            id: id.get(),
-        },
-        EventKind::StartChildWorkflowExecutionInitiated { workflow_id, .. } => Role::Opens {
-            thing: Thing::Child,
-            id: workflow_id.get(),
-        },
-        EventKind::SignalExternalWorkflowExecutionInitiated { workflow_id, .. } => Role::Opens {
-            thing: Thing::SignalRequest,
-            id: workflow_id.get(),
-        },
-        EventKind::RequestCancelExternalWorkflowExecutionInitiated { workflow_id } =>
+        EventKind::ActivityTaskScheduled { id, .. } => opens(Thing::Activity, id),
+        EventKind::TimerStarted { id } => opens(Thing::Timer, id),
+        EventKind::StartChildWorkflowExecutionInitiated { workflow_id, .. } => {
+            opens(Thing::Child, workflow_id)
+        }
+        EventKind::SignalExternalWorkflowExecutionInitiated { workflow_id, .. } => {
+            opens(Thing::SignalRequest, workflow_id)
+        }
+        EventKind::RequestCancelExternalWorkflowExecutionInitiated { workflow_id } => {
             Role::CancelsChild {
                 workflow_id: workflow_id.get(),
-            },
-        EventKind::ActivityTaskCancelRequested { scheduled } => refers(
+            }
+        }
+        EventKind::ActivityTaskCancelRequested { scheduled } => cancels(
             Thing::Activity,
             *scheduled,
-            Effect::Cancels,
         ),
-        EventKind::ActivityTaskStarted { scheduled } => refers(
-            Thing::Activity,
-            *scheduled,
-            Effect::Starts,
-        ),
+        EventKind::ActivityTaskStarted { scheduled } => starts(Thing::Activity, *scheduled),
         EventKind::ActivityTaskCompleted { scheduled, .. }
         | EventKind::ActivityTaskFailed { scheduled }
         | EventKind::ActivityTaskTimedOut { scheduled }
-        | EventKind::ActivityTaskCanceled { scheduled } => refers(
-            Thing::Activity,
-            *scheduled,
-            Effect::Closes,
-        ),
-        EventKind::TimerCanceled { started } | EventKind::TimerFired { started } => refers(
-            Thing::Timer,
-            *started,
-            Effect::Closes,
-        ),
-        EventKind::ChildWorkflowExecutionStarted { initiated } => refers(
-            Thing::Child,
-            *initiated,
-            Effect::Starts,
-        ),
+        | EventKind::ActivityTaskCanceled { scheduled } => closes(Thing::Activity, *scheduled),
+        EventKind::TimerCanceled { started } | EventKind::TimerFired { started } => {
+            closes(Thing::Timer, *started)
+        }
+        EventKind::ChildWorkflowExecutionStarted { initiated } => starts(Thing::Child, *initiated),
         EventKind::ChildWorkflowExecutionCompleted { initiated, .. }
         | EventKind::ChildWorkflowExecutionFailed { initiated }
         | EventKind::ChildWorkflowExecutionCanceled { initiated }
         | EventKind::ChildWorkflowExecutionTimedOut { initiated }
         | EventKind::ChildWorkflowExecutionTerminated { initiated }
-        | EventKind::StartChildWorkflowExecutionFailed { initiated } => refers(
-            Thing::Child,
-            *initiated,
-            Effect::Closes,
-        ),
+        | EventKind::StartChildWorkflowExecutionFailed { initiated } => {
+            closes(Thing::Child, *initiated)
+        }
         EventKind::ExternalWorkflowExecutionCancelRequested { initiated }
-        | EventKind::RequestCancelExternalWorkflowExecutionFailed { initiated } => refers(
-            Thing::CancelRequest,
-            *initiated,
-            Effect::Closes,
-        ),
+        | EventKind::RequestCancelExternalWorkflowExecutionFailed { initiated } => {
+            closes(Thing::CancelRequest, *initiated)
+        }
         EventKind::ExternalWorkflowExecutionSignaled { initiated }
-        | EventKind::SignalExternalWorkflowExecutionFailed { initiated } => refers(
-            Thing::SignalRequest,
-            *initiated,
-            Effect::Closes,
-        ),
+        | EventKind::SignalExternalWorkflowExecutionFailed { initiated } => {
+            closes(Thing::SignalRequest, *initiated)
+        }
         _ => Role::Plain,
     }
 }

@@ -1,8 +1,13 @@
 //! A soak: workers with a thread each serve histories while another thread evicts runs at random.
-ghost use Rattle.std.specs.Prelude.{◌≡◌, ◌+◌, ◌<◌, ◌≤◌, IfOk, length, map, reverse, vec_len};
+ghost use Rattle.std.specs.Prelude.{◌≡◌, ◌+◌, ◌<◌, ◌≤◌, ◌++◌, IfOk, OnOk, length, map, reverse, vec_len};
+ghost use Rattle.std.specs.List.{flat_map, sum_by};
+ghost use Rattle.std.specs.List.Sorted.{IsNonDecreasingBy, IsPermutation};
 ghost use denote.Param.Send.{IsSend};
 ghost use Rattle.wh_host.specs.Machine.{IsConfig};
+ghost use Rattle.wh_samples.specs.Rounds.{deliveries_of};
+ghost use Rattle.wh_soak.specs.Gathered.{sent_tasks, tasks_in};
 ghost use Rattle.wh_soak.specs.Sizes.{IsWithin};
+ghost use Rattle.wh_workflow.specs.Counting.{risen};
 
 use crate::histories::{File, source_of};
 use crate::worker::{Job, Tally, work};
@@ -20,8 +25,9 @@ use std::{io, thread};
 use wh_events::{RunKey, Text};
 use wh_host::{Config, Evict, Host, HostState, OpenFault, Totals};
 use wh_ledger::Seat;
+use wh_poll::Sent;
 use wh_samples::ScriptSource;
-use wh_slots::{ReserveFault, SlotKind};
+use wh_slots::{ReserveFault, SlotKind, TaskName};
 use wh_workflow::Workflow;
 
 /// How many slots of each kind the host has.
@@ -195,28 +201,52 @@ fn drain<R: Wait, W: Workflow, T: Ledger, C: Ledger, F: Ledger>(
         && matches!(activity, Err(ReserveFault::Draining))
 }
 
+/// An answer as a text, with the name of its task.
+fn as_text(alloc: Global, name: TaskName, sent: &Sent) -> Result<Answered, AllocError>
+    ensures { IfOk result (λ answer. answer.task ≡ name.0) }
+{
+    Ok(Answered {
+        task: name.0,
+        text: Text::new(format!(in alloc; "{sent:?}")?),
+    })
+}
+
 /// Appends the answers that the source was sent.
 fn gather(
     alloc: Global,
     source: &ScriptSource,
     answers: &mut Vec<Answered>,
-) -> Result<(), AllocError> {
-    for (name, sent) in source.answers() {
-        answers.push(Answered {
-            task: name.0,
-            text: Text::new(format!(in alloc; "{sent:?}")?),
-        })?;
+) -> Result<(), AllocError>
+    ensures { OnOk result (tasks_in answers.new.items ≡ tasks_in answers.old.items ++ sent_tasks source.now) }
+{
+    let sent = source.answers();
+    for answer in sent {
+        answers.push(as_text(alloc, answer.0, &answer.1)?)?;
     }
     Ok(())
 }
 
-/// The seats of the jobs, what their workers counted together, and the answers that were sent, in
-/// the order of the tasks.
+/// The answers in the order of their tasks.
+fn in_order(answers: Vec<Answered>) -> Result<Vec<Answered>, AllocError>
+    ensures same { IfOk result (λ sorted. IsPermutation answers.items sorted.items) }
+    ensures sorted { IfOk result (λ sorted. IsNonDecreasingBy (λ answer. answer.task) sorted.items) }
+{
+    let mut answers = answers;
+    answers.sort_by_key(|answer| answer.task)?;
+    Ok(answers)
+}
+
+/// The seats of the jobs, what their workers counted together, and the answers that were sent.
 fn taken_apart<T: Ledger, C: Ledger, F: Ledger>(
     alloc: Global,
     jobs: Vec<Job<T, C, F>>,
 ) -> Result<(Vec<Seat<T, C, F>>, Tally, Vec<Answered>), AllocError>
-    ensures { IfOk result (λ parts. vec_len parts.0 ≡ vec_len jobs) }
+    ensures seats { IfOk result (λ parts. parts.0.items ≡ map (λ job. job.seat) jobs.items) }
+    ensures tasks { IfOk result (λ parts. parts.1.tasks ≡ risen 0 (sum_by (λ job. deliveries_of job.source.histories) jobs.items)) }
+    ensures hits { IfOk result (λ parts. parts.1.hits ≡ risen 0 (sum_by (λ job. job.hits) jobs.items)) }
+    ensures misses { IfOk result (λ parts. parts.1.misses ≡ risen 0 (sum_by (λ job. job.misses) jobs.items)) }
+    ensures answered { IfOk result (λ parts. tasks_in parts.2.items ≡ flat_map (λ job. sent_tasks job.source) jobs.items) }
+    ensures count { IfOk result (λ parts. vec_len parts.0 ≡ vec_len jobs) }
 {
     let mut seats = Vec::new(alloc);
     let (mut tasks, mut hits, mut misses) = (0u64, 0u64, 0u64);
@@ -228,7 +258,6 @@ fn taken_apart<T: Ledger, C: Ledger, F: Ledger>(
         gather(alloc, &job.source, &mut answers)?;
         seats.push(job.seat)?;
     }
-    answers.sort_by_key(|answer| answer.task)?;
     let tally = Tally {
         tasks,
         hits,
@@ -272,6 +301,7 @@ fn soak_with<
     let elapsed = begun.elapsed(rt)?;
     let is_drained = drain(rt, &host);
     let (seats, tally, answers) = taken_apart(alloc, done?)?;
+    let answers = in_order(answers)?;
     let Ok(totals) = host.close(seats) else {
         unreachable!()
     };
