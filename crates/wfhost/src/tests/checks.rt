@@ -5,6 +5,7 @@ use std::alloc::Global;
 use std::process::Abort;
 use wh_replay::check;
 use wh_samples::All;
+use wh_workflow::Workflow;
 
 /// Histories that end anywhere.
 const CHECKED: &str = "\
@@ -27,8 +28,8 @@ start:Nap timer:nap S T => Err(Fault(Workflow at: 4, fault: IdInUse))
 ";
 
 /// What a history has, or its fault.
-fn checked_text(rt: &impl Abort, alloc: Global, history: &'static str) -> String {
-    let checked = check::<All>(alloc, events(rt, alloc, history));
+fn checked_text<W: Workflow>(rt: &impl Abort, alloc: Global, history: &'static str) -> String {
+    let checked = check::<W>(alloc, events(rt, alloc, history));
     let text = format!(in alloc; "{checked:?}").expect(rt, "memory");
     plain(rt, alloc, text)
 }
@@ -37,7 +38,7 @@ fn checked_text(rt: &impl Abort, alloc: Global, history: &'static str) -> String
 fn checks_histories(rt: HostRuntime) {
     for line in CHECKED.lines() {
         let (history, wanted) = row(&rt, line);
-        let text = checked_text(&rt, rt.alloc(), history);
+        let text = checked_text::<All>(&rt, rt.alloc(), history);
         assert_eq!(rt; text.as_str(), wanted, "{history}");
     }
 }

@@ -3,6 +3,7 @@
 ghost use Rattle.std.specs.Prelude.{◌≡◌};
 
 use crate::tests::notation::{events, key, owned, row};
+use crate::tests::runs::new_events;
 use std::alloc::Global;
 use std::marker::Brand;
 use std::process::Abort;
@@ -461,43 +462,28 @@ fn any_cache_serves(rt: HostRuntime) {
     }
 }
 
-/// The events from a number on.
-fn later(rt: &impl Abort, alloc: Global, history: &'static str, from: u64) -> Vec<Event> {
-    let mut later = Vec::new(alloc);
-    for event in events(rt, alloc, history) {
-        if from <= event.number.get() {
-            assert!(rt; later.push(event).is_ok());
-        }
-    }
-    later
-}
-
-/// Gives a run to the host with a task, and takes it with the next one.
-fn given_and_taken<R: Wait + Abort, T: Ledger, C: Ledger, F: Ledger>(
+/// Takes the cached run of `nap` with its next task.
+fn take<R: Wait + Abort, W: Workflow, T: Ledger, C: Ledger, F: Ledger>(
     rt: &R,
     alloc: Global,
-    host: &Host<Nap, T, C, F>,
+    host: &Host<W, T, C, F>,
     seat: &mut Seat<T, C, F>,
-    run: Run<Nap>,
-) -> Run<Nap> {
-    let (held, _run) = hold(rt, host, seat, 1, key(rt, alloc, "nap"));
-    let _given = host.lock(rt).give_run(&held, run);
-    let _finished = host.lock(rt).finish(held, Outcome::Completed, seat);
+) -> Run<W> {
     let (held, run) = hold(rt, host, seat, 2, key(rt, alloc, "nap"));
     let _finished = host.lock(rt).finish(held, Outcome::Completed, seat);
     run.expect(rt, "the run is cached")
 }
 
 /// What a run does next, by a word.
-fn went(run: &Run<Nap>) -> &'static str {
-    match run.commands() {
-        [Command::Complete { .. }] => "completes",
+fn went<W: Workflow>(run: &Run<W>) -> &'static str {
+    match run.commands().first() {
+        Some(Command::Complete { .. }) => "completes",
         _ => "goes on",
     }
 }
 
 /// Why a run did not advance, and how many events it then holds.
-fn refused(fault: &AdvanceFault<Nap>) -> (&'static str, usize) {
+fn refused<W: Workflow>(fault: &AdvanceFault<W>) -> (&'static str, usize) {
     match fault {
         AdvanceFault::Gap(run) => ("gap", run.held_len()),
         AdvanceFault::NotATask(run) => ("not a task", run.held_len()),
@@ -506,7 +492,11 @@ fn refused(fault: &AdvanceFault<Nap>) -> (&'static str, usize) {
 }
 
 /// What becomes of a run that is advanced, the steps of that, and how many events it then holds.
-fn advanced(alloc: Global, run: Run<Nap>, events: Vec<Event>) -> (&'static str, u64, usize) {
+fn advanced<W: Workflow>(
+    alloc: Global,
+    run: Run<W>,
+    events: Vec<Event>,
+) -> (&'static str, u64, usize) {
     let mut meter = Meter::new();
     let (word, held) = match run.advance(alloc, events, &mut meter) {
         Ok(run) => (went(&run), run.held_len()),
@@ -515,11 +505,11 @@ fn advanced(alloc: Global, run: Run<Nap>, events: Vec<Event>) -> (&'static str, 
     (word, meter.count(), held)
 }
 
-/// Advances a run that was in the cache by these events.
-fn day_of_one_run<R: Wait + Abort, T: Ledger, C: Ledger, F: Ledger>(
+/// Serves the first task of a nap, and advances the run that it leaves in the cache by these events.
+fn day_of_one_run<R: Wait + Abort, W: Workflow, T: Ledger, C: Ledger, F: Ledger>(
     rt: &R,
     alloc: Global,
-    held: Vec<Event>,
+    source: &mut ScriptSource,
     events: Vec<Event>,
     taken: Blank,
     completed: Blank,
@@ -530,30 +520,22 @@ fn day_of_one_run<R: Wait + Abort, T: Ledger, C: Ledger, F: Ledger>(
     requires failed { (failed.name ≡ F.name) × (failed.parts ≡ F.parts) × (failed.parts ≡ 1) }
 {
     let config = Config { cache: 1, ..SMALL };
-    let (host, mut seats) = open::<R, Nap, T, C, F>(rt, alloc, config, taken, completed, failed);
+    let (host, mut seats) = open::<R, W, T, C, F>(rt, alloc, config, taken, completed, failed);
     let mut seat = seats.pop().expect(rt, "seat");
-    let run = run_of(rt, alloc, held);
-    let run = given_and_taken(rt, alloc, &host, &mut seat, run);
-    advanced(alloc, run, events)
-}
-
-fn run_of(rt: &impl Abort, alloc: Global, events: Vec<Event>) -> Run<Nap> {
-    match Run::from_first(alloc, key(rt, alloc, "nap"), events, &mut Meter::new()) {
-        Ok(run) => run,
-        Err(_) => panic!(rt; "run"),
-    }
+    serves(rt, alloc, &host, &mut seat, source, &[(3, false, 2)]);
+    advanced(alloc, take(rt, alloc, &host, &mut seat), events)
 }
 
 /// A run that comes out of the cache goes on as it would have.
 #[test]
 fn a_run_from_the_cache(rt: HostRuntime) {
     let alloc = rt.alloc();
-    for (history, from) in [("nap/8", 4), ("nap/3", 3), ("nap/6", 4)] {
-        let advanced = day_of_one_run::<HostRuntime, Brand, Brand, Brand>(
+    for (history, behind) in [("nap/8", 3), ("nap/3", 2), ("nap/6", 3)] {
+        let advanced = day_of_one_run::<HostRuntime, Nap, Brand, Brand, Brand>(
             &rt,
             alloc,
-            events(&rt, alloc, "nap/3"),
-            later(&rt, alloc, history, from),
+            &mut script(&rt, alloc, 0, "nap => nap/3"),
+            new_events(&rt, alloc, history, behind),
             Blank::new(1),
             Blank::new(1),
             Blank::new(1),

@@ -114,7 +114,7 @@ fn stepped_text<W: Workflow>(rt: &impl Abort, alloc: Global, steps: u64, run: &R
 /// The run of a history.
 fn begun<W: Workflow>(rt: &impl Abort, alloc: Global, history: &'static str) -> Run<W> {
     let events = events(rt, alloc, history);
-    match Run::from_first(alloc, key(rt, alloc, "x"), events, &mut Meter::new()) {
+    match Run::from_first(alloc, key(rt, alloc, "nap"), events, &mut Meter::new()) {
         Ok(run) => run,
         Err(fault) => panic!(rt; "{history}: {fault:?}"),
     }
@@ -128,7 +128,7 @@ pub(super) fn begun_text<W: Workflow>(
 ) -> String {
     let mut meter = Meter::new();
     let events = events(rt, alloc, history);
-    match Run::<W>::from_first(alloc, key(rt, alloc, "x"), events, &mut meter) {
+    match Run::<W>::from_first(alloc, key(rt, alloc, "nap"), events, &mut meter) {
         Ok(run) => stepped_text(rt, alloc, meter.count(), &run),
         Err(fault) => fault_text(rt, alloc, &fault),
     }
@@ -165,7 +165,12 @@ fn refusal_text<W: Workflow>(rt: &impl Abort, alloc: Global, fault: &AdvanceFaul
 }
 
 /// The events of a history behind so many, or behind the place that the history names.
-fn new_events(rt: &impl Abort, alloc: Global, history: &'static str, held: usize) -> Vec<Event> {
+pub(super) fn new_events(
+    rt: &impl Abort,
+    alloc: Global,
+    history: &'static str,
+    held: usize,
+) -> Vec<Event> {
     let (history, place) = numbered(rt, history, " behind ", held);
     let mut all = events(rt, alloc, history);
     assert!(rt; place <= all.len(), "{history}");
@@ -174,7 +179,12 @@ fn new_events(rt: &impl Abort, alloc: Global, history: &'static str, held: usize
 
 /// What comes of a run that is advanced by the events of a history behind those that it holds, or
 /// behind the place that the history names.
-fn advanced_text(rt: &impl Abort, alloc: Global, run: Run<All>, history: &'static str) -> String {
+fn advanced_text<W: Workflow>(
+    rt: &impl Abort,
+    alloc: Global,
+    run: Run<W>,
+    history: &'static str,
+) -> String {
     let mut meter = Meter::new();
     let new = new_events(rt, alloc, history, run.held_len());
     match run.advance(alloc, new, &mut meter) {
@@ -209,8 +219,13 @@ fn advances_runs(rt: HostRuntime) {
 }
 
 /// Where something stands that the event of a number opened.
-fn status_text(rt: &impl Abort, alloc: Global, history: &'static str, number: usize) -> String {
-    let run = begun::<All>(rt, alloc, history);
+fn status_text<W: Workflow>(
+    rt: &impl Abort,
+    alloc: Global,
+    history: &'static str,
+    number: usize,
+) -> String {
+    let run = begun::<W>(rt, alloc, history);
     let number = EventNo::new(number as u64).expect(rt, "a number");
     let status = run.status(number);
     let text = format!(in alloc; "{status:?}").expect(rt, "memory");
@@ -222,7 +237,7 @@ fn shows_statuses(rt: HostRuntime) {
     for line in STATUSES.lines() {
         let (place, wanted) = row(&rt, line);
         let (history, number) = numbered(&rt, place, " at ", 0);
-        let text = status_text(&rt, rt.alloc(), history, number);
+        let text = status_text::<All>(&rt, rt.alloc(), history, number);
         assert_eq!(rt; text.as_str(), wanted, "{place}");
     }
 }

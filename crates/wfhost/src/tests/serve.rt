@@ -86,42 +86,41 @@ taken 15, completed 15, failed 0, in hand 0
     }
 }
 
-#[test]
-fn reports_what_fails_or_cannot_be_read(rt: HostRuntime) {
-    let rows = [
-        (
-            "",
-            (4, 1, 0),
-            0,
-            "taken 0, completed 0, failed 0, in hand 0\n",
-        ),
-        (
-            BROKEN,
-            (2, 1, 0),
-            1,
-            "\
+/// Serving the files gives this status and this report.
+fn reports<R: Threads + Wait + Abort + Sync>(
+    rt: &R,
+    alloc: Global,
+    list: &'static str,
+    workers: u64,
+    wanted_status: u8,
+    wanted: &str,
+) {
+    let (status, report) = served(rt, alloc, list, (workers, 1, 0));
+    assert_eq!(rt; report.as_str(), wanted);
+    assert_eq!(rt; status, wanted_status);
+}
+
+/// What is reported of a file that is no JSON.
+const HOLE: &str = "\
 branch.json: 2 tasks, 2 completed, 0 failed
 hole.json: unreadable, not JSON
 nap.json: 2 tasks, 2 completed, 0 failed
 taken 4, completed 4, failed 0, in hand 0
-",
-        ),
-        (
-            STRANGE,
-            (1, 1, 0),
-            1,
-            "\
+";
+
+/// What is reported of a task that failed.
+const FAILED: &str = "\
 gr??.json: 2 tasks, 1 completed, 1 failed
 nap.json: 2 tasks, 2 completed, 0 failed
 taken 4, completed 3, failed 1, in hand 0
-",
-        ),
-    ];
-    for (list, sizes, wanted_status, wanted) in rows {
-        let (status, report) = served(&rt, rt.alloc(), list, sizes);
-        assert_eq!(rt; report.as_str(), wanted);
-        assert_eq!(rt; status, wanted_status);
-    }
+";
+
+#[test]
+fn reports_what_fails_or_cannot_be_read(rt: HostRuntime) {
+    let nothing = "taken 0, completed 0, failed 0, in hand 0\n";
+    reports(&rt, rt.alloc(), "", 4, 0, nothing);
+    reports(&rt, rt.alloc(), BROKEN, 2, 1, HOLE);
+    reports(&rt, rt.alloc(), STRANGE, 1, 1, FAILED);
 }
 
 #[test]
