@@ -483,7 +483,7 @@ fn fault_of<T: Ledger, C: Ledger, F: Ledger>(
     requires completed { (completed.name ≡ C.name) × (completed.parts ≡ C.parts) × (completed.parts ≡ config.seats) }
     requires failed { (failed.name ≡ F.name) × (failed.parts ≡ F.parts) × (failed.parts ≡ config.seats) }
 {
-    Host::<Still, T, C, F>::open(alloc, config, taken, completed, failed).err()
+    HostState::<Still, T, C, F>::open(alloc, config, taken, completed, failed).err()
 }
 
 #[test]

@@ -333,7 +333,7 @@ fn a_repeated_task(rt: HostRuntime) {
     assert!(rt; source.answers().is_empty());
 }
 
-/// A worker with a source of which one call fails, and what is counted when the host is closed.
+/// A worker with a source of which one call fails, and what is counted when the host is closed. Each place is free by then.
 fn worked<R: Wait + Abort, W: Workflow, T: Ledger, C: Ledger, F: Ledger>(
     rt: &R,
     alloc: Global,
@@ -363,7 +363,11 @@ fn worked<R: Wait + Abort, W: Workflow, T: Ledger, C: Ledger, F: Ledger>(
         &OpenGate,
         turns,
     );
-    let Worker { seat, fault, .. } = worker;
+    let Worker {
+        mut seat, fault, ..
+    } = worker;
+    let counts = counts(rt, &host, &mut seat);
+    assert_eq!(rt; (counts.workflow.free, counts.activity.free), (2, 1));
     assert!(rt; seats.push(seat).is_ok());
     (close(rt, host, seats), fault)
 }

@@ -7,6 +7,7 @@ use std::io;
 use std::io::Write;
 use std::process::Abort;
 use wh_samples::All;
+use wh_tester::{Verdict, all_good, check_all, verdict};
 
 /// Files, each by its name and its history, with the lines of their report and the status.
 const REPORTS: &str = "\
@@ -54,6 +55,27 @@ fn reports_files(rt: HostRuntime) {
         let text = format!(in alloc; "{lines}status {status}").expect(&rt, "memory");
         assert_eq!(rt; text.as_str(), wanted);
     }
+}
+
+#[test]
+fn checks_files_in_their_order(rt: HostRuntime) {
+    let alloc = rt.alloc();
+    let list = "b.json: nap; a.json: greet | 'name':'greet' -> 'name':'greets'";
+    let files = named_files(&rt, alloc, list);
+    let lines = check_all::<All>(&rt, alloc, files).expect(&rt, "memory");
+    let mut names = String::new(alloc);
+    for line in lines.iter() {
+        push(&rt, &mut names, line.name.get());
+    }
+    assert_eq!(rt; names.as_str(), "b.jsona.json");
+    assert!(rt; !all_good(lines.as_slice()));
+}
+
+#[test]
+fn judges_a_file(rt: HostRuntime) {
+    let text = json(&rt, rt.alloc(), "nap");
+    let verdict = verdict::<All>(rt.alloc(), text.as_bytes());
+    assert!(rt; matches!(&verdict, Verdict::Good(checked) if checked.tasks == 2 && !checked.live));
 }
 
 /// As many files of one history.

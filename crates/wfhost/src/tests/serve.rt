@@ -15,6 +15,13 @@ use wh_samples::All;
 const SAMPLES: &str =
     "branch.json: branch; caller.json: caller; family.json: family; greet.json: greet; nap.json: nap; racer.json: racer";
 
+/// Files of five samples.
+const FIVE: &str =
+    "branch.json: branch; family.json: family; greet.json: greet; nap.json: nap; racer.json: racer";
+
+/// A history that ends behind its last task in an event that is passed over, and one that ends in an event that is not in place.
+const ENDINGS: &str = "inert.json: nap/3 attributes_upserted; late.json: nap/8 C timer_fired:99";
+
 /// A file that is no JSON, between others.
 const BROKEN: &str = "branch.json: branch; hole.json: ; nap.json: nap";
 
@@ -100,6 +107,23 @@ fn reports<R: Threads + Wait + Abort + Sync>(
     assert_eq!(rt; status, wanted_status);
 }
 
+/// What is reported of five samples.
+const FIVE_SERVED: &str = "\
+branch.json: 2 tasks, 2 completed, 0 failed
+family.json: 3 tasks, 3 completed, 0 failed
+greet.json: 2 tasks, 2 completed, 0 failed
+nap.json: 2 tasks, 2 completed, 0 failed
+racer.json: 4 tasks, 4 completed, 0 failed
+taken 13, completed 13, failed 0, in hand 0
+";
+
+/// What is reported where only what stands behind the last task is odd.
+const ENDINGS_SERVED: &str = "\
+inert.json: 1 tasks, 1 completed, 0 failed
+late.json: 2 tasks, 2 completed, 0 failed
+taken 3, completed 3, failed 0, in hand 0
+";
+
 /// What is reported of a file that is no JSON.
 const HOLE: &str = "\
 branch.json: 2 tasks, 2 completed, 0 failed
@@ -119,6 +143,8 @@ taken 4, completed 3, failed 1, in hand 0
 fn reports_what_fails_or_cannot_be_read(rt: HostRuntime) {
     let nothing = "taken 0, completed 0, failed 0, in hand 0\n";
     reports(&rt, rt.alloc(), "", 4, 0, nothing);
+    reports(&rt, rt.alloc(), FIVE, 4, 0, FIVE_SERVED);
+    reports(&rt, rt.alloc(), ENDINGS, 1, 0, ENDINGS_SERVED);
     reports(&rt, rt.alloc(), BROKEN, 2, 1, HOLE);
     reports(&rt, rt.alloc(), STRANGE, 1, 1, FAILED);
 }

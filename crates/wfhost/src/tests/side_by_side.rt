@@ -125,6 +125,7 @@ fn turns(rt: &impl Abort, alloc: Global, count: usize) -> Vec<u64> {
     turns
 }
 
+/// The seats of workers whose sources did not fail.
 fn seats_of<T: Ledger, C: Ledger, F: Ledger>(
     rt: &impl Abort,
     alloc: Global,
@@ -132,7 +133,8 @@ fn seats_of<T: Ledger, C: Ledger, F: Ledger>(
 ) -> Vec<Seat<T, C, F>> {
     let mut seats = Vec::new(alloc);
     for worker in workers {
-        let Worker { seat, .. } = worker;
+        let Worker { seat, fault, .. } = worker;
+        assert!(rt; fault.is_none());
         assert!(rt; seats.push(seat).is_ok());
     }
     seats
