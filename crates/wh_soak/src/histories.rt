@@ -1,5 +1,5 @@
 //! The histories that are served, made of a few files over and over.
-ghost use Rattle.std.specs.Prelude.{◌≡◌, ◌<◌, ◌%◌, IfOk, get_or, length};
+ghost use Rattle.std.specs.Prelude.{◌≡◌, ◌<◌, ◌%◌, IfOk, get_or, length, vec_len};
 
 use std::alloc::{AllocError, Global};
 use std::io::ErrorKind;
@@ -44,6 +44,7 @@ fn history_at(alloc: Global, files: &[File], index: u64) -> Result<(String, &[u8
 /// The keys of the runs of so many histories.
 pub fn keys_of(alloc: Global, files: &[File], histories: u64) -> Result<Vec<RunKey>, AllocError>
     requires { 0 < length files.now }
+    ensures { IfOk result (λ keys. vec_len keys ≡ histories) }
 {
     let mut keys = Vec::new(alloc);
     for index in 0..histories {
