@@ -364,7 +364,9 @@ fn worked<R: Wait + Abort, W: Workflow, T: Ledger, C: Ledger, F: Ledger>(
         turns,
     );
     let Worker {
-        mut seat, fault, ..
+        mut seat,
+        fault,
+        ..
     } = worker;
     let counts = counts(rt, &host, &mut seat);
     assert_eq!(rt; (counts.workflow.free, counts.activity.free), (2, 1));
