@@ -1,6 +1,6 @@
 ghost use Rattle.std.specs.Prelude.{◌≡◌, ◌++◌, ◌<◌, ◌≤◌, length, Some, OnOk, IfOk};
 ghost use Rattle.wh_activation.specs.Cutting.{listed, jobs_at};
-ghost use Rattle.wh_workflow.specs.Jobs.{id_at, signal_at, start_job, signal_job, outside_job, jobs_by, jobs_of};
+ghost use Rattle.wh_workflow.specs.Jobs.{id_at, signal_at, start_job, signal_job, outside_job, jobs_of};
 ghost use Rattle.wh_workflow.specs.declared.job.Job.TheVariants.{Activity, Child, SignalSent, SignalFailed};
 
 use std::alloc::Global;
@@ -207,55 +207,27 @@ fn push_job(jobs: &mut Vec<Job>, job: Option<Job>) -> Result<(), OutOfMemory>
     Ok(())
 }
 
-/// Adds the jobs of starts.
-fn push_starts(jobs: &mut Vec<Job>, between: &[Event]) -> Result<(), OutOfMemory>
-    ensures { OnOk result (jobs.new.items ≡ jobs.old.items ++ jobs_by start_job between.now) }
-{
-    for event in between {
-        push_job(jobs, start_job(&event.body)?)?;
-    }
-    Ok(())
-}
-
-/// Adds the jobs of signals.
-fn push_signals(jobs: &mut Vec<Job>, between: &[Event]) -> Result<(), OutOfMemory>
-    ensures { OnOk result (jobs.new.items ≡ jobs.old.items ++ jobs_by signal_job between.now) }
-{
-    for event in between {
-        push_job(jobs, signal_job(&event.body)?)?;
-    }
-    Ok(())
-}
-
-/// Adds the jobs of other outside events.
-fn push_others(
+/// The jobs of a cut, where the first events are those up to and with the cut, and the others those since the cut before.
+fn jobs_of(
     alloc: Global,
-    jobs: &mut Vec<Job>,
-    seen: &[Event],
-    between: &[Event],
-) -> Result<(), OutOfMemory>
-    ensures { OnOk result (jobs.new.items ≡ jobs.old.items ++ jobs_by (outside_job seen.now) between.now) }
-{
-    for event in between {
-        push_job(jobs, outside_job(alloc, seen, &event.body)?)?;
-    }
-    Ok(())
-}
-
-/// Adds the jobs of a cut, where the first events are those up to and with the cut, and the others those since the cut before.
-fn push_jobs(
-    alloc: Global,
-    jobs: &mut Vec<Job>,
     seen: &[Event],
     between: &[Event],
     cut: &Event,
-) -> Result<(), OutOfMemory>
-    ensures { OnOk result (jobs.new.items ≡ jobs.old.items ++ jobs_of seen.now between.now cut.now) }
+) -> Result<Vec<Job>, OutOfMemory>
+    ensures { IfOk result (λ jobs. jobs.items ≡ jobs_of seen.now between.now cut.now) }
 {
+    let mut jobs = Vec::new(alloc);
     jobs.push(Job::Time(cut.time))?;
-    push_starts(jobs, between)?;
-    push_signals(jobs, between)?;
-    push_others(alloc, jobs, seen, between)
+    let mut signals = Vec::new(alloc);
+    let mut others = Vec::new(alloc);
+    for event in between {
+        push_job(&mut jobs, start_job(&event.body)?)?;
+        push_job(&mut signals, signal_job(&event.body)?)?;
+        push_job(&mut others, outside_job(alloc, seen, &event.body)?)?;
+    }
+    jobs.append(&mut signals)?;
+    jobs.append(&mut others)?;
+    Ok(jobs)
 }
 
 /// What a workflow is told at the cut `to`, the WorkflowTaskStarted of a workflow task, where `from` is the cut before, or 0 for the first: the time of the cut, the start where the run starts since the cut before, the signals since then in the order of the history, and then the other outside events since then in that order, except that an activity was started. (Temporal documentation, workflow tasks: <https://docs.temporal.io/tasks#workflow-task>; events: <https://docs.temporal.io/references/events>.)
@@ -270,7 +242,5 @@ pub fn jobs(alloc: Global, track: &Track, from: u64, to: EventNo) -> Result<Vec<
         return Ok(Vec::new(alloc));
     };
     let seen = &track.events()[..to.get() as usize];
-    let mut jobs = Vec::new(alloc);
-    push_jobs(alloc, &mut jobs, seen, track.between(from, to.get()), cut)?;
-    Ok(jobs)
+    jobs_of(alloc, seen, track.between(from, to.get()), cut)
 }
