@@ -1,5 +1,5 @@
--- What the one call counts.
-use Rattle.std.specs.Prelude.{◌≡◌, ℕ, ◌+◌, ◌*◌, ◌-◌, List, Err, codes, if◌then◌else◌}
+-- What the calls count.
+use Rattle.std.specs.Prelude.{◌≡◌, ℕ, zero, suc, ◌+◌, ◌*◌, ◌-◌, List, Err, codes}
 use Rattle.wh_events.specs.declared.event.Event.{Event}
 use Rattle.wh_events.specs.declared.key.RunKey.{RunKey}
 use Rattle.wh_workflow.specs.Counting.{risen}
@@ -27,10 +27,15 @@ abbrev pub IsFaultOf : List Event → RunFault → Type 0
 IsFaultOf events (Fault fault) = run_of flood events ≡ Err fault
 IsFaultOf events OutOfMemory = Unit {0}
 
--- by how much a meter rises that is raised so much: less than that at the top of 64 bits
-abbrev pub rise : ℕ → ℕ → ℕ
-rise before by = risen before by - before
+-- what a meter stands at when the run of so many completed tasks is made
+abbrev pub begun_steps : ℕ → ℕ
+begun_steps tasks = risen 0 (steps flood (held tasks))
 
--- by how much the call raises the meter: not at all where it is not made
+-- what a meter stands at after so many calls, each of which lets a run go on by one task, from that of so many completed tasks
+unfoldable pub steps_after : ℕ → ℕ → ℕ → ℕ
+steps_after meter tasks zero = meter
+steps_after meter tasks (suc calls) = risen (steps_after meter tasks calls) (advance_steps flood (held (tasks + calls)) (new (tasks + calls)))
+
+-- by how much the calls of a plan raise the meter
 abbrev pub call_steps : Plan → ℕ
-call_steps plan = if plan.advances then rise (risen 0 (steps flood (held plan.tasks))) (advance_steps flood (held plan.tasks) (new plan.tasks)) else 0
+call_steps plan = steps_after (begun_steps plan.tasks) plan.tasks plan.calls - begun_steps plan.tasks
