@@ -3,7 +3,7 @@
 //! instructions of one call, as what a run with it has beyond a run without, and refuses single growths.
 #![tactic(auto)]
 
-ghost use Rattle.std.specs.Prelude.{◌≡◌, ◌≤◌, ◌+◌, ◌++◌, ◌×◌, IfErr, IfOk, IfSome, OnOk, SomeIff, Some, None};
+ghost use Rattle.std.specs.Prelude.{◌≡◌, ◌≤◌, ◌+◌, ◌++◌, IfErr, IfOk, IfSome, OnOk, SomeIff, Some, None};
 ghost use Rattle.wh_growth.specs.Calls.{IsFaultOf, begun_steps, call_steps, flood_key, held, steps_after};
 ghost use Rattle.wh_growth.specs.Plans.{IsCount, number_in};
 ghost use Rattle.wh_replay.specs.Runs.{advance_steps, steps};
