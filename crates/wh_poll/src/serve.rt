@@ -159,6 +159,7 @@ fn serve_workflow<
     };
     gate.enter(rt, name);
     let answered = answer_workflow(alloc, cached, &key, name, events.into_inner(), source);
+    drop(key);
     let Answered { run, sent } = answered;
     give(rt, host, &held, run);
     finish(rt, host, held, ended(sent), seat);
@@ -211,6 +212,7 @@ fn serve_activity<
         return Ok(Served::Repeated { name });
     };
     let sent = answer_activity(&task, source, handler);
+    drop(task);
     finish(rt, host, held, sent.unwrap_or(Outcome::Failed), seat);
     match sent {
         Ok(outcome) => Ok(Served::Activity { name, outcome }),

@@ -73,6 +73,7 @@ pub fn replay_task<W: Workflow, S: TaskSource>(
     ensures tells { SameTelling (S.tells source.old) (S.tells source.new) }
 {
     if is_whole(events.as_slice()) {
+        drop(run);
         return Ok(replay_first(alloc, key, events, meter)?);
     }
     match run {

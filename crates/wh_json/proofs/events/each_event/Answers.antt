@@ -1,0 +1,17 @@
+use Rattle.std.proofs.Common.{sym, ap, ◌∙◌, ◌+◌, map, drop, Some}
+use Rattle.serde_json.specs.View.{view}
+use Rattle.wh_json.specs.Outcome.{all_of, with_front}
+use Rattle.wh_json.specs.Events.{members_from}
+use Rattle.wh_json.proofs.Outcomes.{member_on, members_all}
+use Rattle.wh_json.proofs.events.each_event.Goals as goal
+
+pub loop-index-preserved : goal.loop-index-preserved
+loop-index-preserved c =
+    let i = c.loop-index.index in
+    let event = c.in_ok-event.event in
+    ap (λ events. with_front events (all_of (members_from (i + 1 + 1) (Some event.number) (map view (drop (i + 1) c.args.members.now))))) c.in_ok-push.ensures.items
+    ∙ sym (member_on c.loop-index.events.items c.loop-index.before c.args.members.now i c.index-members-index.result event c.loop-index-test.true c.index-members-index.is c.in_ok-event.ensures.exact c.in_ok-event.ensures.number)
+    ∙ c.loop-index.invariant
+
+pub returns : goal.returns
+returns c = sym c.loop-index.invariant ∙ members_all c.loop-index.events.items _ c.loop-index.before c.args.members.now c.loop-index.index c.loop-index-test.false

@@ -1,0 +1,16 @@
+use Rattle.std.proofs.Common.{sym, ap, ◌∙◌, ◌+◌, map, drop}
+use Rattle.serde_json.specs.View.{view}
+use Rattle.wh_json.specs.Outcome.{all_of, with_front}
+use Rattle.wh_json.specs.Payloads.{payload_of}
+use Rattle.wh_json.proofs.Outcomes.{read_on, read_all}
+use Rattle.wh_json.proofs.payloads.each_payload.Goals as goal
+
+pub loop-value-preserved : goal.loop-value-preserved
+loop-value-preserved c =
+    let i = c.loop-value.value-index in
+    ap (λ payloads. with_front payloads (all_of (map (payload_of c.args.at) (map view (drop (i + 1) c.args.values.now))))) c.in_ok-push.ensures.items
+    ∙ sym (read_on (payload_of c.args.at) c.loop-value.payloads.items c.args.values.now i c.value-item.result c.in_ok-payload.payload c.loop-value-test.true c.value-item.is c.in_ok-payload.ensures)
+    ∙ c.loop-value.invariant
+
+pub returns : goal.returns
+returns c = sym c.loop-value.invariant ∙ read_all (payload_of c.args.at) c.loop-value.payloads.items c.args.values.now c.loop-value.value-index c.loop-value-test.false
