@@ -1,6 +1,6 @@
 //! The command `serve`.
 
-ghost use Rattle.std.specs.Prelude.{◌≡◌, ◌<◌, List, Bool, Err, IfOk, is_none, length, map, vec_len};
+ghost use Rattle.std.specs.Prelude.{◌≡◌, ◌≢◌, ◌<◌, List, Bool, Err, IfOk, is_none, length, map, vec_len};
 ghost use Rattle.std.specs.List.{list_all};
 ghost use Rattle.std.specs.Io.KnownBytes.{Appends};
 ghost use Rattle.wh_host.specs.Machine.{IsConfig};
@@ -56,6 +56,31 @@ fn empty_hands(alloc: Global, workers: usize) -> Result<Vec<Hand>, OutOfMemory>
     Ok(hands)
 }
 
+/// Deals a file to a worker: its history goes to the worker's hand under the index of the file.
+fn deal_file(
+    alloc: Global,
+    index: u64,
+    file: (String, Vec<u8>),
+    hand: &mut Hand,
+) -> Result<Dealt, OutOfMemory>
+    ensures { IfOk result (λ dealt. dealt ≡ dealt_of file) }
+{
+    let (name, bytes) = file;
+    let fault = match read_events(alloc, bytes.as_slice()) {
+        Ok(events) => {
+            let copy = String::from_str(alloc, name.as_str())?;
+            hand.push((index, copy, events))?;
+            None
+        }
+        Err(ReadFault::OutOfMemory) => return Err(OutOfMemory),
+        Err(fault) => Some(fault),
+    };
+    Ok(Dealt {
+        name: Text::new(name),
+        fault,
+    })
+}
+
 /// Deals the histories of the files to the workers in turn.
 fn deal(
     alloc: Global,
@@ -68,21 +93,9 @@ fn deal(
 {
     let mut dealt = Vec::new(alloc);
     for file in files {
-        let (name, bytes) = file;
         let worker = dealt.len() % hands.len();
-        let fault = match read_events(alloc, bytes.as_slice()) {
-            Ok(events) => {
-                let copy = String::from_str(alloc, name.as_str())?;
-                hands[worker].push((dealt.len() as u64, copy, events))?;
-                None
-            }
-            Err(ReadFault::OutOfMemory) => return Err(OutOfMemory),
-            Err(fault) => Some(fault),
-        };
-        dealt.push(Dealt {
-            name: Text::new(name),
-            fault,
-        })?;
+        let file = deal_file(alloc, dealt.len() as u64, file, &mut hands[worker])?;
+        dealt.push(file)?;
     }
     Ok(dealt)
 }
@@ -96,6 +109,21 @@ fn sources_of(alloc: Global, hands: Vec<Hand>) -> Result<Vec<ScriptSource>, OutO
         sources.push(ScriptSource::new(alloc, hand)?)?;
     }
     Ok(sources)
+}
+
+/// The files that are dealt to so many workers, and a source over the histories of each worker.
+fn deal_sources(
+    alloc: Global,
+    files: Vec<(String, Vec<u8>)>,
+    workers: usize,
+) -> Result<(Vec<Dealt>, Vec<ScriptSource>), OutOfMemory>
+    requires { 0 < workers }
+    ensures { IfOk result (λ both. (both.0.items ≡ map dealt_of files.items) × (vec_len both.1 ≡ workers)) }
+{
+    let mut hands = empty_hands(alloc, workers)?;
+    let dealt = deal(alloc, files, hands.as_mut_slice())?;
+    let sources = sources_of(alloc, hands)?;
+    Ok((dealt, sources))
 }
 
 /// As many turns for each worker as its source has tasks, and one more for each kind of tasks, by
@@ -266,9 +294,7 @@ fn serve_with<
     requires failed { (failed.name ≡ F.name) × (failed.parts ≡ F.parts) × (failed.parts ≡ config.seats) }
     ensures { IfOk result (λ service. IsService (map dealt_of files.items) config.seats service.rows.items service.totals service.faultless) }
 {
-    let mut hands = empty_hands(alloc, config.seats)?;
-    let dealt = deal(alloc, files, hands.as_mut_slice())?;
-    let sources = sources_of(alloc, hands)?;
+    let (dealt, sources) = deal_sources(alloc, files, config.seats)?;
     let (host, seats) = match Host::<W, T, C, F>::open(alloc, config, taken, completed, failed) {
         Ok(opened) => opened,
         Err(OpenFault::OutOfMemory) => return Err(OutOfMemory),
@@ -276,6 +302,37 @@ fn serve_with<
     };
     let workers = work_all(rt, alloc, &host, seats, sources)?;
     gather(alloc, host, dealt, workers)
+}
+
+/// Serves the files by so many workers, with a host of these sizes.
+fn serve_all<W: Workflow + Send, R: Threads + Wait + Sync>(
+    rt: &R,
+    alloc: Global,
+    files: Vec<(String, Vec<u8>)>,
+    workers: u64,
+    cache: u64,
+    cache_events: u64,
+    slots: u64,
+) -> Result<Service, OutOfMemory>
+    requires { AreWithinLimits workers cache cache_events slots }
+    ensures { IfOk result (λ service. IsService (map dealt_of files.items) workers service.rows.items service.totals service.faultless) }
+{
+    let config = Config {
+        workflow_slots: slots as usize,
+        activity_slots: slots as usize,
+        cache: cache as usize,
+        cache_events,
+        seats: workers as usize,
+    };
+    serve_with::<W, R, Brand, Brand, Brand>(
+        rt,
+        alloc,
+        files,
+        config,
+        Blank::new(workers),
+        Blank::new(workers),
+        Blank::new(workers),
+    )
 }
 
 /// The status: 0 where each file was read, no task failed and no worker has a fault, and else 1.
@@ -286,6 +343,20 @@ fn status_of(service: &Service) -> u8
         0
     } else {
         1
+    }
+}
+
+/// Writes the report of a service, and gives its status.
+fn report<O: Write>(service: Service, writer: &mut O) -> Result<u8, CommandFault>
+    ensures written { IfOk result (λ status. Appends (O.contents writer.old) (O.contents writer.new) (service_text service.rows.items service.totals)
+        × (status ≡ status_of service.faultless service.rows.items service.totals)) }
+    ensures output { result ≢ Err CommandFault.OutOfMemory }
+{
+    let status = status_of(&service);
+    let Service { rows, totals, .. } = service;
+    match write_service(rows, totals, writer) {
+        Ok(()) => Ok(status),
+        Err(_) => Err(CommandFault::Output),
     }
 }
 
@@ -310,33 +381,9 @@ pub fn serve_command<W: Workflow + Send, R: Threads + Wait + Sync, O: Write>(
         × (status ≡ status_of faultless rows totals)) }
     ensures unwritten { result ≡ Err CommandFault.OutOfMemory → writer.new ≡ writer.old }
 {
-    let config = Config {
-        workflow_slots: slots as usize,
-        activity_slots: slots as usize,
-        cache: cache as usize,
-        cache_events,
-        seats: workers as usize,
-    };
-    let served = serve_with::<W, R, Brand, Brand, Brand>(
-        rt,
-        alloc,
-        files,
-        config,
-        Blank::new(workers),
-        Blank::new(workers),
-        Blank::new(workers),
-    );
+    let served = serve_all::<W, R>(rt, alloc, files, workers, cache, cache_events, slots);
     let Ok(service) = served else {
         return Err(CommandFault::OutOfMemory);
     };
-    let status = status_of(&service);
-    let Service {
-        rows,
-        totals,
-        faultless: _,
-    } = service;
-    match write_service(rows, totals, writer) {
-        Ok(()) => Ok(status),
-        Err(_) => Err(CommandFault::Output),
-    }
+    report(service, writer)
 }

@@ -142,7 +142,7 @@ fn serves<R: Wait + Abort, W: Workflow, T: Ledger, C: Ledger, F: Ledger, S: Task
 }
 
 /// A host with a cache of so many runs serves these tasks of the source and no more.
-fn day<R: Wait + Abort, T: Ledger, C: Ledger, F: Ledger>(
+fn day<R: Wait + Abort, W: Workflow, T: Ledger, C: Ledger, F: Ledger>(
     rt: &R,
     alloc: Global,
     cache: usize,
@@ -157,7 +157,7 @@ fn day<R: Wait + Abort, T: Ledger, C: Ledger, F: Ledger>(
     requires failed { (failed.name ≡ F.name) × (failed.parts ≡ F.parts) × (failed.parts ≡ 1) }
 {
     let config = Config { cache, ..SMALL };
-    let (host, mut seats) = open::<R, Nap, T, C, F>(rt, alloc, config, taken, completed, failed);
+    let (host, mut seats) = open::<R, W, T, C, F>(rt, alloc, config, taken, completed, failed);
     let mut seat = seats.pop().expect(rt, "seat");
     serves(rt, alloc, &host, &mut seat, source, tasks);
     counts(rt, &host, &mut seat)
@@ -169,7 +169,7 @@ fn a_cached_run_goes_on(rt: HostRuntime) {
     let alloc = rt.alloc();
     for (cache, steps) in [(1, 2), (0, 4)] {
         let tasks = [(3, false, 2), (8, cache == 1, steps)];
-        let counts = day::<HostRuntime, Brand, Brand, Brand>(
+        let counts = day::<HostRuntime, Nap, Brand, Brand, Brand>(
             &rt,
             alloc,
             cache,
@@ -188,7 +188,11 @@ fn a_cached_run_goes_on(rt: HostRuntime) {
 
 /// What is counted of three runs with a cache for none or two of them, and the answers that were sent. Each run is gone when
 /// its next task comes.
-fn three_runs<R: Wait + Abort>(rt: &R, alloc: Global, cache: usize) -> (Counts, String) {
+fn three_runs<R: Wait + Abort, W: Workflow>(
+    rt: &R,
+    alloc: Global,
+    cache: usize,
+) -> (Counts, String) {
     let tasks = [
         (3, false, 2),
         (FILE + 3, false, 2),
@@ -198,7 +202,7 @@ fn three_runs<R: Wait + Abort>(rt: &R, alloc: Global, cache: usize) -> (Counts, 
         (2 * FILE + 8, false, 4),
     ];
     let mut source = script(rt, alloc, 0, "a => nap\nb => nap\nc => nap");
-    let counts = day::<R, Brand, Brand, Brand>(
+    let counts = day::<R, W, Brand, Brand, Brand>(
         rt,
         alloc,
         cache,
@@ -217,18 +221,18 @@ fn three_runs<R: Wait + Abort>(rt: &R, alloc: Global, cache: usize) -> (Counts, 
 #[test]
 fn a_run_that_went_is_asked_for(rt: HostRuntime) {
     let alloc = rt.alloc();
-    let (replayed, answers) = three_runs(&rt, alloc, 0);
+    let (replayed, answers) = three_runs::<_, Nap>(&rt, alloc, 0);
     assert_eq!(rt;
         (replayed.taken, replayed.completed, replayed.cached),
         (6, 6, 0)
     );
-    let (cached, others) = three_runs(&rt, alloc, 2);
+    let (cached, others) = three_runs::<_, Nap>(&rt, alloc, 2);
     assert_eq!(rt; (cached.taken, cached.completed, cached.cached), (6, 6, 2));
     assert_eq!(rt; others, answers);
 }
 
 /// What is left after an answer that could not be sent: the run is cached, the slot free, and the task failed.
-fn day_of_a_failed_answer<R: Wait + Abort, T: Ledger, C: Ledger, F: Ledger>(
+fn day_of_a_failed_answer<R: Wait + Abort, W: Workflow, T: Ledger, C: Ledger, F: Ledger>(
     rt: &R,
     alloc: Global,
     cache: usize,
@@ -242,7 +246,7 @@ fn day_of_a_failed_answer<R: Wait + Abort, T: Ledger, C: Ledger, F: Ledger>(
     requires failed { (failed.name ≡ F.name) × (failed.parts ≡ F.parts) × (failed.parts ≡ 1) }
 {
     let config = Config { cache, ..SMALL };
-    let (host, mut seats) = open::<R, Nap, T, C, F>(rt, alloc, config, taken, completed, failed);
+    let (host, mut seats) = open::<R, W, T, C, F>(rt, alloc, config, taken, completed, failed);
     let mut seat = seats.pop().expect(rt, "seat");
     let mut source = FaultySource::new(source, 2);
     assert_eq!(rt;
@@ -258,7 +262,7 @@ fn day_of_a_failed_answer<R: Wait + Abort, T: Ledger, C: Ledger, F: Ledger>(
 fn a_failed_answer(rt: HostRuntime) {
     let alloc = rt.alloc();
     for cache in [1, 100] {
-        let counts = day_of_a_failed_answer::<HostRuntime, Brand, Brand, Brand>(
+        let counts = day_of_a_failed_answer::<HostRuntime, Nap, Brand, Brand, Brand>(
             &rt,
             alloc,
             cache,
@@ -295,7 +299,7 @@ fn hold<R: Wait + Abort, W: Workflow, T: Ledger, C: Ledger, F: Ledger>(
 }
 
 /// A task that is in hand comes again.
-fn day_of_a_repeated_task<R: Wait + Abort, T: Ledger, C: Ledger, F: Ledger>(
+fn day_of_a_repeated_task<R: Wait + Abort, W: Workflow, T: Ledger, C: Ledger, F: Ledger>(
     rt: &R,
     alloc: Global,
     source: &mut ScriptSource,
@@ -307,7 +311,7 @@ fn day_of_a_repeated_task<R: Wait + Abort, T: Ledger, C: Ledger, F: Ledger>(
     requires completed { (completed.name ≡ C.name) × (completed.parts ≡ C.parts) × (completed.parts ≡ 1) }
     requires failed { (failed.name ≡ F.name) × (failed.parts ≡ F.parts) × (failed.parts ≡ 1) }
 {
-    let (host, mut seats) = open::<R, Nap, T, C, F>(rt, alloc, SMALL, taken, completed, failed);
+    let (host, mut seats) = open::<R, W, T, C, F>(rt, alloc, SMALL, taken, completed, failed);
     let mut seat = seats.pop().expect(rt, "seat");
     let (_held, _run) = hold(rt, &host, &mut seat, 7, key(rt, alloc, "nap"));
     let served = turn(rt, alloc, &host, &mut seat, source, &OpenGate);
@@ -318,7 +322,7 @@ fn day_of_a_repeated_task<R: Wait + Abort, T: Ledger, C: Ledger, F: Ledger>(
 fn a_repeated_task(rt: HostRuntime) {
     let alloc = rt.alloc();
     let mut source = script(&rt, alloc, 0, "nap => start:Nap signal:s*4 S T");
-    let (served, counts) = day_of_a_repeated_task::<HostRuntime, Brand, Brand, Brand>(
+    let (served, counts) = day_of_a_repeated_task::<HostRuntime, Nap, Brand, Brand, Brand>(
         &rt,
         alloc,
         &mut source,

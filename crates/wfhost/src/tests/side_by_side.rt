@@ -17,6 +17,7 @@ use wh_ledger::Seat;
 use wh_poll::{Gate, NoActivities, Worker, run_workers};
 use wh_samples::{Nap, ScriptSource};
 use wh_slots::TaskName;
+use wh_workflow::Workflow;
 
 /// Lets a task go on once another has entered, or after ten million looks.
 #[derive(Drop)]
@@ -85,6 +86,7 @@ impl Gate for Order {
 /// Runs a worker for each seat and source, and gives the seats back.
 fn seats_after<
     R: Threads + Wait + Abort + Sync,
+    W: Workflow + Send,
     T: Ledger + Send,
     C: Ledger + Send,
     F: Ledger + Send,
@@ -92,7 +94,7 @@ fn seats_after<
 >(
     rt: &R,
     alloc: Global,
-    host: &Host<Nap, T, C, F>,
+    host: &Host<W, T, C, F>,
     seats: Vec<Seat<T, C, F>>,
     sources: Vec<ScriptSource>,
     gate: &G,
@@ -153,6 +155,7 @@ fn sources(rt: &impl Abort, alloc: Global, scripts: &[(u64, &'static str)]) -> V
 /// What two workers leave in the cache, and what they have counted.
 fn day_of_two<
     R: Threads + Wait + Abort + Sync,
+    W: Workflow + Send,
     T: Ledger + Send,
     C: Ledger + Send,
     F: Ledger + Send,
@@ -174,7 +177,7 @@ fn day_of_two<
         seats: 2,
         ..SMALL
     };
-    let (host, seats) = open::<R, Nap, T, C, F>(rt, alloc, config, taken, completed, failed);
+    let (host, seats) = open::<R, W, T, C, F>(rt, alloc, config, taken, completed, failed);
     let mut seats = seats_after(rt, alloc, &host, seats, sources, gate);
     let mut seat = seats.pop().expect(rt, "seat");
     let cached_events = counts(rt, &host, &mut seat).cached_events;
@@ -187,7 +190,7 @@ fn day_of_two<
 fn workers_overlap(rt: HostRuntime) {
     let alloc = rt.alloc();
     let gate = Order::new(alloc, [(3, FILE + 3), (FILE + 3, 3)]);
-    let (_cached, totals) = day_of_two::<HostRuntime, Brand, Brand, Brand>(
+    let (_cached, totals) = day_of_two::<HostRuntime, Nap, Brand, Brand, Brand>(
         &rt,
         alloc,
         sources(&rt, alloc, &[(0, "one => nap"), (1, "two => nap")]),
@@ -206,7 +209,7 @@ fn the_longer_run_stays(rt: HostRuntime) {
     let alloc = rt.alloc();
     let long = "a => start:Nap S T task_timed_out S T\nb => start:Nap S T task_timed_out S T";
     let gate = Order::new(alloc, [(3, 2 * FILE + 6), (FILE + 3, 3)]);
-    let (cached_events, totals) = day_of_two::<HostRuntime, Brand, Brand, Brand>(
+    let (cached_events, totals) = day_of_two::<HostRuntime, Nap, Brand, Brand, Brand>(
         &rt,
         alloc,
         sources(&rt, alloc, &[(0, "a => nap/3"), (1, long)]),

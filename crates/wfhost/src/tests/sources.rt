@@ -1,82 +1,27 @@
 //! Sources of recorded histories, and one of which one call fails.
 
+use crate::tests::hosting::FILE;
+use crate::tests::notation::{events, key, owned};
 use std::alloc::Global;
 use std::process::Abort;
-use wh_events::{Event, EventKind, EventNo, Items, Payload, RunKey, Text};
+use wh_events::{Items, RunKey, Text};
 use wh_poll::{ActivityAnswer, Polled, SourceFault, TaskSource, WorkflowTask};
 use wh_replay::Answer;
 use wh_samples::{FaultySource, ScriptSource};
 use wh_slots::TaskName;
 use wh_workflow::Command;
 
-const FILE: u128 = 1 << 64;
-
-fn text(rt: &impl Abort, alloc: Global, text: &str) -> Text {
-    Text::new(String::from_str(alloc, text).expect(rt, "memory"))
-}
-
-fn key(rt: &impl Abort, alloc: Global, name: &str, run: &str) -> RunKey {
-    RunKey {
-        workflow_id: text(rt, alloc, name),
-        run_id: text(rt, alloc, run),
-    }
-}
-
-fn add(rt: &impl Abort, events: &mut Vec<Event>, number: u64, body: EventKind) {
-    let number = EventNo::new(number).expect(rt, "number");
-    let event = Event {
-        number,
-        time: 0,
-        body,
-    };
-    assert!(rt; events.push(event).is_ok());
-}
-
-/// The first events of a nap, up to its first or its second task.
-fn nap(rt: &impl Abort, alloc: Global, tasks: u64) -> Vec<Event> {
-    let started = EventKind::WorkflowExecutionStarted {
-        workflow: text(rt, alloc, "Nap"),
-        input: Items::new(Vec::<Payload>::new(alloc)),
-    };
-    let mut events = Vec::new(alloc);
-    add(rt, &mut events, 1, started);
-    add(rt, &mut events, 2, EventKind::WorkflowTaskScheduled);
-    add(rt, &mut events, 3, EventKind::WorkflowTaskStarted);
-    if tasks == 2 {
-        go_on(rt, &mut events, text(rt, alloc, "nap"));
-    }
-    events
-}
-
-/// The timer of a nap, and its second task.
-fn go_on(rt: &impl Abort, events: &mut Vec<Event>, id: Text) {
-    add(rt, events, 4, EventKind::WorkflowTaskCompleted);
-    add(rt, events, 5, EventKind::TimerStarted { id });
-    add(rt, events, 6, EventKind::TimerFired { started: 5 });
-    add(rt, events, 7, EventKind::WorkflowTaskScheduled);
-    add(rt, events, 8, EventKind::WorkflowTaskStarted);
-}
-
-/// Adds a nap of so many tasks.
-fn add_nap(
-    rt: &impl Abort,
-    alloc: Global,
-    histories: &mut Vec<(u64, String, Vec<Event>)>,
-    index: u64,
-    name: &str,
-    tasks: u64,
-) {
-    let name = String::from_str(alloc, name).expect(rt, "memory");
-    let history = (index, name, nap(rt, alloc, tasks));
-    assert!(rt; histories.push(history).is_ok());
-}
-
 /// A source of two naps of one name and a history of one task between them.
 fn naps(rt: &impl Abort, alloc: Global) -> ScriptSource {
     let mut histories = Vec::new(alloc);
-    add_nap(rt, alloc, &mut histories, 0, "nap", 2);
-    add_nap(rt, alloc, &mut histories, 3, "short", 1);
-    add_nap(rt, alloc, &mut histories, 5, "nap", 2);
+    for (index, name, history) in [
+        (0, "nap", "nap/8"),
+        (3, "short", "nap/3"),
+        (5, "nap", "nap/8"),
+    ] {
+        let history = (index, owned(rt, alloc, name), events(rt, alloc, history));
+        assert!(rt; histories.push(history).is_ok());
+    }
     match ScriptSource::new(alloc, histories) {
         Ok(source) => source,
         Err(_) => panic!(rt; "memory"),
@@ -129,7 +74,7 @@ fn answer<S: TaskSource>(
     source: &mut S,
 ) -> (Result<(), SourceFault>, Result<(), SourceFault>) {
     let complete = Answer::Complete(Items::new(Vec::<Command>::new(alloc)));
-    let failed = ActivityAnswer::Failed(text(rt, alloc, "failed"));
+    let failed = ActivityAnswer::Failed(Text::new(owned(rt, alloc, "failed")));
     let first = source.answer_workflow(TaskName(3), &complete);
     (first, source.answer_activity(TaskName(3), &failed))
 }
@@ -144,11 +89,10 @@ fn answers_are_counted_and_histories_told(rt: HostRuntime) {
     assert_eq!(rt; source.tally("nap"), Some((1, 1, 0)));
     assert_eq!(rt; source.tally("short"), Some((1, 0, 1)));
     assert_eq!(rt; source.tally("none"), None);
-    assert_eq!(rt;
-        told(&mut source, key(&rt, alloc, "nap", "recorded")),
-        Some(5)
-    );
-    assert_eq!(rt; told(&mut source, key(&rt, alloc, "nap", "other")), Some(0));
+    assert_eq!(rt; told(&mut source, key(&rt, alloc, "nap")), Some(5));
+    let mut other = key(&rt, alloc, "nap");
+    other.run_id = Text::new(owned(&rt, alloc, "other"));
+    assert_eq!(rt; told(&mut source, other), Some(0));
 }
 
 /// Which of the five calls fail, each made once in turn.
@@ -156,7 +100,7 @@ fn failing(rt: &impl Abort, alloc: Global, fail_at: u64) -> [bool; 5] {
     let mut source = FaultySource::new(naps(rt, alloc), fail_at);
     let workflow = source.poll_workflow().is_err();
     let activity = source.poll_activity().is_err();
-    let whole = told(&mut source, key(rt, alloc, "nap", "recorded")).is_none();
+    let whole = told(&mut source, key(rt, alloc, "nap")).is_none();
     let (first, second) = answer(rt, alloc, &mut source);
     [workflow, activity, whole, first.is_err(), second.is_err()]
 }

@@ -1,4 +1,4 @@
-use Rattle.wfhost.proofs.serving.serve_command.Given as goal
+use Rattle.wfhost.proofs.serving.serve_all.Given as goal
 
 abbrev pub ghosts-serve_with-T-Ledger : goal.ghosts-serve_with-T-Ledger
 ghosts-serve_with-T-Ledger g a = record { name = a.taken.name; parts = a.taken.parts }
