@@ -4,7 +4,8 @@ gate. It prints
 
 - with valgrind, the growths of memory and the instructions of one call behind 1, 10, 100 and 650 tasks: those of the program
   that makes the call, less those of the program that makes all but the call;
-- with `rt try`, what becomes of the call behind 100 tasks where growth 4,001 of it is refused, and where one in its middle is
+- with `rt try`, what becomes of the call behind 100 tasks where growth 4,001 of it and of the making of the events that it is
+  given is refused, and where one in the middle of these is
   (a replay of 100 such tasks makes 6,400 texts for its timers alone, so a call that replayed could not pass by that growth);
 - by the program's clock, the first 100 tasks of a run of 49,983 events, one call each, and the last 100: the least of some runs.
 
