@@ -6,7 +6,7 @@ use Rattle.wh_events.specs.declared.place.Status.TheVariants.{Open, Started, Can
 use Rattle.wh_events.specs.Kinds.{Role, role_of}
 use Rattle.wh_events.specs.declared.place.Thing.{Thing}
 use Rattle.wh_events.specs.declared.place.Thing.TheVariants.{Activity, Timer, Child, CancelRequest, SignalRequest}
-use Rattle.wh_events.specs.Kinds.Effect.{Starts, Cancels, Closes}
+use Rattle.wh_events.specs.declared.kind.Effect.TheVariants.{Starts, Cancels, Closes}
 use Rattle.wh_events.specs.Kinds.Role.{Opens, Refers, CancelsChild, Plain}
 
 -- the things are of one kind

@@ -1,7 +1,7 @@
 ghost use Rattle.std.specs.Prelude.{◌≡◌, IfOk};
-ghost use Rattle.wh_events.specs.Kinds.{class_of, closes_run_of, reference_of};
+ghost use Rattle.wh_events.specs.Kinds.{class_of, closes_run_of, role_of, role_seen, reference_of};
 
-use crate::kind::{Class, EventKind};
+use crate::kind::{Class, EventKind, Role};
 use crate::lists::Items;
 use crate::memory::OutOfMemory;
 use crate::number::EventNo;
@@ -60,6 +60,13 @@ impl Event {
         ensures { result ≡ closes_run_of self.now.body }
     {
         self.body.closes_run()
+    }
+
+    /// What the event does to the things of its history.
+    pub fn role(&self) -> Role<'_>
+        ensures { role_seen result ≡ role_of self.now.body }
+    {
+        self.body.role()
     }
 
     /// The number of the event that this one refers to. `None` where it names none, as one that names a child by its workflow id, and where the number is 0 or above `EventNo::LAST`.

@@ -12,7 +12,7 @@ mod place;
 
 pub use event::{Event, Payload};
 pub use key::RunKey;
-pub use kind::{Class, EventKind};
+pub use kind::{Class, Effect, EventKind, Role};
 pub use lists::{Items, Text};
 pub use memory::OutOfMemory;
 pub use number::EventNo;
