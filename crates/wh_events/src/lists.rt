@@ -6,6 +6,7 @@ ghost use Rattle.std.specs.Cmp.Rules.{hashing};
 ghost use Rattle.std.specs.Hash as fed;
 
 use crate::memory::OutOfMemory;
+use std::alloc::AllocError;
 use std::hash::{Hash, Hasher};
 use std::marker::Model;
 
@@ -49,6 +50,14 @@ impl Text {
     pub fn try_copy(&self) -> Result<Self, OutOfMemory>
         ensures { IfOk result (λ copy. copy ≡ self.now) }
     {
+        Ok(self.clone()?)
+    }
+}
+
+impl Clone for Text {
+    ghost is_clone = { λ text copy. copy ≡ text };
+
+    fn clone(&self) -> Result<Self, AllocError> {
         Ok(Text {
             text: self.text.clone()?,
         })
@@ -116,14 +125,22 @@ impl<T> Items<T> {
     }
 }
 
+impl<T: Clone + Drop> Clone for Items<T> {
+    ghost is_clone = { λ list copy. ((item copy : T) → T.is_clone item copy → copy ≡ item) → copy ≡ list };
+
+    fn clone(&self) -> Result<Self, AllocError> {
+        Ok(Items {
+            items: self.items.clone()?,
+        })
+    }
+}
+
 impl<T: Clone + Drop> Items<T> {
     /// A copy of the same items, for a type whose clones equal what they are made of. `OutOfMemory` where no room was found for it.
     pub fn try_copy(&self) -> Result<Self, OutOfMemory>
         requires { (item copy : T) → T.is_clone item copy → copy ≡ item }
         ensures { IfOk result (λ copy. copy ≡ self.now) }
     {
-        Ok(Items {
-            items: self.items.clone()?,
-        })
+        Ok(self.clone()?)
     }
 }
