@@ -69,7 +69,8 @@ is_open events number = is_none (closed_by number events)
 -- the number of the first of these events that opens such a thing under the id and that no event of the history closes
 abbrev pub open_among : List Event → Thing → List ℕ → List Event → Option ℕ
 open_among events thing id [] = None
-open_among events thing id (event ∷ rest) = if opens thing id event && is_open events event.number then Some event.number else open_among events thing id rest
+open_among events thing id (event ∷ rest) =
+    if opens thing id event && is_open events event.number then Some event.number else open_among events thing id rest
 
 -- the number of the event that opened the open thing of a kind and an id
 abbrev pub open_named : List Event → Thing → List ℕ → Option ℕ
@@ -90,7 +91,8 @@ abbrev pub is_number : ℕ → Option ℕ → Bool
 is_number number None = false
 is_number number (Some other) = eqb number other
 
--- an event of the role, after those before it, asks for what the event of the number opened to be cancelled: by its number, or as the open child of a workflow id
+-- an event of the role, after those before it, asks for what the event of the number opened to be cancelled:
+-- by its number, or as the open child of a workflow id
 abbrev pub cancels_number : List Event → ℕ → Role → Bool
 cancels_number before number (Refers _ other Cancels) = eqb number other
 cancels_number before number (CancelsChild workflow_id) = is_number number (open_named before Child workflow_id)
@@ -99,7 +101,8 @@ cancels_number before number _ = false
 -- one of the events, of which the first follows those before, asks for the thing to be cancelled
 abbrev pub cancelled_after : List Event → ℕ → List Event → Bool
 cancelled_after before number [] = false
-cancelled_after before number (event ∷ rest) = cancels_number before number (role_of event.body) || cancelled_after (before ++ event ∷ []) number rest
+cancelled_after before number (event ∷ rest) =
+    cancels_number before number (role_of event.body) || cancelled_after (before ++ event ∷ []) number rest
 
 -- one of the events asks for what the event of the number opened to be cancelled
 abbrev pub is_cancelling : List Event → ℕ → Bool
@@ -143,7 +146,9 @@ pub record Machine : Type 0 where
 abbrev pub machines_among : List Event → List Event → List Machine
 machines_among events [] = []
 machines_among events (event ∷ rest) =
-    if is_some (opened_thing (role_of event.body)) then record { number = event.number; status = status_of events event.number } ∷ machines_among events rest else machines_among events rest
+    if is_some (opened_thing (role_of event.body))
+    then record { number = event.number; status = status_of events event.number } ∷ machines_among events rest
+    else machines_among events rest
 
 -- the things of a history: the number of each opening event with the status, in order
 abbrev pub machines_of : List Event → List Machine

@@ -55,7 +55,8 @@ pub record IsBetweenTasks (rest between : List Event) : Type 0 where
 
 -- the record: the commanded events of those, or nothing where no task is completed
 abbrev pub IsRecord : List Event → List Event → Type 0
-IsRecord rest record_events = (CompletesNone rest × (record_events ≡ [])) ⊎ ((between : List Event) × IsBetweenTasks rest between × (record_events ≡ filter is_commanded between))
+IsRecord rest record_events = (CompletesNone rest × (record_events ≡ []))
+    ⊎ ((between : List Event) × IsBetweenTasks rest between × (record_events ≡ filter is_commanded between))
 
 -- an event is a cut that the events after it don't record exactly where its place is a live cut
 abbrev pub LiveCutIsSaid : Type 0

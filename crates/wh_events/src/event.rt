@@ -1,3 +1,5 @@
+//! The events of a history, and the values that were sent with them.
+
 ghost use Rattle.std.specs.Prelude.{◌≡◌, IfOk};
 ghost use Rattle.wh_events.specs.Kinds.{class_of, closes_run_of, role_of, role_seen, reference_of};
 
@@ -55,7 +57,8 @@ impl Event {
         self.body.class()
     }
 
-    /// Whether the run is over with this event: completed, failed, cancelled, continued as new, timed out or terminated.
+    /// Whether the run is over with this event: completed, failed, cancelled, continued as new,
+    /// timed out or terminated.
     pub fn closes_run(&self) -> bool
         ensures { result ≡ closes_run_of self.now.body }
     {
@@ -69,7 +72,8 @@ impl Event {
         self.body.role()
     }
 
-    /// The number of the event that this one refers to. `None` where it names none, as one that names a child by its workflow id, and where the number is 0 or above `EventNo::LAST`.
+    /// The number of the event that this one refers to. `None` where it names none, as one that
+    /// names a child by its workflow id, and where the number is 0 or above `EventNo::LAST`.
     pub fn refers_to(&self) -> Option<EventNo>
         ensures { result ≡ reference_of self.now.body }
     {

@@ -1,3 +1,5 @@
+//! The names of runs.
+
 ghost use Rattle.std.specs.Prelude.{◌≡◌, IfOk};
 ghost use Rattle.std.specs.Cmp.{partial_equiv_from_equiv};
 ghost use Rattle.std.specs.Hash as fed;
@@ -6,7 +8,8 @@ use crate::lists::Text;
 use crate::memory::OutOfMemory;
 use std::hash::{Hash, Hasher};
 
-/// The name of one run of a workflow (Temporal documentation, "Workflow Id and Run Id"). Keys are compared and hashed by their texts.
+/// The name of one run of a workflow (Temporal documentation, "Workflow Id and Run Id"). Keys are
+/// compared and hashed by their texts.
 #[derive(Debug, Drop)]
 pub struct RunKey {
     /// The id of the workflow, which its runs share.

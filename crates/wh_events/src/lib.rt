@@ -1,4 +1,7 @@
-//! The events of a workflow's history: what they are, when a history is in place, and what it says of the things that it opens and of its workflow tasks. `laws` says what holds of all histories.
+//! The events of a workflow's history: what they are, when a history is in place, and what it says
+//! of the things that it opens and of its workflow tasks.
+//!
+//! `laws` says what holds of all histories.
 #![tactic(auto)]
 
 mod event;

@@ -1,3 +1,5 @@
+//! Texts and lists, which contracts see as lists.
+
 ghost use Rattle.std.specs.Prelude.{◌≡◌, nat_eq, string_bytes, IfOk};
 ghost use Rattle.std.proofs.Common.{rules};
 ghost use Rattle.std.specs.Cmp.{partial_equiv_from_equiv};
@@ -136,7 +138,8 @@ impl<T: Clone + Drop> Clone for Items<T> {
 }
 
 impl<T: Clone + Drop> Items<T> {
-    /// A copy of the same items, for a type whose clones equal what they are made of. `OutOfMemory` where no room was found for it.
+    /// A copy of the same items, for a type whose clones equal what they are made of. `OutOfMemory`
+    /// where no room was found for it.
     pub fn try_copy(&self) -> Result<Self, OutOfMemory>
         requires { (item copy : T) → T.is_clone item copy → copy ≡ item }
         ensures { IfOk result (λ copy. copy ≡ self.now) }
