@@ -1,14 +1,15 @@
+//! What commands do to the things of the run.
 ghost use Rattle.std.specs.Prelude.{◌≡◌};
 ghost use Rattle.wh_machines.specs.Lookups.{thing_of};
 ghost use Rattle.wh_workflow.specs.Scripts.{act_of, act_opens, act_cancels, act_closes, some_act, left_open, withdrawn};
-ghost use Rattle.wh_match.specs.Standings.{deed_seen};
+ghost use Rattle.wh_match.specs.Standings.{act_seen};
 
 use wh_events::OpenKind;
 use wh_workflow::Command;
 
 /// What a command does to the things of the run.
 #[derive(Clone, Copy)]
-pub(crate) enum Deed<'a> {
+pub(crate) enum Act<'a> {
     Opens {
         kind: OpenKind,
         id: &'a str,
@@ -27,31 +28,31 @@ pub(crate) enum Deed<'a> {
 }
 
 /// What the command does.
-pub(crate) fn read_deed(command: &Command) -> Deed<'_>
-    ensures { deed_seen result ≡ act_of command.now }
+pub(crate) fn read_act(command: &Command) -> Act<'_>
+    ensures { act_seen result ≡ act_of command.now }
 {
     match command {
-        Command::StartActivity { id, .. } => Deed::Opens {
+        Command::StartActivity { id, .. } => Act::Opens {
             kind: OpenKind::Activity,
             id: id.get(),
         },
-        Command::StartTimer { id, .. } => Deed::Opens {
+        Command::StartTimer { id, .. } => Act::Opens {
             kind: OpenKind::Timer,
             id: id.get(),
         },
-        Command::StartChild { workflow_id, .. } => Deed::Opens {
+        Command::StartChild { workflow_id, .. } => Act::Opens {
             kind: OpenKind::Child,
             id: workflow_id.get(),
         },
-        Command::CancelActivity { id } => Deed::Cancels {
+        Command::CancelActivity { id } => Act::Cancels {
             kind: OpenKind::Activity,
             id: id.get(),
         },
-        Command::CancelTimer { id } => Deed::Cancels {
+        Command::CancelTimer { id } => Act::Cancels {
             kind: OpenKind::Timer,
             id: id.get(),
         },
-        Command::CancelChild { workflow_id } => Deed::Cancels {
+        Command::CancelChild { workflow_id } => Act::Cancels {
             kind: OpenKind::Child,
             id: workflow_id.get(),
         },
@@ -59,7 +60,7 @@ pub(crate) fn read_deed(command: &Command) -> Deed<'_>
             change_id,
             min,
             max,
-        } => Deed::Asks {
+        } => Act::Asks {
             change_id: change_id.get(),
             min: *min,
             max: *max,
@@ -67,8 +68,8 @@ pub(crate) fn read_deed(command: &Command) -> Deed<'_>
         Command::Complete { .. }
         | Command::Fail { .. }
         | Command::Cancel
-        | Command::ContinueAsNew { .. } => Deed::Closes,
-        _ => Deed::Other,
+        | Command::ContinueAsNew { .. } => Act::Closes,
+        _ => Act::Other,
     }
 }
 
@@ -100,7 +101,7 @@ fn cancels(kind: OpenKind, id: &str, command: &Command) -> bool
 pub(crate) fn closes(command: &Command) -> bool
     ensures { result ≡ act_closes (act_of command.now) }
 {
-    matches!(read_deed(command), Deed::Closes)
+    matches!(read_act(command), Act::Closes)
 }
 
 /// Whether one of the commands opens it.
