@@ -1,3 +1,4 @@
+//! The jobs of a cut, made from the events since the cut before.
 ghost use Rattle.std.specs.Prelude.{◌≡◌, ◌++◌, ◌<◌, ◌≤◌, length, Some, OnOk, IfOk};
 ghost use Rattle.wh_activation.specs.Cutting.{listed, jobs_at};
 ghost use Rattle.wh_workflow.specs.Jobs.{id_at, signal_at, start_job, signal_job, outside_job, jobs_of};
@@ -207,7 +208,8 @@ fn push_job(jobs: &mut Vec<Job>, job: Option<Job>) -> Result<(), OutOfMemory>
     Ok(())
 }
 
-/// The jobs of a cut, where the first events are those up to and with the cut, and the others those since the cut before.
+/// The jobs of a cut, where the first events are those up to and with the cut, and the others those
+/// since the cut before.
 fn jobs_of(
     alloc: Global,
     seen: &[Event],
@@ -230,9 +232,16 @@ fn jobs_of(
     Ok(jobs)
 }
 
-/// What a workflow is told at the cut `to`, the WorkflowTaskStarted of a workflow task, where `from` is the cut before, or 0 for the first: the time of the cut, the start where the run starts since the cut before, the signals since then in the order of the history, and then the other outside events since then in that order, except that an activity was started. (Temporal documentation, workflow tasks: <https://docs.temporal.io/tasks#workflow-task>; events: <https://docs.temporal.io/references/events>.)
+/// What a workflow is told at the cut `to`, the WorkflowTaskStarted of a workflow task, where
+/// `from` is the cut before, or 0 for the first: the time of the cut, the start where the run
+/// starts since the cut before, the signals since then in the order of the history, and then the
+/// other outside events since then in that order, except that an activity was started. (Temporal
+/// documentation, workflow tasks: <https://docs.temporal.io/tasks#workflow-task>; events:
+/// <https://docs.temporal.io/references/events>.)
 ///
-/// `from` is below `to`, and the track holds the event `to`; it is not looked at whether either is a cut, and later events change nothing. `OutOfMemory` where the allocator refused a growth; nothing was kept, and the track is as it was.
+/// `from` is below `to`, and the track holds the event `to`; it is not looked at whether either is
+/// a cut, and later events change nothing. `OutOfMemory` where the allocator refused a growth;
+/// nothing was kept, and the track is as it was.
 pub fn jobs(alloc: Global, track: &Track, from: u64, to: EventNo) -> Result<Vec<Job>, OutOfMemory>
     requires rising { from < to }
     requires within { to ≤ length track.now }

@@ -1,6 +1,6 @@
 use Rattle.std.proofs.Common.{◌≡◌, ◌++◌, drop}
 use Rattle.wh_workflow.specs.Jobs.{jobs_by, start_job, signal_job, outside_job}
-use Rattle.wh_activation.proofs.telling.jobs_of.Given as goal
+use Rattle.wh_activation.proofs.cut_jobs.jobs_of.Given as goal
 
 abbrev pub invariant-loop-event : goal.invariant-loop-event
 invariant-loop-event l =

@@ -1,3 +1,4 @@
+//! Which events are cuts.
 ghost use Rattle.std.specs.Prelude.{◌≡◌, option_copied};
 ghost use Rattle.wh_events.specs.Cuts.{next_core, is_task_started, is_cut};
 
