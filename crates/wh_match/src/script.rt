@@ -124,7 +124,8 @@ impl Script {
         ensures fault { (seen between : List Event) →
             let there = option_map (λ events. commanded events.now) recorded.entry in
             let place : Place = record { seen = seen; between = between; recorded = there } in
-            workflow_fault result ≡ command_fault place versions.old self.old.issued (Command.Ask change_id.now min max) }
+            let ask = Command.Ask change_id.now min max in
+            workflow_fault result ≡ command_fault place versions.old self.old.issued ask }
         ensures version { let there = option_map (λ events. commanded events.now) recorded.entry in
             let choice = choice_in there versions.old change_id.now max in
             IfOk result (λ version. version ≡ choice.version) }
@@ -182,7 +183,8 @@ impl Script {
             let asked = question.entry in
             let there = option_map (λ events. commanded events.now) recorded.entry in
             let place : Place = record { seen = seen; between = between; recorded = there } in
-            workflow_fault result ≡ command_fault place versions.old self.old.issued (Command.Ask asked.change_id.now asked.min asked.max) }
+            let ask = Command.Ask asked.change_id.now asked.min asked.max in
+            workflow_fault result ≡ command_fault place versions.old self.old.issued ask }
         ensures version { let asked = question.entry in
             let there = option_map (λ events. commanded events.now) recorded.entry in
             let choice = choice_in there versions.old asked.change_id.now asked.max in
@@ -226,7 +228,8 @@ impl Script {
 
     /// The least fault of an ask that gets this version.
     fn ask_fault(&self, chosen: Chosen, question: Question) -> Option<WorkflowFault>
-        ensures { result ≡ or_else (early_fault self.now.issued) (range_fault chosen.version question.entry.min question.entry.max) }
+        ensures { let fault = range_fault chosen.version question.entry.min question.entry.max in
+            result ≡ or_else (early_fault self.now.issued) fault }
     {
         match self.early_fault() {
             Some(fault) => Some(fault),
@@ -249,7 +252,8 @@ impl Script {
         requires rising { self.now.previous < self.now.cut }
         requires within { self.now.cut ≤ length track.now }
         requires not_ask { is_ask command.now ≡ false }
-        ensures fault { result_err result ≡ act_fault (place_in track.now self.now None) [] self.now.issued (act_of command.now) }
+        ensures fault { let place = place_in track.now self.now None in
+            result_err result ≡ act_fault place [] self.now.issued (act_of command.now) }
         ensures late { let late = is_late_act (place_in track.now self.now None) self.now.issued (act_of command.now) in
             IfOk result (λ is. is ≡ late) }
     {
