@@ -2,9 +2,9 @@ use Rattle.std.proofs.Common.{◌≡◌, ◌++◌, ◌∙◌, ℕ, length, drop,
 use Rattle.wh_workflow.specs.Counting.{ticked}
 use Rattle.wh_workflow.specs.Law.{IsAnswer}
 use Rattle.wh_workflow.specs.Activations.{and_then, Reply, respond, Turn, turn}
-use Rattle.wh_replay.specs.Views.{place_of, script, progress}
+use Rattle.wh_replay.specs.Views.{place_of, script, progress_of}
 use Rattle.wh_replay.proofs.Responding.{gives_along, gives_then}
-use Rattle.wh_replay.proofs.activation.turn.Goals as goal
+use Rattle.wh_replay.proofs.activation.Activation.turn.Goals as goal
 
 pub respond-requires-clause-answer : goal.respond-requires-clause-answer
 respond-requires-clause-answer g c = subst (λ l. IsAnswer (drop (length l) c.step.new.out.items)) c.new-given.ensures.items c.in_ok-step.ensures.answer
@@ -14,14 +14,14 @@ returns-clause-turned g c =
     let program = g.W.Workflow.program in
     let place = place_of c.args.cut.now in
     let job = c.args.job.now in
-    let state = c.args.state.now in
+    let state = c.args.self.now.state in
     let meter : ℕ = c.args.meter.now in
     let given = c.step.new.out.items in
-    let s = script c.args.versions.now c.args.script.now.issued in
+    let s = script c.args.self.now.versions c.args.self.now.script.issued in
     let left = script c.respond.new.versions c.respond.new.script.issued in
     let next : Reply → Turn _ = λ y. record { progress = record { state = program.after state job; script = y.script; meter = ticked meter }; next = y.next } in
     let gave : given ≡ program.gives state job = c.in_ok-step.ensures.commands ∙ ap (λ l. l ++ program.gives state job) c.new-given.ensures.items in
-    gives_along c.respond.result (and_then (respond place s given) (λ y. Ok (next y))) (turn program place job (progress state c.args.versions.now c.args.script.now.issued meter)) _
+    gives_along c.respond.result (and_then (respond place s given) (λ y. Ok (next y))) (turn program place job (progress_of c.args.self.now meter)) _
     (ap (λ l. and_then (respond place s l) (λ y. Ok (next y))) (sym gave))
     (gives_then c.respond.result (respond place s given) _ next _
     (λ x.
