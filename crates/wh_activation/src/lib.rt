@@ -1,9 +1,9 @@
 //! What a workflow is told at a workflow task: the jobs of a cut of its history.
 #![tactic(auto)]
 
-mod telling;
+mod cut_jobs;
 
-pub use telling::jobs;
+pub use cut_jobs::jobs;
 
 #[cfg(test)]
 mod tests;

@@ -28,10 +28,10 @@ pub early_found : (place : Place) (settled : Settled) (earlier : List Command) (
 early_found place settled earlier command fault e = sym (fault_in_parts place settled earlier command ∙ ap (λ o. or_else o (act_fault place settled earlier (act_of command))) (sym e))
 
 -- and else that of what it does, which for all but an ask is the same whatever the record and the versions
-pub deed_found : (events : List Event) (previous cut : ℕ) (recorded : Option (List Event)) (settled : Settled) (earlier : List Command) (command : Command) → is_ask command ≡ false
-    → (deed : Option WorkflowFault) → None ≡ early_fault earlier → deed ≡ act_fault (place_at events previous cut None) [] earlier (act_of command)
-    → deed ≡ command_fault (place_at events previous cut recorded) settled earlier command
-deed_found events previous cut recorded settled earlier command h deed e d =
+pub act_found : (events : List Event) (previous cut : ℕ) (recorded : Option (List Event)) (settled : Settled) (earlier : List Command) (command : Command) → is_ask command ≡ false
+    → (own : Option WorkflowFault) → None ≡ early_fault earlier → own ≡ act_fault (place_at events previous cut None) [] earlier (act_of command)
+    → own ≡ command_fault (place_at events previous cut recorded) settled earlier command
+act_found events previous cut recorded settled earlier command h own e d =
     let place = place_at events previous cut recorded in
     d ∙ sym (fault_in_parts place settled earlier command ∙ ap (λ o. or_else o (act_fault place settled earlier (act_of command))) (sym e) ∙ judged_alike events previous cut recorded settled earlier command h)
 

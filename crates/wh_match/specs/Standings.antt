@@ -1,4 +1,4 @@
--- How a thing stands at a cut, and what the code's word for the deed of a command stands for.
+-- How a thing stands at a cut, and what the code's word for what a command does stands for.
 use Rattle.std.specs.Prelude.{ℕ, Bool, true, false, List, Option, Some, None}
 use Rattle.wh_events.specs.declared.event.Event.{Event}
 use Rattle.wh_events.specs.declared.place.Status.{Status}
@@ -9,17 +9,17 @@ use Rattle.wh_events.specs.Machines.{open_named, last_named}
 use Rattle.wh_machines.specs.Lookups.{thing_of}
 use Rattle.wh_workflow.specs.Scripts.{Place, Act, open_at, cancels_open, closer_of, has_outside}
 use Rattle.wh_workflow.specs.Scripts.Act.{Opening, Cancelling, Closing, Asking, Other as OtherAct}
-use Rattle.wh_match.specs.declared.deed.Deed.{Deed}
-use Rattle.wh_match.specs.declared.deed.Deed.TheVariants.{Opens, Cancels, Closes, Asks, Other}
+use Rattle.wh_match.specs.declared.act.Act.{Act as CodeAct}
+use Rattle.wh_match.specs.declared.act.Act.TheVariants.{Opens, Cancels, Closes, Asks, Other}
 use Rattle.wh_match.specs.declared.standing.Standing.{Standing}
 
--- the deed that the code's word stands for
-abbrev pub deed_seen : Deed → Act
-deed_seen (Opens kind id) = Opening (thing_of kind) id.now
-deed_seen (Cancels kind id) = Cancelling (thing_of kind) id.now
-deed_seen Closes = Closing
-deed_seen (Asks change_id min max) = Asking change_id.now min max
-deed_seen Other = OtherAct
+-- what the code's word stands for
+abbrev pub act_seen : CodeAct → Act
+act_seen (Opens kind id) = Opening (thing_of kind) id.now
+act_seen (Cancels kind id) = Cancelling (thing_of kind) id.now
+act_seen Closes = Closing
+act_seen (Asks change_id min max) = Asking change_id.now min max
+act_seen Other = OtherAct
 
 -- how the things of a kind under an id stand at a cut
 abbrev pub standing_of : Place → Thing → List ℕ → Standing

@@ -1,3 +1,4 @@
+//! The version that an ask gets.
 ghost use Rattle.std.specs.Prelude.{◌≡◌, option_map};
 ghost use Rattle.wh_events.specs.Cuts.{commanded};
 ghost use Rattle.wh_workflow.specs.Scripts.{first_marker};
@@ -40,7 +41,9 @@ fn first_marker(change_id: &str, events: &[Event]) -> Option<i32>
 
 /// Chooses the version of an ask.
 pub(crate) fn choose(recorded: Option<&[Event]>, versions: &Versions, question: Question) -> Chosen
-    ensures { choice_in (option_map (λ events. commanded events.now) recorded.entry) versions.now question.entry.change_id.now question.entry.max ≡ record { version = result.version; marked = result.marked } }
+    ensures { let there = option_map (λ events. commanded events.now) recorded.entry in
+        let choice = choice_in there versions.now question.entry.change_id.now question.entry.max in
+        choice ≡ record { version = result.version; marked = result.marked } }
 {
     if let Some(version) = versions.get(question.change_id) {
         return Chosen {

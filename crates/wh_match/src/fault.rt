@@ -1,8 +1,10 @@
+//! Why a script does not take a command.
 use std::alloc::AllocError;
 use wh_events::OutOfMemory;
 use wh_workflow::WorkflowFault;
 
-/// Why a script did not take a command. The script, and the versions that were handed in, are as they were before; the command is dropped.
+/// Why a script did not take a command. The script, and the versions that were handed in, are as
+/// they were before; the command is dropped.
 #[derive(Clone, Copy, Debug, PartialEq, Eq)]
 pub enum ScriptFault {
     /// The command can't stand after those before it: the least fault that it has.

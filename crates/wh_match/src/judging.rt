@@ -1,8 +1,10 @@
-ghost use Rattle.std.specs.Prelude.{◌≡◌};
+//! Which commands can stand, by how their things stand at the cut.
+ghost use Rattle.std.specs.Prelude.{◌≡◌, IfOk};
+ghost use Rattle.std.specs.Result.{result_err};
 ghost use Rattle.wh_machines.specs.Lookups.{thing_of};
 ghost use Rattle.wh_match.specs.Faults.{still_open_by, is_late_by, is_cancelled_by, opening_fault_by, cancel_fault_by};
 
-use crate::deed::{left_open, some_cancels, some_opens, withdrawn};
+use crate::act::{left_open, some_cancels, some_opens, withdrawn};
 use crate::standing::Standing;
 use wh_events::OpenKind;
 use wh_workflow::{Command, WorkflowFault};
@@ -17,7 +19,7 @@ fn still_open(standing: Standing, earlier: &[Command], kind: OpenKind, id: &str)
 }
 
 /// Whether a cancel comes late: what it cancels was closed by an outside event of this activation.
-pub(crate) fn is_late(standing: Standing, earlier: &[Command], kind: OpenKind, id: &str) -> bool
+fn is_late(standing: Standing, earlier: &[Command], kind: OpenKind, id: &str) -> bool
     ensures { result ≡ is_late_by standing earlier.now (thing_of kind) id.now }
 {
     !standing.is_open && !some_opens(kind, id, earlier) && standing.is_ended
@@ -49,20 +51,22 @@ pub(crate) fn opening_fault(
     }
 }
 
-/// Why a thing can't be cancelled.
-pub(crate) fn cancel_fault(
+/// Judges a cancel: whether it comes late, or why it can't be issued.
+pub(crate) fn judge_cancel(
     standing: Standing,
     earlier: &[Command],
     kind: OpenKind,
     id: &str,
-) -> Option<WorkflowFault>
-    ensures { result ≡ cancel_fault_by standing earlier.now (thing_of kind) id.now }
+) -> Result<bool, WorkflowFault>
+    ensures fault { result_err result ≡ cancel_fault_by standing earlier.now (thing_of kind) id.now }
+    ensures late { IfOk result (λ late. late ≡ is_late_by standing earlier.now (thing_of kind) id.now) }
 {
-    if !still_open(standing, earlier, kind, id) && !is_late(standing, earlier, kind, id) {
-        Some(WorkflowFault::NotOpen)
+    let late = is_late(standing, earlier, kind, id);
+    if !still_open(standing, earlier, kind, id) && !late {
+        Err(WorkflowFault::NotOpen)
     } else if is_cancelled(standing, earlier, kind, id) {
-        Some(WorkflowFault::AlreadyCancelling)
+        Err(WorkflowFault::AlreadyCancelling)
     } else {
-        None
+        Ok(late)
     }
 }

@@ -1,8 +1,9 @@
-//! The commands of an activation: which of them can stand, what is sent of them, and whether a record matches them.
+//! The commands of an activation: which of them can stand, what is sent of them, and whether a
+//! record matches them.
 #![tactic(auto)]
 
+mod act;
 mod choosing;
-mod deed;
 mod fault;
 mod judging;
 pub mod laws;

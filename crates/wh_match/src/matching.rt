@@ -1,3 +1,4 @@
+//! Whether commands match a record.
 ghost use Rattle.std.specs.Prelude.{◌≡◌, ◌+◌, ◌<◌, ◌≤◌, length, bytes_eq};
 ghost use Rattle.std.specs.Result.{result_err};
 ghost use Rattle.wh_events.specs.Cuts.{commanded};
@@ -112,9 +113,16 @@ fn mismatch(history: &[Event], commands: &[Command], events: &[Event]) -> Option
     None
 }
 
-/// Whether commands match the record that stands strictly between two events of the track: its commanded events there are as many as the commands, and each command and the event in its place are named alike. Commands and events are compared by kind and name, and not by input, result or time. (Temporal documentation, commands: <https://docs.temporal.io/references/commands>; the check that replay makes: <https://docs.temporal.io/workflow-definition#deterministic-constraints>.)
+/// Whether commands match the record that stands strictly between two events of the track: its
+/// commanded events there are as many as the commands, and each command and the event in its place
+/// are named alike. Commands and events are compared by kind and name, and not by input, result or
+/// time. (Temporal documentation, commands: <https://docs.temporal.io/references/commands>; the
+/// check that replay makes:
+/// <https://docs.temporal.io/workflow-definition#deterministic-constraints>.)
 ///
-/// `from` is below `to`, which is at most one more than the count of the events; 0 stands before the first event. `Mismatch` says where both differ first; nothing is changed, and no memory is taken.
+/// `from` is below `to`, which is at most one more than the count of the events; 0 stands before
+/// the first event. `Mismatch` says where both differ first; nothing is changed, and no memory is
+/// taken.
 pub fn matches(commands: &[Command], track: &Track, from: u64, to: u64) -> Result<(), Mismatch>
     requires rising { from < to }
     requires within { to ≤ length track.now + 1 }

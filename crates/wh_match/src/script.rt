@@ -1,21 +1,23 @@
-ghost use Rattle.std.specs.Prelude.{◌≡◌, ◌+◌, ◌<◌, ◌≤◌, ◌++◌, ◌∷◌, [], List, Option, None, false, length, vec_len, IfOk, OnOk, OnErr, option_map};
+//! The commands of an activation, as they are issued.
+ghost use Rattle.std.specs.Prelude.{◌≡◌, ◌+◌, ◌<◌, ◌≤◌, ◌++◌, ◌∷◌, [], List, Bool, Option, None, false, length, vec_len, IfOk, OnOk, OnErr, option_map};
 ghost use Rattle.wh_workflow.specs.Activations.{marker_if};
 ghost use Rattle.wh_events.specs.Cuts.{commanded};
 ghost use Rattle.wh_workflow.specs.declared.command.Command.{Command};
 ghost use Rattle.wh_events.specs.Machines.{or_else};
 ghost use Rattle.wh_events.specs.declared.event.Event.{Event};
+ghost use Rattle.std.specs.Result.{result_err};
 ghost use Rattle.std.specs.Vec.{vec_capacity};
 ghost use Rattle.wh_machines.specs.Lookups.{thing_of};
 ghost use Rattle.wh_workflow.specs.Law.{is_ask, is_marker};
-ghost use Rattle.wh_workflow.specs.Scripts.{Settled, act_of, act_fault, command_fault, with_version};
+ghost use Rattle.wh_workflow.specs.Scripts.{Place, Settled, act_of, act_fault, command_fault, with_version};
 ghost use Rattle.wh_match.specs.Faults.{early_fault, range_fault, workflow_fault};
 ghost use Rattle.wh_match.specs.Issuing.{place_in, is_late_act, with_issued, with_asked, choice_in, unmarked_if, reduced_by};
 ghost use Rattle.wh_match.specs.Standings.{standing_of};
 
+use crate::act::{Act, closes, read_act};
 use crate::choosing::{Chosen, Question, choose};
-use crate::deed::{Deed, closes, read_deed};
 use crate::fault::ScriptFault;
-use crate::judging::{cancel_fault, is_late, opening_fault};
+use crate::judging::{judge_cancel, opening_fault};
 use crate::sending::reduce;
 use crate::standing::{Standing, standing_at};
 use crate::versions::Versions;
@@ -28,7 +30,9 @@ use wh_workflow::{Command, WorkflowFault};
 /// The most commands of one activation, markers aside: a limit of this project.
 const MOST_COMMANDS: usize = 4096;
 
-/// The commands that one activation gives, the asks and the markers among them, in their order: which of them can stand, and what is sent of them (Temporal documentation, commands: <https://docs.temporal.io/references/commands>).
+/// The commands that one activation gives, the asks and the markers among them, in their order:
+/// which of them can stand, and what is sent of them (Temporal documentation, commands:
+/// <https://docs.temporal.io/references/commands>).
 #[derive(Debug, Drop)]
 pub struct Script {
     previous: u64,
@@ -56,7 +60,8 @@ impl Model for Script {
 }
 
 impl Script {
-    /// Nothing is issued yet at the cut, where `previous` is the cut before, or 0 for the first. It takes no memory until the first command.
+    /// Nothing is issued yet at the cut, where `previous` is the cut before, or 0 for the first. It
+    /// takes no memory until the first command.
     pub fn new(alloc: Global, previous: u64, cut: EventNo) -> Self
         ensures { result ≡ record { previous = previous; cut = cut; issued = []; late = [] } }
     {
@@ -71,29 +76,43 @@ impl Script {
         }
     }
 
-    /// Takes the next command, which is neither an ask nor a marker, and judges it by how things stood at the cut and by the commands before it; later events of the track change nothing. The cut before is below the cut, and the track holds the cut.
+    /// Takes the next command, which is neither an ask nor a marker, and judges it by how things
+    /// stood at the cut and by the commands before it; later events of the track change nothing.
+    /// The cut before is below the cut, and the track holds the cut.
     ///
-    /// `Workflow` where the command can't stand, with the least fault that it has; this comes before `OutOfMemory`. After either the script is as it was.
+    /// `Workflow` where the command can't stand, with the least fault that it has; this comes
+    /// before `OutOfMemory`. After either the script is as it was.
     pub fn issue(&mut self, track: &Track, command: Command) -> Result<(), ScriptFault>
         requires rising { self.old.previous < self.old.cut }
         requires within { self.old.cut ≤ length track.now }
         requires not_ask { is_ask command ≡ false }
         requires not_marker { is_marker command ≡ false }
-        ensures fault { (recorded : Option (List Event)) (settled : Settled) → workflow_fault result ≡ command_fault (place_in track.now self.old recorded) settled self.old.issued command }
-        ensures ok { OnOk result ((recorded : Option (List Event)) → self.new ≡ with_issued self.old command (is_late_act (place_in track.now self.old recorded) self.old.issued (act_of command))) }
+        ensures fault { (recorded : Option (List Event)) (settled : Settled) →
+            let place = place_in track.now self.old recorded in
+            workflow_fault result ≡ command_fault place settled self.old.issued command }
+        ensures ok { let late : Option (List Event) → Bool
+            = λ recorded. is_late_act (place_in track.now self.old recorded) self.old.issued (act_of command) in
+            OnOk result ((recorded : Option (List Event)) → self.new ≡ with_issued self.old command (late recorded)) }
         ensures err { OnErr result (self.new ≡ self.old) }
     {
-        if let Some(fault) = self.command_fault(track, &command) {
-            return Err(ScriptFault::Workflow(fault));
-        }
-        let late = self.is_late(track, &command);
+        let late = match self.judge(track, &command) {
+            Ok(late) => late,
+            Err(fault) => return Err(ScriptFault::Workflow(fault)),
+        };
         self.push(command, late)?;
         Ok(())
     }
 
-    /// Asks for the version of a change between `min` and `max`, where `recorded` is what stands in the history between the completion of the cut and the next completed task or the end, or `None` for a live cut. The first rule that applies decides: the version that is settled; that of the first marker of the change in the record, for which a marker is issued; -1 where the cut is recorded; and else `max`, for which a marker is issued. The version is settled from then on, and the ask counts as a command. (Temporal documentation, patching and `GetVersion`: <https://docs.temporal.io/patching>.)
+    /// Asks for the version of a change between `min` and `max`, where `recorded` is what stands in
+    /// the history between the completion of the cut and the next completed task or the end, or
+    /// `None` for a live cut. The first rule that applies decides: the version that is settled;
+    /// that of the first marker of the change in the record, for which a marker is issued; -1 where
+    /// the cut is recorded; and else `max`, for which a marker is issued. The version is settled
+    /// from then on, and the ask counts as a command. (Temporal documentation, patching and
+    /// `GetVersion`: <https://docs.temporal.io/patching>.)
     ///
-    /// `Workflow` where the ask can't stand, with the least fault that it has; this comes before `OutOfMemory`. After either the script and the versions are as they were.
+    /// `Workflow` where the ask can't stand, with the least fault that it has; this comes before
+    /// `OutOfMemory`. After either the script and the versions are as they were.
     pub fn ask(
         &mut self,
         recorded: Option<&[Event]>,
@@ -102,10 +121,20 @@ impl Script {
         min: i32,
         max: i32,
     ) -> Result<i32, ScriptFault>
-        ensures fault { (seen between : List Event) → workflow_fault result ≡ command_fault (record { seen = seen; between = between; recorded = option_map (λ events. commanded events.now) recorded.entry }) versions.old self.old.issued (Command.Ask change_id.now min max) }
-        ensures version { IfOk result (λ version. version ≡ (choice_in (option_map (λ events. commanded events.now) recorded.entry) versions.old change_id.now max).version) }
-        ensures asked { OnOk result (self.new ≡ with_asked self.old change_id.now min max (choice_in (option_map (λ events. commanded events.now) recorded.entry) versions.old change_id.now max)) }
-        ensures settled { OnOk result (versions.new ≡ with_version versions.old change_id.now (choice_in (option_map (λ events. commanded events.now) recorded.entry) versions.old change_id.now max).version) }
+        ensures fault { (seen between : List Event) →
+            let there = option_map (λ events. commanded events.now) recorded.entry in
+            let place : Place = record { seen = seen; between = between; recorded = there } in
+            let ask = Command.Ask change_id.now min max in
+            workflow_fault result ≡ command_fault place versions.old self.old.issued ask }
+        ensures version { let there = option_map (λ events. commanded events.now) recorded.entry in
+            let choice = choice_in there versions.old change_id.now max in
+            IfOk result (λ version. version ≡ choice.version) }
+        ensures asked { let there = option_map (λ events. commanded events.now) recorded.entry in
+            let choice = choice_in there versions.old change_id.now max in
+            OnOk result (self.new ≡ with_asked self.old change_id.now min max choice) }
+        ensures settled { let there = option_map (λ events. commanded events.now) recorded.entry in
+            let choice = choice_in there versions.old change_id.now max in
+            OnOk result (versions.new ≡ with_version versions.old change_id.now choice.version) }
         ensures kept { OnErr result (self.new ≡ self.old) }
         ensures unsettled { OnErr result (versions.new ≡ versions.old) }
     {
@@ -117,7 +146,10 @@ impl Script {
         self.answer(recorded, versions, question)
     }
 
-    /// What is sent of the commands so far, in their order: all but the asks, the openings that a later command cancels together with the next cancel of each, and the late cancels, which came after an outside event of this activation had closed what they cancel. `OutOfMemory` where the allocator refused a growth; the commands are dropped.
+    /// What is sent of the commands so far, in their order: all but the asks, the openings that a
+    /// later command cancels together with the next cancel of each, and the late cancels, which
+    /// came after an outside event of this activation had closed what they cancel. `OutOfMemory`
+    /// where the allocator refused a growth; the commands are dropped.
     pub fn reduced(self) -> Result<Vec<Command>, OutOfMemory>
         ensures { IfOk result (λ sent. sent.items ≡ reduced_by self.late self.issued) }
     {
@@ -147,10 +179,24 @@ impl Script {
         versions: &mut Versions,
         question: Question,
     ) -> Result<i32, ScriptFault>
-        ensures fault { (seen between : List Event) → workflow_fault result ≡ command_fault (record { seen = seen; between = between; recorded = option_map (λ events. commanded events.now) recorded.entry }) versions.old self.old.issued (Command.Ask question.entry.change_id.now question.entry.min question.entry.max) }
-        ensures version { IfOk result (λ version. version ≡ (choice_in (option_map (λ events. commanded events.now) recorded.entry) versions.old question.entry.change_id.now question.entry.max).version) }
-        ensures asked { OnOk result (self.new ≡ with_asked self.old question.entry.change_id.now question.entry.min question.entry.max (choice_in (option_map (λ events. commanded events.now) recorded.entry) versions.old question.entry.change_id.now question.entry.max)) }
-        ensures settled { OnOk result (versions.new ≡ with_version versions.old question.entry.change_id.now (choice_in (option_map (λ events. commanded events.now) recorded.entry) versions.old question.entry.change_id.now question.entry.max).version) }
+        ensures fault { (seen between : List Event) →
+            let asked = question.entry in
+            let there = option_map (λ events. commanded events.now) recorded.entry in
+            let place : Place = record { seen = seen; between = between; recorded = there } in
+            let ask = Command.Ask asked.change_id.now asked.min asked.max in
+            workflow_fault result ≡ command_fault place versions.old self.old.issued ask }
+        ensures version { let asked = question.entry in
+            let there = option_map (λ events. commanded events.now) recorded.entry in
+            let choice = choice_in there versions.old asked.change_id.now asked.max in
+            IfOk result (λ version. version ≡ choice.version) }
+        ensures asked { let asked = question.entry in
+            let there = option_map (λ events. commanded events.now) recorded.entry in
+            let choice = choice_in there versions.old asked.change_id.now asked.max in
+            OnOk result (self.new ≡ with_asked self.old asked.change_id.now asked.min asked.max choice) }
+        ensures settled { let asked = question.entry in
+            let there = option_map (λ events. commanded events.now) recorded.entry in
+            let choice = choice_in there versions.old asked.change_id.now asked.max in
+            OnOk result (versions.new ≡ with_version versions.old asked.change_id.now choice.version) }
         ensures kept { OnErr result (self.new ≡ self.old) }
         ensures unsettled { OnErr result (versions.new ≡ versions.old) }
     {
@@ -182,7 +228,8 @@ impl Script {
 
     /// The least fault of an ask that gets this version.
     fn ask_fault(&self, chosen: Chosen, question: Question) -> Option<WorkflowFault>
-        ensures { result ≡ or_else (early_fault self.now.issued) (range_fault chosen.version question.entry.min question.entry.max) }
+        ensures { let fault = range_fault chosen.version question.entry.min question.entry.max in
+            result ≡ or_else (early_fault self.now.issued) fault }
     {
         match self.early_fault() {
             Some(fault) => Some(fault),
@@ -199,55 +246,47 @@ impl Script {
         standing_at(track, self.previous, self.cut, kind, id)
     }
 
-    /// The fault that lies in what the command does.
+    /// Judges what the command does: whether it is a late cancel, or the fault that lies in it.
     #[tactic(auto, unfolding(wh_workflow::specs::Scripts::opening_fault, wh_workflow::specs::Scripts::cancel_fault))]
-    fn deed_fault(&self, track: &Track, command: &Command) -> Option<WorkflowFault>
+    fn judge_act(&self, track: &Track, command: &Command) -> Result<bool, WorkflowFault>
         requires rising { self.now.previous < self.now.cut }
         requires within { self.now.cut ≤ length track.now }
         requires not_ask { is_ask command.now ≡ false }
-        ensures { result ≡ act_fault (place_in track.now self.now None) [] self.now.issued (act_of command.now) }
+        ensures fault { let place = place_in track.now self.now None in
+            result_err result ≡ act_fault place [] self.now.issued (act_of command.now) }
+        ensures late { let late = is_late_act (place_in track.now self.now None) self.now.issued (act_of command.now) in
+            IfOk result (λ is. is ≡ late) }
     {
         let earlier = self.issued.as_slice();
-        match read_deed(command) {
-            Deed::Opens { kind, id } => {
-                opening_fault(self.standing(track, kind, id), earlier, kind, id)
+        match read_act(command) {
+            Act::Opens { kind, id } => {
+                match opening_fault(self.standing(track, kind, id), earlier, kind, id) {
+                    Some(fault) => Err(fault),
+                    None => Ok(false),
+                }
             }
-            Deed::Cancels { kind, id } => {
-                cancel_fault(self.standing(track, kind, id), earlier, kind, id)
+            Act::Cancels { kind, id } => {
+                judge_cancel(self.standing(track, kind, id), earlier, kind, id)
             }
-            _ => None,
+            _ => Ok(false),
         }
     }
 
-    /// The least fault of the command after those so far.
-    fn command_fault(&self, track: &Track, command: &Command) -> Option<WorkflowFault>
+    /// Judges the command after those so far: whether it is a late cancel, or the least fault that
+    /// it has.
+    fn judge(&self, track: &Track, command: &Command) -> Result<bool, WorkflowFault>
         requires rising { self.now.previous < self.now.cut }
         requires within { self.now.cut ≤ length track.now }
         requires not_ask { is_ask command.now ≡ false }
-        ensures { (recorded : Option (List Event)) (settled : Settled) → result ≡ command_fault (place_in track.now self.now recorded) settled self.now.issued command.now }
+        ensures fault { (recorded : Option (List Event)) (settled : Settled) →
+            let place = place_in track.now self.now recorded in
+            result_err result ≡ command_fault place settled self.now.issued command.now }
+        ensures late { let late = is_late_act (place_in track.now self.now None) self.now.issued (act_of command.now) in
+            IfOk result (λ is. is ≡ late) }
     {
         match self.early_fault() {
-            Some(fault) => Some(fault),
-            None => self.deed_fault(track, command),
-        }
-    }
-
-    /// Whether the command would be a late cancel.
-    fn is_late(&self, track: &Track, command: &Command) -> bool
-        requires rising { self.now.previous < self.now.cut }
-        requires within { self.now.cut ≤ length track.now }
-        ensures { result ≡ is_late_act (place_in track.now self.now None) self.now.issued (act_of command.now) }
-    {
-        match read_deed(command) {
-            Deed::Cancels { kind, id } => {
-                is_late(
-                    self.standing(track, kind, id),
-                    self.issued.as_slice(),
-                    kind,
-                    id,
-                )
-            }
-            _ => false,
+            Some(fault) => Err(fault),
+            None => self.judge_act(track, command),
         }
     }
 }
@@ -272,7 +311,8 @@ fn asked_commands(
     question: Question,
     chosen: Chosen,
 ) -> Result<Vec<Command>, OutOfMemory>
-    ensures items { IfOk result (λ asked. asked.items ≡ Command.Ask question.entry.change_id.now question.entry.min question.entry.max ∷ marker_if chosen.marked question.entry.change_id.now chosen.version) }
+    ensures items { let ask = Command.Ask question.entry.change_id.now question.entry.min question.entry.max in
+        IfOk result (λ asked. asked.items ≡ ask ∷ marker_if chosen.marked question.entry.change_id.now chosen.version) }
     ensures few { IfOk result (λ asked. vec_len asked ≤ 2) }
 {
     let mut asked = Vec::new(alloc);
@@ -297,7 +337,8 @@ fn settle_asked(
     question: Question,
     chosen: Chosen,
 ) -> Result<Vec<Command>, OutOfMemory>
-    ensures items { IfOk result (λ asked. asked.items ≡ Command.Ask question.entry.change_id.now question.entry.min question.entry.max ∷ marker_if chosen.marked question.entry.change_id.now chosen.version) }
+    ensures items { let ask = Command.Ask question.entry.change_id.now question.entry.min question.entry.max in
+        IfOk result (λ asked. asked.items ≡ ask ∷ marker_if chosen.marked question.entry.change_id.now chosen.version) }
     ensures few { IfOk result (λ asked. vec_len asked ≤ 2) }
     ensures settled { OnOk result (versions.new ≡ with_version versions.old question.entry.change_id.now chosen.version) }
     ensures unsettled { OnErr result (versions.new ≡ versions.old) }
@@ -307,7 +348,8 @@ fn settle_asked(
     Ok(asked)
 }
 
-/// Marks an ask, and its marker where one is issued: neither is a late cancel. There is room for both.
+/// Marks an ask, and its marker where one is issued: neither is a late cancel. There is room for
+/// both.
 fn push_marks(late: &mut Vec<bool>, marked: bool)
     requires { vec_len late.old + 2 ≤ vec_capacity late.old }
     ensures { late.new.items ≡ (late.old.items ++ false ∷ []) ++ unmarked_if marked }

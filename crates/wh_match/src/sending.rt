@@ -1,8 +1,9 @@
+//! What is sent of the issued commands.
 ghost use Rattle.std.specs.Prelude.{◌≡◌, length, IfOk};
 ghost use Rattle.wh_workflow.specs.Scripts.{act_of};
 ghost use Rattle.wh_match.specs.Issuing.{is_sent_by, reduced_by};
 
-use crate::deed::{Deed, left_open, read_deed, some_cancels};
+use crate::act::{Act, left_open, read_act, some_cancels};
 use std::alloc::Global;
 use wh_events::OutOfMemory;
 use wh_workflow::Command;
@@ -11,11 +12,11 @@ use wh_workflow::Command;
 fn is_sent(late: bool, earlier: &[Command], later: &[Command], command: &Command) -> bool
     ensures { result ≡ is_sent_by late earlier.now later.now (act_of command.now) }
 {
-    match read_deed(command) {
-        Deed::Opens { kind, id } => !some_cancels(kind, id, later),
-        Deed::Cancels { kind, id } => !left_open(kind, id, earlier) && !late,
-        Deed::Asks { .. } => false,
-        Deed::Closes | Deed::Other => true,
+    match read_act(command) {
+        Act::Opens { kind, id } => !some_cancels(kind, id, later),
+        Act::Cancels { kind, id } => !left_open(kind, id, earlier) && !late,
+        Act::Asks { .. } => false,
+        Act::Closes | Act::Other => true,
     }
 }
 

@@ -1,3 +1,4 @@
+//! How things stand at a cut.
 ghost use Rattle.std.specs.Prelude.{◌≡◌, ◌<◌, ◌≤◌, ◌-◌, [], length, Some, None, slice_get};
 ghost use Rattle.wh_events.specs.Places.{fault_after};
 ghost use Rattle.wh_machines.specs.Lookups.{thing_of, events_between};
@@ -29,7 +30,8 @@ fn is_outside_at(events: &[Event], number: u64) -> bool
     }
 }
 
-/// Whether an outside event of the number stands strictly between two others, where the events are in place.
+/// Whether an outside event of the number stands strictly between two others, where the events are
+/// in place.
 fn is_outside_between(events: &[Event], previous: u64, cut: u64, number: u64) -> bool
     requires placed { fault_after [] events.now ≡ None }
     requires rising { previous < cut }

@@ -1,3 +1,4 @@
+//! The settled versions.
 ghost use Rattle.std.specs.Prelude.{◌≡◌, [], OnOk, OnErr};
 ghost use Rattle.wh_workflow.specs.Scripts.{lookup_version, with_version};
 
@@ -6,7 +7,9 @@ use std::collections::BTreeMap;
 use std::marker::Model;
 use wh_events::{OutOfMemory, Text};
 
-/// The settled versions by change id: a change keeps the version that its first ask got (Temporal documentation, patching and `GetVersion`: <https://docs.temporal.io/patching>). Contracts see the list of the pairs.
+/// The settled versions by change id: a change keeps the version that its first ask got (Temporal
+/// documentation, patching and `GetVersion`: <https://docs.temporal.io/patching>). Contracts see
+/// the list of the pairs.
 #[derive(Debug, Drop)]
 pub struct Versions {
     entries: Vec<(Text, i32)>,
@@ -46,7 +49,8 @@ impl Versions {
         self.by_change.get(change_id).copied()
     }
 
-    /// Settles the version of a change, unless it is settled. After `OutOfMemory` nothing has changed.
+    /// Settles the version of a change, unless it is settled. After `OutOfMemory` nothing has
+    /// changed.
     pub(crate) fn settle(&mut self, change_id: &str, version: i32) -> Result<(), OutOfMemory>
         ensures ok { OnOk result (self.new ≡ with_version self.old change_id.now version) }
         ensures err { OnErr result (self.new ≡ self.old) }

@@ -11,12 +11,12 @@ use Rattle.wh_workflow.specs.Activations.{and_then, unless_fault, Script, issue_
 use Rattle.wh_match.specs.declared.fault.ScriptFault.{ScriptFault}
 use Rattle.wh_match.specs.declared.fault.ScriptFault.TheVariants.{Workflow, OutOfMemory}
 use Rattle.wh_match.specs.Faults.{workflow_fault}
-use Rattle.wh_match.specs.Issuing.{Issuing, place_at, place_in, is_late_act, late_marks, with_issued, unmarked_if, with_asked, reduced_by}
+use Rattle.wh_match.specs.Issuing.{Issuing, place_at, place_in, is_late_act, late_marks, with_issued, unmarked_if, with_asked, choice_in, reduced_by}
 use Rattle.wh_match.proofs.Reducing.{late_marks-push, reduced_by-place}
 use Rattle.wh_workflow.specs.declared.fault.Mismatch.{Mismatch}
 use Rattle.wh_workflow.specs.Names.{mismatch}
 use Rattle.wh_replay.specs.declared.fault.Fault.TheVariants.{Mismatch as Mismatched}
-use Rattle.wh_replay.specs.Replays.{reached, close_task, task_after, unless_mismatch}
+use Rattle.wh_replay.specs.Replays.{reached, close_task, unless_mismatch}
 use Rattle.wh_replay.specs.declared.cut.Cut.{Cut}
 use Rattle.wh_replay.specs.Views.{place_of, script}
 use Rattle.wh_replay.specs.Activating.{Gives, IsPlain, IsOf}
@@ -143,9 +143,8 @@ marks_asked place issued change_id low high version false =
     let ask = Ask change_id low high in
     append-nil (late_marks place issued ++ false ∷ []) ∙ (sym (late_marks-push place issued ask) ∙ ap (late_marks place) (sym (append-nil (issued ++ ask ∷ []))))
 
--- nor does an ask change that
-pub asked_of : (cut : Cut) (s next : Issuing) (settled : Settled) (change_id : List ℕ) (low high : ℤ) → IsOf cut s → next ≡ with_asked s change_id low high (choice_of (place_of cut) settled change_id high) → IsOf cut next
-asked_of cut s next settled change_id low high of is =
+asked_here : (cut : Cut) (s next : Issuing) (settled : Settled) (change_id : List ℕ) (low high : ℤ) → IsOf cut s → next ≡ with_asked s change_id low high (choice_of (place_of cut) settled change_id high) → IsOf cut next
+asked_here cut s next settled change_id low high of is =
     let choice = choice_of (place_of cut) settled change_id high in
     record {
       previous = ap (λ (n : Issuing). n.previous) is ∙ of.previous;
@@ -156,28 +155,31 @@ asked_of cut s next settled change_id low high of is =
           ∙ (marks_asked (place_of cut) s.issued change_id low high choice.version choice.marked ∙ sym (ap (λ (n : Issuing). late_marks (place_of cut) n.issued) is)));
     }
 
+-- nor does an ask change that
+pub asked_of : (cut : Cut) (s next : Issuing) (settled : Settled) (change_id : List ℕ) (low high : ℤ) (recorded : Option (List Event)) → recorded ≡ (place_of cut).recorded → IsOf cut s
+    → next ≡ with_asked s change_id low high (choice_in recorded settled change_id high) → IsOf cut next
+asked_of cut s next settled change_id low high recorded same of is =
+    asked_here cut s next settled change_id low high of (is ∙ ap (λ o. with_asked s change_id low high (choice_in o settled change_id high)) same)
+
 -- what is sent of a script
 pub sent_is : (cut : Cut) (s : Issuing) (sent : List Command) → IsOf cut s → sent ≡ reduced_by s.late s.issued → sent ≡ reduced (place_of cut) s.issued
 sent_is cut s sent of is = is ∙ (ap (λ l. reduced_by l s.issued) of.late ∙ reduced_by-place (place_of cut) s.issued)
 
-module _ {S : Type 0} (history : List Event) (place : Place) (at : ℕ) (result : Result (Progress S) WorkflowFault) (left : Progress S) (sent : List Command) (done : result ≡ Ok left) (is : sent ≡ reduced place left.script.issued) where
-  -- the task of a cut, where this is what is recorded
-  closes : (recorded : Option (List Event)) → place.recorded ≡ recorded → task_after history place at result ≡ close_task history place at recorded left
-  closes recorded e = ap (task_after history place at) done ∙ ap (λ o. close_task history place at o left) e
-
+-- the end of a task at a cut, of which this is sent
+module _ {S : Type 0} (history : List Event) (place : Place) (at : ℕ) (left : Progress S) (sent : List Command) (is : sent ≡ reduced place left.script.issued) where
   -- a live task
-  pub live_task : place.recorded ≡ None → task_after history place at result ≡ Ok (reached left sent)
-  live_task e = closes None e ∙ ap (λ l. Ok (reached left l)) (sym is)
+  pub live_task : place.recorded ≡ None → close_task history place at place.recorded left ≡ Ok (reached left sent)
+  live_task e = ap (λ o. close_task history place at o left) e ∙ ap (λ l. Ok (reached left l)) (sym is)
 
-  compared : (events : List Event) (difference : Option Mismatch) → place.recorded ≡ Some events → difference ≡ mismatch history sent events → task_after history place at result ≡ unless_mismatch at difference (reached left [])
+  compared : (events : List Event) (difference : Option Mismatch) → place.recorded ≡ Some events → difference ≡ mismatch history sent events → close_task history place at place.recorded left ≡ unless_mismatch at difference (reached left [])
   compared events difference e d =
-      closes (Some events) e
+      ap (λ o. close_task history place at o left) e
       ∙ (ap (λ l. unless_mismatch at (mismatch history l events) (reached left [])) (sym is) ∙ ap (λ m. unless_mismatch at m (reached left [])) (sym d))
 
   -- a recorded task whose commands match
-  pub matched_task : (events : List Event) (difference : Option Mismatch) → place.recorded ≡ Some events → difference ≡ mismatch history sent events → difference ≡ None → task_after history place at result ≡ Ok (reached left [])
+  pub matched_task : (events : List Event) (difference : Option Mismatch) → place.recorded ≡ Some events → difference ≡ mismatch history sent events → difference ≡ None → close_task history place at place.recorded left ≡ Ok (reached left [])
   matched_task events difference e d none = compared events difference e d ∙ ap (λ m. unless_mismatch at m (reached left [])) none
 
   -- and one whose commands differ
-  pub differing_task : (events : List Event) (difference : Option Mismatch) (first : Mismatch) → place.recorded ≡ Some events → difference ≡ mismatch history sent events → difference ≡ Some first → task_after history place at result ≡ Err (Mismatched at first)
+  pub differing_task : (events : List Event) (difference : Option Mismatch) (first : Mismatch) → place.recorded ≡ Some events → difference ≡ mismatch history sent events → difference ≡ Some first → close_task history place at place.recorded left ≡ Err (Mismatched at first)
   differing_task events difference first e d some = compared events difference e d ∙ ap (λ m. unless_mismatch at m (reached left [])) some

@@ -1,5 +1,5 @@
 -- From one cut of a history to the next.
-use Rattle.std.proofs.Common.{◌≡◌, ℕ, ◌+◌, ◌-◌, ◌<◌, ◌≤◌, Bool, true, false, cond, if◌then◌else◌, List, [], ◌∷◌, ◌++◌, length, take, drop, slice_get, not, Option, Some, None, Result, Ok, Err, refl, sym, ap, ◌∙◌, arith, append_assoc, append-nil, length-append}
+use Rattle.std.proofs.Common.{◌≡◌, ℕ, ◌+◌, ◌-◌, ◌<◌, ◌≤◌, Bool, true, false, cond, if◌then◌else◌, List, [], ◌∷◌, ◌++◌, length, take, drop, slice_get, not, Option, Some, None, Result, Ok, Err, refl, sym, ap, ◌∙◌, arith, append_assoc, append-nil, length-append, ◌||◌, is_none, option_map}
 use Rattle.std.proofs.Math.Seq.{take-append_seam, drop-append_seam}
 use Rattle.std.proofs.lemmas.List.{take-append-drop, length-take-le}
 use Rattle.wh_events.specs.declared.event.Event.{Event}
@@ -11,13 +11,14 @@ use Rattle.wh_events.specs.Places.{fault_after}
 use Rattle.wh_machines.specs.Lookups.{events_between}
 use Rattle.wh_machines.proofs.Placed.{NumberedFrom, numbered_after}
 use Rattle.wh_activation.specs.Cutting.{jobs_in, jobs_at}
-use Rattle.wh_split.specs.Splits.{first_of, is_live_before, is_live}
+use Rattle.wh_split.specs.Splits.{first_of}
 use Rattle.wh_workflow.specs.Law.{Program}
 use Rattle.wh_workflow.specs.Scripts.{Place}
 use Rattle.wh_workflow.specs.Activations.{and_then, activate}
 use Rattle.wh_replay.specs.declared.fault.Fault.{Fault}
 use Rattle.wh_replay.specs.Replays.{Replayed, task, task_after, begin_at, replay_after}
-use Rattle.wh_replay.specs.Views.{place_after}
+use Rattle.wh_replay.specs.declared.cut.Cut.{Cut}
+use Rattle.wh_replay.specs.Views.{place_of, place_after, task_of}
 use Rattle.wh_replay.specs.Checks.{ends_live}
 
 -- none of the first events is a cut, where the history goes on with the rest
@@ -151,6 +152,30 @@ next_is events last number placed low h =
       lives = p.lives ∙ ap (λ l. cond (is_recorded l) (ends_live l) true) (sym more);
     }
 
+-- the next cut, where a look behind the last one finds it
+pub next_seen : (events seen : List Event) (last number : ℕ) (found : Option ℕ) → seen ≡ events → fault_after [] events ≡ None → last ≤ length events → found ≡ first_of (cuts (drop last seen)) → found ≡ Some number → IsNext events last number
+next_seen events seen last number found same placed low is some = next_is events last number placed low (ap (λ l. first_of (cuts (drop last l))) (sym same) ∙ (sym is ∙ some))
+
+-- no cut is left, where such a look finds none
+pub none_left : (events seen : List Event) (last : ℕ) (found : Option ℕ) → seen ≡ events → found ≡ first_of (cuts (drop last seen)) → found ≡ None → first_of (cuts (drop last events)) ≡ None
+none_left events seen last found same is none = ap (λ l. first_of (cuts (drop last l))) (sym same) ∙ (sym is ∙ none)
+
+first_none : (numbers : List ℕ) → first_of numbers ≡ None → numbers ≡ []
+first_none [] e = refl
+first_none (number ∷ rest) e = cc
+
+-- there are no cuts where there is no first one
+pub no_cuts : (rest : List Event) → first_of (cuts rest) ≡ None → length (cuts rest) ≡ 0
+no_cuts rest e = ap length (first_none (cuts rest) e)
+
+-- nor does a history then end live
+pub no_lives : (rest : List Event) (live : Bool) → first_of (cuts rest) ≡ None → live ≡ (live || ends_live rest)
+no_lives rest live e = by live ∙ ap (λ b. live || b) (sym (none_lives rest e))
+  where
+    by : (b : Bool) → b ≡ (b || false)
+    by true = refl
+    by false = refl
+
 -- a completed task is not inert
 pub completed_core : (kind : EventKind) → is_task_completed_kind kind ≡ true → is_inert_class (class_of kind) ≡ false
 completed_core WorkflowTaskCompleted h = refl
@@ -160,27 +185,18 @@ completed_core _ h = cc
 pub recorded_here : (event : Event) (rest : List Event) → is_task_completed event ≡ true → (is_recorded (event ∷ rest) ≡ true) × (after_completed (event ∷ rest) ≡ rest) × (until_completed (event ∷ rest) ≡ [])
 recorded_here event rest h = let core : is_inert event ≡ false = completed_core event.body h in (rw core h, rw h refl, rw h refl)
 
--- a cut without a core event behind it is not recorded, and every other is
-pub lives_on : (cut : Event) (rest : List Event) (live : Bool) → is_cut cut rest ≡ true → live ≡ is_live_before (Some cut) rest → is_recorded rest ≡ not live
-lives_on cut rest live h is = by (is_task_started cut) (next_core rest) refl refl
+-- whether the history ends live, by whether its next cut has a record
+pub lives_span : (events : List Event) (last number : ℕ) (live : Bool) → IsNext events last number → {A B : Type 0} (seen : A → B) (span : Option A) (record_there : B) → option_map seen span ≡ cond (is_recorded (drop number events)) (Some record_there) None → (none : Bool) → none ≡ is_none span
+    → ((live || none) || ends_live (drop number events)) ≡ (live || ends_live (drop last events))
+lives_span events last number live n seen span record_there is none e = ap (λ b. (live || b) || ends_live (drop number events)) e ∙ (by span live (is_recorded (drop number events)) is ∙ ap (λ b. live || b) (sym n.lives))
   where
-    by : (started : Bool) (core : Option Event) → is_task_started cut ≡ started → next_core rest ≡ core → is_recorded rest ≡ not live
-    by true None e f = let lives : live ≡ true = is ∙ rw (e, f) refl in rw (f, lives) refl
-    by true (Some event) e f =
-        let fails : live ≡ false = is ∙ rw (e, f) refl in
-        let done : is_task_completed event ≡ true = rw (e, f) at h in
-        rw (f, fails) done
-    by false core e f = let never : is_cut cut rest ≡ false = rw e refl in cc
-
--- whether the history ends live, by whether its next cut is live
-pub lives_next : (events : List Event) (last number : ℕ) (live : Bool) → IsNext events last number → live ≡ is_live events number → ends_live (drop last events) ≡ cond live true (ends_live (drop number events))
-lives_next events last number live n is =
-    let shown : is_live events number ≡ is_live_before (Some n.cut) (drop number events) = ap (λ o. is_live_before o (drop number events)) n.at in
-    n.lives ∙ by live (lives_on n.cut (drop number events) live n.cuts_here (is ∙ shown))
-  where
-    by : (b : Bool) → is_recorded (drop number events) ≡ not b → cond (is_recorded (drop number events)) (ends_live (drop number events)) true ≡ cond b true (ends_live (drop number events))
-    by true e = rw e refl
-    by false e = rw e refl
+    by : (found : Option _) (before recorded : Bool) → option_map seen found ≡ cond recorded (Some record_there) None → ((before || is_none found) || ends_live (drop number events)) ≡ (before || cond recorded (ends_live (drop number events)) true)
+    by (Some x) true true e = refl
+    by (Some x) false true e = refl
+    by (Some x) before false e = cc
+    by None before true e = cc
+    by None true false e = refl
+    by None false false e = refl
 
 module _ {S : Type 0} (program : Program S) where
   pass : (before between front : List Event) (cut : Event) (more : List Event) (current : Replayed S) → Passed front (cut ∷ more)
@@ -209,6 +225,15 @@ module _ {S : Type 0} (program : Program S) where
   -- the task of the cut of a number
   abbrev pub task_at : List Event → ℕ → ℕ → Replayed S → Result (Replayed S) Fault
   task_at events last number current = let place = place_after events last number in task_after events place number (activate program place (jobs_at events last number) (begin_at current))
+
+  -- the task at a cut of the code is that at its number
+  pub task_here : (cut : Cut) (current : Replayed S) → (place_of cut).recorded ≡ (place_after cut.track.now cut.previous cut.number).recorded → task_of program cut current ≡ task_at cut.track.now cut.previous cut.number current
+  task_here cut current e =
+      let events = cut.track.now in
+      let P : Option (List Event) → Result (Replayed S) Fault
+      = λ recorded.
+      let place : Place = record { seen = take cut.number events; between = events_between events cut.previous cut.number; recorded = recorded } in task_after events place cut.number (activate program place (jobs_at events cut.previous cut.number) (begin_at current)) in
+      ap P e
 
   -- the next cut of a history, and what follows it
   pub walk_next : (events : List Event) (last number : ℕ) (current : Replayed S) → IsNext events last number

@@ -1,3 +1,4 @@
+//! A replayed history that ends in a started task.
 ghost use Rattle.std.specs.Prelude.{◌≡◌, ◌++◌, ◌≤◌, length, true, OnOk, IsOkAnd};
 ghost use Rattle.wh_events.specs.Machines.{status_at};
 ghost use Rattle.wh_workflow.specs.Counting.{risen};
@@ -7,7 +8,7 @@ ghost use Rattle.wh_replay.specs.Runs.{IsReplayed, run_of, steps, advance_steps}
 ghost use Rattle.wh_replay.specs.Advances.{GivesHistory};
 
 use crate::checking::{Outcome, replay};
-use crate::continuing::{advance, ends_in_task};
+use crate::continuing::{ends_in_task, replay_joined};
 use crate::fault::{Fault, RunFault};
 use crate::pushing::push_all;
 use std::alloc::Global;
@@ -30,13 +31,13 @@ pub struct ReplayedHistory<W: Workflow> {
 impl<W: Workflow> Model for ReplayedHistory<W> {
     ghost use Rattle.std.specs.Prelude.{List};
     ghost use Rattle.wh_events.specs.declared.event.Event.{Event};
-    ghost use Rattle.wh_replay.specs.Runs.{IsRun};
+    ghost use Rattle.wh_replay.specs.Views.{IsRunOf};
 
     ghost Value = { List Event };
 
     ghost view = { λ history. history.track };
 
-    ghost invariant = { λ history. IsRun W.program history.track history.outcome.state history.outcome.versions history.outcome.unsent.items };
+    ghost invariant = { λ history. IsRunOf W.program history.track history.outcome };
 }
 
 impl<W: Workflow> ReplayedHistory<W> {
@@ -53,14 +54,17 @@ impl<W: Workflow> ReplayedHistory<W> {
         if !ends_in_task(events.as_slice()) {
             return Err(RunFault::Fault(Fault::NotATask));
         }
-        // Its contract is how proofs learn that the meter fits 64 bits.
-        let _before = meter.count();
-        let (track, outcome) = replay::<W>(alloc, events, meter)?;
-        Ok(ReplayedHistory { track, outcome })
+        // Made for the proof: its contract says that the meter fits 64 bits.
+        let _proof_fits = meter.count();
+        let (track, walk) = replay::<W>(alloc, events, meter)?;
+        Ok(ReplayedHistory {
+            track,
+            outcome: walk.outcome,
+        })
     }
 
     /// Goes on with events that end in a started task.
-    pub(crate) fn advance(
+    pub(crate) fn extend(
         self,
         alloc: Global,
         events: Vec<Event>,
@@ -74,10 +78,13 @@ impl<W: Workflow> ReplayedHistory<W> {
         let ReplayedHistory { mut track, outcome } = self;
         let held = track.len();
         push_all(&mut track, events)?;
-        // Its contract is how proofs learn that the meter fits 64 bits.
-        let _before = meter.count();
-        let outcome = advance::<W>(alloc, &track, held, outcome, meter)?;
-        Ok(ReplayedHistory { track, outcome })
+        // Made for the proof: its contract says that the meter fits 64 bits.
+        let _proof_fits = meter.count();
+        let walk = replay_joined::<W>(alloc, &track, held, outcome, meter)?;
+        Ok(ReplayedHistory {
+            track,
+            outcome: walk.outcome,
+        })
     }
 
     /// The number of events. Its contract says what holds of every replayed history.

@@ -1,3 +1,4 @@
+//! Taking the events of a history, each in its place.
 ghost use Rattle.std.specs.Prelude.{◌≡◌};
 ghost use Rattle.wh_events.specs.Places.{history_fault};
 ghost use Rattle.wh_replay.specs.Checks.{Answers};
@@ -18,7 +19,8 @@ fn push_each(track: &mut Track, events: Vec<Event>) -> Result<(), PushFault>
     Ok(())
 }
 
-/// Takes events that are in place after those of the track, or says the first fault of their places.
+/// Takes events that are in place after those of the track, or says the first fault of their
+/// places.
 pub(crate) fn push_all(track: &mut Track, events: Vec<Event>) -> Result<(), RunFault>
     ensures { Answers result (joined track.old events.items) (λ _. track.new) }
 {

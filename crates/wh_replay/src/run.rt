@@ -1,3 +1,4 @@
+//! A run: its key, and a history that ends in a started task.
 ghost use Rattle.std.specs.Prelude.{◌≡◌, ◌-◌, ◌≤◌, length, slice_get, option_map, IfOk, IsOkAnd, OnOk};
 ghost use Rattle.wh_workflow.specs.Scripts.{lookup_version};
 ghost use Rattle.wh_events.specs.Machines.{status_at};
@@ -96,10 +97,10 @@ impl<W: Workflow> Run<W> {
         Ok(Run { key, history })
     }
 
-    /// Goes on with new events, as if the whole history were replayed from its first event. Where they
-    /// complete the last task with the commands that it left unsent, only the new tasks are stepped,
-    /// as sticky execution does (Temporal documentation). On `Fault` and `OutOfMemory` the run is given
-    /// up, and the meter may have risen.
+    /// Goes on with new events, as if the whole history were replayed from its first event. Where
+    /// they complete the last task with the commands that it left unsent, only the new tasks are
+    /// stepped, as sticky execution does (Temporal documentation). On `Fault` and `OutOfMemory` the
+    /// run is given up, and the meter may have risen.
     pub fn advance(
         self,
         alloc: Global,
@@ -117,7 +118,7 @@ impl<W: Workflow> Run<W> {
             return Err(AdvanceFault::Gap(self));
         }
         let Run { key, history } = self;
-        match history.advance(alloc, events, meter) {
+        match history.extend(alloc, events, meter) {
             Ok(history) => Ok(Run { key, history }),
             Err(RunFault::Fault(fault)) => Err(AdvanceFault::Fault(fault)),
             Err(RunFault::OutOfMemory) => Err(AdvanceFault::OutOfMemory),
@@ -190,7 +191,8 @@ impl<W: Workflow> Run<W> {
         self.history.version(change_id)
     }
 
-    /// The answer to the last task: a copy of its commands. `OutOfMemory` where an allocation was refused.
+    /// The answer to the last task: a copy of its commands. `OutOfMemory` where an allocation was
+    /// refused.
     pub fn answer(&self, alloc: Global) -> Result<Answer, OutOfMemory>
         ensures { IfOk result (λ answer. answer ≡ answered (run_of W.program self.now.events)) }
     {

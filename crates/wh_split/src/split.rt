@@ -1,16 +1,23 @@
+//! The cuts of a history, one after another and all at once.
 ghost use Rattle.std.specs.Prelude.{◌≡◌, drop, IfOk};
 ghost use Rattle.wh_events.specs.Cuts.{cuts};
 ghost use Rattle.wh_split.specs.Splits.{IsNumbered, first_of, next_cut, is_live};
 
-use crate::look;
+use crate::cut;
 use std::alloc::Global;
 use wh_events::{Event, EventNo, OutOfMemory};
 
-/// The number of the first cut behind the first `from` events, which is the first cut after the number `from` in a history whose event i has number i; `None` where no cut follows. The first cut of all is that after 0.
+/// The number of the first cut behind the first `from` events, which is the first cut after the
+/// number `from` in a history whose event i has number i; `None` where no cut follows. The first
+/// cut of all is that after 0.
 ///
-/// A cut is the place of a WorkflowTaskStarted that completes, or that the history ends in: the event after it, inert ones left out, is a WorkflowTaskCompleted, or there is none. A task that failed or timed out is no cut; its events belong to the next one. See <https://docs.temporal.io/tasks#workflow-task>.
+/// A cut is the place of a WorkflowTaskStarted that completes, or that the history ends in: the
+/// event after it, inert ones left out, is a WorkflowTaskCompleted, or there is none. A task that
+/// failed or timed out is no cut; its events belong to the next one. See
+/// <https://docs.temporal.io/tasks#workflow-task>.
 ///
-/// It needs no memory, and looks only at the events from `from` to the cut and at the inert ones behind that.
+/// It needs no memory, and looks only at the events from `from` to the cut and at the inert ones
+/// behind that.
 pub fn next_cut(events: &[Event], from: u64) -> Option<EventNo>
     ensures behind { result ≡ first_of (cuts (drop from events.now)) }
 
@@ -23,7 +30,8 @@ pub fn next_cut(events: &[Event], from: u64) -> Option<EventNo>
     first_cut(&events[from as usize..])
 }
 
-/// Whether the event in the place is a live cut: a WorkflowTaskStarted behind which there are inert events alone.
+/// Whether the event in the place is a live cut: a WorkflowTaskStarted behind which there are inert
+/// events alone.
 pub fn is_live(events: &[Event], cut: EventNo) -> bool
     ensures { result ≡ is_live events.now cut }
 {
@@ -32,7 +40,7 @@ pub fn is_live(events: &[Event], cut: EventNo) -> bool
         return false;
     }
     let event = &events[(place - 1) as usize];
-    look::is_task_started(event) && look::next_core(&events[place as usize..]).is_none()
+    cut::is_task_started(event) && cut::next_core(&events[place as usize..]).is_none()
 }
 
 /// The numbers of all cuts, in their order. `OutOfMemory` where no room was found for the list.
@@ -41,7 +49,7 @@ pub fn cuts(alloc: Global, events: &[Event]) -> Result<Vec<EventNo>, OutOfMemory
 {
     let mut numbers = Vec::new(alloc);
     for (index, event) in events.iter().enumerate() {
-        if look::is_cut(event, &events[index + 1..]) {
+        if cut::is_cut(event, &events[index + 1..]) {
             numbers.push(event.number)?;
         }
     }
@@ -53,7 +61,7 @@ fn first_cut(events: &[Event]) -> Option<EventNo>
     ensures { result ≡ first_of (cuts events.now) }
 {
     for (index, event) in events.iter().enumerate() {
-        if look::is_cut(event, &events[index + 1..]) {
+        if cut::is_cut(event, &events[index + 1..]) {
             return Some(event.number);
         }
     }

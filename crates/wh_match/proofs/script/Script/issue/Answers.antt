@@ -6,4 +6,4 @@ use Rattle.wh_match.proofs.script.Script.issue.Goals as goal
 pub push-requires-clause-unfaulted : goal.push-requires-clause-unfaulted
 push-requires-clause-unfaulted c =
     let script = c.args.self.now in
-    unfaulted (place_in c.args.track.now script None) [] script.issued c.args.command (c.in_default.ensures None [])
+    unfaulted (place_in c.args.track.now script None) [] script.issued c.args.command (c.in-Ok.ensures.fault None [])

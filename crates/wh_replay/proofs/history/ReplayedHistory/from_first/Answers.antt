@@ -1,7 +1,7 @@
 use Rattle.std.proofs.Common.{◌≡◌, ◌≤◌, ◌∙◌, true, sym, ap, refl, arith}
 use Rattle.std.proofs.lemmas.Result.{err_from_is_err_and}
 use Rattle.wh_replay.specs.Replays.{ends_in_task}
-use Rattle.wh_replay.specs.Checks.{replayed}
+use Rattle.wh_replay.specs.Views.{replayed_of}
 use Rattle.wh_replay.proofs.Raising.{top}
 use Rattle.wh_replay.proofs.Resuming.{replayed_counts}
 use Rattle.wh_replay.proofs.Ending.{run_ok, replayed_run, begins_err}
@@ -11,7 +11,7 @@ pub returns-in_err-track-clause-history : goal.returns-in_err-track-clause-histo
 returns-in_err-track-clause-history g c =
     let program = g.W.Workflow.program in
     let events = c.args.events.items in
-    let below : c.args.meter.now ≤ top = omega (arith, c.count-before.ensures, c.count-before.type_inv) in
+    let below : c.args.meter.now ≤ top = omega (arith, c.count-proof_fits.ensures, c.count-proof_fits.type_inv) in
     let ends : ends_in_task events ≡ true = ap ends_in_task (sym c.as_slice.ensures.value) ∙ (sym c.ends_in_task.ensures ∙ c.if-not-ends_in_task.false) in
     let p = err_from_is_err_and c.from_residual.result c.from_residual.ensures.1 in
     rw (p.1, p.2) (begins_err program events c.args.meter.now c.in_err-track.field-0.0 _ _ refl below ends c.in_err-track.ensures.replayed)
@@ -20,27 +20,24 @@ pub invariant_of-result : goal.invariant_of-result
 invariant_of-result g c =
     let program = g.W.Workflow.program in
     let events = c.args.events.items in
-    let below : c.args.meter.now ≤ top = omega (arith, c.count-before.ensures, c.count-before.type_inv) in
+    let below : c.args.meter.now ≤ top = omega (arith, c.count-proof_fits.ensures, c.count-proof_fits.type_inv) in
     let ends : ends_in_task events ≡ true = ap ends_in_task (sym c.as_slice.ensures.value) ∙ (sym c.ends_in_task.ensures ∙ c.if-not-ends_in_task.false) in
-    let outcome = c.in_ok-track.outcome in
-    let value = replayed outcome.state outcome.versions outcome.unsent.items c.replay.new.meter in
+    let value = replayed_of c.in_ok-track.walk.outcome c.replay.new.meter in
     rw c.in_ok-track.ensures.track (replayed_run program events c.args.meter.now value ends below c.in_ok-track.ensures.replayed)
 
 pub returns-clause-history : goal.returns-clause-history
 returns-clause-history g c =
     let program = g.W.Workflow.program in
     let events = c.args.events.items in
-    let below : c.args.meter.now ≤ top = omega (arith, c.count-before.ensures, c.count-before.type_inv) in
+    let below : c.args.meter.now ≤ top = omega (arith, c.count-proof_fits.ensures, c.count-proof_fits.type_inv) in
     let ends : ends_in_task events ≡ true = ap ends_in_task (sym c.as_slice.ensures.value) ∙ (sym c.ends_in_task.ensures ∙ c.if-not-ends_in_task.false) in
-    let outcome = c.in_ok-track.outcome in
-    let value = replayed outcome.state outcome.versions outcome.unsent.items c.replay.new.meter in
+    let value = replayed_of c.in_ok-track.walk.outcome c.replay.new.meter in
     (c.in_ok-track.ensures.track, run_ok program events value.state value.settled value.unsent (replayed_run program events c.args.meter.now value ends below c.in_ok-track.ensures.replayed))
 
 pub returns-clause-meter : goal.returns-clause-meter
 returns-clause-meter g c =
     let program = g.W.Workflow.program in
     let events = c.args.events.items in
-    let below : c.args.meter.now ≤ top = omega (arith, c.count-before.ensures, c.count-before.type_inv) in
-    let outcome = c.in_ok-track.outcome in
-    let value = replayed outcome.state outcome.versions outcome.unsent.items c.replay.new.meter in
+    let below : c.args.meter.now ≤ top = omega (arith, c.count-proof_fits.ensures, c.count-proof_fits.type_inv) in
+    let value = replayed_of c.in_ok-track.walk.outcome c.replay.new.meter in
     replayed_counts program events c.args.meter.now value below c.in_ok-track.ensures.replayed

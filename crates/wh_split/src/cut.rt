@@ -1,0 +1,37 @@
+//! Which events are cuts.
+ghost use Rattle.std.specs.Prelude.{◌≡◌, option_copied};
+ghost use Rattle.wh_events.specs.Cuts.{next_core, is_task_started, is_cut};
+
+use wh_events::{Class, Event, EventKind};
+
+/// The first event that is not inert. It looks at the inert ones before it alone.
+pub fn next_core(events: &[Event]) -> Option<&Event>
+    ensures { option_copied result ≡ next_core events.now }
+{
+    for event in events {
+        if !matches!(event.class(), Class::Inert) {
+            return Some(event);
+        }
+    }
+    None
+}
+
+/// Whether the event starts a workflow task.
+pub fn is_task_started(event: &Event) -> bool
+    ensures { result ≡ is_task_started event.now }
+{
+    matches!(event.body, EventKind::WorkflowTaskStarted)
+}
+
+/// Whether the event is a cut of a history that goes on with the rest.
+pub fn is_cut(event: &Event, rest: &[Event]) -> bool
+    ensures { result ≡ is_cut event.now rest.now }
+{
+    if !is_task_started(event) {
+        return false;
+    }
+    match next_core(rest) {
+        Some(next) => matches!(next.body, EventKind::WorkflowTaskCompleted),
+        None => true,
+    }
+}
