@@ -1,9 +1,11 @@
-//! Books of the tasks that were taken, completed and failed, and the seats whose shares they add up.
+//! Books of the tasks that were taken, completed and failed, and the seats whose shares they add
+//! up.
 //!
-//! Each worker counts on a seat of its own, and the books stand beside what the workers share. An addition raises
-//! one book and the same share of one seat. Shares cannot be copied or made up, so once all seats are gathered
-//! their sums are the books. The three ledgers are of `std::sync::ledger`: `T` of tasks taken, `C` of tasks
-//! completed and `F` of tasks failed, each cut into as many parts as there are seats.
+//! Each worker counts on a seat of its own, and the books stand beside what the workers share. An
+//! addition raises one book and the same share of one seat. Shares cannot be copied or made up, so
+//! once all seats are gathered their sums are the books. The three ledgers are of
+//! `std::sync::ledger`: `T` of tasks taken, `C` of tasks completed and `F` of tasks failed, each
+//! cut into as many parts as there are seats.
 #![tactic(auto)]
 
 ghost use Rattle.std.specs.Prelude.{◌≡◌, ◌+◌, ◌-◌, ◌<◌, ◌↔◌, ◌^◌, IfOk, IfErr, IsErr, vec_len, replicate};
@@ -52,11 +54,18 @@ impl<T: Ledger, C: Ledger, F: Ledger> Model for Books<T, C, F> {
 
     ghost view = { λ b. b.totals };
 
-    ghost invariant = { λ b. (b.taken.total ≡ b.totals.taken) × (b.completed.total ≡ b.totals.completed) × (b.failed.total ≡ b.totals.failed) × (0 < b.seats) × (b.seats ≡ T.parts) × (b.seats ≡ C.parts) × (b.seats ≡ F.parts) };
+    ghost invariant = { λ b.
+        (b.taken.total ≡ b.totals.taken)
+        × (b.completed.total ≡ b.totals.completed)
+        × (b.failed.total ≡ b.totals.failed)
+        × (0 < b.seats)
+        × (b.seats ≡ T.parts)
+        × (b.seats ≡ C.parts)
+        × (b.seats ≡ F.parts) };
 }
 
-/// The seat of one worker. Contracts see what it has counted. A seat that is dropped is missing when the books
-/// are to be gathered.
+/// The seat of one worker. Contracts see what it has counted. A seat that is dropped is missing
+/// when the books are to be gathered.
 #[derive(Drop)]
 pub struct Seat<T: Ledger, C: Ledger, F: Ledger> {
     shares: Shares,
@@ -73,7 +82,13 @@ impl<T: Ledger, C: Ledger, F: Ledger> Model for Seat<T, C, F> {
 
     ghost view = { λ s. s.shares };
 
-    ghost invariant = { λ s. (s.taken.parts ≡ 1) × (s.completed.parts ≡ 1) × (s.failed.parts ≡ 1) × (s.taken.amount ≡ s.shares.taken) × (s.completed.amount ≡ s.shares.completed) × (s.failed.amount ≡ s.shares.failed) };
+    ghost invariant = { λ s.
+        (s.taken.parts ≡ 1)
+        × (s.completed.parts ≡ 1)
+        × (s.failed.parts ≡ 1)
+        × (s.taken.amount ≡ s.shares.taken)
+        × (s.completed.amount ≡ s.shares.completed)
+        × (s.failed.amount ≡ s.shares.failed) };
 }
 
 impl<T: Ledger, C: Ledger, F: Ledger> Seat<T, C, F> {
@@ -91,7 +106,8 @@ pub struct SeatsMissing;
 
 impl<T: Ledger, C: Ledger, F: Ledger> Books<T, C, F> {
     /// Empty books and as many empty seats, over three new ledgers that are cut into as many parts.
-    /// `OutOfMemory` where no room was found for the seats; the ledgers are spent then. No later call takes memory.
+    /// `OutOfMemory` where no room was found for the seats; the ledgers are spent then. No later
+    /// call takes memory.
     pub fn open(
         alloc: Global,
         seats: usize,
@@ -128,13 +144,6 @@ impl<T: Ledger, C: Ledger, F: Ledger> Books<T, C, F> {
             },
             all,
         ))
-    }
-
-    /// How many seats were opened.
-    pub fn seats(&self) -> usize
-        ensures { result ≡ T.parts }
-    {
-        self.seats
     }
 
     /// What all seats have counted.
@@ -225,8 +234,8 @@ impl<T: Ledger, C: Ledger, F: Ledger> Books<T, C, F> {
         shares.failed += 1;
     }
 
-    /// The sums of the shares of all seats, which are the books.
-    /// `SeatsMissing` where there are fewer seats than were opened; books and seats come back as they were.
+    /// The sums of the shares of all seats, which are the books. `SeatsMissing` where there are
+    /// fewer seats than were opened; books and seats come back as they were.
     pub fn gather(
         self,
         mut seats: Vec<Seat<T, C, F>>,
