@@ -8,8 +8,9 @@
 //! cut into as many parts as there are seats.
 #![tactic(auto)]
 
-ghost use Rattle.std.specs.Prelude.{◌≡◌, ◌+◌, ◌-◌, ◌<◌, ◌↔◌, ◌^◌, IfOk, IfErr, IsErr, vec_len, replicate};
-ghost use Rattle.wh_ledger.specs.Shares.{no_shares, sums_of, IsWithin};
+ghost use Rattle.std.specs.Prelude.{◌≡◌, ◌+◌, ◌-◌, ◌<◌, ◌↔◌, ◌^◌, IfOk, IfErr, IsErr, vec_len};
+ghost use Rattle.std.specs.Prelude.{replicate};
+ghost use Rattle.wh_ledger.specs.Shares.{no_shares, sums_of, IsWithin, IsSumOf};
 
 use std::alloc::Global;
 use std::marker::Model;
@@ -238,7 +239,7 @@ impl<T: Ledger, C: Ledger, F: Ledger> Books<T, C, F> {
     /// fewer seats than were opened; books and seats come back as they were.
     pub fn gather(
         self,
-        mut seats: Vec<Seat<T, C, F>>,
+        seats: Vec<Seat<T, C, F>>,
     ) -> Result<Shares, (Books<T, C, F>, Vec<Seat<T, C, F>>, SeatsMissing)>
         ensures books { IfOk result (λ shares. shares ≡ self) }
         ensures sums { IfOk result (λ shares. shares ≡ sums_of seats.items) }
@@ -256,31 +257,45 @@ impl<T: Ledger, C: Ledger, F: Ledger> Books<T, C, F> {
             mut completed,
             mut failed,
         } = self;
-        let Some(first) = seats.pop() else {
-            unreachable!()
-        };
-        let Seat {
-            shares: _,
-            taken: mut all_taken,
-            completed: mut all_completed,
-            failed: mut all_failed,
-        } = first;
-        while let Some(seat) = seats.pop() {
-            let Seat {
-                shares: _,
-                taken,
-                completed,
-                failed,
-            } = seat;
-            all_taken.merge(taken);
-            all_completed.merge(completed);
-            all_failed.merge(failed);
-        }
+        let (mut all_taken, mut all_completed, mut all_failed) = merge_all(seats);
         taken.audit(&mut all_taken);
         completed.audit(&mut all_completed);
         failed.audit(&mut all_failed);
         Ok(totals)
     }
+}
+
+/// The shares of all seats, of which there is one at least, as one share of each ledger.
+fn merge_all<T: Ledger, C: Ledger, F: Ledger>(
+    mut seats: Vec<Seat<T, C, F>>,
+) -> (Share<T>, Share<C>, Share<F>)
+    requires some { 0 < vec_len seats }
+    requires parts { (0 < T.parts) × (0 < C.parts) × (0 < F.parts) }
+    ensures taken { IsSumOf T.parts (λ s. s.taken) seats.items result.0.parts result.0.amount }
+    ensures completed { IsSumOf C.parts (λ s. s.completed) seats.items result.1.parts result.1.amount }
+    ensures failed { IsSumOf F.parts (λ s. s.failed) seats.items result.2.parts result.2.amount }
+{
+    let Some(first) = seats.pop() else {
+        unreachable!()
+    };
+    let Seat {
+        shares: _,
+        taken: mut all_taken,
+        completed: mut all_completed,
+        failed: mut all_failed,
+    } = first;
+    while let Some(seat) = seats.pop() {
+        let Seat {
+            shares: _,
+            taken,
+            completed,
+            failed,
+        } = seat;
+        all_taken.merge(taken);
+        all_completed.merge(completed);
+        all_failed.merge(failed);
+    }
+    (all_taken, all_completed, all_failed)
 }
 
 #[cfg(test)]

@@ -6,9 +6,12 @@
 //! or released where the poll brings none.
 #![tactic(auto)]
 
-ghost use Rattle.std.specs.Prelude.{◌≡◌, ◌+◌, ◌<◌, ◌≤◌, true, false, replicate, position, IfOk, IfErr, OnOk, OnErr, IfSome, IfNone};
+ghost use Rattle.std.specs.Prelude.{◌≡◌, ◌+◌, ◌<◌, ◌≤◌, true, false, replicate, position, IfOk};
+ghost use Rattle.std.specs.Prelude.{IfErr, OnOk, OnErr, IfSome, IfNone};
 ghost use Rattle.wh_slots.specs.declared.Place.TheVariants.{Free};
-ghost use Rattle.wh_slots.specs.Table.{table, is_free, is_reserved, is_held, is_named, IsTable, IsPlaceOf, IsReserved, IsHeld, Reserves, Uses, Frees, Releases, IsReserveFault, IsUseFault, count_of};
+ghost use Rattle.wh_slots.specs.Table.{table, is_free, is_reserved, is_held, is_named, IsTable};
+ghost use Rattle.wh_slots.specs.Table.{IsPlaceOf, IsReserved, IsHeld, Reserves, Uses, Frees};
+ghost use Rattle.wh_slots.specs.Table.{Releases, IsReserveFault, IsUseFault, count_of};
 
 pub mod laws;
 
