@@ -102,25 +102,25 @@ NeedsMemory old run =
     (lookup (same_key run.key) old.runs ≡ None) ⊎ (¬ Fits old.capacity old.bound (with_first (entry_of run) old.runs))
 
 -- an answer of `put`, with the runs that it hands back
-pub data Reply : Type 0 where
-  IsKept : Reply
-  HasPushedOut : List Held → Reply
-  IsOff : Held → Reply
-  IsShort : Held → Reply
-  IsLarge : Held → Reply
-  HasNoMemory : Held → Reply
+pub data PutReply : Type 0 where
+  IsKept : PutReply
+  HasPushedOut : List Held → PutReply
+  IsOff : Held → PutReply
+  IsShort : Held → PutReply
+  IsLarge : Held → PutReply
+  HasNoMemory : Held → PutReply
 
-abbrev pub reply_of : {W S : Type 0} → Put W S → Reply
-reply_of Kept = IsKept
-reply_of (PushedOut gone) = HasPushedOut gone
-reply_of (Off back) = IsOff back
-reply_of (Shorter back) = IsShort back
-reply_of (TooLarge back) = IsLarge back
-reply_of (NoMemory back) = HasNoMemory back
+abbrev pub put_reply_of : {W S : Type 0} → Put W S → PutReply
+put_reply_of Kept = IsKept
+put_reply_of (PushedOut gone) = HasPushedOut gone
+put_reply_of (Off back) = IsOff back
+put_reply_of (Shorter back) = IsShort back
+put_reply_of (TooLarge back) = IsLarge back
+put_reply_of (NoMemory back) = HasNoMemory back
 
 -- what `put` does, by its answer: each answer stands exactly where those before it don't, and want
 -- of memory only where memory is needed
-abbrev pub Puts : CacheView → Held → CacheView → Reply → Type 0
+abbrev pub Puts : CacheView → Held → CacheView → PutReply → Type 0
 Puts old run new IsKept = Enters old run new []
 Puts old run new (HasPushedOut gone) = Enters old run new gone × (gone ≢ [])
 Puts old run new (IsOff back) = (old.capacity ≡ 0) × (back ≡ run) × (new ≡ old)

@@ -11,7 +11,7 @@ ghost use Rattle.wh_events.specs.Keys.{same_key};
 ghost use Rattle.wh_replay.specs.Runs.{IsReplayed};
 ghost use Rattle.wh_cache.specs.Cache.{cache_view, entry_of, held_of, held_by, IsSound, IsShorter};
 ghost use Rattle.wh_cache.specs.Cache.{IsTooLarge, MayEnter, Enters, NeedsMemory, FitMost};
-ghost use Rattle.wh_cache.specs.Cache.{with_first, fitting, reply_of, Puts};
+ghost use Rattle.wh_cache.specs.Cache.{with_first, fitting, put_reply_of, Puts};
 
 use lru::LruCache;
 use std::alloc::Global;
@@ -139,7 +139,7 @@ impl<W: Workflow> Sticky<W> {
     /// bounds hold. Else the run comes back, and the cache stays as it was: `Off`, `Shorter`,
     /// `TooLarge` and `NoMemory` are tried in this order.
     pub fn put(&mut self, run: Run<W>) -> Put<W>
-        ensures { Puts self.old run self.new (reply_of result) }
+        ensures { Puts self.old run self.new (put_reply_of result) }
     {
         if self.capacity == 0 {
             return Put::Off(run);

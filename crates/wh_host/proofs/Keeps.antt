@@ -26,7 +26,7 @@ use Rattle.wh_ledger.specs.declared.Shares.{Shares}
 use Rattle.wh_host.specs.declared.state.Mark.{Mark}
 use Rattle.wh_host.specs.declared.reply.Outcome.{Outcome}
 use Rattle.wh_host.specs.declared.reply.Outcome.TheVariants.{Completed, Failed}
-use Rattle.wh_host.specs.Machine.{Claim, HostView, host_view, opening, AllMarked, IsHost, Event, Reserve, Release, UseWorkflow, UseActivity, GiveRun, EvictRun, Finish, Drain, ReadCounts, Answer, IsPut, IsMarked, IsNotHeld, GivesReplayed, AllReplayedGiven, tallied, tally_from, evicted_for, step, Steps, with_outcome, finishes, reserve_step, release_step, give_step}
+use Rattle.wh_host.specs.Machine.{Claim, HostView, host_view, opening, AllMarked, IsHost, Call, Reserve, Release, UseWorkflow, UseActivity, GiveRun, EvictRun, Finish, Drain, ReadCounts, GiveReply, IsPut, IsMarked, IsNotHeld, GivesReplayed, AllReplayedGiven, tallied, tally_from, evicted_for, step, Steps, with_outcome, finishes, reserve_step, release_step, give_step}
 
 pub AllMarked-set : (places : List Place) (marks : List (Option Mark)) (i : ℕ) (p : Place) (m : Option Mark) → AllMarked places marks → is_any_held p ≡ is_some m → AllMarked (slice_set places i p) (slice_set marks i m)
 AllMarked-set [] [] i p m all same = all
@@ -279,13 +279,13 @@ module _ {S : Type 0} (program : Program S) (old : HostView) (h : IsHost program
         cached = IsSound-remove (same_key key) program old.cache.runs old.cache.capacity old.cache.bound h.cached;
       }
 
-  give_run : (held : Claim) (run : HeldRun) (answer : Answer) (new : HostView) → IsReplayed program run.events → give_step old held run answer new → IsHost program new
+  give_run : (held : Claim) (run : HeldRun) (answer : GiveReply) (new : HostView) → IsReplayed program run.events → give_step old held run answer new → IsHost program new
   give_run held run (IsNotHeld back) new replayed s = subst (IsHost program) (sym s.2) h
   give_run held run (IsMarked back) new replayed s = subst (IsHost program) (sym s.2) h
   give_run held run (IsPut reply) new replayed s = subst (IsHost program) (sym s.2) (with_cache new.cache (Puts-keeps program old.cache run new.cache reply h.cached replayed s.1))
 
   -- each step keeps what holds of every state
-  pub step-keeps : (e : Event) (new : HostView) → GivesReplayed program e → step old e new → IsHost program new
+  pub step-keeps : (e : Call) (new : HostView) → GivesReplayed program e → step old e new → IsHost program new
   step-keeps (Reserve Workflow (Ok permit)) new given s = subst (IsHost program) (sym s.1) (reserve_workflow new.workflow permit s.0)
   step-keeps (Reserve Workflow (Err fault)) new given s = subst (IsHost program) (sym s.1) h
   step-keeps (Reserve Activity (Ok permit)) new given s = subst (IsHost program) (sym s.1) (reserve_activity new.activity permit s.0)
@@ -303,12 +303,12 @@ module _ {S : Type 0} (program : Program S) (old : HostView) (h : IsHost program
   step-keeps (ReadCounts reply) new given s = subst (IsHost program) (sym s.1) h
 
 -- so does a list of steps
-pub Steps-keep : {S : Type 0} (program : Program S) (old : HostView) (es : List Event) (new : HostView) → IsHost program old → AllReplayedGiven program es → Steps old es new → IsHost program new
+pub Steps-keep : {S : Type 0} (program : Program S) (old : HostView) (es : List Call) (new : HostView) → IsHost program old → AllReplayedGiven program es → Steps old es new → IsHost program new
 Steps-keep program old [] new h given s = subst (IsHost program) (sym s) h
 Steps-keep program old (e ∷ es) new h given s = Steps-keep program s.0 es new (step-keeps program old h e s.0 given.0 s.1) given.1 s.2
 
 -- each step counts what its call says
-step-counts : (old : HostView) (e : Event) (new : HostView) → step old e new → new.books ≡ tallied e old.books
+step-counts : (old : HostView) (e : Call) (new : HostView) → step old e new → new.books ≡ tallied e old.books
 step-counts old (Reserve Workflow (Ok permit)) new s = ap (λ (v : HostView). v.books) s.1
 step-counts old (Reserve Workflow (Err fault)) new s = ap (λ (v : HostView). v.books) s.1
 step-counts old (Reserve Activity (Ok permit)) new s = ap (λ (v : HostView). v.books) s.1
@@ -332,7 +332,7 @@ step-counts old Drain new s = ap (λ (v : HostView). v.books) s
 step-counts old (ReadCounts reply) new s = ap (λ (v : HostView). v.books) s.1
 
 -- a list of steps counts its accepted uses, and its accepted finishes by outcome
-pub Steps-count : (old : HostView) (es : List Event) (new : HostView) → Steps old es new → new.books ≡ tally_from old.books es
+pub Steps-count : (old : HostView) (es : List Call) (new : HostView) → Steps old es new → new.books ≡ tally_from old.books es
 Steps-count old [] new s = ap (λ (v : HostView). v.books) s
 Steps-count old (e ∷ es) new s = Steps-count s.0 es new s.2 ∙ ap (λ (c : Shares). tally_from c es) (step-counts old e s.0 s.1)
 

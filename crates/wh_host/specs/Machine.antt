@@ -15,7 +15,7 @@ use Rattle.wh_events.specs.declared.key.RunKey.{RunKey}
 use Rattle.wh_events.specs.Keys.{same_key}
 use Rattle.wh_workflow.specs.Law.{Program}
 use Rattle.wh_replay.specs.Runs.{Held as HeldRun, IsReplayed}
-use Rattle.wh_cache.specs.Cache.{CacheView, cache_view, held_of, held_by, IsSound, Puts, Reply, reply_of}
+use Rattle.wh_cache.specs.Cache.{CacheView, cache_view, held_of, held_by, IsSound, Puts, PutReply, put_reply_of}
 use Rattle.wh_ledger.specs.declared.Shares.{Shares}
 use Rattle.wh_ledger.specs.Shares.{no_shares}
 use Rattle.wh_host.specs.declared.config.Config.{Config}
@@ -109,28 +109,28 @@ table_of v Workflow = v.workflow
 table_of v Activity = v.activity
 
 -- what is answered to a run that is given back
-pub data Answer : Type 0 where
-  IsPut : Reply → Answer
-  IsMarked : HeldRun → Answer
-  IsNotHeld : HeldRun → Answer
+pub data GiveReply : Type 0 where
+  IsPut : PutReply → GiveReply
+  IsMarked : HeldRun → GiveReply
+  IsNotHeld : HeldRun → GiveReply
 
 -- what contracts see of an answer of `give_run`
-abbrev pub answer_of : {W S : Type 0} → Given W S → Answer
-answer_of (Put put) = IsPut (reply_of put)
-answer_of (Marked back) = IsMarked back
-answer_of (NoPlace back) = IsNotHeld back
+abbrev pub give_reply_of : {W S : Type 0} → Given W S → GiveReply
+give_reply_of (Put put) = IsPut (put_reply_of put)
+give_reply_of (Marked back) = IsMarked back
+give_reply_of (NoPlace back) = IsNotHeld back
 
 -- a call under the lock, with what was handed in and its reply
-pub data Event : Type 0 where
-  Reserve : SlotKind → Result Claim ReserveFault → Event
-  Release : Claim → Result (Unit {0}) (Claim × NotReserved) → Event
-  UseWorkflow : Claim → TaskName → RunKey → Result (Claim × Option HeldRun) (Claim × RunKey × UseFault) → Event
-  UseActivity : Claim → TaskName → Result Claim (Claim × UseFault) → Event
-  GiveRun : Claim → HeldRun → Answer → Event
-  Finish : Claim → Outcome → Result (Unit {0}) (Claim × NotHeld) → Event
-  EvictRun : RunKey → Evict → Event
-  Drain : Event
-  ReadCounts : Counts → Event
+pub data Call : Type 0 where
+  Reserve : SlotKind → Result Claim ReserveFault → Call
+  Release : Claim → Result (Unit {0}) (Claim × NotReserved) → Call
+  UseWorkflow : Claim → TaskName → RunKey → Result (Claim × Option HeldRun) (Claim × RunKey × UseFault) → Call
+  UseActivity : Claim → TaskName → Result Claim (Claim × UseFault) → Call
+  GiveRun : Claim → HeldRun → GiveReply → Call
+  Finish : Claim → Outcome → Result (Unit {0}) (Claim × NotHeld) → Call
+  EvictRun : RunKey → Evict → Call
+  Drain : Call
+  ReadCounts : Counts → Call
 
 -- another place at an index
 abbrev pub with_place : Table → ℕ → Place → Table
@@ -206,7 +206,7 @@ HoldsRun v held key evicted =
 
 -- the run comes back where no workflow place is held under the number with the run's key, or where
 -- that place is marked; else it is put into the cache
-abbrev pub give_step : HostView → Claim → HeldRun → Answer → HostView → Type 0
+abbrev pub give_step : HostView → Claim → HeldRun → GiveReply → HostView → Type 0
 give_step old held run (IsNotHeld back) new =
     ((evicted : Bool) → ¬ HoldsRun old held run.key evicted) × (back ≡ run) × (new ≡ old)
 give_step old held run (IsMarked back) new = HoldsRun old held run.key true × (back ≡ run) × (new ≡ old)
@@ -272,7 +272,7 @@ finishes old Activity number outcome new =
 
 -- the call leads from the old state to the new one; a refusal hands back what was moved in, and
 -- changes nothing
-abbrev pub step : HostView → Event → HostView → Type 0
+abbrev pub step : HostView → Call → HostView → Type 0
 step old (Reserve kind reply) new = reserve_step old kind reply new
 step old (Release permit reply) new = release_step old permit.0 permit reply new
 step old (UseWorkflow permit name key reply) new =
@@ -300,30 +300,30 @@ step old Drain new =
     }
 
 -- a list of calls leads from one state to another
-abbrev pub Steps : HostView → List Event → HostView → Type 0
+abbrev pub Steps : HostView → List Call → HostView → Type 0
 Steps old [] new = new ≡ old
 Steps old (e ∷ es) new = (next : HostView) × step old e next × Steps next es new
 
 -- a run that is given back is what replay of its events gives
-abbrev pub GivesReplayed : {S : Type 0} → Program S → Event → Type 0
+abbrev pub GivesReplayed : {S : Type 0} → Program S → Call → Type 0
 GivesReplayed program (GiveRun held run reply) = IsReplayed program run.events
 GivesReplayed program _ = Unit {0}
 
 -- so is each run that the calls give back
-abbrev pub AllReplayedGiven : {S : Type 0} → Program S → List Event → Type 0
+abbrev pub AllReplayedGiven : {S : Type 0} → Program S → List Call → Type 0
 AllReplayedGiven program [] = Unit {0}
 AllReplayedGiven program (e ∷ es) = GivesReplayed program e × AllReplayedGiven program es
 
 -- the books after a call: an accepted use is a task taken, an accepted finish one completed or
 -- failed
-abbrev pub tallied : Event → Shares → Shares
+abbrev pub tallied : Call → Shares → Shares
 tallied (UseWorkflow permit name key (Ok r)) s = with_taken s
 tallied (UseActivity permit name (Ok r)) s = with_taken s
 tallied (Finish held outcome (Ok u)) s = with_outcome outcome s
 tallied _ s = s
 
 -- the books after a list of calls
-abbrev pub tally_from : Shares → List Event → Shares
+abbrev pub tally_from : Shares → List Call → Shares
 tally_from s [] = s
 tally_from s (e ∷ es) = tally_from (tallied e s) es
 
@@ -331,11 +331,11 @@ tally_from s (e ∷ es) = tally_from (tallied e s) es
 -- state
 abbrev pub StepsKeepHosts : {S : Type 0} → Program S → Type 0
 StepsKeepHosts program =
-    (config : Config) (calls : List Event) (end : HostView) → IsConfig config → AllReplayedGiven program calls
+    (config : Config) (calls : List Call) (end : HostView) → IsConfig config → AllReplayedGiven program calls
     → Steps (opening_of config) calls end → IsHost program end
 
 -- the books of a state that steps lead to are what those steps count
 abbrev pub StepsAreCounted : Type 0
 StepsAreCounted =
-    (config : Config) (calls : List Event) (end : HostView) → Steps (opening_of config) calls end
+    (config : Config) (calls : List Call) (end : HostView) → Steps (opening_of config) calls end
     → end.books ≡ tally_from no_shares calls

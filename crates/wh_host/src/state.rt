@@ -7,7 +7,7 @@ ghost use Rattle.wh_events.specs.Keys.{same_key};
 ghost use Rattle.wh_cache.specs.Cache.{held_of};
 ghost use Rattle.wh_ledger.specs.Shares.{no_shares, sums_of, IsWithin};
 ghost use Rattle.wh_host.specs.Machine.{IsConfig, IsHost, in_hand, totals_of, opening_of, step};
-ghost use Rattle.wh_host.specs.Machine.{with_taken, with_outcome, books_of, answer_of, evicted_for};
+ghost use Rattle.wh_host.specs.Machine.{with_taken, with_outcome, books_of, give_reply_of, evicted_for};
 ghost use Rattle.wh_host.specs.Machine.{has_key, has_mark, is_marked_at, Reserve, Release};
 ghost use Rattle.wh_host.specs.Machine.{UseWorkflow, UseActivity, GiveRun, EvictRun, Finish, Drain};
 ghost use Rattle.wh_host.specs.Machine.{ReadCounts};
@@ -182,7 +182,7 @@ impl<W: Workflow, T: Ledger, C: Ledger, F: Ledger> HostState<W, T, C, F> {
     /// workflow place is held under the number with the run's key, and else as `Marked` where that
     /// place is marked for eviction.
     pub fn give_run(&mut self, held: &Held, run: Run<W>) -> Given<W>
-        ensures { step self.old (GiveRun held.now run (answer_of result)) self.new }
+        ensures { step self.old (GiveRun held.now run (give_reply_of result)) self.new }
     {
         let Some(at) = self.workflow.place_of(held) else {
             return Given::NotHeld(run);
