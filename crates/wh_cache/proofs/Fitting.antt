@@ -11,7 +11,7 @@ use Rattle.wh_events.specs.declared.key.RunKey.{RunKey}
 use Rattle.wh_events.specs.Keys.{same_key, same_key-true}
 use Rattle.wh_workflow.specs.Law.{Program}
 use Rattle.wh_replay.specs.Runs.{Held, IsReplayed}
-use Rattle.wh_cache.specs.Cache.{CacheView, Entry, entry_of, held_by, AllReplayed, Fits, FitMost, IsSound, KeepsMost, Enters, with_first, fitting, Reply, IsKept, HasPushedOut, IsOff, IsShort, IsLarge, HasNoMemory, Puts}
+use Rattle.wh_cache.specs.Cache.{CacheView, Entry, entry_of, held_by, AllReplayed, Fits, FitMost, IsSound, KeepsMost, Enters, with_first, fitting, PutReply, IsKept, HasPushedOut, IsOff, IsShort, IsLarge, HasNoMemory, Puts}
 use Rattle.wh_cache.proofs.Runs.{held_by-append, held_by-remove_le, AllReplayed-remove, IsDistinct-remove}
 
 -- the runs of other keys
@@ -235,7 +235,7 @@ IsSound-enters : {S : Type 0} (program : Program S) (old : CacheView) (run : Hel
 IsSound-enters program old run new gone sound replayed e = IsSound-same program _ new e.same (IsSound-first program old (entry_of run) new.runs (map entry_of gone) sound replayed e.keeps)
 
 -- whatever the answer, the cache stays sound
-pub Puts-keeps : {S : Type 0} (program : Program S) (old : CacheView) (run : Held) (new : CacheView) (reply : Reply) → IsSound program old → IsReplayed program run.events → Puts old run new reply → IsSound program new
+pub Puts-keeps : {S : Type 0} (program : Program S) (old : CacheView) (run : Held) (new : CacheView) (reply : PutReply) → IsSound program old → IsReplayed program run.events → Puts old run new reply → IsSound program new
 Puts-keeps program old run new IsKept sound replayed p = IsSound-enters program old run new [] sound replayed p
 Puts-keeps program old run new (HasPushedOut gone) sound replayed p = IsSound-enters program old run new gone sound replayed p.0
 Puts-keeps program old run new (IsOff back) sound replayed p = IsSound-same program old new p.2 sound

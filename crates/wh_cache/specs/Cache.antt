@@ -22,7 +22,8 @@ entry_of run = (run.key, run.events)
 abbrev pub held_of : Entry → Held
 held_of entry = record { key = entry.0; events = entry.1 }
 
--- the runs, the most recently used first, and the bounds on their number and, unless it is 0, on their held events together
+-- the runs, the most recently used first, and the bounds on their number and, unless it is 0, on
+-- their held events together
 pub record CacheView : Type 0 where
   pub runs : List Entry
   pub capacity : ℕ
@@ -57,10 +58,12 @@ pub record IsSound {S : Type 0} (program : Program S) (c : CacheView) : Type 0 w
 abbrev pub with_first : Entry → List Entry → List Entry
 with_first run runs = run ∷ remove_entry (same_key run.0) runs
 
--- how many runs fit, from the front on, where there is room for so many runs and so many events are left
+-- how many runs fit, from the front on, where there is room for so many runs and so many events are
+-- left
 abbrev pub fitting : ℕ → ℕ → List Entry → ℕ
 fitting room left [] = 0
-fitting room left (r ∷ rs) = cond (room == 0 || nat_lt left (length r.1)) 0 (fitting (room - 1) (left - length r.1) rs + 1)
+fitting room left (r ∷ rs) =
+    cond (room == 0 || nat_lt left (length r.1)) 0 (fitting (room - 1) (left - length r.1) rs + 1)
 
 -- the first n runs fit, and no longer beginning does
 pub record FitMost (c : CacheView) (runs : List Entry) (n : ℕ) : Type 0 where
@@ -75,7 +78,8 @@ pub record KeepsMost (c : CacheView) (all kept gone : List Entry) : Type 0 where
 
 -- the cached run of the key holds at least as many events
 abbrev pub IsShorter : CacheView → Held → Type 0
-IsShorter c run = (held : List Event) × (lookup (same_key run.key) c.runs ≡ Some held) × (length run.events ≤ length held)
+IsShorter c run =
+    (held : List Event) × (lookup (same_key run.key) c.runs ≡ Some held) × (length run.events ≤ length held)
 
 -- there is a bound on held events, and the run alone holds more
 abbrev pub IsTooLarge : CacheView → Held → Type 0
@@ -85,35 +89,43 @@ IsTooLarge c run = (c.bound ≢ 0) × (c.bound < length run.events)
 abbrev pub MayEnter : CacheView → Held → Type 0
 MayEnter c run = (c.capacity ≢ 0) × (¬ IsShorter c run) × (¬ IsTooLarge c run)
 
--- the run becomes the first, the one of its key goes, and runs go from the back until both bounds hold
+-- the run becomes the first, the one of its key goes, and runs go from the back until both bounds
+-- hold
 pub record Enters (old : CacheView) (run : Held) (new : CacheView) (gone : List Held) : Type 0 where
   pub may : MayEnter old run
   pub same : new ≡ record old { runs = new.runs }
   pub keeps : KeepsMost old (with_first (entry_of run) old.runs) new.runs (map entry_of gone)
 
+-- the key is not cached, or a run has to go
+abbrev pub NeedsMemory : CacheView → Held → Type 0
+NeedsMemory old run =
+    (lookup (same_key run.key) old.runs ≡ None) ⊎ (¬ Fits old.capacity old.bound (with_first (entry_of run) old.runs))
+
 -- an answer of `put`, with the runs that it hands back
-pub data Reply : Type 0 where
-  IsKept : Reply
-  HasPushedOut : List Held → Reply
-  IsOff : Held → Reply
-  IsShort : Held → Reply
-  IsLarge : Held → Reply
-  HasNoMemory : Held → Reply
+pub data PutReply : Type 0 where
+  IsKept : PutReply
+  HasPushedOut : List Held → PutReply
+  IsOff : Held → PutReply
+  IsShort : Held → PutReply
+  IsLarge : Held → PutReply
+  HasNoMemory : Held → PutReply
 
-abbrev pub reply_of : {W S : Type 0} → Put W S → Reply
-reply_of Kept = IsKept
-reply_of (PushedOut gone) = HasPushedOut gone
-reply_of (Off back) = IsOff back
-reply_of (Shorter back) = IsShort back
-reply_of (TooLarge back) = IsLarge back
-reply_of (NoMemory back) = HasNoMemory back
+abbrev pub put_reply_of : {W S : Type 0} → Put W S → PutReply
+put_reply_of Kept = IsKept
+put_reply_of (PushedOut gone) = HasPushedOut gone
+put_reply_of (Off back) = IsOff back
+put_reply_of (Shorter back) = IsShort back
+put_reply_of (TooLarge back) = IsLarge back
+put_reply_of (NoMemory back) = HasNoMemory back
 
--- what `put` does, by its answer: each answer stands exactly where those before it don't, and want of memory only where the key is not cached or a run has to go
-abbrev pub Puts : CacheView → Held → CacheView → Reply → Type 0
+-- what `put` does, by its answer: each answer stands exactly where those before it don't, and want
+-- of memory only where memory is needed
+abbrev pub Puts : CacheView → Held → CacheView → PutReply → Type 0
 Puts old run new IsKept = Enters old run new []
 Puts old run new (HasPushedOut gone) = Enters old run new gone × (gone ≢ [])
 Puts old run new (IsOff back) = (old.capacity ≡ 0) × (back ≡ run) × (new ≡ old)
 Puts old run new (IsShort back) = (old.capacity ≢ 0) × IsShorter old run × (back ≡ run) × (new ≡ old)
-Puts old run new (IsLarge back) = (old.capacity ≢ 0) × (¬ IsShorter old run) × IsTooLarge old run × (back ≡ run) × (new ≡ old)
+Puts old run new (IsLarge back) =
+    (old.capacity ≢ 0) × (¬ IsShorter old run) × IsTooLarge old run × (back ≡ run) × (new ≡ old)
 Puts old run new (HasNoMemory back) =
-    MayEnter old run × ((lookup (same_key run.key) old.runs ≡ None) ⊎ (¬ Fits old.capacity old.bound (with_first (entry_of run) old.runs))) × (back ≡ run) × (new ≡ old)
+    MayEnter old run × NeedsMemory old run × (back ≡ run) × (new ≡ old)

@@ -1,12 +1,17 @@
-//! A sticky cache: runs of workflows kept between their tasks, bounded by their number and by the events that they hold.
+//! A sticky cache: runs of workflows kept between their tasks, bounded by their number and by the
+//! events that they hold.
 #![tactic(auto)]
 
-ghost use Rattle.std.specs.Prelude.{◌≡◌, ◌≢◌, ◌↔◌, ◌≤◌, ◌<◌, ◌+◌, ◌-◌, ◌++◌, [], None, IsTrue, IfOk, IfErr, MatchOption, OnOk, length, map, reverse, is_some, option_map, vec_capacity};
+ghost use Rattle.std.specs.Prelude.{◌≡◌, ◌≢◌, ◌↔◌, ◌≤◌, ◌<◌, ◌+◌, ◌-◌, ◌++◌, [], None, IsTrue};
+ghost use Rattle.std.specs.Prelude.{IfOk, IfErr, MatchOption, OnOk, OnErr, length, map, reverse};
+ghost use Rattle.std.specs.Prelude.{is_some, option_map, vec_capacity};
 ghost use Rattle.std.specs.Map.{keys_of, lookup, lookup_entry, remove_entry};
 ghost use Rattle.std.specs.List.{IsDistinct};
 ghost use Rattle.wh_events.specs.Keys.{same_key};
 ghost use Rattle.wh_replay.specs.Runs.{IsReplayed};
-ghost use Rattle.wh_cache.specs.Cache.{cache_view, entry_of, held_of, held_by, IsSound, IsShorter, IsTooLarge, MayEnter, FitMost, with_first, fitting, reply_of, Puts};
+ghost use Rattle.wh_cache.specs.Cache.{cache_view, entry_of, held_of, held_by, IsSound, IsShorter};
+ghost use Rattle.wh_cache.specs.Cache.{IsTooLarge, MayEnter, Enters, NeedsMemory, FitMost};
+ghost use Rattle.wh_cache.specs.Cache.{with_first, fitting, put_reply_of, Puts};
 
 use lru::LruCache;
 use std::alloc::Global;
@@ -22,7 +27,8 @@ pub const MOST_RUNS: usize = 10_000;
 /// The largest bound on the events that the cached runs hold together.
 pub const MOST_CACHED_EVENTS: u64 = 512_000_000;
 
-/// What became of a run that was put into the cache. The last four hand it back and leave the cache as it was.
+/// What became of a run that was put into the cache. The last four hand it back and leave the cache
+/// as it was.
 #[derive(Drop)]
 pub enum Put<W: Workflow> {
     /// The run is the first one, and no run had to go.
@@ -35,13 +41,14 @@ pub enum Put<W: Workflow> {
     Shorter(Run<W>),
     /// The run alone holds more events than the cache may hold.
     TooLarge(Run<W>),
-    /// No memory was found, for a run of a key that is not cached or for the list of the runs that have to go.
+    /// No memory was found, for a run of a key that is not cached or for the list of the runs that
+    /// have to go.
     NoMemory(Run<W>),
 }
 
-/// The cached runs of a worker, which saves the replay of a workflow from its first event where its next task comes to the
-/// same worker ("sticky execution" in Temporal's documentation). Contracts see the runs, the most recently used first, with both
-/// bounds.
+/// The cached runs of a worker, which saves the replay of a workflow from its first event where its
+/// next task comes to the same worker ("sticky execution" in Temporal's documentation). Contracts
+/// see the runs, the most recently used first, with both bounds.
 #[derive(Drop)]
 pub struct Sticky<W: Workflow> {
     alloc: Global,
@@ -59,12 +66,15 @@ impl<W: Workflow> Model for Sticky<W> {
 
     ghost view = { λ s. cache_view s.runs.entries s.capacity s.bound };
 
-    ghost invariant = { λ s. (s.runs.cap ≡ s.capacity + 1) × (s.held ≡ held_by s.runs.entries) × IsSound W.program (cache_view s.runs.entries s.capacity s.bound) };
+    ghost invariant = { λ s.
+        (s.runs.cap ≡ s.capacity + 1)
+        × (s.held ≡ held_by s.runs.entries)
+        × IsSound W.program (cache_view s.runs.entries s.capacity s.bound) };
 }
 
 impl<W: Workflow> Sticky<W> {
-    /// An empty cache of at most `capacity` runs, none where it is 0. Where `events` is not 0, the cached runs hold at most so
-    /// many events together. `OutOfMemory` where no room was found.
+    /// An empty cache of at most `capacity` runs, none where it is 0. Where `events` is not 0, the
+    /// cached runs hold at most so many events together. `OutOfMemory` where no room was found.
     pub fn open(alloc: Global, capacity: usize, events: u64) -> Result<Self, OutOfMemory>
         requires capacity { capacity ≤ MOST_RUNS }
         requires events { events ≤ MOST_CACHED_EVENTS }
@@ -109,7 +119,8 @@ impl<W: Workflow> Sticky<W> {
         Some(history.len())
     }
 
-    /// How many runs are cached. Both bounds hold, no two runs have one key, and each is what replay of its held events gives.
+    /// How many runs are cached. Both bounds hold, no two runs have one key, and each is what
+    /// replay of its held events gives.
     pub fn len(&self) -> usize
         ensures len { result ≡ length self.now.runs }
         ensures sound { IsSound W.program self.now }
@@ -124,10 +135,11 @@ impl<W: Workflow> Sticky<W> {
         self.held
     }
 
-    /// Puts a run in front, in place of the one of its key, and drops runs from the back until both bounds hold. Else the run
-    /// comes back, and the cache stays as it was: `Off`, `Shorter`, `TooLarge` and `NoMemory` are tried in this order.
+    /// Puts a run in front, in place of the one of its key, and drops runs from the back until both
+    /// bounds hold. Else the run comes back, and the cache stays as it was: `Off`, `Shorter`,
+    /// `TooLarge` and `NoMemory` are tried in this order.
     pub fn put(&mut self, run: Run<W>) -> Put<W>
-        ensures { Puts self.old run self.new (reply_of result) }
+        ensures { Puts self.old run self.new (put_reply_of result) }
     {
         if self.capacity == 0 {
             return Put::Off(run);
@@ -138,21 +150,32 @@ impl<W: Workflow> Sticky<W> {
         if self.is_too_large(&run) {
             return Put::TooLarge(run);
         }
-        let going = self.going(&run);
-        let Some(mut gone) = room_for(self.alloc, going) else {
-            return Put::NoMemory(run);
-        };
-        if let Err(run) = put_first(&mut self.runs, &mut self.held, run) {
-            return Put::NoMemory(run);
+        match self.enter(run) {
+            Ok(gone) if gone.is_empty() => Put::Kept,
+            Ok(gone) => Put::PushedOut(Items::new(gone)),
+            Err(run) => Put::NoMemory(run),
         }
-        push_out(&mut self.runs, &mut self.held, going, &mut gone);
-        if going == 0 {
-            return Put::Kept;
-        }
-        Put::PushedOut(Items::new(gone))
     }
 
-    // Whether the cached run of the key holds at least as many events.
+    /// Puts a run in front that the cache takes, in place of the one of its key, and hands out those
+    /// that have to go, the least recently used first. The run comes back where no memory was found.
+    fn enter(&mut self, run: Run<W>) -> Result<Vec<Run<W>>, Run<W>>
+        requires { MayEnter self.old run }
+        ensures entered { IfOk result (λ gone. Enters self.old run self.new gone.items) }
+        ensures back { IfErr result (λ back. back ≡ run) }
+        ensures needed { OnErr result (NeedsMemory self.old run) }
+        ensures unchanged { OnErr result (self.new ≡ self.old) }
+    {
+        let going = self.going(&run);
+        let Some(mut gone) = room_for(self.alloc, going) else {
+            return Err(run);
+        };
+        put_first(&mut self.runs, &mut self.held, run)?;
+        push_out(&mut self.runs, &mut self.held, going, &mut gone);
+        Ok(gone)
+    }
+
+    /// Whether the cached run of the key holds at least as many events.
     fn is_shorter(&self, run: &Run<W>) -> bool
         ensures { IsTrue result ↔ IsShorter self.now run.now }
     {
@@ -162,18 +185,20 @@ impl<W: Workflow> Sticky<W> {
         }
     }
 
-    // Whether the run alone holds more events than the bound.
+    /// Whether the run alone holds more events than the bound.
     fn is_too_large(&self, run: &Run<W>) -> bool
         ensures { IsTrue result ↔ IsTooLarge self.now run.now }
     {
         self.bound != 0 && self.bound < run.held_len() as u64
     }
 
-    // How many runs have to go, the last first, once this one is in front. It is what replay of its events gives.
+    /// How many runs have to go, the last first, once this one is in front. It is what replay of
+    /// its events gives.
     fn going(&self, run: &Run<W>) -> usize
         requires { MayEnter self.now run.now }
         ensures count { result < length (with_first (entry_of run.now) self.now.runs) }
-        ensures most { FitMost self.now (with_first (entry_of run.now) self.now.runs) (length (with_first (entry_of run.now) self.now.runs) - result) }
+        ensures most { FitMost self.now (with_first (entry_of run.now) self.now.runs)
+            (length (with_first (entry_of run.now) self.now.runs) - result) }
         ensures replayed { IsReplayed W.program run.now.events }
     {
         let left = room_beside(self.bound, run.held_len() as u64);
@@ -182,7 +207,7 @@ impl<W: Workflow> Sticky<W> {
         going_beside(&self.runs, run.key(), count, held, self.capacity - 1, left)
     }
 
-    // How many runs of other keys are cached. No two runs have one key.
+    /// How many runs of other keys are cached. No two runs have one key.
     fn others(&self, key: &RunKey) -> usize
         ensures distinct { IsDistinct same_key (keys_of self.now.runs) }
         ensures count { result ≡ length (remove_entry (same_key key.now) self.now.runs) }
@@ -194,7 +219,7 @@ impl<W: Workflow> Sticky<W> {
     }
 }
 
-// How many events fit beside these. Where there is no bound, all that a cache may hold do.
+/// How many events fit beside these. Where there is no bound, all that a cache may hold do.
 fn room_beside(bound: u64, added: u64) -> u64
     requires added { added ≤ MOST_EVENTS }
     requires bound { bound ≢ 0 → added ≤ bound }
@@ -204,7 +229,7 @@ fn room_beside(bound: u64, added: u64) -> u64
     if bound == 0 { u64::MAX } else { bound - added }
 }
 
-// Room for so many runs. None is needed for no run.
+/// Room for so many runs. None is needed for no run.
 fn room_for<W: Workflow>(alloc: Global, count: usize) -> Option<Vec<Run<W>>>
     ensures { MatchOption result (0 < count) (λ room. (room.items ≡ []) × (count ≤ vec_capacity room)) }
 {
@@ -215,7 +240,7 @@ fn room_for<W: Workflow>(alloc: Global, count: usize) -> Option<Vec<Run<W>>>
     Some(room)
 }
 
-// Puts the run in front, in place of the one of its key, which takes no memory where there is one.
+/// Puts the run in front, in place of the one of its key, which takes no memory where there is one.
 fn put_first<W: Workflow>(
     runs: &mut LruCache<RunKey, ReplayedHistory<W>>,
     held: &mut u64,
@@ -226,7 +251,9 @@ fn put_first<W: Workflow>(
     ensures runs { OnOk result (runs.new.entries ≡ with_first (entry_of run) runs.old.entries) }
     ensures held { OnOk result (held.new ≡ held_by runs.new.entries) }
     ensures cap { runs.new.cap ≡ runs.old.cap }
-    ensures refused { IfErr result (λ back. (back ≡ run) × (lookup (same_key run.key) runs.old.entries ≡ None) × (runs.new ≡ runs.old) × (held.new ≡ held.old)) }
+    ensures refused { IfErr result (λ back. back ≡ run) }
+    ensures missing { OnErr result (lookup (same_key run.key) runs.old.entries ≡ None) }
+    ensures unchanged { OnErr result ((runs.new ≡ runs.old) × (held.new ≡ held.old)) }
 {
     let added = run.held_len() as u64;
     let replaced = replaced_len(runs, run.key());
@@ -243,7 +270,7 @@ fn put_first<W: Workflow>(
     }
 }
 
-// How many events the run of the key holds, 0 where there is none.
+/// How many events the run of the key holds, 0 where there is none.
 fn replaced_len<W: Workflow>(runs: &LruCache<RunKey, ReplayedHistory<W>>, key: &RunKey) -> u64
     ensures held { held_by (remove_entry (same_key key.now) runs.now.entries) + result ≡ held_by runs.now.entries }
     ensures most { result ≤ MOST_EVENTS }
@@ -254,8 +281,9 @@ fn replaced_len<W: Workflow>(runs: &LruCache<RunKey, ReplayedHistory<W>>, key: &
     }
 }
 
-// How many of the other runs, `count` with `held` events, have to go beside one of this key, the last first, where `room` runs
-// with `left` events fit. It visits those that go, and at most the run of the key besides.
+/// How many of the other runs, `count` with `held` events, have to go beside one of this key, the
+/// last first, where `room` runs with `left` events fit. It visits those that go, and at most the
+/// run of the key besides.
 fn going_beside<W: Workflow>(
     runs: &LruCache<RunKey, ReplayedHistory<W>>,
     key: &RunKey,
@@ -267,7 +295,8 @@ fn going_beside<W: Workflow>(
     requires distinct { IsDistinct same_key (keys_of runs.now.entries) }
     requires count { count ≡ length (remove_entry (same_key key.now) runs.now.entries) }
     requires held { held ≡ held_by (remove_entry (same_key key.now) runs.now.entries) }
-    ensures { result + fitting room left (remove_entry (same_key key.now) runs.now.entries) ≡ length (remove_entry (same_key key.now) runs.now.entries) }
+    ensures { result + fitting room left (remove_entry (same_key key.now) runs.now.entries)
+        ≡ length (remove_entry (same_key key.now) runs.now.entries) }
 {
     let mut count = count;
     let mut held = held;
@@ -287,7 +316,7 @@ fn going_beside<W: Workflow>(
     going
 }
 
-// Moves the last runs out, the least recently used first.
+/// Moves the last runs out, the least recently used first.
 fn push_out<W: Workflow>(
     runs: &mut LruCache<RunKey, ReplayedHistory<W>>,
     held: &mut u64,

@@ -26,7 +26,7 @@ use Rattle.wh_ledger.specs.declared.Shares.{Shares}
 use Rattle.wh_host.specs.declared.state.Mark.{Mark}
 use Rattle.wh_host.specs.declared.reply.Outcome.{Outcome}
 use Rattle.wh_host.specs.declared.reply.Outcome.TheVariants.{Completed, Failed}
-use Rattle.wh_host.specs.Machine.{Claim, HostView, host_view, opening, AllMarked, IsHost, Event, Reserve, Release, UseWorkflow, UseActivity, GiveRun, EvictRun, Finish, Drain, ReadCounts, Answer, IsPut, IsMarked, IsNotHeld, GivesReplayed, AllReplayedGiven, tallied, tally_from, evicted_for, step, Steps, with_outcome, finishes, reserve_step, release_step, give_step}
+use Rattle.wh_host.specs.Machine.{Claim, HostView, host_view, opening, AllMarked, IsHost, Call, Reserve, Release, UseWorkflow, UseActivity, GiveRun, EvictRun, Finish, Drain, ReadCounts, GiveReply, IsPut, IsMarked, IsNotHeld, GivesReplayed, AllReplayedGiven, tallied, tally_from, evicted_for, step, Steps, with_outcome, finishes, reserve_step, release_step, give_step}
 
 pub AllMarked-set : (places : List Place) (marks : List (Option Mark)) (i : ℕ) (p : Place) (m : Option Mark) → AllMarked places marks → is_any_held p ≡ is_some m → AllMarked (slice_set places i p) (slice_set marks i m)
 AllMarked-set [] [] i p m all same = all
@@ -50,13 +50,13 @@ AllMarked-evicted key (p ∷ ps) [] all = absurd all
 AllMarked-evicted key (p ∷ ps) (None ∷ ms) all = (all.0, AllMarked-evicted key ps ms all.1)
 AllMarked-evicted key (p ∷ ps) (Some m ∷ ms) all = (all.0, AllMarked-evicted key ps ms all.1)
 
-outcome_taken : (outcome : Outcome) (counts : Shares) → (with_outcome outcome counts).taken ≡ counts.taken
-outcome_taken Completed counts = refl
-outcome_taken Failed counts = refl
+outcome_taken : (outcome : Outcome) (books : Shares) → (with_outcome outcome books).taken ≡ books.taken
+outcome_taken Completed books = refl
+outcome_taken Failed books = refl
 
-outcome_ended : (outcome : Outcome) (counts : Shares) → (with_outcome outcome counts).completed + (with_outcome outcome counts).failed ≡ counts.completed + counts.failed + 1
-outcome_ended Completed counts = omega arith
-outcome_ended Failed counts = omega arith
+outcome_ended : (outcome : Outcome) (books : Shares) → (with_outcome outcome books).completed + (with_outcome outcome books).failed ≡ books.completed + books.failed + 1
+outcome_ended Completed books = omega arith
+outcome_ended Failed books = omega arith
 
 module _ {S : Type 0} (program : Program S) (old : HostView) (h : IsHost program old) where
   pub reserve_workflow : (t : Table) (permit : Claim) → Reserves old.workflow t permit → IsHost program (record old { workflow = t })
@@ -106,7 +106,7 @@ module _ {S : Type 0} (program : Program S) (old : HostView) (h : IsHost program
   reserve_either_activity t (Err fault) s same = subst (λ (x : Table). IsHost program (record old { activity = x })) (sym same) h
 
   pub use_place : (i number : ℕ) (name : TaskName) (key : RunKey) → slice_get old.workflow.places i ≡ Some (Reserved number) → (IsNamed old.workflow name → ⊥)
-      → IsHost program (host_view (record old.workflow { places = slice_set old.workflow.places i (InHand number name) }) old.activity (slice_set old.marks i (Some (record { key = key; evicted = false }))) (record old.cache { runs = remove_entry (same_key key) old.cache.runs }) (record old.counts { taken = old.counts.taken + 1 }))
+      → IsHost program (host_view (record old.workflow { places = slice_set old.workflow.places i (InHand number name) }) old.activity (slice_set old.marks i (Some (record { key = key; evicted = false }))) (record old.cache { runs = remove_entry (same_key key) old.cache.runs }) (record old.books { taken = old.books.taken + 1 }))
   use_place i number name key at fresh =
       let held = count_by-set_at is_any_held old.workflow.places i (Reserved number) (InHand number name) at in
       let reserved = count_by-set_at is_any_reserved old.workflow.places i (Reserved number) (InHand number name) at in
@@ -124,14 +124,14 @@ module _ {S : Type 0} (program : Program S) (old : HostView) (h : IsHost program
       }
 
   pub free_place : (i number : ℕ) (name : TaskName) (outcome : Outcome) → slice_get old.workflow.places i ≡ Some (InHand number name)
-      → IsHost program (host_view (record old.workflow { places = slice_set old.workflow.places i Free }) old.activity (slice_set old.marks i None) old.cache (with_outcome outcome old.counts))
+      → IsHost program (host_view (record old.workflow { places = slice_set old.workflow.places i Free }) old.activity (slice_set old.marks i None) old.cache (with_outcome outcome old.books))
   free_place i number name outcome at =
       let held = count_by-set_at is_any_held old.workflow.places i (InHand number name) Free at in
       let reserved = count_by-set_at is_any_reserved old.workflow.places i (InHand number name) Free at in
       let counted = h.counted in
       let numbered = h.numbered in
-      let taken = outcome_taken outcome old.counts in
-      let ended = outcome_ended outcome old.counts in
+      let taken = outcome_taken outcome old.books in
+      let ended = outcome_ended outcome old.books in
       record {
         workflow = IsTable-free old.workflow.kind old.workflow.places old.workflow.next old.workflow.draining i h.workflow;
         activity = h.activity;
@@ -144,14 +144,14 @@ module _ {S : Type 0} (program : Program S) (old : HostView) (h : IsHost program
       }
 
   pub free_activity : (i number : ℕ) (name : TaskName) (outcome : Outcome) → slice_get old.activity.places i ≡ Some (InHand number name)
-      → IsHost program (host_view old.workflow (record old.activity { places = slice_set old.activity.places i Free }) old.marks old.cache (with_outcome outcome old.counts))
+      → IsHost program (host_view old.workflow (record old.activity { places = slice_set old.activity.places i Free }) old.marks old.cache (with_outcome outcome old.books))
   free_activity i number name outcome at =
       let held = count_by-set_at is_any_held old.activity.places i (InHand number name) Free at in
       let reserved = count_by-set_at is_any_reserved old.activity.places i (InHand number name) Free at in
       let counted = h.counted in
       let numbered = h.numbered in
-      let taken = outcome_taken outcome old.counts in
-      let ended = outcome_ended outcome old.counts in
+      let taken = outcome_taken outcome old.books in
+      let ended = outcome_ended outcome old.books in
       record {
         workflow = h.workflow;
         activity = IsTable-free old.activity.kind old.activity.places old.activity.next old.activity.draining i h.activity;
@@ -233,14 +233,14 @@ module _ {S : Type 0} (program : Program S) (old : HostView) (h : IsHost program
   finish_either Workflow number outcome new s = subst (IsHost program) (sym s.3) (free_place s.0 number s.1 outcome s.2)
   finish_either Activity number outcome new s = subst (IsHost program) (sym s.3) (free_activity s.0 number s.1 outcome s.2)
 
-  pub use_activity : (t : Table) (permit : Claim) (name : TaskName) (held : Claim) → Uses old.activity t permit name held → IsHost program (record old { activity = t; counts = record old.counts { taken = old.counts.taken + 1 } })
+  pub use_activity : (t : Table) (permit : Claim) (name : TaskName) (held : Claim) → Uses old.activity t permit name held → IsHost program (record old { activity = t; books = record old.books { taken = old.books.taken + 1 } })
   use_activity t permit name held u =
       let i = u.place in
       let more = count_by-set_at is_any_held old.activity.places i (Reserved permit.1) (InHand permit.1 name) u.was_reserved in
       let reserved = count_by-set_at is_any_reserved old.activity.places i (Reserved permit.1) (InHand permit.1 name) u.was_reserved in
       let counted = h.counted in
       let numbered = h.numbered in
-      subst (λ (x : Table). IsHost program (record old { activity = x; counts = record old.counts { taken = old.counts.taken + 1 } })) (sym u.changed)
+      subst (λ (x : Table). IsHost program (record old { activity = x; books = record old.books { taken = old.books.taken + 1 } })) (sym u.changed)
       (record {
         workflow = h.workflow;
         activity = IsTable-use old.activity.kind old.activity.places old.activity.next old.activity.draining i permit.1 name u.was_reserved u.unnamed h.activity;
@@ -279,13 +279,13 @@ module _ {S : Type 0} (program : Program S) (old : HostView) (h : IsHost program
         cached = IsSound-remove (same_key key) program old.cache.runs old.cache.capacity old.cache.bound h.cached;
       }
 
-  give_run : (held : Claim) (run : HeldRun) (answer : Answer) (new : HostView) → IsReplayed program run.events → give_step old held run answer new → IsHost program new
+  give_run : (held : Claim) (run : HeldRun) (answer : GiveReply) (new : HostView) → IsReplayed program run.events → give_step old held run answer new → IsHost program new
   give_run held run (IsNotHeld back) new replayed s = subst (IsHost program) (sym s.2) h
   give_run held run (IsMarked back) new replayed s = subst (IsHost program) (sym s.2) h
   give_run held run (IsPut reply) new replayed s = subst (IsHost program) (sym s.2) (with_cache new.cache (Puts-keeps program old.cache run new.cache reply h.cached replayed s.1))
 
   -- each step keeps what holds of every state
-  pub step-keeps : (e : Event) (new : HostView) → GivesReplayed program e → step old e new → IsHost program new
+  pub step-keeps : (e : Call) (new : HostView) → GivesReplayed program e → step old e new → IsHost program new
   step-keeps (Reserve Workflow (Ok permit)) new given s = subst (IsHost program) (sym s.1) (reserve_workflow new.workflow permit s.0)
   step-keeps (Reserve Workflow (Err fault)) new given s = subst (IsHost program) (sym s.1) h
   step-keeps (Reserve Activity (Ok permit)) new given s = subst (IsHost program) (sym s.1) (reserve_activity new.activity permit s.0)
@@ -303,37 +303,37 @@ module _ {S : Type 0} (program : Program S) (old : HostView) (h : IsHost program
   step-keeps (ReadCounts reply) new given s = subst (IsHost program) (sym s.1) h
 
 -- so does a list of steps
-pub Steps-keep : {S : Type 0} (program : Program S) (old : HostView) (es : List Event) (new : HostView) → IsHost program old → AllReplayedGiven program es → Steps old es new → IsHost program new
+pub Steps-keep : {S : Type 0} (program : Program S) (old : HostView) (es : List Call) (new : HostView) → IsHost program old → AllReplayedGiven program es → Steps old es new → IsHost program new
 Steps-keep program old [] new h given s = subst (IsHost program) (sym s) h
 Steps-keep program old (e ∷ es) new h given s = Steps-keep program s.0 es new (step-keeps program old h e s.0 given.0 s.1) given.1 s.2
 
--- each step counts what its event says
-step-counts : (old : HostView) (e : Event) (new : HostView) → step old e new → new.counts ≡ tallied e old.counts
-step-counts old (Reserve Workflow (Ok permit)) new s = ap (λ (v : HostView). v.counts) s.1
-step-counts old (Reserve Workflow (Err fault)) new s = ap (λ (v : HostView). v.counts) s.1
-step-counts old (Reserve Activity (Ok permit)) new s = ap (λ (v : HostView). v.counts) s.1
-step-counts old (Reserve Activity (Err fault)) new s = ap (λ (v : HostView). v.counts) s.1
-step-counts old (Release (Workflow, number) (Ok u)) new s = ap (λ (v : HostView). v.counts) s.1
-step-counts old (Release (Workflow, number) (Err refused)) new s = ap (λ (v : HostView). v.counts) s.2
-step-counts old (Release (Activity, number) (Ok u)) new s = ap (λ (v : HostView). v.counts) s.1
-step-counts old (Release (Activity, number) (Err refused)) new s = ap (λ (v : HostView). v.counts) s.2
-step-counts old (UseWorkflow permit name key (Ok r)) new s = ap (λ (v : HostView). v.counts) s.changed
-step-counts old (UseWorkflow permit name key (Err refused)) new s = ap (λ (v : HostView). v.counts) s.3
-step-counts old (UseActivity permit name (Ok held)) new s = ap (λ (v : HostView). v.counts) s.1
-step-counts old (UseActivity permit name (Err refused)) new s = ap (λ (v : HostView). v.counts) s.2
-step-counts old (GiveRun held run (IsNotHeld back)) new s = ap (λ (v : HostView). v.counts) s.2
-step-counts old (GiveRun held run (IsMarked back)) new s = ap (λ (v : HostView). v.counts) s.2
-step-counts old (GiveRun held run (IsPut reply)) new s = ap (λ (v : HostView). v.counts) s.2
-step-counts old (Finish (Workflow, number) outcome (Ok u)) new s = ap (λ (v : HostView). v.counts) s.3
-step-counts old (Finish (Activity, number) outcome (Ok u)) new s = ap (λ (v : HostView). v.counts) s.3
-step-counts old (Finish held outcome (Err refused)) new s = ap (λ (v : HostView). v.counts) s.2
-step-counts old (EvictRun key reply) new s = ap (λ (v : HostView). v.counts) s.1
-step-counts old Drain new s = ap (λ (v : HostView). v.counts) s
-step-counts old (ReadCounts reply) new s = ap (λ (v : HostView). v.counts) s.1
+-- each step counts what its call says
+step-counts : (old : HostView) (e : Call) (new : HostView) → step old e new → new.books ≡ tallied e old.books
+step-counts old (Reserve Workflow (Ok permit)) new s = ap (λ (v : HostView). v.books) s.1
+step-counts old (Reserve Workflow (Err fault)) new s = ap (λ (v : HostView). v.books) s.1
+step-counts old (Reserve Activity (Ok permit)) new s = ap (λ (v : HostView). v.books) s.1
+step-counts old (Reserve Activity (Err fault)) new s = ap (λ (v : HostView). v.books) s.1
+step-counts old (Release (Workflow, number) (Ok u)) new s = ap (λ (v : HostView). v.books) s.1
+step-counts old (Release (Workflow, number) (Err refused)) new s = ap (λ (v : HostView). v.books) s.2
+step-counts old (Release (Activity, number) (Ok u)) new s = ap (λ (v : HostView). v.books) s.1
+step-counts old (Release (Activity, number) (Err refused)) new s = ap (λ (v : HostView). v.books) s.2
+step-counts old (UseWorkflow permit name key (Ok r)) new s = ap (λ (v : HostView). v.books) s.changed
+step-counts old (UseWorkflow permit name key (Err refused)) new s = ap (λ (v : HostView). v.books) s.3
+step-counts old (UseActivity permit name (Ok held)) new s = ap (λ (v : HostView). v.books) s.1
+step-counts old (UseActivity permit name (Err refused)) new s = ap (λ (v : HostView). v.books) s.2
+step-counts old (GiveRun held run (IsNotHeld back)) new s = ap (λ (v : HostView). v.books) s.2
+step-counts old (GiveRun held run (IsMarked back)) new s = ap (λ (v : HostView). v.books) s.2
+step-counts old (GiveRun held run (IsPut reply)) new s = ap (λ (v : HostView). v.books) s.2
+step-counts old (Finish (Workflow, number) outcome (Ok u)) new s = ap (λ (v : HostView). v.books) s.3
+step-counts old (Finish (Activity, number) outcome (Ok u)) new s = ap (λ (v : HostView). v.books) s.3
+step-counts old (Finish held outcome (Err refused)) new s = ap (λ (v : HostView). v.books) s.2
+step-counts old (EvictRun key reply) new s = ap (λ (v : HostView). v.books) s.1
+step-counts old Drain new s = ap (λ (v : HostView). v.books) s
+step-counts old (ReadCounts reply) new s = ap (λ (v : HostView). v.books) s.1
 
 -- a list of steps counts its accepted uses, and its accepted finishes by outcome
-pub Steps-count : (old : HostView) (es : List Event) (new : HostView) → Steps old es new → new.counts ≡ tally_from old.counts es
-Steps-count old [] new s = ap (λ (v : HostView). v.counts) s
+pub Steps-count : (old : HostView) (es : List Call) (new : HostView) → Steps old es new → new.books ≡ tally_from old.books es
+Steps-count old [] new s = ap (λ (v : HostView). v.books) s
 Steps-count old (e ∷ es) new s = Steps-count s.0 es new s.2 ∙ ap (λ (c : Shares). tally_from c es) (step-counts old e s.0 s.1)
 
 pub AllMarked-length : (places : List Place) (marks : List (Option Mark)) → AllMarked places marks → length places ≡ length marks
@@ -370,24 +370,24 @@ used_is_held old t permit name held u =
 
 module _ {S : Type 0} (program : Program S) (old : HostView) (h : IsHost program old) where
   pub finish_at : (t : Table) (held : Claim) (at : ℕ) (outcome : Outcome) → Frees old.workflow t held → IsPlaceOf old.workflow held at
-      → IsHost program (host_view t old.activity (slice_set old.marks at None) old.cache (with_outcome outcome old.counts))
+      → IsHost program (host_view t old.activity (slice_set old.marks at None) old.cache (with_outcome outcome old.books))
   finish_at t held at outcome f place =
       let same : f.place ≡ at = place.alone f.place f.name f.was_held in
-      subst (λ (x : Table). IsHost program (host_view x old.activity (slice_set old.marks at None) old.cache (with_outcome outcome old.counts))) (sym f.changed)
-      (subst (λ (k : ℕ). IsHost program (host_view (record old.workflow { places = slice_set old.workflow.places f.place Free }) old.activity (slice_set old.marks k None) old.cache (with_outcome outcome old.counts))) same
+      subst (λ (x : Table). IsHost program (host_view x old.activity (slice_set old.marks at None) old.cache (with_outcome outcome old.books))) (sym f.changed)
+      (subst (λ (k : ℕ). IsHost program (host_view (record old.workflow { places = slice_set old.workflow.places f.place Free }) old.activity (slice_set old.marks k None) old.cache (with_outcome outcome old.books))) same
       (free_place program old h f.place held.1 f.name outcome f.was_held))
 
   pub finish_activity_at : (t : Table) (held : Claim) (outcome : Outcome) → Frees old.activity t held
-      → IsHost program (host_view old.workflow t old.marks old.cache (with_outcome outcome old.counts))
+      → IsHost program (host_view old.workflow t old.marks old.cache (with_outcome outcome old.books))
   finish_activity_at t held outcome f =
-      subst (λ (x : Table). IsHost program (host_view old.workflow x old.marks old.cache (with_outcome outcome old.counts))) (sym f.changed)
+      subst (λ (x : Table). IsHost program (host_view old.workflow x old.marks old.cache (with_outcome outcome old.books))) (sym f.changed)
       (free_activity program old h f.place held.1 f.name outcome f.was_held)
 
   pub use_at : (t : Table) (permit : Claim) (name : TaskName) (held : Claim) (key : RunKey) (at : ℕ) → Uses old.workflow t permit name held → IsPlaceOf t held at
-      → IsHost program (host_view t old.activity (slice_set old.marks at (Some (record { key = key; evicted = false }))) (record old.cache { runs = remove_entry (same_key key) old.cache.runs }) (record old.counts { taken = old.counts.taken + 1 }))
+      → IsHost program (host_view t old.activity (slice_set old.marks at (Some (record { key = key; evicted = false }))) (record old.cache { runs = remove_entry (same_key key) old.cache.runs }) (record old.books { taken = old.books.taken + 1 }))
   use_at t permit name held key at u place =
       let used = used_place old.workflow t permit name held at u place in
-      subst (λ (x : Table). IsHost program (host_view x old.activity (slice_set old.marks at (Some (record { key = key; evicted = false }))) (record old.cache { runs = remove_entry (same_key key) old.cache.runs }) (record old.counts { taken = old.counts.taken + 1 }))) (sym used.1)
+      subst (λ (x : Table). IsHost program (host_view x old.activity (slice_set old.marks at (Some (record { key = key; evicted = false }))) (record old.cache { runs = remove_entry (same_key key) old.cache.runs }) (record old.books { taken = old.books.taken + 1 }))) (sym used.1)
       (use_place program old h at permit.1 name key used.0 u.unnamed)
 
 free_only : (n i : ℕ) (p : Place) → slice_get (replicate n Free) i ≡ Some p → p ≡ Free

@@ -1,4 +1,4 @@
--- The host as a machine: its state, its events with their replies, and the step that each event is.
+-- The host as a machine: its state, its calls with their replies, and the step that each call is.
 use Rattle.std.specs.Prelude.{◌||◌, cond, map, ◌≡◌, ℕ, ◌+◌, ◌-◌, ◌<◌, ◌≤◌, Bool, true, false, List, [], ◌∷◌, length, replicate, Option, Some, None, is_some, Result, Ok, MatchResult, slice_get, slice_set, option_map}
 use Rattle.std.specs.Map.{lookup, lookup_entry, remove_entry}
 use Rattle.wh_slots.specs.declared.SlotKind.{SlotKind}
@@ -15,7 +15,7 @@ use Rattle.wh_events.specs.declared.key.RunKey.{RunKey}
 use Rattle.wh_events.specs.Keys.{same_key}
 use Rattle.wh_workflow.specs.Law.{Program}
 use Rattle.wh_replay.specs.Runs.{Held as HeldRun, IsReplayed}
-use Rattle.wh_cache.specs.Cache.{CacheView, cache_view, held_of, held_by, IsSound, Puts, Reply, reply_of}
+use Rattle.wh_cache.specs.Cache.{CacheView, cache_view, held_of, held_by, IsSound, Puts, PutReply, put_reply_of}
 use Rattle.wh_ledger.specs.declared.Shares.{Shares}
 use Rattle.wh_ledger.specs.Shares.{no_shares}
 use Rattle.wh_host.specs.declared.config.Config.{Config}
@@ -34,22 +34,28 @@ use Rattle.wh_host.specs.declared.reply.Outcome.TheVariants.{Completed, Failed}
 abbrev pub Claim : Type 0
 Claim = SlotKind × ℕ
 
--- the places of both kinds, the mark of each workflow place, the cached runs, and the counts
+-- the places of both kinds, the mark of each workflow place, the cached runs, and the books
 pub record HostView : Type 0 where
   pub workflow : Table
   pub activity : Table
   pub marks : List (Option Mark)
   pub cache : CacheView
-  pub counts : Shares
+  pub books : Shares
 
 abbrev pub host_view : Table → Table → List (Option Mark) → CacheView → Shares → HostView
-host_view workflow activity marks cache counts =
-    record { workflow = workflow; activity = activity; marks = marks; cache = cache; counts = counts }
+host_view workflow activity marks cache books =
+    record { workflow = workflow; activity = activity; marks = marks; cache = cache; books = books }
 
 -- all places free, nothing cached and nothing counted
 abbrev pub opening : ℕ → ℕ → ℕ → ℕ → HostView
 opening workflow_slots activity_slots capacity bound =
-    host_view (table Workflow (replicate workflow_slots Free) 1 false) (table Activity (replicate activity_slots Free) 1 false) (replicate workflow_slots None) (cache_view [] capacity bound) no_shares
+    record {
+      workflow = table Workflow (replicate workflow_slots Free) 1 false;
+      activity = table Activity (replicate activity_slots Free) 1 false;
+      marks = replicate workflow_slots None;
+      cache = cache_view [] capacity bound;
+      books = no_shares;
+    }
 
 -- how large a host may be
 pub record IsConfig (config : Config) : Type 0 where
@@ -76,21 +82,25 @@ in_hand v = held_count v.workflow + held_count v.activity
 
 -- what is gathered, with what taken leaves over completed and failed
 abbrev pub totals_of : Shares → Totals
-totals_of s = record { taken = s.taken; completed = s.completed; failed = s.failed; in_hand = s.taken - s.completed - s.failed }
+totals_of s =
+    record { taken = s.taken; completed = s.completed; failed = s.failed; in_hand = s.taken - s.completed - s.failed }
 
 -- what holds of every state
 pub record IsHost {S : Type 0} (program : Program S) (v : HostView) : Type 0 where
-  -- each place is free, reserved under a number, or held under a number and a name, no number or name twice
+  -- each place is free, reserved under a number, or held under a number and a name, no number or
+  -- name twice
   pub workflow : IsTable v.workflow
   pub activity : IsTable v.activity
   pub kinds : (v.workflow.kind ≡ Workflow) × (v.activity.kind ≡ Activity)
   pub draining : v.workflow.draining ≡ v.activity.draining
   pub marked : AllMarked v.workflow.places v.marks
   -- each task taken is completed, failed or in hand
-  pub counted : v.counts.taken ≡ v.counts.completed + v.counts.failed + in_hand v
+  pub counted : v.books.taken ≡ v.books.completed + v.books.failed + in_hand v
   -- each number given out was used at most once, and not while it is reserved
-  pub numbered : v.counts.taken + reserved_count v.workflow + reserved_count v.activity + 2 ≤ v.workflow.next + v.activity.next
-  -- both bounds of the cache hold, no two runs have one key, and each is what replay of its held events gives
+  pub numbered :
+      v.books.taken + reserved_count v.workflow + reserved_count v.activity + 2 ≤ v.workflow.next + v.activity.next
+  -- both bounds of the cache hold, no two runs have one key, and each is what replay of its held
+  -- events gives
   pub cached : IsSound program v.cache
 
 -- the places of a kind
@@ -99,58 +109,87 @@ table_of v Workflow = v.workflow
 table_of v Activity = v.activity
 
 -- what is answered to a run that is given back
-pub data Answer : Type 0 where
-  IsPut : Reply → Answer
-  IsMarked : HeldRun → Answer
-  IsNotHeld : HeldRun → Answer
+pub data GiveReply : Type 0 where
+  IsPut : PutReply → GiveReply
+  IsMarked : HeldRun → GiveReply
+  IsNotHeld : HeldRun → GiveReply
 
 -- what contracts see of an answer of `give_run`
-abbrev pub answer_of : {W S : Type 0} → Given W S → Answer
-answer_of (Put put) = IsPut (reply_of put)
-answer_of (Marked back) = IsMarked back
-answer_of (NoPlace back) = IsNotHeld back
+abbrev pub give_reply_of : {W S : Type 0} → Given W S → GiveReply
+give_reply_of (Put put) = IsPut (put_reply_of put)
+give_reply_of (Marked back) = IsMarked back
+give_reply_of (NoPlace back) = IsNotHeld back
 
--- an event: one call under the lock, with what was handed in and its reply
-pub data Event : Type 0 where
-  Reserve : SlotKind → Result Claim ReserveFault → Event
-  Release : Claim → Result (Unit {0}) (Claim × NotReserved) → Event
-  UseWorkflow : Claim → TaskName → RunKey → Result (Claim × Option HeldRun) (Claim × RunKey × UseFault) → Event
-  UseActivity : Claim → TaskName → Result Claim (Claim × UseFault) → Event
-  GiveRun : Claim → HeldRun → Answer → Event
-  Finish : Claim → Outcome → Result (Unit {0}) (Claim × NotHeld) → Event
-  EvictRun : RunKey → Evict → Event
-  Drain : Event
-  ReadCounts : Counts → Event
+-- a call under the lock, with what was handed in and its reply
+pub data Call : Type 0 where
+  Reserve : SlotKind → Result Claim ReserveFault → Call
+  Release : Claim → Result (Unit {0}) (Claim × NotReserved) → Call
+  UseWorkflow : Claim → TaskName → RunKey → Result (Claim × Option HeldRun) (Claim × RunKey × UseFault) → Call
+  UseActivity : Claim → TaskName → Result Claim (Claim × UseFault) → Call
+  GiveRun : Claim → HeldRun → GiveReply → Call
+  Finish : Claim → Outcome → Result (Unit {0}) (Claim × NotHeld) → Call
+  EvictRun : RunKey → Evict → Call
+  Drain : Call
+  ReadCounts : Counts → Call
+
+-- another place at an index
+abbrev pub with_place : Table → ℕ → Place → Table
+with_place t i place = record t { places = slice_set t.places i place }
+
+-- no run of the key
+abbrev pub without_run : CacheView → RunKey → CacheView
+without_run cache key = record cache { runs = remove_entry (same_key key) cache.runs }
+
+-- one task more was taken
+abbrev pub with_taken : Shares → Shares
+with_taken books = record books { taken = books.taken + 1 }
 
 -- a free place is reserved under the next number, or the first reason why not is told
 abbrev pub reserve_step : HostView → SlotKind → Result Claim ReserveFault → HostView → Type 0
 reserve_step old Workflow reply new =
-    MatchResult reply (λ permit. Reserves old.workflow new.workflow permit × (new ≡ record old { workflow = new.workflow })) (λ fault. IsReserveFault old.workflow fault × (new ≡ old))
+    MatchResult reply
+    (λ permit. Reserves old.workflow new.workflow permit × (new ≡ record old { workflow = new.workflow }))
+    (λ fault. IsReserveFault old.workflow fault × (new ≡ old))
 reserve_step old Activity reply new =
-    MatchResult reply (λ permit. Reserves old.activity new.activity permit × (new ≡ record old { activity = new.activity })) (λ fault. IsReserveFault old.activity fault × (new ≡ old))
+    MatchResult reply
+    (λ permit. Reserves old.activity new.activity permit × (new ≡ record old { activity = new.activity }))
+    (λ fault. IsReserveFault old.activity fault × (new ≡ old))
 
 -- the place that is reserved under the permit is free, or the permit comes back
 abbrev pub release_step : HostView → SlotKind → Claim → Result (Unit {0}) (Claim × NotReserved) → HostView → Type 0
 release_step old Workflow permit reply new =
-    MatchResult reply (λ _. Releases old.workflow new.workflow permit × (new ≡ record old { workflow = new.workflow })) (λ refused. (refused.0 ≡ permit) × (¬ IsReserved old.workflow permit) × (new ≡ old))
+    MatchResult reply
+    (λ _. Releases old.workflow new.workflow permit × (new ≡ record old { workflow = new.workflow }))
+    (λ refused. (refused.0 ≡ permit) × (¬ IsReserved old.workflow permit) × (new ≡ old))
 release_step old Activity permit reply new =
-    MatchResult reply (λ _. Releases old.activity new.activity permit × (new ≡ record old { activity = new.activity })) (λ refused. (refused.0 ≡ permit) × (¬ IsReserved old.activity permit) × (new ≡ old))
+    MatchResult reply
+    (λ _. Releases old.activity new.activity permit × (new ≡ record old { activity = new.activity }))
+    (λ refused. (refused.0 ≡ permit) × (¬ IsReserved old.activity permit) × (new ≡ old))
 
--- the workflow place that is reserved under the permit is held by the task, with the key and no mark for eviction; the cached run of the key is handed out, and the task is counted as taken
-pub record UsesWorkflow (old : HostView) (permit : Claim) (name : TaskName) (key : RunKey) (held : Claim) (run : Option HeldRun) (new : HostView) : Type 0 where
+-- the workflow place that is reserved under the permit is held by the task, with the key and no
+-- mark for eviction; the cached run of the key is handed out, and the task is counted as taken
+pub record UsesWorkflow (old : HostView) (permit : Claim) (name : TaskName) (key : RunKey) (held : Claim)
+    (run : Option HeldRun) (new : HostView) : Type 0 where
   pub own_kind : permit.0 ≡ Workflow
   pub same_number : held ≡ permit
   pub unnamed : ¬ IsNamed old.workflow name
   pub handed_out : run ≡ option_map held_of (lookup_entry (same_key key) old.cache.runs)
   pub place : ℕ
   pub was_reserved : slice_get old.workflow.places place ≡ Some (Reserved permit.1)
-  pub changed : new ≡ host_view (record old.workflow { places = slice_set old.workflow.places place (InHand permit.1 name) }) old.activity (slice_set old.marks place (Some (record { key = key; evicted = false }))) (record old.cache { runs = remove_entry (same_key key) old.cache.runs }) (record old.counts { taken = old.counts.taken + 1 })
+  pub changed :
+      new
+      ≡ record old {
+        workflow = with_place old.workflow place (InHand permit.1 name);
+        marks = slice_set old.marks place (Some (record { key = key; evicted = false }));
+        cache = without_run old.cache key;
+        books = with_taken old.books;
+      }
 
 -- the activity place that is reserved under the permit is held by the task
 abbrev pub UsesActivity : HostView → Claim → TaskName → Claim → HostView → Type 0
 UsesActivity old permit name held new =
     Uses old.activity new.activity permit name held
-    × (new ≡ record old { activity = new.activity; counts = record old.counts { taken = old.counts.taken + 1 } })
+    × (new ≡ record old { activity = new.activity; books = with_taken old.books })
 
 -- the place has this key, and is marked for eviction or not
 abbrev pub is_marked_at : List (Option Mark) → ℕ → RunKey → Bool → Type 0
@@ -160,11 +199,16 @@ is_marked_at marks i key evicted = slice_get marks i ≡ Some (Some (record { ke
 abbrev pub HoldsRun : HostView → Claim → RunKey → Bool → Type 0
 HoldsRun v held key evicted =
     (held.0 ≡ Workflow)
-    × ((i : ℕ) × (name : TaskName) × (slice_get v.workflow.places i ≡ Some (InHand held.1 name)) × is_marked_at v.marks i key evicted)
+    × ((i : ℕ)
+    × (name : TaskName)
+    × (slice_get v.workflow.places i ≡ Some (InHand held.1 name))
+    × is_marked_at v.marks i key evicted)
 
--- the run comes back where no workflow place is held under the number with the run's key, or where that place is marked; else it is put into the cache
-abbrev pub give_step : HostView → Claim → HeldRun → Answer → HostView → Type 0
-give_step old held run (IsNotHeld back) new = ((evicted : Bool) → ¬ HoldsRun old held run.key evicted) × (back ≡ run) × (new ≡ old)
+-- the run comes back where no workflow place is held under the number with the run's key, or where
+-- that place is marked; else it is put into the cache
+abbrev pub give_step : HostView → Claim → HeldRun → GiveReply → HostView → Type 0
+give_step old held run (IsNotHeld back) new =
+    ((evicted : Bool) → ¬ HoldsRun old held run.key evicted) × (back ≡ run) × (new ≡ old)
 give_step old held run (IsMarked back) new = HoldsRun old held run.key true × (back ≡ run) × (new ≡ old)
 give_step old held run (IsPut reply) new =
     HoldsRun old held run.key false × Puts old.cache run new.cache reply × (new ≡ record old { cache = new.cache })
@@ -186,15 +230,16 @@ evicted_for key (Some mark) = Some (record mark { evicted = same_key key mark.ke
 
 -- whether the run of the key was cached, or else whether some held place has the key
 abbrev pub evict_reply : HostView → RunKey → Evict
-evict_reply v key = cond (is_some (lookup (same_key key) v.cache.runs)) Evicted (cond (has_mark key v.marks) OnlyMarked NotCached)
+evict_reply v key =
+    cond (is_some (lookup (same_key key) v.cache.runs)) Evicted (cond (has_mark key v.marks) OnlyMarked NotCached)
 
 -- what the counts show
 abbrev pub counts_of : HostView → Counts
 counts_of v =
     record {
-      taken = v.counts.taken;
-      completed = v.counts.completed;
-      failed = v.counts.failed;
+      taken = v.books.taken;
+      completed = v.books.completed;
+      failed = v.books.failed;
       in_hand = in_hand v;
       cached = length v.cache.runs;
       cached_events = held_by v.cache.runs;
@@ -208,20 +253,26 @@ books_of counts = record { taken = counts.taken; completed = counts.completed; f
 
 -- one task more with this outcome
 abbrev pub with_outcome : Outcome → Shares → Shares
-with_outcome Completed counts = record counts { completed = counts.completed + 1 }
-with_outcome Failed counts = record counts { failed = counts.failed + 1 }
+with_outcome Completed books = record books { completed = books.completed + 1 }
+with_outcome Failed books = record books { failed = books.failed + 1 }
 
 -- the held place is free, its mark goes, and the outcome is counted
 abbrev pub finishes : HostView → SlotKind → ℕ → Outcome → HostView → Type 0
 finishes old Workflow number outcome new =
     (i : ℕ) × (name : TaskName) × (slice_get old.workflow.places i ≡ Some (InHand number name))
-    × (new ≡ host_view (record old.workflow { places = slice_set old.workflow.places i Free }) old.activity (slice_set old.marks i None) old.cache (with_outcome outcome old.counts))
+    × (new
+    ≡ record old {
+      workflow = with_place old.workflow i Free;
+      marks = slice_set old.marks i None;
+      books = with_outcome outcome old.books;
+    })
 finishes old Activity number outcome new =
     (i : ℕ) × (name : TaskName) × (slice_get old.activity.places i ≡ Some (InHand number name))
-    × (new ≡ host_view old.workflow (record old.activity { places = slice_set old.activity.places i Free }) old.marks old.cache (with_outcome outcome old.counts))
+    × (new ≡ record old { activity = with_place old.activity i Free; books = with_outcome outcome old.books })
 
--- the event leads from the old state to the new one; a refusal hands back what was moved in, and changes nothing
-abbrev pub step : HostView → Event → HostView → Type 0
+-- the call leads from the old state to the new one; a refusal hands back what was moved in, and
+-- changes nothing
+abbrev pub step : HostView → Call → HostView → Type 0
 step old (Reserve kind reply) new = reserve_step old kind reply new
 step old (Release permit reply) new = release_step old permit.0 permit reply new
 step old (UseWorkflow permit name key reply) new =
@@ -229,39 +280,62 @@ step old (UseWorkflow permit name key reply) new =
     (λ r. UsesWorkflow old permit name key r.0 r.1 new)
     (λ refused. (refused.0 ≡ permit) × (refused.1 ≡ key) × IsUseFault old.workflow permit name refused.2 × (new ≡ old))
 step old (UseActivity permit name reply) new =
-    MatchResult reply (λ held. UsesActivity old permit name held new) (λ refused. (refused.0 ≡ permit) × IsUseFault old.activity permit name refused.1 × (new ≡ old))
+    MatchResult reply
+    (λ held. UsesActivity old permit name held new)
+    (λ refused. (refused.0 ≡ permit) × IsUseFault old.activity permit name refused.1 × (new ≡ old))
 step old (GiveRun held run reply) new = give_step old held run reply new
 step old (EvictRun key reply) new =
     (reply ≡ evict_reply old key)
-    × (new ≡ record old { marks = map (evicted_for key) old.marks; cache = record old.cache { runs = remove_entry (same_key key) old.cache.runs } })
+    × (new ≡ record old { marks = map (evicted_for key) old.marks; cache = without_run old.cache key })
 step old (ReadCounts reply) new = (reply ≡ counts_of old) × (new ≡ old)
 step old (Finish held outcome reply) new =
-    MatchResult reply (λ _. finishes old held.0 held.1 outcome new) (λ refused. (refused.0 ≡ held) × (¬ IsHeld (table_of old held.0) held) × (new ≡ old))
-step old Drain new = new ≡ record old { workflow = record old.workflow { draining = true }; activity = record old.activity { draining = true } }
+    MatchResult reply
+    (λ _. finishes old held.0 held.1 outcome new)
+    (λ refused. (refused.0 ≡ held) × (¬ IsHeld (table_of old held.0) held) × (new ≡ old))
+step old Drain new =
+    new
+    ≡ record old {
+      workflow = record old.workflow { draining = true };
+      activity = record old.activity { draining = true };
+    }
 
--- a list of events leads from one state to another
-abbrev pub Steps : HostView → List Event → HostView → Type 0
+-- a list of calls leads from one state to another
+abbrev pub Steps : HostView → List Call → HostView → Type 0
 Steps old [] new = new ≡ old
 Steps old (e ∷ es) new = (next : HostView) × step old e next × Steps next es new
 
 -- a run that is given back is what replay of its events gives
-abbrev pub GivesReplayed : {S : Type 0} → Program S → Event → Type 0
+abbrev pub GivesReplayed : {S : Type 0} → Program S → Call → Type 0
 GivesReplayed program (GiveRun held run reply) = IsReplayed program run.events
 GivesReplayed program _ = Unit {0}
 
--- so is each run that the events give back
-abbrev pub AllReplayedGiven : {S : Type 0} → Program S → List Event → Type 0
+-- so is each run that the calls give back
+abbrev pub AllReplayedGiven : {S : Type 0} → Program S → List Call → Type 0
 AllReplayedGiven program [] = Unit {0}
 AllReplayedGiven program (e ∷ es) = GivesReplayed program e × AllReplayedGiven program es
 
--- the counts after an event: an accepted use is a task taken, an accepted finish one completed or failed
-abbrev pub tallied : Event → Shares → Shares
-tallied (UseWorkflow permit name key (Ok r)) s = record s { taken = s.taken + 1 }
-tallied (UseActivity permit name (Ok r)) s = record s { taken = s.taken + 1 }
+-- the books after a call: an accepted use is a task taken, an accepted finish one completed or
+-- failed
+abbrev pub tallied : Call → Shares → Shares
+tallied (UseWorkflow permit name key (Ok r)) s = with_taken s
+tallied (UseActivity permit name (Ok r)) s = with_taken s
 tallied (Finish held outcome (Ok u)) s = with_outcome outcome s
 tallied _ s = s
 
--- the counts after a list of events
-abbrev pub tally_from : Shares → List Event → Shares
+-- the books after a list of calls
+abbrev pub tally_from : Shares → List Call → Shares
 tally_from s [] = s
 tally_from s (e ∷ es) = tally_from (tallied e s) es
+
+-- every list of steps from an opening state that gives back replayed runs keeps what holds of every
+-- state
+abbrev pub StepsKeepHosts : {S : Type 0} → Program S → Type 0
+StepsKeepHosts program =
+    (config : Config) (calls : List Call) (end : HostView) → IsConfig config → AllReplayedGiven program calls
+    → Steps (opening_of config) calls end → IsHost program end
+
+-- the books of a state that steps lead to are what those steps count
+abbrev pub StepsAreCounted : Type 0
+StepsAreCounted =
+    (config : Config) (calls : List Call) (end : HostView) → Steps (opening_of config) calls end
+    → end.books ≡ tally_from no_shares calls

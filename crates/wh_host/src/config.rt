@@ -1,3 +1,5 @@
+//! How large a host is, and why none was opened.
+
 ghost use Rattle.std.specs.Prelude.{◌≡◌, ◌↔◌, IsTrue};
 ghost use Rattle.wh_host.specs.Machine.{IsConfig};
 
@@ -18,14 +20,15 @@ pub struct Config {
     pub activity_slots: usize,
     /// How many runs may be cached: 0 to 10,000, where 0 turns the cache off.
     pub cache: usize,
-    /// How many events the cached runs may hold together: 0 for no such bound, else 1 to 512,000,000.
+    /// How many events the cached runs may hold together: 0 for no such bound, else 1 to
+    /// 512,000,000.
     pub cache_events: u64,
     /// How many threads count tasks, each at a seat of its own: 1 to 64.
     pub seats: usize,
 }
 
 impl Config {
-    // Whether each size is within its range.
+    /// Whether each size is within its range.
     pub(crate) fn is_within(&self) -> bool
         ensures { IsTrue result ↔ IsConfig self.now }
     {

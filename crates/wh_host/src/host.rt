@@ -1,5 +1,6 @@
 //! The lock round the state.
-ghost use Rattle.std.specs.Prelude.{◌≡◌, ◌<◌, ◌+◌, ◌↔◌, IfOk, IfErr, IsErr, Err, vec_len, replicate};
+ghost use Rattle.std.specs.Prelude.{◌≡◌, ◌<◌, ◌+◌, ◌↔◌, IfOk, IfErr, IsErr, Err, vec_len};
+ghost use Rattle.std.specs.Prelude.{replicate};
 ghost use Rattle.std.specs.Sync.Mutex.{mutex_guard_value};
 ghost use Rattle.wh_ledger.specs.Shares.{no_shares, sums_of};
 ghost use Rattle.wh_host.specs.Machine.{IsConfig, IsHost, totals_of};
@@ -13,17 +14,17 @@ use std::sync::{Mutex, MutexGuard, Wait};
 use wh_ledger::{Seat, SeatsMissing};
 use wh_workflow::Workflow;
 
-/// A worker host that threads share: one lock round its state. Each thread has a seat of its own, and calls the methods of
-/// `HostState` on what `lock` lends.
+/// A worker host that threads share: one lock round its state. Each thread has a seat of its own,
+/// and calls the methods of `HostState` on what `lock` lends.
 #[derive(Drop)]
 pub struct Host<W: Workflow, T: Ledger, C: Ledger, F: Ledger> {
     state: Mutex<HostState<W, T, C, F>>,
 }
 
 impl<W: Workflow, T: Ledger, C: Ledger, F: Ledger> Host<W, T, C, F> {
-    /// A host with all places free, an empty cache and empty books, and its seats, each of which has counted nothing. The three
-    /// blanks have as many parts as there are seats. `BadConfig` where a size is not within its range, `OutOfMemory` where no
-    /// room was found.
+    /// A host with all places free, an empty cache and empty books, and its seats, each of which
+    /// has counted nothing. The three blanks have as many parts as there are seats. `BadConfig`
+    /// where a size is not within its range, `OutOfMemory` where no room was found.
     pub fn open(
         alloc: Global,
         config: Config,
@@ -31,9 +32,15 @@ impl<W: Workflow, T: Ledger, C: Ledger, F: Ledger> Host<W, T, C, F> {
         completed: Blank,
         failed: Blank,
     ) -> Result<(Self, Vec<Seat<T, C, F>>), OpenFault>
-        requires taken { (taken.name ≡ T.name) × (taken.parts ≡ T.parts) × (IsConfig config → taken.parts ≡ config.seats) }
-        requires completed { (completed.name ≡ C.name) × (completed.parts ≡ C.parts) × (IsConfig config → completed.parts ≡ config.seats) }
-        requires failed { (failed.name ≡ F.name) × (failed.parts ≡ F.parts) × (IsConfig config → failed.parts ≡ config.seats) }
+        requires taken { (taken.name ≡ T.name)
+            × (taken.parts ≡ T.parts)
+            × (IsConfig config → taken.parts ≡ config.seats) }
+        requires completed { (completed.name ≡ C.name)
+            × (completed.parts ≡ C.parts)
+            × (IsConfig config → completed.parts ≡ config.seats) }
+        requires failed { (failed.name ≡ F.name)
+            × (failed.parts ≡ F.parts)
+            × (IsConfig config → failed.parts ≡ config.seats) }
         ensures seats { IfOk result (λ opened. opened.1.items ≡ replicate config.seats no_shares) }
         ensures bad { (result ≡ Err OpenFault.BadConfig) ↔ (¬ IsConfig config) }
     {
@@ -46,20 +53,22 @@ impl<W: Workflow, T: Ledger, C: Ledger, F: Ledger> Host<W, T, C, F> {
         ))
     }
 
-    /// Waits for the lock, and lends the state. Whatever was reserved, used, given back, finished and evicted before, by
-    /// whichever threads: each cached run's state, machines and unsent commands are those that replay of its held events from
-    /// the first gives; each slot is free, reserved for one poll, or held by one named task; and what was taken is what was
-    /// completed, what failed and what is in hand.
+    /// Waits for the lock, and lends the state. Whatever was reserved, used, given back, finished
+    /// and evicted before, by whichever threads: each cached run's state, machines and unsent
+    /// commands are those that replay of its held events from the first gives; each slot is free,
+    /// reserved for one poll, or held by one named task; and what was taken is what was completed,
+    /// what failed and what is in hand.
     pub fn lock<R: Wait>(&self, rt: &R) -> MutexGuard<'_, HostState<W, T, C, F>>
         ensures { IsHost W.program (mutex_guard_value result) }
     {
         let guard = self.state.lock(rt);
-        guard.in_hand();
+        guard.attest();
         guard
     }
 
-    /// Gathers what all seats have counted, which is what the books show: each task taken is completed, failed or in hand.
-    /// `SeatsMissing` where not all of them are brought: the host and the seats come back.
+    /// Gathers what all seats have counted, which is what the books show: each task taken is
+    /// completed, failed or in hand. `SeatsMissing` where not all of them are brought: the host and
+    /// the seats come back.
     pub fn close(
         self,
         seats: Vec<Seat<T, C, F>>,

@@ -1,4 +1,5 @@
-//! A worker host: slots, a sticky cache and books as one state, and the lock round it that threads share.
+//! A worker host: slots, a sticky cache and books as one state, and the lock round it that threads
+//! share.
 #![tactic(auto)]
 
 mod config;

@@ -1,3 +1,5 @@
+//! What the calls of a host answer.
+
 use wh_cache::Put;
 use wh_replay::Run;
 use wh_slots::SlotCount;
@@ -55,7 +57,8 @@ pub struct Counts {
     pub activity: SlotCount,
 }
 
-/// What all seats of a closed host have counted. What `taken` leaves over `completed` and `failed` was in hand.
+/// What all seats of a closed host have counted. What `taken` leaves over `completed` and `failed`
+/// was in hand.
 #[derive(Clone, Copy, PartialEq, Eq, Debug)]
 pub struct Totals {
     /// Tasks that used a slot.

@@ -1,10 +1,16 @@
 //! Slots, the run key and the mark of each workflow place, cached runs and books, as one machine.
-ghost use Rattle.std.specs.Prelude.{◌≡◌, ◌<◌, ◌+◌, ◌-◌, ◌^◌, ◌↔◌, Bool, None, Some, length, map, option_map, slice_get, replicate, IsTrue, IfOk, IfErr, IsErr, Err, MatchOption, MatchResult, vec_len};
+ghost use Rattle.std.specs.Prelude.{◌≡◌, ◌<◌, ◌+◌, ◌-◌, ◌^◌, ◌↔◌, Bool, None, Some, length, map};
+ghost use Rattle.std.specs.Prelude.{option_map, slice_get, replicate, IsTrue, IfOk, IfErr, OnOk};
+ghost use Rattle.std.specs.Prelude.{IsErr, Err, MatchOption, MatchResult, vec_len};
 ghost use Rattle.std.specs.Map.{lookup_entry, remove_entry};
 ghost use Rattle.wh_events.specs.Keys.{same_key};
 ghost use Rattle.wh_cache.specs.Cache.{held_of};
 ghost use Rattle.wh_ledger.specs.Shares.{no_shares, sums_of, IsWithin};
-ghost use Rattle.wh_host.specs.Machine.{IsConfig, IsHost, in_hand, totals_of, opening_of, step, with_outcome, books_of, answer_of, evicted_for, has_key, has_mark, is_marked_at, Reserve, Release, UseWorkflow, UseActivity, GiveRun, EvictRun, Finish, Drain, ReadCounts};
+ghost use Rattle.wh_host.specs.Machine.{IsConfig, IsHost, in_hand, totals_of, opening_of, step};
+ghost use Rattle.wh_host.specs.Machine.{with_taken, with_outcome, books_of, give_reply_of, evicted_for};
+ghost use Rattle.wh_host.specs.Machine.{has_key, has_mark, is_marked_at, Reserve, Release};
+ghost use Rattle.wh_host.specs.Machine.{UseWorkflow, UseActivity, GiveRun, EvictRun, Finish, Drain};
+ghost use Rattle.wh_host.specs.Machine.{ReadCounts};
 
 use crate::config::{Config, OpenFault};
 use crate::reply::{Counts, Evict, Given, Outcome, Totals};
@@ -29,10 +35,11 @@ pub struct Mark {
     pub evicted: bool,
 }
 
-/// The slots, the sticky cache and the books of a worker host. Contracts see them as one record, and each method as one step of
-/// a machine. A method that refuses hands back what was moved in and leaves the state as it was. The words are those of
-/// Temporal's documentation on workers: slots bound the tasks in hand ("worker performance"), and a run is kept in the
-/// cache between its tasks ("sticky execution").
+/// The slots, the sticky cache and the books of a worker host. Contracts see them as one record,
+/// and each method as one step of a machine. A method that refuses hands back what was moved in and
+/// leaves the state as it was. The words are those of Temporal's documentation on workers: slots
+/// bound the tasks in hand ("worker performance"), and a run is kept in the cache between its tasks
+/// ("sticky execution").
 #[derive(Drop)]
 pub struct HostState<W: Workflow, T: Ledger, C: Ledger, F: Ledger> {
     workflow: Slots,
@@ -53,9 +60,9 @@ impl<W: Workflow, T: Ledger, C: Ledger, F: Ledger> Model for HostState<W, T, C, 
 }
 
 impl<W: Workflow, T: Ledger, C: Ledger, F: Ledger> HostState<W, T, C, F> {
-    /// A state with all places free, an empty cache and empty books, and its seats, each of which has counted nothing. The three
-    /// blanks have as many parts as there are seats. `BadConfig` where a size is not within its range, `OutOfMemory` where no
-    /// room was found.
+    /// A state with all places free, an empty cache and empty books, and its seats, each of which
+    /// has counted nothing. The three blanks have as many parts as there are seats. `BadConfig`
+    /// where a size is not within its range, `OutOfMemory` where no room was found.
     pub fn open(
         alloc: Global,
         config: Config,
@@ -63,10 +70,17 @@ impl<W: Workflow, T: Ledger, C: Ledger, F: Ledger> HostState<W, T, C, F> {
         completed: Blank,
         failed: Blank,
     ) -> Result<(Self, Vec<Seat<T, C, F>>), OpenFault>
-        requires taken { (taken.name ≡ T.name) × (taken.parts ≡ T.parts) × (IsConfig config → taken.parts ≡ config.seats) }
-        requires completed { (completed.name ≡ C.name) × (completed.parts ≡ C.parts) × (IsConfig config → completed.parts ≡ config.seats) }
-        requires failed { (failed.name ≡ F.name) × (failed.parts ≡ F.parts) × (IsConfig config → failed.parts ≡ config.seats) }
-        ensures opened { IfOk result (λ opened. (opened.0 ≡ opening_of config) × (opened.1.items ≡ replicate config.seats no_shares)) }
+        requires taken { (taken.name ≡ T.name)
+            × (taken.parts ≡ T.parts)
+            × (IsConfig config → taken.parts ≡ config.seats) }
+        requires completed { (completed.name ≡ C.name)
+            × (completed.parts ≡ C.parts)
+            × (IsConfig config → completed.parts ≡ config.seats) }
+        requires failed { (failed.name ≡ F.name)
+            × (failed.parts ≡ F.parts)
+            × (IsConfig config → failed.parts ≡ config.seats) }
+        ensures opened { IfOk result (λ opened. opened.0 ≡ opening_of config) }
+        ensures seats { IfOk result (λ opened. opened.1.items ≡ replicate config.seats no_shares) }
         ensures bad { (result ≡ Err OpenFault.BadConfig) ↔ (¬ IsConfig config) }
     {
         if !config.is_within() {
@@ -89,7 +103,8 @@ impl<W: Workflow, T: Ledger, C: Ledger, F: Ledger> HostState<W, T, C, F> {
         ))
     }
 
-    /// Reserves a place of the kind for one poll. The faults are tried as `Draining`, `NumbersSpent`, `NoSlot`.
+    /// Reserves a place of the kind for one poll. The faults are tried as `Draining`,
+    /// `NumbersSpent`, `NoSlot`.
     pub fn reserve(&mut self, kind: SlotKind) -> Result<Permit, ReserveFault>
         ensures { step self.old (Reserve kind result) self.new }
     {
@@ -107,7 +122,8 @@ impl<W: Workflow, T: Ledger, C: Ledger, F: Ledger> HostState<W, T, C, F> {
         self.activity.drain();
     }
 
-    /// The reserved place was not used and is free again. A permit under which nothing is reserved comes back.
+    /// The reserved place was not used and is free again. A permit under which nothing is reserved
+    /// comes back.
     pub fn release(&mut self, permit: Permit) -> Result<(), (Permit, NotReserved)>
         ensures { step self.old (Release permit result) self.new }
     {
@@ -117,8 +133,9 @@ impl<W: Workflow, T: Ledger, C: Ledger, F: Ledger> HostState<W, T, C, F> {
         }
     }
 
-    /// Takes a workflow task in hand: the reserved place is held under the task's name, the cached run of the key is handed out,
-    /// if there is one, and the task is counted as taken. The faults are tried as `NotReserved`, `TaskInHand`.
+    /// Takes a workflow task in hand: the reserved place is held under the task's name, the cached
+    /// run of the key is handed out, if there is one, and the task is counted as taken. The faults
+    /// are tried as `NotReserved`, `TaskInHand`.
     pub fn use_workflow(
         &mut self,
         permit: Permit,
@@ -127,7 +144,7 @@ impl<W: Workflow, T: Ledger, C: Ledger, F: Ledger> HostState<W, T, C, F> {
         seat: &mut Seat<T, C, F>,
     ) -> Result<(Held, Option<Run<W>>), (Permit, RunKey, UseFault)>
         ensures step { step self.old (UseWorkflow permit name key result) self.new }
-        ensures seat { MatchResult result (λ _. seat.new ≡ record seat.old { taken = seat.old.taken + 1 }) (λ _. seat.new ≡ seat.old) }
+        ensures seat { MatchResult result (λ _. seat.new ≡ with_taken seat.old) (λ _. seat.new ≡ seat.old) }
     {
         let held = match self.workflow.use_slot(permit, name) {
             Ok(held) => held,
@@ -145,8 +162,8 @@ impl<W: Workflow, T: Ledger, C: Ledger, F: Ledger> HostState<W, T, C, F> {
         Ok((held, run))
     }
 
-    /// Takes an activity task in hand: the reserved place is held under the task's name, and the task is counted as taken. The
-    /// faults are tried as `NotReserved`, `TaskInHand`.
+    /// Takes an activity task in hand: the reserved place is held under the task's name, and the
+    /// task is counted as taken. The faults are tried as `NotReserved`, `TaskInHand`.
     pub fn use_activity(
         &mut self,
         permit: Permit,
@@ -154,17 +171,18 @@ impl<W: Workflow, T: Ledger, C: Ledger, F: Ledger> HostState<W, T, C, F> {
         seat: &mut Seat<T, C, F>,
     ) -> Result<Held, (Permit, UseFault)>
         ensures step { step self.old (UseActivity permit name result) self.new }
-        ensures seat { MatchResult result (λ _. seat.new ≡ record seat.old { taken = seat.old.taken + 1 }) (λ _. seat.new ≡ seat.old) }
+        ensures seat { MatchResult result (λ _. seat.new ≡ with_taken seat.old) (λ _. seat.new ≡ seat.old) }
     {
         let held = self.activity.use_slot(permit, name)?;
         self.books.add_taken(seat);
         Ok(held)
     }
 
-    /// Puts the run of a workflow task in hand into the cache. It comes back as `NotHeld` where no workflow place is held under
-    /// the number with the run's key, and else as `Marked` where that place is marked for eviction.
+    /// Puts the run of a workflow task in hand into the cache. It comes back as `NotHeld` where no
+    /// workflow place is held under the number with the run's key, and else as `Marked` where that
+    /// place is marked for eviction.
     pub fn give_run(&mut self, held: &Held, run: Run<W>) -> Given<W>
-        ensures { step self.old (GiveRun held.now run (answer_of result)) self.new }
+        ensures { step self.old (GiveRun held.now run (give_reply_of result)) self.new }
     {
         let Some(at) = self.workflow.place_of(held) else {
             return Given::NotHeld(run);
@@ -181,8 +199,8 @@ impl<W: Workflow, T: Ledger, C: Ledger, F: Ledger> HostState<W, T, C, F> {
         Given::Put(put)
     }
 
-    /// Drops the run of the key from the cache, and marks each held place of the key, so that the run in hand there won't be
-    /// cached.
+    /// Drops the run of the key from the cache, and marks each held place of the key, so that the
+    /// run in hand there won't be cached.
     pub fn evict(&mut self, key: &RunKey) -> Evict
         ensures { step self.old (EvictRun key.now result) self.new }
     {
@@ -196,7 +214,8 @@ impl<W: Workflow, T: Ledger, C: Ledger, F: Ledger> HostState<W, T, C, F> {
         Evict::NotCached
     }
 
-    /// The task is done: its place is free, and its outcome is counted. What is not held comes back.
+    /// The task is done: its place is free, and its outcome is counted. What is not held comes
+    /// back.
     pub fn finish(
         &mut self,
         held: Held,
@@ -224,7 +243,8 @@ impl<W: Workflow, T: Ledger, C: Ledger, F: Ledger> HostState<W, T, C, F> {
         }
     }
 
-    /// What is counted, cached and held. Nothing changes, and no count is below what the seat has counted.
+    /// What is counted, cached and held. Nothing changes, and no count is below what the seat has
+    /// counted.
     pub fn counts(&mut self, seat: &mut Seat<T, C, F>) -> Counts
         ensures step { step self.old (ReadCounts result) self.new }
         ensures within { IsWithin seat.old (books_of result) }
@@ -245,8 +265,15 @@ impl<W: Workflow, T: Ledger, C: Ledger, F: Ledger> HostState<W, T, C, F> {
         }
     }
 
+    /// Does nothing. Its contract tells a caller what holds of every state.
+    pub(crate) fn attest(&self)
+        ensures { IsHost W.program self.now }
+    {
+        let _books = &self.books;
+    }
+
     /// How many tasks are in hand, of both kinds.
-    pub fn in_hand(&self) -> u64
+    fn in_hand(&self) -> u64
         ensures in_hand { result ≡ in_hand self.now }
         ensures host { IsHost W.program self.now }
     {
@@ -254,13 +281,15 @@ impl<W: Workflow, T: Ledger, C: Ledger, F: Ledger> HostState<W, T, C, F> {
         totals.taken - totals.completed - totals.failed
     }
 
-    /// Gathers what all seats have counted: each task taken is completed, failed or in hand. `SeatsMissing` where not all of them
-    /// are brought: the state and the seats come back.
+    /// Gathers what all seats have counted: each task taken is completed, failed or in hand.
+    /// `SeatsMissing` where not all of them are brought: the state and the seats come back.
     pub fn close(
         self,
         seats: Vec<Seat<T, C, F>>,
     ) -> Result<Totals, (Self, Vec<Seat<T, C, F>>, SeatsMissing)>
-        ensures gathered { IfOk result (λ totals. (totals ≡ totals_of (sums_of seats.items)) × (sums_of seats.items ≡ self.counts) × (totals.in_hand ≡ in_hand self)) }
+        ensures gathered { IfOk result (λ totals. totals ≡ totals_of (sums_of seats.items)) }
+        ensures books { OnOk result (sums_of seats.items ≡ self.books) }
+        ensures in_hand { IfOk result (λ totals. totals.in_hand ≡ in_hand self) }
         ensures balanced { IfOk result (λ totals. totals.taken ≡ totals.completed + totals.failed + totals.in_hand) }
         ensures missing { IsErr result ↔ (vec_len seats < T.parts) }
         ensures back { IfErr result (λ refused. (refused.0 ≡ self) × (refused.1 ≡ seats)) }
@@ -295,7 +324,7 @@ impl<W: Workflow, T: Ledger, C: Ledger, F: Ledger> HostState<W, T, C, F> {
     }
 }
 
-// As many places, none of which has a mark.
+/// As many places, none of which has a mark.
 fn no_marks(alloc: Global, count: usize) -> Result<Vec<Option<Mark>>, OutOfMemory>
     ensures { IfOk result (λ marks. marks.items ≡ replicate count None) }
 {
@@ -307,7 +336,7 @@ fn no_marks(alloc: Global, count: usize) -> Result<Vec<Option<Mark>>, OutOfMemor
     Ok(marks)
 }
 
-// Takes the run of the key out of the cache, for the task that is now in hand.
+/// Takes the run of the key out of the cache, for the task that is now in hand.
 fn hand_out<W: Workflow>(cache: &mut Sticky<W>, key: &RunKey) -> Option<Run<W>>
     ensures run { result ≡ option_map held_of (lookup_entry (same_key key.now) cache.old.runs) }
     ensures runs { cache.new ≡ record cache.old { runs = remove_entry (same_key key.now) cache.old.runs } }
@@ -315,7 +344,7 @@ fn hand_out<W: Workflow>(cache: &mut Sticky<W>, key: &RunKey) -> Option<Run<W>>
     cache.take(key)
 }
 
-// Adds one to the book of the outcome and to the seat's share of it.
+/// Adds one to the book of the outcome and to the seat's share of it.
 fn count_outcome<T: Ledger, C: Ledger, F: Ledger>(
     books: &mut Books<T, C, F>,
     outcome: Outcome,
@@ -332,10 +361,12 @@ fn count_outcome<T: Ledger, C: Ledger, F: Ledger>(
     }
 }
 
-// Whether the place is marked for eviction, where it has this key.
+/// Whether the place is marked for eviction, where it has this key.
 fn mark_of(marks: &[Option<Mark>], at: usize, key: &RunKey) -> Option<bool>
     requires { at < length marks.now }
-    ensures { MatchOption result ((evicted : Bool) → ¬ is_marked_at marks.now at key.now evicted) (is_marked_at marks.now at key.now) }
+    ensures { MatchOption result
+        ((evicted : Bool) → ¬ is_marked_at marks.now at key.now evicted)
+        (is_marked_at marks.now at key.now) }
 {
     match &marks[at] {
         Some(mark) if mark.key == *key => Some(mark.evicted),
@@ -343,7 +374,7 @@ fn mark_of(marks: &[Option<Mark>], at: usize, key: &RunKey) -> Option<bool>
     }
 }
 
-// Marks the place, where it has the key, and says whether it has.
+/// Marks the place, where it has the key, and says whether it has.
 fn mark_place(mark: &mut Option<Mark>, key: &RunKey) -> bool
     ensures mark { mark.new ≡ evicted_for key.now mark.old }
     ensures found { result ≡ has_key key.now mark.old }
@@ -357,7 +388,7 @@ fn mark_place(mark: &mut Option<Mark>, key: &RunKey) -> bool
     }
 }
 
-// Marks every place that has the key, and says whether there is one.
+/// Marks every place that has the key, and says whether there is one.
 fn mark_places(marks: &mut [Option<Mark>], key: &RunKey) -> bool
     ensures marks { marks.new ≡ map (evicted_for key.now) marks.old }
     ensures found { result ≡ has_mark key.now marks.old }

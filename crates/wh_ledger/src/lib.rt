@@ -1,13 +1,16 @@
-//! Books of the tasks that were taken, completed and failed, and the seats whose shares they add up.
+//! Books of the tasks that were taken, completed and failed, and the seats whose shares they add
+//! up.
 //!
-//! Each worker counts on a seat of its own, and the books stand beside what the workers share. An addition raises
-//! one book and the same share of one seat. Shares cannot be copied or made up, so once all seats are gathered
-//! their sums are the books. The three ledgers are of `std::sync::ledger`: `T` of tasks taken, `C` of tasks
-//! completed and `F` of tasks failed, each cut into as many parts as there are seats.
+//! Each worker counts on a seat of its own, and the books stand beside what the workers share. An
+//! addition raises one book and the same share of one seat. Shares cannot be copied or made up, so
+//! once all seats are gathered their sums are the books. The three ledgers are of
+//! `std::sync::ledger`: `T` of tasks taken, `C` of tasks completed and `F` of tasks failed, each
+//! cut into as many parts as there are seats.
 #![tactic(auto)]
 
-ghost use Rattle.std.specs.Prelude.{◌≡◌, ◌+◌, ◌-◌, ◌<◌, ◌↔◌, ◌^◌, IfOk, IfErr, IsErr, vec_len, replicate};
-ghost use Rattle.wh_ledger.specs.Shares.{no_shares, sums_of, IsWithin};
+ghost use Rattle.std.specs.Prelude.{◌≡◌, ◌+◌, ◌-◌, ◌<◌, ◌↔◌, ◌^◌, IfOk, IfErr, IsErr, vec_len};
+ghost use Rattle.std.specs.Prelude.{replicate};
+ghost use Rattle.wh_ledger.specs.Shares.{no_shares, sums_of, IsWithin, IsSumOf};
 
 use std::alloc::Global;
 use std::marker::Model;
@@ -52,11 +55,18 @@ impl<T: Ledger, C: Ledger, F: Ledger> Model for Books<T, C, F> {
 
     ghost view = { λ b. b.totals };
 
-    ghost invariant = { λ b. (b.taken.total ≡ b.totals.taken) × (b.completed.total ≡ b.totals.completed) × (b.failed.total ≡ b.totals.failed) × (0 < b.seats) × (b.seats ≡ T.parts) × (b.seats ≡ C.parts) × (b.seats ≡ F.parts) };
+    ghost invariant = { λ b.
+        (b.taken.total ≡ b.totals.taken)
+        × (b.completed.total ≡ b.totals.completed)
+        × (b.failed.total ≡ b.totals.failed)
+        × (0 < b.seats)
+        × (b.seats ≡ T.parts)
+        × (b.seats ≡ C.parts)
+        × (b.seats ≡ F.parts) };
 }
 
-/// The seat of one worker. Contracts see what it has counted. A seat that is dropped is missing when the books
-/// are to be gathered.
+/// The seat of one worker. Contracts see what it has counted. A seat that is dropped is missing
+/// when the books are to be gathered.
 #[derive(Drop)]
 pub struct Seat<T: Ledger, C: Ledger, F: Ledger> {
     shares: Shares,
@@ -73,7 +83,13 @@ impl<T: Ledger, C: Ledger, F: Ledger> Model for Seat<T, C, F> {
 
     ghost view = { λ s. s.shares };
 
-    ghost invariant = { λ s. (s.taken.parts ≡ 1) × (s.completed.parts ≡ 1) × (s.failed.parts ≡ 1) × (s.taken.amount ≡ s.shares.taken) × (s.completed.amount ≡ s.shares.completed) × (s.failed.amount ≡ s.shares.failed) };
+    ghost invariant = { λ s.
+        (s.taken.parts ≡ 1)
+        × (s.completed.parts ≡ 1)
+        × (s.failed.parts ≡ 1)
+        × (s.taken.amount ≡ s.shares.taken)
+        × (s.completed.amount ≡ s.shares.completed)
+        × (s.failed.amount ≡ s.shares.failed) };
 }
 
 impl<T: Ledger, C: Ledger, F: Ledger> Seat<T, C, F> {
@@ -91,7 +107,8 @@ pub struct SeatsMissing;
 
 impl<T: Ledger, C: Ledger, F: Ledger> Books<T, C, F> {
     /// Empty books and as many empty seats, over three new ledgers that are cut into as many parts.
-    /// `OutOfMemory` where no room was found for the seats; the ledgers are spent then. No later call takes memory.
+    /// `OutOfMemory` where no room was found for the seats; the ledgers are spent then. No later
+    /// call takes memory.
     pub fn open(
         alloc: Global,
         seats: usize,
@@ -128,13 +145,6 @@ impl<T: Ledger, C: Ledger, F: Ledger> Books<T, C, F> {
             },
             all,
         ))
-    }
-
-    /// How many seats were opened.
-    pub fn seats(&self) -> usize
-        ensures { result ≡ T.parts }
-    {
-        self.seats
     }
 
     /// What all seats have counted.
@@ -225,11 +235,11 @@ impl<T: Ledger, C: Ledger, F: Ledger> Books<T, C, F> {
         shares.failed += 1;
     }
 
-    /// The sums of the shares of all seats, which are the books.
-    /// `SeatsMissing` where there are fewer seats than were opened; books and seats come back as they were.
+    /// The sums of the shares of all seats, which are the books. `SeatsMissing` where there are
+    /// fewer seats than were opened; books and seats come back as they were.
     pub fn gather(
         self,
-        mut seats: Vec<Seat<T, C, F>>,
+        seats: Vec<Seat<T, C, F>>,
     ) -> Result<Shares, (Books<T, C, F>, Vec<Seat<T, C, F>>, SeatsMissing)>
         ensures books { IfOk result (λ shares. shares ≡ self) }
         ensures sums { IfOk result (λ shares. shares ≡ sums_of seats.items) }
@@ -247,31 +257,45 @@ impl<T: Ledger, C: Ledger, F: Ledger> Books<T, C, F> {
             mut completed,
             mut failed,
         } = self;
-        let Some(first) = seats.pop() else {
-            unreachable!()
-        };
-        let Seat {
-            shares: _,
-            taken: mut all_taken,
-            completed: mut all_completed,
-            failed: mut all_failed,
-        } = first;
-        while let Some(seat) = seats.pop() {
-            let Seat {
-                shares: _,
-                taken,
-                completed,
-                failed,
-            } = seat;
-            all_taken.merge(taken);
-            all_completed.merge(completed);
-            all_failed.merge(failed);
-        }
+        let (mut all_taken, mut all_completed, mut all_failed) = merge_all(seats);
         taken.audit(&mut all_taken);
         completed.audit(&mut all_completed);
         failed.audit(&mut all_failed);
         Ok(totals)
     }
+}
+
+/// The shares of all seats, of which there is one at least, as one share of each ledger.
+fn merge_all<T: Ledger, C: Ledger, F: Ledger>(
+    mut seats: Vec<Seat<T, C, F>>,
+) -> (Share<T>, Share<C>, Share<F>)
+    requires some { 0 < vec_len seats }
+    requires parts { (0 < T.parts) × (0 < C.parts) × (0 < F.parts) }
+    ensures taken { IsSumOf T.parts (λ s. s.taken) seats.items result.0.parts result.0.amount }
+    ensures completed { IsSumOf C.parts (λ s. s.completed) seats.items result.1.parts result.1.amount }
+    ensures failed { IsSumOf F.parts (λ s. s.failed) seats.items result.2.parts result.2.amount }
+{
+    let Some(first) = seats.pop() else {
+        unreachable!()
+    };
+    let Seat {
+        shares: _,
+        taken: mut all_taken,
+        completed: mut all_completed,
+        failed: mut all_failed,
+    } = first;
+    while let Some(seat) = seats.pop() {
+        let Seat {
+            shares: _,
+            taken,
+            completed,
+            failed,
+        } = seat;
+        all_taken.merge(taken);
+        all_completed.merge(completed);
+        all_failed.merge(failed);
+    }
+    (all_taken, all_completed, all_failed)
 }
 
 #[cfg(test)]

@@ -40,8 +40,12 @@ CallsKeepTables = (first last : Table) (calls : List Call) → IsTable first →
 
 -- no call adds or loses a place
 abbrev pub CallsKeepPlaces : Type 0
-CallsKeepPlaces = (first last : Table) (calls : List Call) → DoesAll first calls last → length last.places ≡ length first.places
+CallsKeepPlaces =
+    (first last : Table) (calls : List Call) → DoesAll first calls last → length last.places ≡ length first.places
 
--- numbers are given out one after the other, from the first table's next one upwards, so none is given out again
+-- numbers are given out one after the other, from the first table's next one upwards, so none is
+-- given out again
 abbrev pub NumbersRunUpwards : Type 0
-NumbersRunUpwards = (first last : Table) (calls : List Call) (i number : ℕ) → DoesAll first calls last → slice_get (numbers_given calls) i ≡ Some number → number ≡ first.next + i
+NumbersRunUpwards =
+    (first last : Table) (calls : List Call) (i number : ℕ) → DoesAll first calls last
+    → slice_get (numbers_given calls) i ≡ Some number → number ≡ first.next + i

@@ -1,13 +1,17 @@
 //! Task slots of one kind. Each place is free, reserved for one poll, or held by one named task.
 //!
-//! A worker has a fixed number of task slots, each the room for one task at a time (Temporal documentation,
-//! "Worker performance", task slots). A place is reserved before the source is polled, it is held by the task
-//! that the poll brings, and it is freed when the task is finished, or released where the poll brings none.
+//! A worker has a fixed number of task slots, each the room for one task at a time (Temporal
+//! documentation, "Worker performance", task slots). A place is reserved before the source is
+//! polled, it is held by the task that the poll brings, and it is freed when the task is finished,
+//! or released where the poll brings none.
 #![tactic(auto)]
 
-ghost use Rattle.std.specs.Prelude.{◌≡◌, ◌+◌, ◌<◌, ◌≤◌, true, false, replicate, position, IfOk, IfErr, OnOk, OnErr, IfSome, IfNone};
+ghost use Rattle.std.specs.Prelude.{◌≡◌, ◌+◌, ◌<◌, ◌≤◌, true, false, replicate, position, IfOk};
+ghost use Rattle.std.specs.Prelude.{IfErr, OnOk, OnErr, IfSome, IfNone};
 ghost use Rattle.wh_slots.specs.declared.Place.TheVariants.{Free};
-ghost use Rattle.wh_slots.specs.Table.{table, is_free, is_reserved, is_held, is_named, IsTable, IsPlaceOf, IsReserved, IsHeld, Reserves, Uses, Frees, Releases, IsReserveFault, IsUseFault, count_of};
+ghost use Rattle.wh_slots.specs.Table.{table, is_free, is_reserved, is_held, is_named, IsTable};
+ghost use Rattle.wh_slots.specs.Table.{IsPlaceOf, IsReserved, IsHeld, Reserves, Uses, Frees};
+ghost use Rattle.wh_slots.specs.Table.{Releases, IsReserveFault, IsUseFault, count_of};
 
 pub mod laws;
 
@@ -28,7 +32,8 @@ pub enum SlotKind {
 #[derive(Clone, Copy, PartialEq, Eq, Debug)]
 pub struct TaskName(pub u128);
 
-/// One place, as contracts see it: free, reserved under a number, or held under a number by a named task.
+/// One place, as contracts see it: free, reserved under a number, or held under a number by a named
+/// task.
 #[derive(Clone, Copy, Debug)]
 pub enum Place {
     /// Nobody has it.
@@ -150,8 +155,9 @@ impl Held {
     }
 }
 
-/// The places of one kind, 1 to 1,000 of them. Contracts see the table of them, in which numbers of different
-/// places differ, names of different places differ, and each number is below the next one.
+/// The places of one kind, 1 to 1,000 of them. Contracts see the table of them, in which numbers of
+/// different places differ, names of different places differ, and each number is below the next
+/// one.
 #[derive(Drop)]
 pub struct Slots {
     kind: SlotKind,
@@ -201,8 +207,9 @@ impl Slots {
         })
     }
 
-    /// Reserves a free place under the next number, which is never given out again. Which free place it is, is left open.
-    /// Errors are tried in the order of [`ReserveFault`] and change nothing.
+    /// Reserves a free place under the next number, which is never given out again. Which free
+    /// place it is, is left open. Errors are tried in the order of [`ReserveFault`] and change
+    /// nothing.
     pub fn reserve(&mut self) -> Result<Permit, ReserveFault>
         ensures reserved { IfOk result (Reserves self.old self.new) }
         ensures refused { IfErr result (IsReserveFault self.old) }
@@ -226,8 +233,9 @@ impl Slots {
         })
     }
 
-    /// The place that is reserved under the permit is held by the task from now on, under the same number.
-    /// Errors are tried in the order of [`UseFault`]; they change nothing and hand the permit back.
+    /// The place that is reserved under the permit is held by the task from now on, under the same
+    /// number. Errors are tried in the order of [`UseFault`]; they change nothing and hand the
+    /// permit back.
     pub fn use_slot(&mut self, permit: Permit, name: TaskName) -> Result<Held, (Permit, UseFault)>
         ensures held { IfOk result (Uses self.old self.new permit name) }
         ensures refused { IfErr result (λ refused. IsUseFault self.old permit name refused.1) }
@@ -251,7 +259,8 @@ impl Slots {
         })
     }
 
-    /// The held place is free again. `NotHeld` where it is not one of these; nothing changes then, and the right comes back.
+    /// The held place is free again. `NotHeld` where it is not one of these; nothing changes then,
+    /// and the right comes back.
     pub fn free(&mut self, held: Held) -> Result<(), (Held, NotHeld)>
         ensures freed { OnOk result (Frees self.old self.new held) }
         ensures refused { OnErr result (¬ IsHeld self.old held) }
@@ -286,15 +295,17 @@ impl Slots {
         Ok(())
     }
 
-    /// From now on nothing is reserved. What is reserved or held may still be used, released and freed.
+    /// From now on nothing is reserved. What is reserved or held may still be used, released and
+    /// freed.
     pub fn drain(&mut self)
         ensures { self.new ≡ record self.old { draining = true } }
     {
         self.draining = true;
     }
 
-    /// At which place, counted from 0, the right is held, or `None` where it is not one of these. A place stays
-    /// where it is while it is held, so what is told of held places can stand in a list beside the slots.
+    /// At which place, counted from 0, the right is held, or `None` where it is not one of these. A
+    /// place stays where it is while it is held, so what is told of held places can stand in a list
+    /// beside the slots.
     pub fn place_of(&self, held: &Held) -> Option<usize>
         ensures found { IfSome result (IsPlaceOf self.now held.now) }
         ensures missing { IfNone result (¬ IsHeld self.now held.now) }
@@ -326,14 +337,14 @@ impl Slots {
     }
 }
 
-// The first free place.
+/// The first free place.
 fn find_free(places: &[Place]) -> Option<usize>
     ensures { result ≡ position is_free places.now }
 {
     places.iter().position(|place| matches!(place, Place::Free))
 }
 
-// The place that is reserved under the number.
+/// The place that is reserved under the number.
 fn find_reserved(places: &[Place], number: u64) -> Option<usize>
     ensures { result ≡ position (is_reserved number) places.now }
 {
@@ -343,7 +354,7 @@ fn find_reserved(places: &[Place], number: u64) -> Option<usize>
     })
 }
 
-// The place that is held under the number.
+/// The place that is held under the number.
 fn find_held(places: &[Place], number: u64) -> Option<usize>
     ensures { result ≡ position (is_held number) places.now }
 {
@@ -353,7 +364,7 @@ fn find_held(places: &[Place], number: u64) -> Option<usize>
     })
 }
 
-// The place that is held by the task.
+/// The place that is held by the task.
 fn find_named(places: &[Place], name: TaskName) -> Option<usize>
     ensures { result ≡ position (is_named name) places.now }
 {
