@@ -1,0 +1,153 @@
+//! A source of which one call fails.
+ghost use Rattle.std.specs.Prelude.{◌≡◌, ◌+◌, ◌-◌, ◌++◌, ◌∷◌, [], cond, eqb, IfOk, OnOk, OnErr};
+ghost use Rattle.wh_poll.specs.Source.{Delivery, FailsOnly, IfTask, SameRelation, SameTelling, spent};
+ghost use Rattle.wh_poll.specs.declared.source.Sent.{Sent};
+ghost use Rattle.wh_faulty.specs.Failing.{Counts};
+
+use std::marker::Model;
+use wh_events::{Event, RunKey};
+use wh_poll::{ActivityAnswer, ActivityTask, Polled, SourceFault, TaskSource, WorkflowTask};
+use wh_replay::Answer;
+use wh_slots::TaskName;
+
+/// Another source, of which one call fails and does not reach it. Every other call is the other
+/// source's, and so is what polls and `whole` may give.
+///
+/// A failing call answers `Source`, and the count of failures rises with it. Contracts see the
+/// other source and which of the calls to come fails, counted from 1: 0 where none does any more.
+#[derive(Drop)]
+pub struct FaultySource<S> {
+    inner: S,
+    left: u64,
+}
+
+impl<S> Model for FaultySource<S> {
+    ghost use Rattle.std.specs.Prelude.{ℕ};
+
+    ghost Value = { S × ℕ };
+
+    ghost view = { λ source. (source.inner, source.left) };
+}
+
+impl<S> FaultySource<S> {
+    /// The source whose call number `fail_at` fails. All five calls are counted together, from 1.
+    /// With 0 no call fails. It takes no memory.
+    pub fn new(inner: S, fail_at: u64) -> FaultySource<S>
+        ensures { result ≡ (inner, fail_at) }
+    {
+        FaultySource {
+            inner,
+            left: fail_at,
+        }
+    }
+}
+
+/// Counts a call, and says whether it is the one that fails.
+fn is_due(left: &mut u64) -> bool
+    ensures due { result ≡ eqb left.old 1 }
+    ensures left { left.new ≡ left.old - 1 }
+    ensures failures { spent left.new ≡ spent left.old + cond result 1 0 }
+{
+    if *left == 0 {
+        return false;
+    }
+    *left -= 1;
+    *left == 0
+}
+
+impl<S: TaskSource> TaskSource for FaultySource<S> {
+    ghost use Rattle.std.specs.Prelude.{◌+◌};
+    ghost use Rattle.wh_poll.specs.Source.{spent};
+
+    ghost answers = { λ source. S.answers source.0 };
+
+    ghost failures = { λ source. S.failures source.0 + spent source.1 };
+
+    ghost delivers = { λ source. S.delivers source.0 };
+
+    ghost tells = { λ source. S.tells source.0 };
+
+    fn poll_workflow(&mut self) -> Result<Polled<WorkflowTask>, SourceFault>
+        ensures counted { Counts self.old result self.new }
+
+        // What every source ensures, of this one.
+        ensures task { IfOk result (IfTask (λ task. S.delivers self.old.0 (Delivery.Workflow task))) }
+        ensures answers { S.answers self.new.0 ≡ S.answers self.old.0 }
+        ensures failures { FailsOnly result (S.failures self.old.0 + spent self.old.1) (S.failures self.new.0 + spent self.new.1) }
+        ensures delivers { SameRelation (S.delivers self.old.0) (S.delivers self.new.0) }
+        ensures tells { SameTelling (S.tells self.old.0) (S.tells self.new.0) }
+    {
+        if is_due(&mut self.left) {
+            return Err(SourceFault::Source);
+        }
+        self.inner.poll_workflow()
+    }
+
+    fn poll_activity(&mut self) -> Result<Polled<ActivityTask>, SourceFault>
+        ensures counted { Counts self.old result self.new }
+
+        // What every source ensures, of this one.
+        ensures task { IfOk result (IfTask (λ task. S.delivers self.old.0 (Delivery.Activity task))) }
+        ensures answers { S.answers self.new.0 ≡ S.answers self.old.0 }
+        ensures failures { FailsOnly result (S.failures self.old.0 + spent self.old.1) (S.failures self.new.0 + spent self.new.1) }
+        ensures delivers { SameRelation (S.delivers self.old.0) (S.delivers self.new.0) }
+        ensures tells { SameTelling (S.tells self.old.0) (S.tells self.new.0) }
+    {
+        if is_due(&mut self.left) {
+            return Err(SourceFault::Source);
+        }
+        self.inner.poll_activity()
+    }
+
+    fn whole(&mut self, key: &RunKey, up_to: u64) -> Result<Vec<Event>, SourceFault>
+        ensures counted { Counts self.old result self.new }
+
+        // What every source ensures, of this one.
+        ensures told { IfOk result (λ history. S.tells self.old.0 key.now up_to history.items) }
+        ensures answers { S.answers self.new.0 ≡ S.answers self.old.0 }
+        ensures failures { FailsOnly result (S.failures self.old.0 + spent self.old.1) (S.failures self.new.0 + spent self.new.1) }
+        ensures delivers { SameRelation (S.delivers self.old.0) (S.delivers self.new.0) }
+        ensures tells { SameTelling (S.tells self.old.0) (S.tells self.new.0) }
+    {
+        if is_due(&mut self.left) {
+            return Err(SourceFault::Source);
+        }
+        self.inner.whole(key, up_to)
+    }
+
+    fn answer_workflow(&mut self, name: TaskName, answer: &Answer) -> Result<(), SourceFault>
+        ensures counted { Counts self.old result self.new }
+
+        // What every source ensures, of this one.
+        ensures sent { OnOk result (S.answers self.new.0 ≡ S.answers self.old.0 ++ (name, Sent.Workflow answer.now) ∷ []) }
+        ensures unsent { OnErr result (S.answers self.new.0 ≡ S.answers self.old.0) }
+        ensures failures { FailsOnly result (S.failures self.old.0 + spent self.old.1) (S.failures self.new.0 + spent self.new.1) }
+        ensures delivers { SameRelation (S.delivers self.old.0) (S.delivers self.new.0) }
+        ensures tells { SameTelling (S.tells self.old.0) (S.tells self.new.0) }
+    {
+        if is_due(&mut self.left) {
+            return Err(SourceFault::Source);
+        }
+        self.inner.answer_workflow(name, answer)
+    }
+
+    fn answer_activity(
+        &mut self,
+        name: TaskName,
+        answer: &ActivityAnswer,
+    ) -> Result<(), SourceFault>
+        ensures counted { Counts self.old result self.new }
+
+        // What every source ensures, of this one.
+        ensures sent { OnOk result (S.answers self.new.0 ≡ S.answers self.old.0 ++ (name, Sent.Activity answer.now) ∷ []) }
+        ensures unsent { OnErr result (S.answers self.new.0 ≡ S.answers self.old.0) }
+        ensures failures { FailsOnly result (S.failures self.old.0 + spent self.old.1) (S.failures self.new.0 + spent self.new.1) }
+        ensures delivers { SameRelation (S.delivers self.old.0) (S.delivers self.new.0) }
+        ensures tells { SameTelling (S.tells self.old.0) (S.tells self.new.0) }
+    {
+        if is_due(&mut self.left) {
+            return Err(SourceFault::Source);
+        }
+        self.inner.answer_activity(name, answer)
+    }
+}

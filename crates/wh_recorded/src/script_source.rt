@@ -1,0 +1,389 @@
+//! A source that gives the tasks of recorded histories.
+ghost use Rattle.std.specs.Prelude.{◌≡◌, ◌<◌, ◌-◌, ◌++◌, ◌∷◌, [], get_or, length, map, take, drop, option_map, IfOk, IfErr, IfSome, OnOk, OnErr};
+ghost use Rattle.wh_recorded.specs.Rounds.{scripted, ends_of, tasks_in, begin_at, task_of, key_of, events_up_to, first_named, completed_of, tally_of, deliveries_of, first_with, upcoming, told, Gives, Polls};
+ghost use Rattle.wh_poll.specs.Source.{Delivery, FailsOnly, IfTask, SameRelation, SameTelling};
+ghost use Rattle.wh_poll.specs.declared.source.Polled.{Polled};
+ghost use Rattle.wh_poll.specs.declared.source.Sent.{Sent};
+ghost use Rattle.wh_poll.specs.declared.source.SourceFault.{SourceFault};
+
+use std::alloc::Global;
+use std::marker::Model;
+use wh_events::{Event, EventKind, Items, OutOfMemory, RunKey, Text};
+use wh_poll::{
+    ActivityAnswer, ActivityTask, Polled, Sent, SourceFault, TaskSource, WorkflowTask, last_number,
+};
+use wh_replay::Answer;
+use wh_slots::TaskName;
+
+/// The run id of each history's key.
+const RUN_ID: &str = "recorded";
+
+/// How many tokens the tasks of one file have.
+const TOKENS: u128 = 0x1_0000_0000_0000_0000;
+
+/// A history and the ends of its tasks.
+#[derive(Drop)]
+struct ScriptedHistory {
+    index: u64,
+    name: String,
+    events: Vec<Event>,
+    ends: Vec<usize>,
+}
+
+impl Model for ScriptedHistory {
+    ghost use Rattle.std.specs.Prelude.{◌≡◌, string_bytes};
+    ghost use Rattle.wh_recorded.specs.Rounds.{Scripted, ends_of};
+
+    ghost Value = { Scripted };
+
+    ghost view = { λ h. record { index = h.index; name = string_bytes h.name; events = h.events.items } };
+
+    ghost invariant = { λ h. h.ends.items ≡ ends_of h.events.items };
+}
+
+/// How many events stand up to each event that starts a workflow task.
+fn find_ends(alloc: Global, events: &[Event]) -> Result<Vec<usize>, OutOfMemory>
+    ensures { IfOk result (λ ends. ends.items ≡ ends_of events.now) }
+{
+    let mut ends = Vec::new(alloc);
+    for (place, event) in events.iter().enumerate() {
+        if matches!(event.body, EventKind::WorkflowTaskStarted) {
+            ends.push(place + 1)?;
+        }
+    }
+    Ok(ends)
+}
+
+/// Copies of the events behind the first `begin` of them, up to `end`.
+fn copy_between(
+    alloc: Global,
+    events: &[Event],
+    begin: usize,
+    end: usize,
+) -> Result<Vec<Event>, OutOfMemory>
+    ensures { IfOk result (λ copies. copies.items ≡ take (end - begin) (drop begin events.now)) }
+{
+    let stop = end.min(events.len());
+    let mut copies = Vec::new(alloc);
+    for place in begin..stop {
+        copies.push(events[place].try_copy()?)?;
+    }
+    Ok(copies)
+}
+
+/// Copies of the events up to a number.
+fn copy_up_to(alloc: Global, events: &[Event], up_to: u64) -> Result<Vec<Event>, OutOfMemory>
+    ensures { IfOk result (λ copies. copies.items ≡ events_up_to up_to events.now) }
+{
+    let mut copies = Vec::new(alloc);
+    for event in events {
+        if up_to < event.number.get() {
+            return Ok(copies);
+        }
+        copies.push(event.try_copy()?)?;
+    }
+    Ok(copies)
+}
+
+/// The key of a history of this name.
+fn key_of(alloc: Global, name: &str) -> Result<RunKey, OutOfMemory>
+    ensures { IfOk result (λ key. key ≡ key_of name.now) }
+{
+    Ok(RunKey {
+        workflow_id: Text::new(String::from_str(alloc, name)?),
+        run_id: Text::new(String::from_str(alloc, RUN_ID)?),
+    })
+}
+
+impl ScriptedHistory {
+    fn new(
+        alloc: Global,
+        index: u64,
+        name: String,
+        events: Vec<Event>,
+    ) -> Result<ScriptedHistory, OutOfMemory>
+        ensures { IfOk result (λ history. history ≡ scripted (index, name, events)) }
+    {
+        let ends = find_ends(alloc, events.as_slice())?;
+        Ok(ScriptedHistory {
+            index,
+            name,
+            events,
+            ends,
+        })
+    }
+
+    /// How many tasks it has.
+    fn tasks(&self) -> usize
+        ensures { result ≡ tasks_in self.now }
+    {
+        self.ends.len()
+    }
+
+    /// How many events stand before a task, counted from 0.
+    fn begin(&self, n: usize) -> usize
+        requires { n < tasks_in self.now }
+        ensures { result ≡ begin_at (ends_of self.now.events) n }
+    {
+        if n == 0 { 0 } else { self.ends[n - 1] }
+    }
+
+    /// A task, counted from 0.
+    fn task(&self, alloc: Global, n: usize) -> Result<WorkflowTask, OutOfMemory>
+        requires { n < tasks_in self.now }
+        ensures { IfOk result (λ task. task ≡ task_of self.now n) }
+    {
+        let events = copy_between(alloc, self.events.as_slice(), self.begin(n), self.ends[n])?;
+        let number = last_number(events.as_slice());
+        Ok(WorkflowTask {
+            name: TaskName(u128::from(self.index) * TOKENS + u128::from(number)),
+            run: key_of(alloc, self.name.as_str())?,
+            events: Items::new(events),
+        })
+    }
+}
+
+/// The first history of the name, and its place.
+fn find_named<'a>(
+    histories: &'a [ScriptedHistory],
+    name: &str,
+) -> Option<(usize, &'a ScriptedHistory)>
+    ensures { option_map (λ found. (found.0, found.1.now)) result ≡ first_named 0 name.now histories.now }
+{
+    for (place, history) in histories.iter().enumerate() {
+        if history.name.as_str() == name {
+            return Some((place, history));
+        }
+    }
+    None
+}
+
+/// The place of the first history from a place on that has a task `n`, counted from 0.
+fn find_task(histories: &[ScriptedHistory], from: usize, n: usize) -> Option<usize>
+    ensures first { result ≡ first_with from n (drop from histories.now) }
+    ensures within { IfSome result (λ place. place < length histories.now) }
+    ensures has { IfSome result (λ place. (other : _) → n < tasks_in (get_or histories.now place other)) }
+{
+    for place in from..histories.len() {
+        if n < histories[place].tasks() {
+            return Some(place);
+        }
+    }
+    None
+}
+
+/// How many answers without a fault were sent to tasks of the file.
+fn count_completed(answers: &[(TaskName, Sent)], index: u64) -> u64
+    ensures { result ≡ completed_of index answers.now }
+{
+    let mut completed = 0;
+    for (name, sent) in answers {
+        if let Sent::Workflow(Answer::Complete(_)) = sent
+            && name.0 / TOKENS == u128::from(index)
+        {
+            completed += 1;
+        }
+    }
+    completed
+}
+
+/// Appends an answer to the list.
+fn store(answers: &mut Vec<(TaskName, Sent)>, name: TaskName, sent: Sent) -> Result<(), SourceFault>
+    ensures sent { OnOk result (answers.new.items ≡ answers.old.items ++ (name, sent) ∷ []) }
+    ensures unsent { OnErr result (answers.new.items ≡ answers.old.items) }
+    ensures failures { FailsOnly result 0 0 }
+{
+    match answers.push((name, sent)) {
+        Ok(()) => Ok(()),
+        Err(_) => Err(SourceFault::OutOfMemory),
+    }
+}
+
+/// A source over recorded histories, which gives their workflow tasks round by round and stores the
+/// answers that it is sent.
+///
+/// A history has a task for each of its `WorkflowTaskStarted` events, failed and timed-out tasks
+/// too. The first round gives the first task of each history in their order, the second round the
+/// second of each that has one, and so on, and behind the last task the source is closed. The first
+/// task of a history has its events from the first up to the started event, a later one those since
+/// the task before. The key of a task is the history's name with the run id `recorded`. Its name is
+/// the file's index times 2^64 plus the number of the started event. There are no activity tasks.
+///
+/// `whole` gives the events of the first history of the key's name up to the number, and none where
+/// no history has the name or the run id is another. No call fails but for want of memory.
+#[derive(Drop)]
+pub struct ScriptSource {
+    alloc: Global,
+    histories: Vec<ScriptedHistory>,
+    round: usize,
+    next: usize,
+    answers: Vec<(TaskName, Sent)>,
+}
+
+impl Model for ScriptSource {
+    ghost use Rattle.wh_recorded.specs.Rounds.{Stage};
+
+    ghost Value = { Stage };
+
+    ghost view = { λ s. record { histories = s.histories.items; round = s.round; next = s.next; answers = s.answers.items } };
+}
+
+impl ScriptSource {
+    /// A source over histories, each with the index of its file and its name. `OutOfMemory` where no
+    /// room was found for the places of their tasks; the histories are dropped then.
+    pub fn new(
+        alloc: Global,
+        histories: Vec<(u64, String, Vec<Event>)>,
+    ) -> Result<ScriptSource, OutOfMemory>
+        ensures { IfOk result (λ source. source ≡ record { histories = map scripted histories.items; round = 0; next = 0; answers = [] }) }
+    {
+        let mut scripted = Vec::new(alloc);
+        for history in histories {
+            let (index, name, events) = history;
+            scripted.push(ScriptedHistory::new(alloc, index, name, events)?)?;
+        }
+        Ok(ScriptSource {
+            alloc,
+            histories: scripted,
+            round: 0,
+            next: 0,
+            answers: Vec::new(alloc),
+        })
+    }
+
+    /// How many tasks all histories have together, polled or not: at most 2^64 - 1.
+    pub fn deliveries(&self) -> u64
+        ensures { result ≡ deliveries_of self.now.histories }
+    {
+        let mut deliveries: u64 = 0;
+        for history in &self.histories {
+            deliveries = deliveries.saturating_add(history.tasks() as u64);
+        }
+        deliveries
+    }
+
+    /// For the first history of the name: how many of its tasks were polled, how many answers
+    /// without a fault were sent to tasks of its file, and by how many the tasks are more than those.
+    /// `None` where no history has the name.
+    pub fn tally(&self, name: &str) -> Option<(u64, u64, u64)>
+        ensures { result ≡ tally_of self.now name.now }
+    {
+        let (place, history) = find_named(self.histories.as_slice(), name)?;
+        let rounds = if place < self.next {
+            self.round.saturating_add(1)
+        } else {
+            self.round
+        };
+        let tasks = rounds.min(history.tasks()) as u64;
+        let completed = count_completed(self.answers.as_slice(), history.index);
+        Some((tasks, completed, tasks.saturating_sub(completed)))
+    }
+
+    /// The answers that it was sent, each with the name of its task, in the order in which they came.
+    pub fn answers(&self) -> &[(TaskName, Sent)]
+        ensures { result.now ≡ self.now.answers }
+    {
+        self.answers.as_slice()
+    }
+
+    /// The round and the history of the next task.
+    fn upcoming(&self) -> Option<(usize, usize)>
+        ensures exact { result ≡ upcoming self.now }
+        ensures within { IfSome result (λ found. found.1 < length self.now.histories) }
+        ensures has { IfSome result (λ found. (other : _) → found.0 < tasks_in (get_or self.now.histories found.1 other)) }
+    {
+        let histories = self.histories.as_slice();
+        if let Some(place) = find_task(histories, self.next, self.round) {
+            return Some((self.round, place));
+        }
+        let round = self.round.saturating_add(1);
+        let place = find_task(histories, 0, round)?;
+        Some((round, place))
+    }
+}
+
+impl TaskSource for ScriptSource {
+    ghost use Rattle.std.specs.Prelude.{◌≡◌};
+    ghost use Rattle.wh_recorded.specs.Rounds.{Gives, told};
+
+    ghost answers = { λ source. source.answers };
+
+    ghost failures = { λ source. 0 };
+
+    ghost delivers = { λ source. Gives source.histories };
+
+    ghost tells = { λ source key up_to history. history ≡ told source.histories key up_to };
+
+    fn poll_workflow(&mut self) -> Result<Polled<WorkflowTask>, SourceFault>
+        ensures next { IfOk result (λ polled. Polls self.old polled self.new) }
+        ensures memory { IfErr result (λ fault. fault ≡ SourceFault.OutOfMemory) }
+        ensures kept { OnErr result (self.new ≡ self.old) }
+
+        // What every source ensures, of this one.
+        ensures task { IfOk result (IfTask (λ task. Gives self.old.histories (Delivery.Workflow task))) }
+        ensures answers { self.new.answers ≡ self.old.answers }
+        ensures failures { FailsOnly result 0 0 }
+        ensures delivers { SameRelation (Gives self.old.histories) (Gives self.new.histories) }
+        ensures tells { SameTelling (λ key up_to history. history ≡ told self.old.histories key up_to) (λ key up_to history. history ≡ told self.new.histories key up_to) }
+    {
+        let Some((round, place)) = self.upcoming() else {
+            return Ok(Polled::Closed);
+        };
+        let Ok(task) = self.histories[place].task(self.alloc, round) else {
+            return Err(SourceFault::OutOfMemory);
+        };
+        self.round = round;
+        self.next = place + 1;
+        Ok(Polled::Task(task))
+    }
+
+    fn poll_activity(&mut self) -> Result<Polled<ActivityTask>, SourceFault>
+        ensures closed { result ≡ Ok Polled.Closed }
+        ensures same { self.new ≡ self.old }
+    {
+        Ok(Polled::Closed)
+    }
+
+    fn whole(&mut self, key: &RunKey, up_to: u64) -> Result<Vec<Event>, SourceFault>
+        ensures told { IfOk result (λ history. history.items ≡ told self.old.histories key.now up_to) }
+        ensures memory { IfErr result (λ fault. fault ≡ SourceFault.OutOfMemory) }
+        ensures same { self.new ≡ self.old }
+    {
+        if key.run_id.get() != RUN_ID {
+            return Ok(Vec::new(self.alloc));
+        }
+        let Some((_, history)) = find_named(self.histories.as_slice(), key.workflow_id.get()) else {
+            return Ok(Vec::new(self.alloc));
+        };
+        match copy_up_to(self.alloc, history.events.as_slice(), up_to) {
+            Ok(copies) => Ok(copies),
+            Err(_) => Err(SourceFault::OutOfMemory),
+        }
+    }
+
+    fn answer_workflow(&mut self, name: TaskName, answer: &Answer) -> Result<(), SourceFault>
+        ensures stored { OnOk result (self.new ≡ record self.old { answers = self.old.answers ++ (name, Sent.Workflow answer.now) ∷ [] }) }
+        ensures memory { IfErr result (λ fault. fault ≡ SourceFault.OutOfMemory) }
+        ensures kept { OnErr result (self.new ≡ self.old) }
+    {
+        let Ok(copy) = answer.try_copy(self.alloc) else {
+            return Err(SourceFault::OutOfMemory);
+        };
+        store(&mut self.answers, name, Sent::Workflow(copy))
+    }
+
+    fn answer_activity(
+        &mut self,
+        name: TaskName,
+        answer: &ActivityAnswer,
+    ) -> Result<(), SourceFault>
+        ensures stored { OnOk result (self.new ≡ record self.old { answers = self.old.answers ++ (name, Sent.Activity answer.now) ∷ [] }) }
+        ensures memory { IfErr result (λ fault. fault ≡ SourceFault.OutOfMemory) }
+        ensures kept { OnErr result (self.new ≡ self.old) }
+    {
+        let Ok(copy) = answer.try_copy() else {
+            return Err(SourceFault::OutOfMemory);
+        };
+        store(&mut self.answers, name, Sent::Activity(copy))
+    }
+}

@@ -1,0 +1,10 @@
+pub mod Answering
+pub mod Endings
+pub mod Nap
+pub mod Greet
+pub mod Branch
+pub mod Family
+pub mod Racer
+pub mod Caller
+pub mod Flood
+pub mod Asker

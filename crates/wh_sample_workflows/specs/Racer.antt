@@ -1,0 +1,63 @@
+-- The sample Racer.
+use Rattle.std.specs.Prelude.{List, [], ◌∷◌, codes, bytes_eq, refl, if◌then◌else◌}
+use Rattle.std.proofs.Common.{lit≤}
+use Rattle.wh_workflow.specs.declared.job.ActivityEnd.{ActivityEnd}
+use Rattle.wh_workflow.specs.declared.job.ActivityEnd.TheVariants.{Completed}
+use Rattle.wh_workflow.specs.declared.command.Command.{Command}
+use Rattle.wh_workflow.specs.declared.command.Command.TheVariants.{StartActivity, CancelActivity, StartTimer, CancelTimer, Complete}
+use Rattle.wh_workflow.specs.declared.job.Job.{Job}
+use Rattle.wh_workflow.specs.declared.job.Job.TheVariants.{Start, Activity, TimerFired}
+use Rattle.wh_workflow.specs.Law.{Program, IsAnswer, IsLawful}
+use Rattle.wh_sample_workflows.specs.Endings.{result_or_failure}
+use Rattle.wh_sample_workflows.specs.Answering.{none_is_answer, one_is_answer, either_is_answer}
+use Rattle.wh_sample_workflows.specs.declared.racer.Phase.{Phase}
+use Rattle.wh_sample_workflows.specs.declared.racer.Phase.TheVariants.{Racing, Late, Done}
+
+-- the race begins
+abbrev pub race : List Command
+race = StartActivity (codes "1") (codes "race") [] ∷ StartTimer (codes "t") 30 ∷ []
+
+-- the timer was faster
+abbrev pub lateness : List Command
+lateness = CancelActivity (codes "1") ∷ StartTimer (codes "u") 5 ∷ []
+
+-- the activity was faster
+abbrev pub ending : ActivityEnd → List Command
+ending end = CancelTimer (codes "t") ∷ result_or_failure (codes "race") end ∷ []
+
+-- what it gives to a job
+abbrev pub racer_gives : Phase → Job → List Command
+racer_gives Racing (Start _ _) = race
+racer_gives Racing (TimerFired id) = if bytes_eq id (codes "t") then lateness else []
+racer_gives Racing (Activity id end) = if bytes_eq id (codes "1") then ending end else []
+racer_gives Late (TimerFired id) = if bytes_eq id (codes "u") then Complete [] ∷ [] else []
+racer_gives _ _ = []
+
+-- what a job leaves
+abbrev pub racer_after : Phase → Job → Phase
+racer_after Racing (TimerFired id) = if bytes_eq id (codes "t") then Late else Racing
+racer_after Racing (Activity id _) = if bytes_eq id (codes "1") then Done else Racing
+racer_after Late (TimerFired id) = if bytes_eq id (codes "u") then Done else Late
+racer_after phase _ = phase
+
+-- what it computes
+abbrev pub racer : Program Phase
+racer = record {
+  knows = λ kind. bytes_eq kind (codes "Racer");
+  initial = λ _. Racing;
+  after = racer_after;
+  gives = racer_gives;
+}
+
+endings : (end : ActivityEnd) → IsAnswer (ending end)
+endings (Completed result) = record { few = lit≤ tt; asks = refl; records = refl }
+endings _ = record { few = lit≤ tt; asks = refl; records = refl }
+
+pub racer_lawful : IsLawful racer
+racer_lawful Racing (Start _ _) = record { few = lit≤ tt; asks = refl; records = refl }
+racer_lawful Racing (TimerFired id) =
+    either_is_answer (bytes_eq id (codes "t")) _ _ (record { few = lit≤ tt; asks = refl; records = refl }) none_is_answer
+racer_lawful Racing (Activity id end) =
+    either_is_answer (bytes_eq id (codes "1")) _ _ (endings end) none_is_answer
+racer_lawful Late (TimerFired id) = either_is_answer (bytes_eq id (codes "u")) _ _ (one_is_answer _ refl) none_is_answer
+racer_lawful _ _ = none_is_answer

@@ -1,0 +1,26 @@
+//! How runs end where what they wait for ends.
+ghost use Rattle.std.specs.Prelude.{◌≡◌, IfOk};
+ghost use Rattle.wh_sample_workflows.specs.Endings.{result_or_failure};
+
+use crate::values::text_of;
+use std::alloc::Global;
+use wh_events::OutOfMemory;
+use wh_workflow::{ActivityEnd, Command};
+
+/// `Complete` with the result of the activity, and `Fail` with the message where it has none.
+pub(crate) fn result_or_failure(
+    alloc: Global,
+    end: &ActivityEnd,
+    message: &str,
+) -> Result<Command, OutOfMemory>
+    ensures { IfOk result (λ command. command ≡ result_or_failure message.now end.now) }
+{
+    match end {
+        ActivityEnd::Completed(result) => Ok(Command::Complete {
+            result: result.try_copy()?,
+        }),
+        _ => Ok(Command::Fail {
+            message: text_of(alloc, message)?,
+        }),
+    }
+}

@@ -1,0 +1,29 @@
+//! Small workflows, each a table of what it gives to a job. The workflow type is the sample's name.
+#![tactic(auto)]
+
+mod asker;
+mod branch;
+mod caller;
+mod endings;
+mod family;
+mod flood;
+mod greet;
+mod nap;
+mod racer;
+mod stateless;
+mod values;
+
+pub use asker::Asker;
+pub use branch::Branch;
+pub use caller::Caller;
+pub use family::{Family, FamilyState};
+pub use flood::{Flood, FloodState};
+pub use greet::{Greet, GreetState};
+pub use nap::Nap;
+pub use racer::{Phase, Racer};
+pub use stateless::NoState;
+use wh_workflow::Pair;
+
+/// The samples that the program has code for. Flood and Asker, which only go past limits, are not
+/// among them.
+pub type All = Pair<Nap, Pair<Greet, Pair<Branch, Pair<Family, Pair<Racer, Caller>>>>>;

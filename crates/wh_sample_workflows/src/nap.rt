@@ -1,0 +1,56 @@
+//! Nap: sleeps for a minute.
+ghost use Rattle.std.specs.Prelude.{◌≡◌};
+ghost use Rattle.wh_sample_workflows.specs.Nap.{nap, nap_lawful};
+
+use crate::stateless::NoState;
+use crate::values::{no_payloads, text_of};
+use std::alloc::Global;
+use wh_events::OutOfMemory;
+use wh_workflow::{Command, Job, Meter, Workflow};
+
+/// Sleeps for a minute.
+///
+/// | Job | Gives |
+/// |---|---|
+/// | `Start` | `StartTimer{nap, 60}` |
+/// | `TimerFired` of `nap` | `Complete`, without a result |
+///
+/// Other jobs change nothing and give nothing.
+pub struct Nap;
+
+impl Workflow for Nap {
+    type State = NoState;
+
+    ghost program = { nap };
+
+    ghost lawful = { nap_lawful };
+
+    fn handles(kind: &str) -> bool {
+        kind == "Nap"
+    }
+
+    fn begin(_alloc: Global, _kind: &str) -> Result<NoState, OutOfMemory> {
+        Ok(NoState)
+    }
+
+    fn step(
+        alloc: Global,
+        _state: &mut NoState,
+        job: &Job,
+        out: &mut Vec<Command>,
+        meter: &mut Meter,
+    ) -> Result<(), OutOfMemory> {
+        meter.tick();
+        match job {
+            Job::Start { .. } => out.push(Command::StartTimer {
+                id: text_of(alloc, "nap")?,
+                seconds: 60,
+            })?,
+            Job::TimerFired { id } if id.get() == "nap" => out.push(Command::Complete {
+                result: no_payloads(alloc),
+            })?,
+            _ => {}
+        }
+        Ok(())
+    }
+}

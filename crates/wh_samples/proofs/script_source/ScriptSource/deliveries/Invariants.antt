@@ -1,6 +1,0 @@
-use Rattle.std.proofs.Common.{◌≡◌, take}
-use Rattle.wh_samples.specs.Rounds.{deliveries_of}
-use Rattle.wh_samples.proofs.script_source.ScriptSource.deliveries.Given as goal
-
-abbrev pub invariant-loop-history : goal.invariant-loop-history
-invariant-loop-history l = l.deliveries ≡ deliveries_of (take l.history-index l.self.histories)

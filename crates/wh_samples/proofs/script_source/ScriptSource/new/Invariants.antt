@@ -1,6 +1,0 @@
-use Rattle.std.proofs.Common.{◌≡◌, map}
-use Rattle.wh_samples.specs.Rounds.{scripted}
-use Rattle.wh_samples.proofs.script_source.ScriptSource.new.Given as goal
-
-abbrev pub invariant-loop-history : goal.invariant-loop-history
-invariant-loop-history l = map scripted l.yielded ≡ l.scripted.items
