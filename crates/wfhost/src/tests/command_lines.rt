@@ -1,9 +1,9 @@
 //! Command lines.
 
-use crate::command_line::{Plan, Refusal, parse};
 use crate::tests::notation::{owned, row};
 use std::alloc::Global;
 use std::process::Abort;
+use wh_cli::{Plan, Refusal, parse};
 
 /// What a line behind the program's name asks for.
 const LINES: &str = "\

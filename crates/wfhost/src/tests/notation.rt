@@ -1,9 +1,9 @@
 //! Histories in short words, and rows that say what they give.
 
-use crate::replaying::replay_command;
 use std::alloc::Global;
 use std::process::Abort;
 use std::thread::Threads;
+use wh_cli::replay_command;
 use wh_events::{Event, RunKey, Text};
 use wh_json::read_events;
 use wh_workflow::Workflow;

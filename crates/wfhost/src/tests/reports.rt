@@ -1,11 +1,11 @@
 //! Reports of several files.
 
-use crate::replaying::{CommandFault, replay_command};
 use crate::tests::notation::{json, owned, push, push_file, replaced, report_of, row};
 use std::alloc::Global;
 use std::io;
 use std::io::Write;
 use std::process::Abort;
+use wh_cli::{CommandFault, replay_command};
 use wh_samples::All;
 use wh_tester::{Verdict, all_good, check_all, verdict};
 

@@ -1,7 +1,5 @@
 //! Folders of recorded histories, served.
 
-use crate::replaying::CommandFault;
-use crate::serving::serve_command;
 use crate::tests::notation::text_of;
 use crate::tests::reports::named_files;
 use std::alloc::Global;
@@ -9,6 +7,7 @@ use std::io::Write;
 use std::process::Abort;
 use std::sync::Wait;
 use std::thread::Threads;
+use wh_cli::{CommandFault, serve_command};
 use wh_samples::All;
 
 /// Files of all samples, each by its name and its history.

@@ -1,7 +1,0 @@
-use Rattle.std.proofs.Common.{◌≡◌, map}
-use Rattle.wfhost.specs.Services.{rows_from}
-use Rattle.wfhost.proofs.serving.rows_of.Given as goal
-
--- the rows so far are those of the files so far
-abbrev pub invariant-loop-file : goal.invariant-loop-file
-invariant-loop-file g l = l.rows.items ≡ rows_from (map (λ worker. worker.source) l.workers) 0 l.yielded

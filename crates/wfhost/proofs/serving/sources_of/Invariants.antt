@@ -1,5 +1,0 @@
-use Rattle.std.proofs.Common.{◌≡◌, vec_len, length}
-use Rattle.wfhost.proofs.serving.sources_of.Given as goal
-
-abbrev pub invariant-loop-hand : goal.invariant-loop-hand
-invariant-loop-hand l = vec_len l.sources ≡ length l.yielded

@@ -1,0 +1,60 @@
+-- What a command line asks for.
+use Rattle.std.specs.Prelude.{◌≡◌, ℕ, ◌≤◌, ◌<◌, List, codes, Some}
+use Rattle.clap.specs.Words.{Row, Text, first_of, subcommand_of}
+use Rattle.wh_cli.specs.Lines.{program}
+use Rattle.wh_cli.specs.Options.{AreWithinLimits, GivesNumbers}
+use Rattle.wh_cli.specs.declared.command_line.Plan.{Plan}
+use Rattle.wh_cli.specs.declared.options.Options.{Options}
+use Rattle.wh_cli.specs.declared.command_line.Plan.TheVariants.{Replay, Serve, Help}
+
+-- the numbers of a plan are within their limits, with at least as many slots as workers
+abbrev pub IsWithinLimits : Plan → Type 0
+IsWithinLimits (Serve dir workers cache cache_events slots) = AreWithinLimits workers cache cache_events slots × (workers ≤ slots)
+IsWithinLimits _ = Unit {0}
+
+-- the plan is to serve a folder with these options
+abbrev pub IsServe : Text → Options → Plan → Type 0
+IsServe dir options plan = plan ≡ Serve dir options.workers options.cache options.cache_events options.slots
+
+-- the plan is to print a text
+abbrev pub IsHelp : Plan → Type 0
+IsHelp (Help text) = Unit {0}
+IsHelp _ = ⊥
+
+-- the rows give the folder
+abbrev pub GivesFolder : List Row → Text → Type 0
+GivesFolder rows dir = first_of (codes "DIR") rows ≡ Some dir
+
+-- the plan is what the subcommand of a name asks for by its rows
+abbrev pub IsGiven : Text → List Row → Plan → Type 0
+IsGiven name rows (Replay dir) = (name ≡ codes "replay") × GivesFolder rows dir
+IsGiven name rows (Serve dir workers cache cache_events slots) = (name ≡ codes "serve") × GivesFolder rows dir
+    × GivesNumbers rows workers cache cache_events slots
+IsGiven name rows (Help text) = ⊥
+
+-- the words name the subcommand, and give it these rows
+abbrev pub Names : List Text → Text → List Row → Type 0
+Names words name rows = subcommand_of program words ≡ Some (name, rows)
+
+-- the plan is what the subcommand of the words asks for, or to print a text
+abbrev pub IsAskedBy : List Text → Plan → Type 0
+IsAskedBy words (Help text) = Unit {0}
+IsAskedBy words plan = (name : Text) × (rows : List Row) × Names words name rows × IsGiven name rows plan
+
+-- the rows give numbers within their limits, with fewer slots than workers
+pub record GivesFewSlots (rows : List Row) : Type 0 where
+  pub workers : ℕ
+  pub cache : ℕ
+  pub cache_events : ℕ
+  pub slots : ℕ
+  pub given : GivesNumbers rows workers cache cache_events slots
+  pub limits : AreWithinLimits workers cache cache_events slots
+  pub few : slots < workers
+
+-- the subcommand of a name is to serve, and its rows give fewer slots than workers
+abbrev pub AsksFewSlots : Text → List Row → Type 0
+AsksFewSlots name rows = (name ≡ codes "serve") × GivesFewSlots rows
+
+-- the words ask to serve, with fewer slots than workers
+abbrev pub HasFewSlots : List Text → Type 0
+HasFewSlots words = (rows : List Row) × Names words (codes "serve") rows × GivesFewSlots rows

@@ -1,0 +1,101 @@
+-- What the command `serve` did: its report, and its status.
+use Rattle.std.specs.Prelude.{◌≡◌, ℕ, ◌+◌, ◌%◌, ◌&&◌, List, [], ◌∷◌, ◌++◌, length, map, get_or, codes, decimal, Bool, false, Option, Some, None, is_none, Result, Ok, Err, String, string_bytes, Vec, if◌then◌else◌, eqb}
+use Rattle.std.specs.List.{flat_map, list_all}
+use Rattle.std.specs.declared.alloc.Global.{Global}
+use Rattle.wh_json.specs.declared.fault.ReadFault.{ReadFault}
+use Rattle.wh_json.specs.Events.{history}
+use Rattle.wh_ledger.specs.declared.Shares.{Shares}
+use Rattle.wh_ledger.specs.Shares.{sums_of}
+use Rattle.wh_host.specs.declared.reply.Totals.{Totals}
+use Rattle.wh_host.specs.Machine.{totals_of}
+use Rattle.wh_poll.specs.declared.source.SourceFault.{SourceFault}
+use Rattle.wh_samples.specs.Rounds.{Stage, tally_of}
+use Rattle.wh_tester.specs.Report.{shown, line_text}
+use Rattle.wh_tester.specs.declared.line.Verdict.TheVariants.{Unreadable}
+use Rattle.wh_cli.specs.declared.dealing.Dealt.{Dealt}
+use Rattle.wh_cli.specs.declared.service_report.Tally.{Tally}
+use Rattle.wh_cli.specs.declared.service_report.Row.{Row}
+
+-- the fault, if there is one
+abbrev pub fault_of : {A : Type 0} → Result A ReadFault → Option ReadFault
+fault_of (Ok x) = None
+fault_of (Err fault) = Some fault
+
+-- a file by its name, and why it cannot be read
+abbrev pub dealt_of : String Global × Vec ℕ Global → Dealt
+dealt_of file = record { name = string_bytes file.0; fault = fault_of (history file.1.items) }
+
+-- how many tasks of a file its source gave, and how they ended: none, where it has none of its name
+abbrev pub tally_from : Option (ℕ × ℕ × ℕ) → Tally
+tally_from None = record { tasks = 0; completed = 0; failed = 0 }
+tally_from (Some told) = record { tasks = told.0; completed = told.1; failed = told.2 }
+
+abbrev pub outcome_from : Stage → List ℕ → Option ReadFault → Result Tally ReadFault
+outcome_from source name None = Ok (tally_from (tally_of source name))
+outcome_from source name (Some fault) = Err fault
+
+-- the row of a file: why it cannot be read, or its tally in the source of its worker
+abbrev pub row_from : Stage → Dealt → Row
+row_from source file = record { name = file.name; outcome = outcome_from source file.name file.fault }
+
+-- a source without histories
+abbrev pub no_source : Stage
+no_source = record { histories = []; round = 0; next = 0; answers = [] }
+
+-- the source of the worker that a file goes to, where so many stand before it: the workers take turns
+abbrev pub source_at : List Stage → ℕ → Stage
+source_at sources before = get_or sources (before % length sources) no_source
+
+-- the rows of files in their order, where so many stand before them
+abbrev pub rows_from : List Stage → ℕ → List Dealt → List Row
+rows_from sources before [] = []
+rows_from sources before (file ∷ rest) = row_from (source_at sources before) file ∷ rows_from sources (before + 1) rest
+
+-- what a worker leaves: what its seat counted, its source with the answers that it was sent, and the first fault of the source,
+-- if there was one
+pub record Left : Type 0 where
+  pub counted : Shares
+  pub source : Stage
+  pub fault : Option SourceFault
+
+-- what so many workers did with the files that they were dealt: a row for each file, the sums of what their seats counted, and
+-- whether none of them has a fault
+pub record IsService (dealt : List Dealt) (count : ℕ) (rows : List Row) (totals : Totals) (faultless : Bool) : Type 0 where
+  pub left : List Left
+  pub workers : length left ≡ count
+  pub told : rows ≡ rows_from (map (λ worker. worker.source) left) 0 dealt
+  pub sums : totals ≡ totals_of (sums_of (map (λ worker. worker.counted) left))
+  pub balanced : totals.taken ≡ totals.completed + totals.failed + totals.in_hand
+  pub no_fault : faultless ≡ list_all (λ worker. is_none worker.fault) left
+
+-- `<tasks> tasks, <completed> completed, <failed> failed`
+abbrev pub tally_text : Tally → List ℕ
+tally_text tally = decimal tally.tasks ++ (codes " tasks, " ++ (decimal tally.completed ++ (codes " completed, " ++ (decimal tally.failed ++ codes " failed\n"))))
+
+abbrev pub outcome_text : List ℕ → Result Tally ReadFault → List ℕ
+outcome_text name (Ok tally) = shown name ++ (codes ": " ++ tally_text tally)
+outcome_text name (Err fault) = line_text (record { name = name; verdict = Unreadable fault })
+
+-- the line of a file: its tally, or the line of an unreadable file as in the report of replay
+abbrev pub row_text : Row → List ℕ
+row_text row = outcome_text row.name row.outcome
+
+-- `taken <taken>, completed <completed>, failed <failed>, in hand <in hand>`
+abbrev pub totals_text : Totals → List ℕ
+totals_text totals = codes "taken " ++ (decimal totals.taken ++ (codes ", completed " ++ (decimal totals.completed ++ (codes ", failed " ++ (decimal totals.failed ++ (codes ", in hand " ++ (decimal totals.in_hand ++ codes "\n")))))))
+
+-- a line for each file, then the totals
+abbrev pub service_text : List Row → Totals → List ℕ
+service_text rows totals = flat_map row_text rows ++ totals_text totals
+
+abbrev pub is_good_outcome : Result Tally ReadFault → Bool
+is_good_outcome (Ok tally) = eqb tally.failed 0
+is_good_outcome (Err fault) = false
+
+-- each file was read, and none of its tasks failed
+abbrev pub all_served : List Row → Bool
+all_served rows = list_all (λ row. is_good_outcome row.outcome) rows
+
+-- 0 where no worker has a fault, no task failed and each file was read, and else 1
+abbrev pub status_of : Bool → List Row → Totals → ℕ
+status_of faultless rows totals = if faultless && (eqb totals.failed 0 && all_served rows) then 0 else 1

@@ -1,0 +1,234 @@
+//! The command line.
+
+ghost use Rattle.std.specs.Prelude.{◌≡◌, ◌≢◌, ◌↔◌, ◌<◌, false, codes, Err, IfOk, IfErr, IfSome, map};
+ghost use Rattle.std.specs.Prelude.{string_bytes};
+ghost use Rattle.clap.specs.Words.{app_of, new_app, found_of, rows_of, rule_of};
+ghost use Rattle.clap.specs.declared.builder.Command.TheViews.{out-Command as fields_of};
+ghost use Rattle.wh_cli.specs.Lines.{program, replay, serve, folder, number};
+ghost use Rattle.wh_cli.specs.Plans.{IsWithinLimits, IsHelp, IsServe, IsGiven, IsAskedBy};
+ghost use Rattle.wh_cli.specs.Plans.{GivesFolder, GivesFewSlots, AsksFewSlots, HasFewSlots};
+
+use crate::options::{CACHE, CACHE_EVENTS, Helps, NumberOption, Options, SLOTS, WORKERS};
+use clap::error::ErrorKind;
+use clap::{Arg, ArgAction, ArgMatches, Command, Error};
+use std::alloc::{AllocError, Global};
+use wh_events::Text;
+
+/// What the program is to do.
+#[derive(Debug, Drop)]
+pub enum Plan {
+    /// Replay each history in a folder.
+    Replay {
+        dir: Text,
+    },
+    /// Serve the tasks of each history in a folder. Each number is within the limits of a host, and
+    /// there are at least as many slots as workers.
+    Serve {
+        dir: Text,
+        /// How many workers there are.
+        workers: u64,
+        /// How many runs the cache holds.
+        cache: u64,
+        /// How many events the runs of the cache hold together, where 0 is no bound.
+        cache_events: u64,
+        /// How many slots there are of each kind.
+        slots: u64,
+    },
+    /// Print a text that was asked for.
+    Help {
+        text: Text,
+    },
+}
+
+/// Why there is nothing to do.
+#[derive(Debug, Drop)]
+pub enum Refusal {
+    /// The line is none of the program's. The text says why, and ends its own line.
+    BadLine { text: Text },
+    /// There are fewer slots than workers.
+    FewSlots,
+    /// An allocation was refused. It may come in place of any refusal.
+    OutOfMemory,
+}
+
+impl From<AllocError> for Refusal {
+    ghost use Rattle.std.specs.Prelude.{◌≡◌};
+    ghost use Rattle.wh_cli.specs.declared.command_line.Refusal.TheVariants.{OutOfMemory};
+
+    ghost from_gives = { λ _ e. e ≡ OutOfMemory };
+
+    fn from(_refused: AllocError) -> Refusal {
+        Refusal::OutOfMemory
+    }
+}
+
+/// A copy of a text.
+fn text_copy(alloc: Global, text: &str) -> Result<Text, Refusal>
+    ensures ok { IfOk result (λ copy. copy ≡ text.now) }
+    ensures err { IfErr result (λ e. e ≡ Refusal.OutOfMemory) }
+{
+    Ok(Text::new(String::from_str(alloc, text)?))
+}
+
+/// The refusal of a line, with what is wrong with it, unless there was no memory for that.
+pub(crate) fn bad_line(text: Result<String, AllocError>) -> Refusal
+    ensures { result ≢ Refusal.FewSlots }
+{
+    match text {
+        Ok(text) => Refusal::BadLine {
+            text: Text::new(text),
+        },
+        Err(refused) => Refusal::from(refused),
+    }
+}
+
+/// What clap refused, or the help that was asked for.
+fn refused(alloc: Global, error: &Error) -> Result<Plan, Refusal>
+    ensures help { IfOk result IsHelp }
+    ensures slots { result ≢ Err Refusal.FewSlots }
+{
+    let text = Text::new(error.to_string(alloc)?);
+    match error.kind() {
+        ErrorKind::OutOfMemory => Err(Refusal::OutOfMemory),
+        ErrorKind::DisplayHelp => Ok(Plan::Help { text }),
+        _ => Err(Refusal::BadLine { text }),
+    }
+}
+
+/// The argument of each subcommand: the folder.
+fn folder_argument<'a>(alloc: Global) -> Arg<'a>
+    ensures rule { rule_of result ≡ folder }
+    ensures local { result.global ≡ false }
+{
+    Arg::new(alloc, "DIR")
+        .required(true)
+        .action(ArgAction::Set)
+        .help("The folder whose .json files are read")
+}
+
+/// An option of `serve`, with its help.
+fn number_argument<'a>(alloc: Global, option: &NumberOption, help: &'a str) -> Arg<'a>
+    ensures rule { rule_of result ≡ number option.now.name.now option.now.otherwise.now }
+    ensures local { result.global ≡ false }
+{
+    Arg::new(alloc, option.name)
+        .long(option.name)
+        .action(ArgAction::Set)
+        .default_value(option.otherwise)
+        .help(help)
+}
+
+/// A subcommand with nothing yet but its help.
+fn subcommand<'a>(alloc: Global, name: &'a str, about: &'a str) -> Command<'a>
+    ensures app { app_of result ≡ new_app name.entry.now }
+    ensures local { (fields_of result).has_globals ≡ false }
+{
+    Command::new(alloc, name).about(about)
+}
+
+/// The subcommand `replay`.
+fn replay<'a>(alloc: Global) -> Result<Command<'a>, AllocError>
+    ensures app { IfOk result (λ c. app_of c ≡ replay) }
+    ensures local { IfOk result (λ c. (fields_of c).has_globals ≡ false) }
+{
+    subcommand(
+        alloc,
+        "replay",
+        "Replays each history of a folder, and prints a line for each",
+    )
+    .arg(folder_argument(alloc))
+}
+
+/// The subcommand `serve`.
+fn serve<'a>(alloc: Global, helps: &'a Helps) -> Result<Command<'a>, AllocError>
+    ensures app { IfOk result (λ c. app_of c ≡ serve) }
+    ensures local { IfOk result (λ c. (fields_of c).has_globals ≡ false) }
+{
+    subcommand(
+        alloc,
+        "serve",
+        "Serves each history of a folder as workflow tasks, and prints how they ended",
+    )
+    .arg(folder_argument(alloc))?
+    .arg(number_argument(alloc, &WORKERS, helps.workers.as_str()))?
+    .arg(number_argument(alloc, &CACHE, helps.cache.as_str()))?
+    .arg(number_argument(alloc, &CACHE_EVENTS, helps.cache_events.as_str()))?
+    .arg(number_argument(alloc, &SLOTS, helps.slots.as_str()))
+}
+
+/// The program, with its subcommands.
+fn command<'a>(alloc: Global, helps: &'a Helps) -> Result<Command<'a>, AllocError>
+    ensures { IfOk result (λ c. app_of c ≡ program) }
+{
+    Command::new(alloc, "wfhost")
+        .subcommand(replay(alloc)?)?
+        .subcommand(serve(alloc, helps)?)
+}
+
+/// The plan to serve with these options.
+fn serve_plan(dir: Text, options: Options) -> Result<Plan, Refusal>
+    ensures limits { IfOk result IsWithinLimits }
+    ensures kept { IfOk result (IsServe dir options) }
+    ensures few { (result ≡ Err Refusal.FewSlots) ↔ (options.slots < options.workers) }
+{
+    let Options {
+        workers,
+        cache,
+        cache_events,
+        slots,
+    } = options;
+    if slots < workers {
+        return Err(Refusal::FewSlots);
+    }
+    Ok(Plan::Serve {
+        dir,
+        workers,
+        cache,
+        cache_events,
+        slots,
+    })
+}
+
+/// The folder that a subcommand is given.
+fn folder_given<'a>(given: &ArgMatches<'a>) -> Option<&'a str>
+    ensures { IfSome result (λ dir. GivesFolder (rows_of (found_of given.now)) dir.now) }
+{
+    Some(given.get_str("DIR")?)
+}
+
+/// The plan of a subcommand.
+fn asked(alloc: Global, name: &str, given: &ArgMatches<'_>) -> Result<Plan, Refusal>
+    ensures limits { IfOk result IsWithinLimits }
+    ensures given { IfOk result (IsGiven name.now (rows_of (found_of given.now))) }
+    ensures few { result ≡ Err Refusal.FewSlots → AsksFewSlots name.now (rows_of (found_of given.now)) }
+{
+    let Some(dir) = folder_given(given) else {
+        return Err(bad_line(String::from_str(alloc, "error: a folder is needed\n")));
+    };
+    let dir = text_copy(alloc, dir)?;
+    match name {
+        "replay" => Ok(Plan::Replay { dir }),
+        "serve" => serve_plan(dir, Options::given(alloc, given)?),
+        _ => Err(bad_line(String::from_str(alloc, "error: a command is needed\n"))),
+    }
+}
+
+/// The plan of a command line, whose first word is the program's name. `BadLine` holds what is wrong
+/// with the line, as it is shown. `FewSlots` comes only where the line names numbers within their
+/// limits, with fewer slots than workers. `OutOfMemory` comes where there is no memory to read it.
+pub fn parse<'a>(alloc: Global, words: &'a [String]) -> Result<Plan, Refusal>
+    ensures limits { IfOk result IsWithinLimits }
+    ensures asked { IfOk result (IsAskedBy (map string_bytes words.entry.now)) }
+    ensures few { result ≡ Err Refusal.FewSlots → HasFewSlots (map string_bytes words.entry.now) }
+{
+    let helps = Helps::new(alloc)?;
+    let command = command(alloc, &helps)?;
+    let matches = match command.try_get_matches_from(words) {
+        Ok(matches) => matches,
+        Err(error) => return refused(alloc, &error),
+    };
+    let Some((name, given)) = matches.subcommand() else {
+        return Err(bad_line(String::from_str(alloc, "error: a command is needed\n")));
+    };
+    asked(alloc, name, given)
+}

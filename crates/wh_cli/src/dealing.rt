@@ -1,0 +1,100 @@
+//! Files are dealt to workers.
+
+ghost use Rattle.std.specs.Prelude.{◌≡◌, ◌<◌, IfOk, length, map, vec_len};
+ghost use Rattle.wh_cli.specs.Services.{dealt_of};
+
+use std::alloc::Global;
+use wh_events::{Event, OutOfMemory, Text};
+use wh_json::{ReadFault, read_events};
+use wh_samples::ScriptSource;
+
+/// A file by its name, and why it cannot be read, if so.
+#[derive(Drop)]
+pub(crate) struct Dealt {
+    pub(crate) name: Text,
+    pub(crate) fault: Option<ReadFault>,
+}
+
+/// The histories of a worker: each with the index of its file, its name and its events.
+type Hand = Vec<(u64, String, Vec<Event>)>;
+
+/// An empty hand for each worker.
+fn empty_hands(alloc: Global, workers: usize) -> Result<Vec<Hand>, OutOfMemory>
+    ensures { IfOk result (λ hands. vec_len hands ≡ workers) }
+{
+    let mut hands = Vec::new(alloc);
+    for _worker in 0..workers {
+        hands.push(Vec::new(alloc))?;
+    }
+    Ok(hands)
+}
+
+/// Deals a file to a worker: its history goes to the worker's hand under the index of the file.
+fn deal_file(
+    alloc: Global,
+    index: u64,
+    file: (String, Vec<u8>),
+    hand: &mut Hand,
+) -> Result<Dealt, OutOfMemory>
+    ensures { IfOk result (λ dealt. dealt ≡ dealt_of file) }
+{
+    let (name, bytes) = file;
+    let fault = match read_events(alloc, bytes.as_slice()) {
+        Ok(events) => {
+            let copy = String::from_str(alloc, name.as_str())?;
+            hand.push((index, copy, events))?;
+            None
+        }
+        Err(ReadFault::OutOfMemory) => return Err(OutOfMemory),
+        Err(fault) => Some(fault),
+    };
+    Ok(Dealt {
+        name: Text::new(name),
+        fault,
+    })
+}
+
+/// Deals the histories of the files to the workers in turn.
+fn deal(
+    alloc: Global,
+    files: Vec<(String, Vec<u8>)>,
+    hands: &mut [Hand],
+) -> Result<Vec<Dealt>, OutOfMemory>
+    requires { 0 < length hands.old }
+    ensures hands { length hands.new ≡ length hands.old }
+    ensures dealt { IfOk result (λ dealt. dealt.items ≡ map dealt_of files.items) }
+{
+    let mut dealt = Vec::new(alloc);
+    for file in files {
+        let worker = dealt.len() % hands.len();
+        let file = deal_file(alloc, dealt.len() as u64, file, &mut hands[worker])?;
+        dealt.push(file)?;
+    }
+    Ok(dealt)
+}
+
+/// A source over each worker's histories.
+fn sources_of(alloc: Global, hands: Vec<Hand>) -> Result<Vec<ScriptSource>, OutOfMemory>
+    ensures { IfOk result (λ sources. vec_len sources ≡ vec_len hands) }
+{
+    let mut sources = Vec::new(alloc);
+    for hand in hands {
+        sources.push(ScriptSource::new(alloc, hand)?)?;
+    }
+    Ok(sources)
+}
+
+/// The files that are dealt to so many workers, and a source over the histories of each worker.
+pub(crate) fn deal_sources(
+    alloc: Global,
+    files: Vec<(String, Vec<u8>)>,
+    workers: usize,
+) -> Result<(Vec<Dealt>, Vec<ScriptSource>), OutOfMemory>
+    requires { 0 < workers }
+    ensures { IfOk result (λ both. (both.0.items ≡ map dealt_of files.items) × (vec_len both.1 ≡ workers)) }
+{
+    let mut hands = empty_hands(alloc, workers)?;
+    let dealt = deal(alloc, files, hands.as_mut_slice())?;
+    let sources = sources_of(alloc, hands)?;
+    Ok((dealt, sources))
+}

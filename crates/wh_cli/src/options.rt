@@ -1,0 +1,177 @@
+//! The options of `serve`: their names, their limits, and the sizes of a host that they stand for.
+
+ghost use Rattle.std.specs.Prelude.{◌≡◌, ◌≢◌, ◌≤◌, Some, Err, IfOk, IfSome};
+ghost use Rattle.clap.specs.Words.{found_of, rows_of};
+ghost use Rattle.wh_host.specs.Machine.{IsConfig};
+ghost use Rattle.wh_cli.specs.Lines.{value_of, value_named};
+ghost use Rattle.wh_cli.specs.Options.{AreWithinLimits, GivesNumbers};
+
+use crate::command_line::{Refusal, bad_line};
+use clap::ArgMatches;
+use std::alloc::{AllocError, Global};
+use wh_cache::{MOST_CACHED_EVENTS, MOST_RUNS};
+use wh_host::{Config, MOST_SEATS};
+use wh_slots::MOST_SLOTS;
+
+/// An option that takes a number.
+pub(crate) struct NumberOption {
+    /// Its name, which stands behind `--`.
+    pub(crate) name: &'static str,
+    /// Its number where it is not given.
+    pub(crate) otherwise: &'static str,
+    /// What the number means.
+    about: &'static str,
+    /// The least number that it takes.
+    least: u64,
+    /// The greatest number that it takes.
+    most: u64,
+}
+
+/// How many workers serve.
+pub(crate) const WORKERS: NumberOption = NumberOption {
+    name: "workers",
+    otherwise: "1",
+    about: "How many workers poll at once",
+    least: 1,
+    most: MOST_SEATS as u64,
+};
+
+/// How many runs the cache holds.
+pub(crate) const CACHE: NumberOption = NumberOption {
+    name: "cache",
+    otherwise: "100",
+    about: "How many runs are kept between their tasks",
+    least: 0,
+    most: MOST_RUNS as u64,
+};
+
+/// How many events the cached runs hold together.
+pub(crate) const CACHE_EVENTS: NumberOption = NumberOption {
+    name: "cache-events",
+    otherwise: "0",
+    about: "How many events the kept runs hold together, where 0 is no bound",
+    least: 0,
+    most: MOST_CACHED_EVENTS,
+};
+
+/// How many slots there are of each kind.
+pub(crate) const SLOTS: NumberOption = NumberOption {
+    name: "slots",
+    otherwise: "100",
+    about: "How many tasks of each kind are in hand at once",
+    least: 1,
+    most: MOST_SLOTS as u64,
+};
+
+impl NumberOption {
+    /// What the help says of it.
+    fn help(&self, alloc: Global) -> Result<String, AllocError> {
+        let NumberOption {
+            about,
+            least,
+            most,
+            ..
+        } = self;
+        format!(in alloc; "{about}, {least} to {most}")
+    }
+
+    /// The number that it is given.
+    fn number(&self, alloc: Global, given: &ArgMatches<'_>) -> Result<u64, Refusal>
+        ensures given { IfOk result (λ n. value_named (rows_of (found_of given.now)) self.now.name.now ≡ Some n) }
+        ensures least { IfOk result (λ n. self.now.least ≤ n) }
+        ensures most { IfOk result (λ n. n ≤ self.now.most) }
+        ensures slots { result ≢ Err Refusal.FewSlots }
+    {
+        let NumberOption {
+            name,
+            least,
+            most,
+            ..
+        } = self;
+        let Some(number) = value_named(given, name) else {
+            return Err(bad_line(format!(in alloc; "error: {name} must be a number\n")));
+        };
+        if number < self.least || self.most < number {
+            return Err(bad_line(format!(in alloc; "error: {name} must be {least} to {most}\n")));
+        }
+        Ok(number)
+    }
+}
+
+/// The number that a text stands for.
+fn number_of(text: &str) -> Option<u64>
+    ensures { IfSome result (λ n. n ≡ value_of text.now) }
+{
+    text.parse::<u64>().ok()
+}
+
+/// The number of a name, among what was found.
+fn value_named(given: &ArgMatches<'_>, name: &str) -> Option<u64>
+    ensures { IfSome result (λ n. value_named (rows_of (found_of given.now)) name.now ≡ Some n) }
+{
+    number_of(given.get_str(name)?)
+}
+
+/// What the help says of each option.
+#[derive(Drop)]
+pub(crate) struct Helps {
+    pub(crate) workers: String,
+    pub(crate) cache: String,
+    pub(crate) cache_events: String,
+    pub(crate) slots: String,
+}
+
+impl Helps {
+    pub(crate) fn new(alloc: Global) -> Result<Helps, AllocError> {
+        Ok(Helps {
+            workers: WORKERS.help(alloc)?,
+            cache: CACHE.help(alloc)?,
+            cache_events: CACHE_EVENTS.help(alloc)?,
+            slots: SLOTS.help(alloc)?,
+        })
+    }
+}
+
+/// The options of `serve`, each within its limits.
+#[derive(Clone, Copy)]
+pub(crate) struct Options {
+    /// How many workers there are.
+    pub(crate) workers: u64,
+    /// How many runs the cache holds.
+    pub(crate) cache: u64,
+    /// How many events the runs of the cache hold together, where 0 is no bound.
+    pub(crate) cache_events: u64,
+    /// How many slots there are of each kind.
+    pub(crate) slots: u64,
+    ghost within: { AreWithinLimits workers cache cache_events slots },
+}
+
+impl Options {
+    /// The options that a subcommand is given.
+    pub(crate) fn given(alloc: Global, given: &ArgMatches<'_>) -> Result<Options, Refusal>
+        ensures given { IfOk result (λ o.
+            GivesNumbers (rows_of (found_of given.now)) o.workers o.cache o.cache_events o.slots) }
+        ensures slots { result ≢ Err Refusal.FewSlots }
+    {
+        Ok(Options {
+            workers: WORKERS.number(alloc, given)?,
+            cache: CACHE.number(alloc, given)?,
+            cache_events: CACHE_EVENTS.number(alloc, given)?,
+            slots: SLOTS.number(alloc, given)?,
+        })
+    }
+
+    /// How large a host they ask for.
+    pub(crate) fn config(self) -> Config
+        ensures config { IsConfig result }
+        ensures seats { result.seats ≡ self.workers }
+    {
+        Config {
+            workflow_slots: self.slots as usize,
+            activity_slots: self.slots as usize,
+            cache: self.cache as usize,
+            cache_events: self.cache_events,
+            seats: self.workers as usize,
+        }
+    }
+}

@@ -1,0 +1,120 @@
+//! The report of the command `serve`.
+
+ghost use Rattle.std.specs.Prelude.{◌≡◌, ◌++◌, OnOk, codes};
+ghost use Rattle.std.specs.List.{flat_map};
+ghost use Rattle.std.specs.Io.KnownBytes.{Appends};
+ghost use Rattle.wh_tester.specs.Report.{shown};
+ghost use Rattle.wh_cli.specs.Services.{tally_text, row_text, totals_text, service_text, is_good_outcome, all_served};
+
+use std::io;
+use std::io::Write;
+use wh_events::Text;
+use wh_host::Totals;
+use wh_json::ReadFault;
+use wh_tester::{Line, Shown, Verdict, write_line};
+
+/// How many tasks of a file were polled, and how they ended.
+#[derive(Clone, Copy)]
+pub struct Tally {
+    /// Tasks that were polled.
+    pub tasks: u64,
+    /// Tasks to which `Complete` was sent.
+    pub completed: u64,
+    /// The other tasks.
+    pub failed: u64,
+}
+
+/// A file by its name, with what came of its tasks, or why it cannot be read.
+#[derive(Drop)]
+pub struct Row {
+    /// The name of the file.
+    pub name: Text,
+    /// Its tally, or the fault of reading it.
+    pub outcome: Result<Tally, ReadFault>,
+}
+
+/// Writes the line of a file that was served.
+fn write_tally<O: Write>(name: &str, tally: Tally, writer: &mut O) -> io::Result<()>
+    ensures { OnOk result (Appends (O.contents writer.old) (O.contents writer.new)
+        (shown name.now ++ (codes ": " ++ tally_text tally))) }
+{
+    let name = Shown(name);
+    let Tally {
+        tasks,
+        completed,
+        failed,
+    } = tally;
+    write!(
+        writer,
+        "{name}: {tasks} tasks, {completed} completed, {failed} failed\n"
+    )
+}
+
+/// Writes the line of a file.
+fn write_row<O: Write>(row: Row, writer: &mut O) -> io::Result<()>
+    ensures { OnOk result (Appends (O.contents writer.old) (O.contents writer.new) (row_text row)) }
+{
+    let Row { name, outcome } = row;
+    match outcome {
+        Ok(tally) => write_tally(name.get(), tally, writer),
+        Err(fault) => {
+            let line = Line {
+                name,
+                verdict: Verdict::Unreadable(fault),
+            };
+            write_line(&line, writer)
+        }
+    }
+}
+
+/// Writes the totals.
+fn write_totals<O: Write>(totals: Totals, writer: &mut O) -> io::Result<()>
+    ensures { OnOk result (Appends (O.contents writer.old) (O.contents writer.new) (totals_text totals)) }
+{
+    let Totals {
+        taken,
+        completed,
+        failed,
+        in_hand,
+    } = totals;
+    write!(
+        writer,
+        "taken {taken}, completed {completed}, failed {failed}, in hand {in_hand}\n"
+    )
+}
+
+/// Writes a line for each file, in the order given.
+fn write_rows<O: Write>(rows: Vec<Row>, writer: &mut O) -> io::Result<()>
+    ensures { OnOk result (Appends (O.contents writer.old) (O.contents writer.new) (flat_map row_text rows.items)) }
+{
+    for row in rows {
+        write_row(row, writer)?;
+    }
+    Ok(())
+}
+
+/// Writes a line for each file in the order given, then the totals. After an error some of the report
+/// may have been written.
+pub fn write_service<O: Write>(rows: Vec<Row>, totals: Totals, writer: &mut O) -> io::Result<()>
+    ensures { OnOk result (Appends (O.contents writer.old) (O.contents writer.new) (service_text rows.items totals)) }
+{
+    write_rows(rows, writer)?;
+    write_totals(totals, writer)
+}
+
+/// Whether the file was read and none of its tasks failed.
+fn is_good(row: &Row) -> bool
+    ensures { result ≡ is_good_outcome row.now.outcome }
+{
+    match &row.outcome {
+        Ok(tally) => tally.failed == 0,
+        Err(_) => false,
+    }
+}
+
+/// Whether each file was read and no task of theirs failed.
+pub fn all_served(rows: &[Row]) -> bool
+    ensures { result ≡ all_served rows.now }
+{
+    rows.iter().all(|row| is_good(row))
+}
