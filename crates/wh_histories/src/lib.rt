@@ -1,0 +1,220 @@
+//! Histories in short words, for tests: each word is an event, and the whole is read as JSON.
+#![tactic(auto)]
+
+use std::alloc::{AllocError, Global};
+use wh_events::{Event, RunKey, Text};
+use wh_json::read_events;
+
+/// Why words are no history.
+#[derive(Debug, Drop)]
+pub enum HistoryFault {
+    /// No event is written so.
+    BadWord,
+    /// What is to be replaced is not there.
+    BadChange,
+    /// The reader refuses what the words stand for.
+    Unreadable,
+    OutOfMemory,
+}
+
+impl From<AllocError> for HistoryFault {
+    fn from(_error: AllocError) -> HistoryFault {
+        HistoryFault::OutOfMemory
+    }
+}
+
+/// How an event is written, by a short word: its type, and what else it has. `$1` and `$2` stand
+/// for what follows the short word behind colons, and `'` stands for a quotation mark.
+const FORMS: &str = "\
+start WorkflowExecutionStarted ,'workflowExecutionStartedEventAttributes':{'workflowType':{'name':'$1'}}
+S WorkflowTaskScheduled
+T WorkflowTaskStarted
+C WorkflowTaskCompleted
+task_failed WorkflowTaskFailed
+task_timed_out WorkflowTaskTimedOut
+activity ActivityTaskScheduled ,'activityTaskScheduledEventAttributes':{'activityId':'$1','activityType':{'name':'$2'}}
+activity_cancel ActivityTaskCancelRequested ,'activityTaskCancelRequestedEventAttributes':{'scheduledEventId':'$1'}
+activity_started ActivityTaskStarted ,'activityTaskStartedEventAttributes':{'scheduledEventId':'$1'}
+activity_completed ActivityTaskCompleted ,'activityTaskCompletedEventAttributes':{'scheduledEventId':'$1'}
+activity_failed ActivityTaskFailed ,'activityTaskFailedEventAttributes':{'scheduledEventId':'$1'}
+activity_timed_out ActivityTaskTimedOut ,'activityTaskTimedOutEventAttributes':{'scheduledEventId':'$1'}
+activity_canceled ActivityTaskCanceled ,'activityTaskCanceledEventAttributes':{'scheduledEventId':'$1'}
+timer TimerStarted ,'timerStartedEventAttributes':{'timerId':'$1'}
+timer_canceled TimerCanceled ,'timerCanceledEventAttributes':{'startedEventId':'$1'}
+timer_fired TimerFired ,'timerFiredEventAttributes':{'startedEventId':'$1'}
+child StartChildWorkflowExecutionInitiated ,'startChildWorkflowExecutionInitiatedEventAttributes':{'workflowId':'$1','workflowType':{'name':'$2'}}
+child_started ChildWorkflowExecutionStarted ,'childWorkflowExecutionStartedEventAttributes':{'initiatedEventId':'$1'}
+child_completed ChildWorkflowExecutionCompleted ,'childWorkflowExecutionCompletedEventAttributes':{'initiatedEventId':'$1'}
+child_failed ChildWorkflowExecutionFailed ,'childWorkflowExecutionFailedEventAttributes':{'initiatedEventId':'$1'}
+child_canceled ChildWorkflowExecutionCanceled ,'childWorkflowExecutionCanceledEventAttributes':{'initiatedEventId':'$1'}
+child_timed_out ChildWorkflowExecutionTimedOut ,'childWorkflowExecutionTimedOutEventAttributes':{'initiatedEventId':'$1'}
+child_terminated ChildWorkflowExecutionTerminated ,'childWorkflowExecutionTerminatedEventAttributes':{'initiatedEventId':'$1'}
+child_refused StartChildWorkflowExecutionFailed ,'startChildWorkflowExecutionFailedEventAttributes':{'initiatedEventId':'$1'}
+cancel_child RequestCancelExternalWorkflowExecutionInitiated ,'requestCancelExternalWorkflowExecutionInitiatedEventAttributes':{'workflowExecution':{'workflowId':'$1'}}
+cancel_sent ExternalWorkflowExecutionCancelRequested ,'externalWorkflowExecutionCancelRequestedEventAttributes':{'initiatedEventId':'$1'}
+cancel_failed RequestCancelExternalWorkflowExecutionFailed ,'requestCancelExternalWorkflowExecutionFailedEventAttributes':{'initiatedEventId':'$1'}
+external SignalExternalWorkflowExecutionInitiated ,'signalExternalWorkflowExecutionInitiatedEventAttributes':{'workflowExecution':{'workflowId':'$1'},'signalName':'$2'}
+external_sent ExternalWorkflowExecutionSignaled ,'externalWorkflowExecutionSignaledEventAttributes':{'initiatedEventId':'$1'}
+external_failed SignalExternalWorkflowExecutionFailed ,'signalExternalWorkflowExecutionFailedEventAttributes':{'initiatedEventId':'$1'}
+chg_marker MarkerRecorded ,'markerRecordedEventAttributes':{'markerName':'Version','details':{'change-id':{'payloads':[{'metadata':{'encoding':'anNvbi9wbGFpbg=='},'data':'ImNoZyI='}]},'version':{'payloads':[{'metadata':{'encoding':'anNvbi9wbGFpbg=='},'data':'$1'}]}}}
+oth_marker MarkerRecorded ,'markerRecordedEventAttributes':{'markerName':'Version','details':{'change-id':{'payloads':[{'data':'Im90aCI='}]},'version':{'payloads':[{'data':'$1'}]}}}
+marker MarkerRecorded ,'markerRecordedEventAttributes':{'markerName':'$1'}
+signal WorkflowExecutionSignaled ,'workflowExecutionSignaledEventAttributes':{'signalName':'$1'}
+cancel_requested WorkflowExecutionCancelRequested
+completed WorkflowExecutionCompleted
+failed WorkflowExecutionFailed
+canceled WorkflowExecutionCanceled
+continued WorkflowExecutionContinuedAsNew
+timed_out WorkflowExecutionTimedOut
+terminated WorkflowExecutionTerminated
+attributes_upserted UpsertWorkflowSearchAttributes
+properties_modified WorkflowPropertiesModified
+unknown EVENT_TYPE_SOMETHING_NEW
+ignored EVENT_TYPE_SOMETHING_NEW ,'workerMayIgnore':true
+";
+
+/// Histories by name. `nap/3` is the first three events of `nap`.
+const HISTORIES: &str = "\
+nap start:Nap S T C timer:nap timer_fired:5 S T C completed
+greet start:Greet S T C activity:1:greet activity_started:5 activity_completed:5 S T C completed
+branch start:Branch S T C activity:1:old activity_started:5 activity_completed:5 S T C completed
+family start:Family S T C child:kid:Nap child_started:5 S T C child_completed:5 S T C completed
+racer start:Racer S T C activity:1:race timer:t timer_fired:6 S T C activity_cancel:5 activity_canceled:5 timer:u S T C timer_fired:13 S T C completed
+late start:Racer S T C activity:1:race timer:t activity_started:5 timer_fired:6 activity_completed:5 S T
+caller start:Caller S T C external:other:go external_sent:5 S T C completed
+";
+
+/// What stands behind a name in a list with a line for each name.
+fn line_named(lines: &'static str, name: &str) -> Option<&'static str> {
+    for line in lines.lines() {
+        let (first, rest) = line.split_once(' ').unwrap_or((line, ""));
+        if first == name {
+            return Some(rest);
+        }
+    }
+    None
+}
+
+/// A word, and the number behind a sign in it, if there is one.
+fn counted(
+    word: &'static str,
+    sign: char,
+    otherwise: usize,
+) -> Result<(&'static str, usize), HistoryFault> {
+    let Some((word, count)) = word.split_once(sign) else {
+        return Ok((word, otherwise));
+    };
+    match count.parse::<usize>() {
+        Ok(count) => Ok((word, count)),
+        Err(_) => Err(HistoryFault::BadWord),
+    }
+}
+
+fn push_word(words: &mut Vec<&'static str>, word: &'static str) -> Result<(), HistoryFault> {
+    match words.push(word) {
+        Ok(()) => Ok(()),
+        Err(_) => Err(HistoryFault::OutOfMemory),
+    }
+}
+
+/// Adds the events that a word stands for: those of a history with that name, as many as it says
+/// behind `/`, or one event as many times as it says behind `*`.
+fn push_events(words: &mut Vec<&'static str>, word: &'static str) -> Result<(), HistoryFault> {
+    let (name, count) = counted(word, '/', usize::MAX)?;
+    if let Some(history) = line_named(HISTORIES, name) {
+        for event in history.split_whitespace().take(count) {
+            push_word(words, event)?;
+        }
+        return Ok(());
+    }
+    let (event, times) = counted(word, '*', 1)?;
+    for _ in 0..times {
+        push_word(words, event)?;
+    }
+    Ok(())
+}
+
+/// Short words, one for each event.
+fn words_of(alloc: Global, history: &'static str) -> Result<Vec<&'static str>, HistoryFault> {
+    let mut words = Vec::new(alloc);
+    for word in history.split_whitespace() {
+        push_events(&mut words, word)?;
+    }
+    Ok(words)
+}
+
+/// Adds an event in JSON, but for its quotation marks.
+fn push_event(
+    alloc: Global,
+    text: &mut String,
+    number: usize,
+    word: &str,
+) -> Result<(), HistoryFault> {
+    let (short, given) = word.split_once(':').unwrap_or((word, ""));
+    let (first, second) = given.split_once(':').unwrap_or((given, ""));
+    let Some(form) = line_named(FORMS, short) else {
+        return Err(HistoryFault::BadWord);
+    };
+    let (kind, rest) = form.split_once(' ').unwrap_or((form, ""));
+    let rest = rest.replace(alloc, "$1", first)?;
+    let rest = rest.as_str().replace(alloc, "$2", second)?;
+    let minute = number / 60 % 60;
+    let second = number % 60;
+    let event = format!(in alloc;
+        "{{'eventId':'{number}','eventTime':'2024-05-01T10:{minute:02}:{second:02}Z','eventType':'{kind}'{rest}}}"
+    )?;
+    text.push_str(event.as_str())?;
+    Ok(())
+}
+
+/// Events in JSON, but for their quotation marks.
+fn events_text(alloc: Global, words: &[&'static str]) -> Result<String, HistoryFault> {
+    let mut text = String::from_str(alloc, "[")?;
+    for (place, word) in words.iter().enumerate() {
+        if 0 < place {
+            text.push_str(",\n")?;
+        }
+        push_event(alloc, &mut text, place + 1, word)?;
+    }
+    text.push_str("]")?;
+    Ok(text)
+}
+
+/// A text with a change, which is what is replaced, `->` and what it becomes.
+fn changed(alloc: Global, text: &str, change: &str) -> Result<String, HistoryFault> {
+    match change.split_once(" -> ") {
+        Some((old, new)) if text.contains(old) => Ok(text.replace(alloc, old, new)?),
+        _ => Err(HistoryFault::BadChange),
+    }
+}
+
+/// A history in JSON. Behind the events stand changes of its text, each behind a `|`.
+pub fn json(alloc: Global, history: &'static str) -> Result<String, HistoryFault> {
+    let mut parts = history.split(" | ");
+    let words = words_of(alloc, parts.next().unwrap_or(""))?;
+    let mut text = events_text(alloc, words.as_slice())?;
+    for change in parts {
+        text = changed(alloc, text.as_str(), change)?;
+    }
+    Ok(text.as_str().replace(alloc, "'", "\"")?)
+}
+
+/// The events of a history, none of an empty one.
+pub fn events(alloc: Global, history: &'static str) -> Result<Vec<Event>, HistoryFault> {
+    if history.is_empty() {
+        return Ok(Vec::new(alloc));
+    }
+    let text = json(alloc, history)?;
+    match read_events(alloc, text.as_bytes()) {
+        Ok(events) => Ok(events),
+        Err(_) => Err(HistoryFault::Unreadable),
+    }
+}
+
+/// A key of a run, by the id of its workflow.
+pub fn key(alloc: Global, workflow_id: &str) -> Result<RunKey, HistoryFault> {
+    Ok(RunKey {
+        workflow_id: Text::new(String::from_str(alloc, workflow_id)?),
+        run_id: Text::new(String::from_str(alloc, "recorded")?),
+    })
+}
