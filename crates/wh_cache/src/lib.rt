@@ -141,7 +141,7 @@ impl<W: Workflow> Sticky<W> {
     pub fn put(&mut self, run: Run<W>) -> Put<W>
         ensures { Puts self.old run self.new (put_reply_of result) }
     {
-        if self.capacity == 0 {
+        if self.is_off() {
             return Put::Off(run);
         }
         if self.is_shorter(&run) {
@@ -173,6 +173,13 @@ impl<W: Workflow> Sticky<W> {
         put_first(&mut self.runs, &mut self.held, run)?;
         push_out(&mut self.runs, &mut self.held, going, &mut gone);
         Ok(gone)
+    }
+
+    /// Whether the cache takes no runs.
+    fn is_off(&self) -> bool
+        ensures { IsTrue result ↔ (self.now.capacity ≡ 0) }
+    {
+        self.capacity == 0
     }
 
     /// Whether the cached run of the key holds at least as many events.
