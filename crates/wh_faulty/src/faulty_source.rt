@@ -1,8 +1,8 @@
 //! A source of which one call fails.
 ghost use Rattle.std.specs.Prelude.{◌≡◌, ◌+◌, ◌-◌, ◌++◌, ◌∷◌, [], cond, eqb, IfOk, OnOk, OnErr};
-ghost use Rattle.wh_poll.specs.Source.{Delivery, FailsOnly, IfTask, SameRelation, SameTelling, spent};
+ghost use Rattle.wh_poll.specs.Source.{Delivery, FailsOnly, IfTask, SameTasks};
 ghost use Rattle.wh_poll.specs.declared.source.Sent.{Sent};
-ghost use Rattle.wh_faulty.specs.Failing.{Counts};
+ghost use Rattle.wh_faulty.specs.Failing.{Counts, spent, failures_of};
 
 use std::marker::Model;
 use wh_events::{Event, RunKey};
@@ -56,12 +56,11 @@ fn is_due(left: &mut u64) -> bool
 }
 
 impl<S: TaskSource> TaskSource for FaultySource<S> {
-    ghost use Rattle.std.specs.Prelude.{◌+◌};
-    ghost use Rattle.wh_poll.specs.Source.{spent};
+    ghost use Rattle.wh_faulty.specs.Failing.{failures_of};
 
     ghost answers = { λ source. S.answers source.0 };
 
-    ghost failures = { λ source. S.failures source.0 + spent source.1 };
+    ghost failures = { λ source. failures_of S.failures source };
 
     ghost delivers = { λ source. S.delivers source.0 };
 
@@ -73,9 +72,9 @@ impl<S: TaskSource> TaskSource for FaultySource<S> {
         // What every source ensures, of this one.
         ensures task { IfOk result (IfTask (λ task. S.delivers self.old.0 (Delivery.Workflow task))) }
         ensures answers { S.answers self.new.0 ≡ S.answers self.old.0 }
-        ensures failures { FailsOnly result (S.failures self.old.0 + spent self.old.1) (S.failures self.new.0 + spent self.new.1) }
-        ensures delivers { SameRelation (S.delivers self.old.0) (S.delivers self.new.0) }
-        ensures tells { SameTelling (S.tells self.old.0) (S.tells self.new.0) }
+        ensures failures { FailsOnly result (failures_of S.failures self.old) (failures_of S.failures self.new) }
+        ensures same { SameTasks (S.delivers self.old.0) (S.tells self.old.0)
+            (S.delivers self.new.0) (S.tells self.new.0) }
     {
         if is_due(&mut self.left) {
             return Err(SourceFault::Source);
@@ -89,9 +88,9 @@ impl<S: TaskSource> TaskSource for FaultySource<S> {
         // What every source ensures, of this one.
         ensures task { IfOk result (IfTask (λ task. S.delivers self.old.0 (Delivery.Activity task))) }
         ensures answers { S.answers self.new.0 ≡ S.answers self.old.0 }
-        ensures failures { FailsOnly result (S.failures self.old.0 + spent self.old.1) (S.failures self.new.0 + spent self.new.1) }
-        ensures delivers { SameRelation (S.delivers self.old.0) (S.delivers self.new.0) }
-        ensures tells { SameTelling (S.tells self.old.0) (S.tells self.new.0) }
+        ensures failures { FailsOnly result (failures_of S.failures self.old) (failures_of S.failures self.new) }
+        ensures same { SameTasks (S.delivers self.old.0) (S.tells self.old.0)
+            (S.delivers self.new.0) (S.tells self.new.0) }
     {
         if is_due(&mut self.left) {
             return Err(SourceFault::Source);
@@ -105,9 +104,9 @@ impl<S: TaskSource> TaskSource for FaultySource<S> {
         // What every source ensures, of this one.
         ensures told { IfOk result (λ history. S.tells self.old.0 key.now up_to history.items) }
         ensures answers { S.answers self.new.0 ≡ S.answers self.old.0 }
-        ensures failures { FailsOnly result (S.failures self.old.0 + spent self.old.1) (S.failures self.new.0 + spent self.new.1) }
-        ensures delivers { SameRelation (S.delivers self.old.0) (S.delivers self.new.0) }
-        ensures tells { SameTelling (S.tells self.old.0) (S.tells self.new.0) }
+        ensures failures { FailsOnly result (failures_of S.failures self.old) (failures_of S.failures self.new) }
+        ensures same { SameTasks (S.delivers self.old.0) (S.tells self.old.0)
+            (S.delivers self.new.0) (S.tells self.new.0) }
     {
         if is_due(&mut self.left) {
             return Err(SourceFault::Source);
@@ -119,11 +118,12 @@ impl<S: TaskSource> TaskSource for FaultySource<S> {
         ensures counted { Counts self.old result self.new }
 
         // What every source ensures, of this one.
-        ensures sent { OnOk result (S.answers self.new.0 ≡ S.answers self.old.0 ++ (name, Sent.Workflow answer.now) ∷ []) }
+        ensures sent { OnOk result
+            (S.answers self.new.0 ≡ S.answers self.old.0 ++ (name, Sent.Workflow answer.now) ∷ []) }
         ensures unsent { OnErr result (S.answers self.new.0 ≡ S.answers self.old.0) }
-        ensures failures { FailsOnly result (S.failures self.old.0 + spent self.old.1) (S.failures self.new.0 + spent self.new.1) }
-        ensures delivers { SameRelation (S.delivers self.old.0) (S.delivers self.new.0) }
-        ensures tells { SameTelling (S.tells self.old.0) (S.tells self.new.0) }
+        ensures failures { FailsOnly result (failures_of S.failures self.old) (failures_of S.failures self.new) }
+        ensures same { SameTasks (S.delivers self.old.0) (S.tells self.old.0)
+            (S.delivers self.new.0) (S.tells self.new.0) }
     {
         if is_due(&mut self.left) {
             return Err(SourceFault::Source);
@@ -139,11 +139,12 @@ impl<S: TaskSource> TaskSource for FaultySource<S> {
         ensures counted { Counts self.old result self.new }
 
         // What every source ensures, of this one.
-        ensures sent { OnOk result (S.answers self.new.0 ≡ S.answers self.old.0 ++ (name, Sent.Activity answer.now) ∷ []) }
+        ensures sent { OnOk result
+            (S.answers self.new.0 ≡ S.answers self.old.0 ++ (name, Sent.Activity answer.now) ∷ []) }
         ensures unsent { OnErr result (S.answers self.new.0 ≡ S.answers self.old.0) }
-        ensures failures { FailsOnly result (S.failures self.old.0 + spent self.old.1) (S.failures self.new.0 + spent self.new.1) }
-        ensures delivers { SameRelation (S.delivers self.old.0) (S.delivers self.new.0) }
-        ensures tells { SameTelling (S.tells self.old.0) (S.tells self.new.0) }
+        ensures failures { FailsOnly result (failures_of S.failures self.old) (failures_of S.failures self.new) }
+        ensures same { SameTasks (S.delivers self.old.0) (S.tells self.old.0)
+            (S.delivers self.new.0) (S.tells self.new.0) }
     {
         if is_due(&mut self.left) {
             return Err(SourceFault::Source);

@@ -1,6 +1,6 @@
--- What a turn that answered has done.
-use Rattle.std.proofs.Common.{◌≡◌, ℕ, Bool, List, [], ◌∷◌, ◌++◌, Option, ap, subst, ◌∙◌, refl}
-use Rattle.std.specs.Prelude.{Result, Ok, IfSome}
+-- What turns of a worker have done.
+use Rattle.std.proofs.Common.{◌≡◌, ◌≤◌, inl, inr, arith, ℕ, Bool, List, [], ◌∷◌, ◌++◌, Option, Some, None, ap, subst, ◌∙◌, refl}
+use Rattle.std.specs.Prelude.{Result, Ok, Err, IfSome}
 use Rattle.wh_slots.specs.declared.TaskName.{TaskName}
 use Rattle.wh_events.specs.declared.event.Event.{Event}
 use Rattle.wh_replay.specs.declared.fault.Fault.{Fault}
@@ -8,41 +8,75 @@ use Rattle.wh_events.specs.declared.key.RunKey.{RunKey}
 use Rattle.wh_workflow.specs.Law.{Program}
 use Rattle.wh_replay.specs.Runs.{Held}
 use Rattle.wh_poll.specs.declared.source.WorkflowTask.{WorkflowTask}
+use Rattle.wh_poll.specs.declared.source.SourceFault.{SourceFault}
 use Rattle.wh_poll.specs.declared.task.StepFault.{StepFault}
+use Rattle.wh_poll.specs.declared.task.StepFault.TheVariants.{Source, OutOfMemory}
+use Rattle.wh_poll.specs.declared.source.SourceFault.TheVariants.{Source as Failing, OutOfMemory as Unfed}
+use Rattle.wh_ledger.specs.declared.Shares.{Shares}
+use Rattle.wh_host.specs.declared.reply.Outcome.TheVariants.{Failed}
 use Rattle.wh_poll.specs.declared.answer.Reply.{Reply}
-use Rattle.wh_poll.specs.declared.source.Sent.{Sent}
+use Rattle.wh_poll.specs.declared.serve.Served.{Served}
 use Rattle.wh_poll.specs.declared.source.Sent.TheVariants.{Workflow as OfWorkflow}
-use Rattle.wh_poll.specs.Source.{Delivery, Workflow, SameTelling}
-use Rattle.wh_poll.specs.Tasks.{Basis, Own, Nothing, Joined, Told, basis_of, StepsFrom}
-use Rattle.wh_poll.specs.Serve.{AnswersWorkflow, Sends}
+use Rattle.wh_poll.specs.Source.{Delivers, Tells, Answers, Workflow, SameTelling, FailsOnly, RoseIfFailed}
+use Rattle.wh_poll.specs.Tasks.{Basis, Own, Nothing, Joined, Told, basis_of, StepsFrom, FailsOnlySource}
+use Rattle.wh_poll.specs.Serve.{Sends, ServesWorkflow, Counts, MayCount, with_taken, ended, served_workflow}
+use Rattle.wh_poll.specs.Workers.{first_fault}
 
 -- what a task gives stays what it gives where the same is told
-StepsFrom-same : {S : Type 0} (program : Program S) (basis : Basis) (p q : RunKey → ℕ → List Event → Type 0) (run : Option Held) (key : RunKey) (events : List Event) (stepped : Option Held) (fault : Option Fault) (hit : Bool) (before after : ℕ)
+StepsFrom-same : {S : Type 0} (program : Program S) (basis : Basis) (p q : Tells) (run : Option Held) (key : RunKey) (events : List Event) (stepped : Option Held) (fault : Option Fault) (hit : Bool) (before after : ℕ)
     → SameTelling p q → StepsFrom program basis q run key events stepped fault hit before after → StepsFrom program basis p run key events stepped fault hit before after
 StepsFrom-same program Own p q run key events stepped fault hit before after same s = s
 StepsFrom-same program Nothing p q run key events stepped fault hit before after same s = s
 StepsFrom-same program (Joined held) p q run key events stepped fault hit before after same s = s
 StepsFrom-same program Told p q run key events stepped fault hit before after same s = ((s.0.0, (same key _ s.0.0).1 s.0.1, s.0.2), s.1)
 
-pub answers_workflow : {S : Type 0} (program : Program S) (p q : RunKey → ℕ → List Event → Type 0) (delivers : Delivery → Type 0) (old between new : List (TaskName × Sent)) (task : WorkflowTask) (run : Option Held) (r : Result Reply StepFault) (reply : Reply)
-    → delivers (Workflow task) → between ≡ old → SameTelling p q → IfSome run (λ x. x.key ≡ task.run) → Sends program q run task.run task.name task.events between new r → r ≡ Ok reply
-    → AnswersWorkflow program p delivers old new task.name reply.hit reply.steps reply.outcome
-answers_workflow program p q delivers old between new task run r reply delivered kept same own sends is =
-    let one = subst (Sends program q run task.run task.name task.events between new) is sends in
-    let said = one.1 in
+-- what was sent after a poll makes the turn
+pub serves_sent : {S : Type 0} (program : Program S) (p q : Tells) (delivers : Delivers) (old between new : Answers) (task : WorkflowTask) (run : Option Held) (sent : Result Reply StepFault)
+    → delivers (Workflow task) → between ≡ old → SameTelling p q → Sends program q run task between new sent
+    → ServesWorkflow program p delivers old new (served_workflow task.name sent)
+serves_sent program p q delivers old between new task run (Ok reply) delivered kept same sends =
+    let said = sends.1 in
     record {
       task = task;
       delivered = delivered;
       named = refl;
       run = run;
-      answer = one.0;
+      answer = sends.0;
       reply = record {
-        own = own;
+        own = said.own;
+        real = said.real;
         stepped = said.stepped;
         fault = said.fault;
         replayed = StepsFrom-same program (basis_of run task.events) p q run task.run task.events said.stepped said.fault reply.hit 0 reply.steps same said.replayed;
         answered = said.answered;
         ends = said.ends;
       };
-      sent = one.2 ∙ ap (λ l. l ++ (task.name, OfWorkflow one.0) ∷ []) kept;
+      sent = sends.2 ∙ ap (λ l. l ++ (task.name, OfWorkflow sends.0) ∷ []) kept;
     }
+serves_sent program p q delivers old between new task run (Err OutOfMemory) delivered kept same sends = (sends ∙ kept, inl (task, delivered, refl))
+serves_sent program p q delivers old between new task run (Err (Source fault)) delivered kept same sends = sends ∙ kept
+
+-- what the seat counted of a workflow task that was taken
+pub counts_sent : (old taken new : Shares) (name : TaskName) (sent : Result Reply StepFault) → taken ≡ with_taken old → MayCount taken new (ended sent) → Counts old new (served_workflow name sent)
+counts_sent old taken new name (Ok reply) one counted = subst (λ s. MayCount s new reply.outcome) one counted
+counts_sent old taken new name (Err OutOfMemory) one counted = inr (subst (λ s. MayCount s new Failed) one counted)
+counts_sent old taken new name (Err (Source fault)) one counted = inr (subst (λ s. MayCount s new Failed) one counted)
+
+-- the failures of the source, after a poll and an answer
+pub fails_sent : (name : TaskName) (sent : Result Reply StepFault) (first second third : ℕ) → first ≤ second → FailsOnlySource sent second third → FailsOnly (served_workflow name sent) first third
+fails_sent name (Ok reply) first second third below fails = omega (arith, fails)
+fails_sent name (Err OutOfMemory) first second third below fails = omega (arith, fails)
+fails_sent name (Err (Source Failing)) first second third below fails = omega (arith, fails)
+fails_sent name (Err (Source Unfed)) first second third below fails = omega (arith, fails)
+
+-- the fault that is kept after a turn came of a failure
+pub rose_kept : (kept : Option SourceFault) (served : Result Served SourceFault) (first second third : ℕ) → RoseIfFailed kept first second → FailsOnly served second third → RoseIfFailed (first_fault kept served) first third
+rose_kept None (Ok served) first second third rose fails = omega (arith, rose, fails)
+rose_kept None (Err Failing) first second third rose fails = omega (arith, rose, fails)
+rose_kept None (Err Unfed) first second third rose fails = omega (arith, rose, fails)
+rose_kept (Some Failing) (Ok served) first second third rose fails = omega (arith, rose, fails)
+rose_kept (Some Failing) (Err Failing) first second third rose fails = omega (arith, rose, fails)
+rose_kept (Some Failing) (Err Unfed) first second third rose fails = omega (arith, rose, fails)
+rose_kept (Some Unfed) (Ok served) first second third rose fails = omega (arith, rose, fails)
+rose_kept (Some Unfed) (Err Failing) first second third rose fails = omega (arith, rose, fails)
+rose_kept (Some Unfed) (Err Unfed) first second third rose fails = omega (arith, rose, fails)

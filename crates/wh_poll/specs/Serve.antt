@@ -1,5 +1,5 @@
 -- What one turn of a worker does.
-use Rattle.std.specs.Prelude.{◌≡◌, ◌⊎◌, ℕ, ◌+◌, ◌≤◌, Bool, List, [], ◌∷◌, ◌++◌, Option, Result, Ok, Err, IfSome}
+use Rattle.std.specs.Prelude.{◌≡◌, ◌⊎◌, ℕ, ◌+◌, ◌≤◌, Bool, List, [], ◌∷◌, ◌++◌, Option, Some, None, Result, Ok, Err, IfSome}
 use Rattle.wh_slots.specs.declared.SlotKind.{SlotKind}
 use Rattle.wh_slots.specs.declared.SlotKind.TheVariants.{Workflow as WorkflowKind, Activity as ActivityKind}
 use Rattle.wh_slots.specs.declared.TaskName.{TaskName}
@@ -9,7 +9,7 @@ use Rattle.wh_events.specs.declared.key.RunKey.{RunKey}
 use Rattle.wh_replay.specs.declared.run.Answer.{Answer}
 use Rattle.wh_replay.specs.declared.run.Answer.TheVariants.{Complete, Fail}
 use Rattle.wh_workflow.specs.Law.{Program}
-use Rattle.wh_replay.specs.Runs.{Held}
+use Rattle.wh_replay.specs.Runs.{Held, IsReplayed}
 use Rattle.wh_ledger.specs.declared.Shares.{Shares}
 use Rattle.wh_host.specs.declared.reply.Outcome.{Outcome}
 use Rattle.wh_host.specs.declared.reply.Outcome.TheVariants.{Completed, Failed}
@@ -20,12 +20,13 @@ use Rattle.wh_poll.specs.declared.source.ActivityTask.{ActivityTask}
 use Rattle.wh_poll.specs.declared.source.ActivityAnswer.{ActivityAnswer}
 use Rattle.wh_poll.specs.declared.source.ActivityAnswer.TheVariants.{Completed as Done, Failed as Undone}
 use Rattle.wh_poll.specs.declared.task.StepFault.{StepFault}
+use Rattle.wh_poll.specs.declared.task.StepFault.TheVariants.{Source, OutOfMemory}
 use Rattle.wh_poll.specs.declared.answer.Reply.{Reply}
 use Rattle.wh_poll.specs.declared.serve.Served.{Served}
 use Rattle.wh_poll.specs.declared.serve.Served.TheVariants.{Workflow, Activity, NoMemory, Repeated, Idle, Closed, NoSlot, Draining, NumbersSpent}
 use Rattle.wh_poll.specs.declared.source.Sent.{Sent}
 use Rattle.wh_poll.specs.declared.source.Sent.TheVariants.{Workflow as OfWorkflow, Activity as OfActivity}
-use Rattle.wh_poll.specs.Source.{Delivery, Workflow as WorkflowDelivery, Activity as ActivityDelivery, RoseIfFailed}
+use Rattle.wh_poll.specs.Source.{Delivers, Tells, Answerable, Answers, Workflow as WorkflowDelivery, Activity as ActivityDelivery, RoseIfFailed}
 use Rattle.wh_poll.specs.Tasks.{Steps, IsAnswer}
 
 -- a workflow task that is answered `Complete` is completed, else failed
@@ -43,9 +44,11 @@ abbrev pub ended : Result Reply StepFault → Outcome
 ended (Ok reply) = reply.outcome
 ended (Err fault) = Failed
 
--- the answer is that of replay of the task, with no run or one of its key, over a new meter
-pub record IsReply {S : Type 0} (program : Program S) (tells : RunKey → ℕ → List Event → Type 0) (run : Option Held) (key : RunKey) (events : List Event) (hit : Bool) (steps : ℕ) (outcome : Outcome) (answer : Answer) : Type 0 where
+-- the answer is that of replay of the task, with no run or a replayed one of its key, over a new meter
+pub record IsReply {S : Type 0} (program : Program S) (tells : Tells) (run : Option Held) (key : RunKey)
+    (events : List Event) (hit : Bool) (steps : ℕ) (outcome : Outcome) (answer : Answer) : Type 0 where
   pub own : IfSome run (λ r. r.key ≡ key)
+  pub real : IfSome run (λ r. IsReplayed program r.events)
   pub stepped : Option Held
   pub fault : Option Fault
   pub replayed : Steps program tells run key events stepped fault hit 0 steps
@@ -53,7 +56,8 @@ pub record IsReply {S : Type 0} (program : Program S) (tells : RunKey → ℕ �
   pub ends : outcome_of answer ≡ outcome
 
 -- exactly one answer was sent, under the name of a delivered workflow task: that of its replay
-pub record AnswersWorkflow {S : Type 0} (program : Program S) (tells : RunKey → ℕ → List Event → Type 0) (delivers : Delivery → Type 0) (old new : List (TaskName × Sent)) (name : TaskName) (hit : Bool) (steps : ℕ) (outcome : Outcome) : Type 0 where
+pub record AnswersWorkflow {S : Type 0} (program : Program S) (tells : Tells) (delivers : Delivers)
+    (old new : Answers) (name : TaskName) (hit : Bool) (steps : ℕ) (outcome : Outcome) : Type 0 where
   pub task : WorkflowTask
   pub delivered : delivers (WorkflowDelivery task)
   pub named : task.name ≡ name
@@ -63,7 +67,8 @@ pub record AnswersWorkflow {S : Type 0} (program : Program S) (tells : RunKey �
   pub sent : new ≡ old ++ (name, OfWorkflow answer) ∷ []
 
 -- exactly one answer was sent, under the name of a delivered activity task: one that the handler may give
-pub record AnswersActivity (may : ActivityTask → ActivityAnswer → Type 0) (delivers : Delivery → Type 0) (old new : List (TaskName × Sent)) (name : TaskName) (outcome : Outcome) : Type 0 where
+pub record AnswersActivity (may : Answerable) (delivers : Delivers)
+    (old new : Answers) (name : TaskName) (outcome : Outcome) : Type 0 where
   pub task : ActivityTask
   pub delivered : delivers (ActivityDelivery task)
   pub named : task.name ≡ name
@@ -72,18 +77,45 @@ pub record AnswersActivity (may : ActivityTask → ActivityAnswer → Type 0) (d
   pub ends : activity_outcome answer ≡ outcome
   pub sent : new ≡ old ++ (name, OfActivity answer) ∷ []
 
+-- a task of this name is delivered
+abbrev pub IsDelivered : Delivers → TaskName → Type 0
+IsDelivered delivers name =
+    ((task : WorkflowTask) × delivers (WorkflowDelivery task) × (task.name ≡ name))
+    ⊎ ((task : ActivityTask) × delivers (ActivityDelivery task) × (task.name ≡ name))
+
+-- nothing was sent, and a task that got no answer is a delivered one
+abbrev pub SendsNothing : Delivers → Answers → Answers → Result Served SourceFault → Type 0
+SendsNothing delivers old new (Ok (Workflow name hit steps outcome)) = ⊥
+SendsNothing delivers old new (Ok (Activity name outcome)) = ⊥
+SendsNothing delivers old new (Ok (NoMemory name)) = (new ≡ old) × IsDelivered delivers name
+SendsNothing delivers old new (Ok (Repeated name)) = (new ≡ old) × IsDelivered delivers name
+SendsNothing delivers old new (Ok Idle) = new ≡ old
+SendsNothing delivers old new (Ok Closed) = new ≡ old
+SendsNothing delivers old new (Ok NoSlot) = new ≡ old
+SendsNothing delivers old new (Ok Draining) = new ≡ old
+SendsNothing delivers old new (Ok NumbersSpent) = new ≡ old
+SendsNothing delivers old new (Err fault) = new ≡ old
+
+-- one answer where a workflow task was served, and none otherwise
+abbrev pub ServesWorkflow : {S : Type 0} → Program S → Tells → Delivers → Answers → Answers
+    → Result Served SourceFault → Type 0
+ServesWorkflow program tells delivers old new (Ok (Workflow name hit steps outcome)) =
+    AnswersWorkflow program tells delivers old new name hit steps outcome
+ServesWorkflow program tells delivers old new served = SendsNothing delivers old new served
+
+-- one answer where an activity task was served, and none otherwise
+abbrev pub ServesActivity : Answerable → Delivers → Answers → Answers → Result Served SourceFault → Type 0
+ServesActivity may delivers old new (Ok (Activity name outcome)) = AnswersActivity may delivers old new name outcome
+ServesActivity may delivers old new served = SendsNothing delivers old new served
+
 -- one answer where a task was served, and none otherwise
-abbrev pub Serves : {S : Type 0} → Program S → (RunKey → ℕ → List Event → Type 0) → (Delivery → Type 0) → (ActivityTask → ActivityAnswer → Type 0) → List (TaskName × Sent) → List (TaskName × Sent) → Result Served SourceFault → Type 0
-Serves program tells delivers may old new (Ok (Workflow name hit steps outcome)) = AnswersWorkflow program tells delivers old new name hit steps outcome
-Serves program tells delivers may old new (Ok (Activity name outcome)) = AnswersActivity may delivers old new name outcome
-Serves program tells delivers may old new (Ok (NoMemory name)) = new ≡ old
-Serves program tells delivers may old new (Ok (Repeated name)) = new ≡ old
-Serves program tells delivers may old new (Ok Idle) = new ≡ old
-Serves program tells delivers may old new (Ok Closed) = new ≡ old
-Serves program tells delivers may old new (Ok NoSlot) = new ≡ old
-Serves program tells delivers may old new (Ok Draining) = new ≡ old
-Serves program tells delivers may old new (Ok NumbersSpent) = new ≡ old
-Serves program tells delivers may old new (Err fault) = new ≡ old
+abbrev pub Serves : {S : Type 0} → Program S → Tells → Delivers → Answerable → Answers → Answers
+    → Result Served SourceFault → Type 0
+Serves program tells delivers may old new (Ok (Workflow name hit steps outcome)) =
+    AnswersWorkflow program tells delivers old new name hit steps outcome
+Serves program tells delivers may old new (Ok (Activity name outcome)) =
+    AnswersActivity may delivers old new name outcome
+Serves program tells delivers may old new served = SendsNothing delivers old new served
 
 -- a task that was answered is of the kind
 abbrev pub IsOfKind : SlotKind → Result Served SourceFault → Type 0
@@ -102,9 +134,13 @@ IsOfKind kind (Err fault) = Unit {0}
 abbrev pub MayCount : Shares → Shares → Outcome → Type 0
 MayCount old new outcome = (new ≡ old) ⊎ (new ≡ with_outcome outcome old)
 
+-- one more task was taken
+abbrev pub with_taken : Shares → Shares
+with_taken old = record old { taken = old.taken + 1 }
+
 -- a task was taken, and at most its outcome was counted
 abbrev pub Takes : Shares → Shares → Outcome → Type 0
-Takes old new outcome = MayCount (record old { taken = old.taken + 1 }) new outcome
+Takes old new outcome = MayCount (with_taken old) new outcome
 
 -- what the seat has counted, by the answer
 abbrev pub Counts : Shares → Shares → Result Served SourceFault → Type 0
@@ -120,16 +156,47 @@ Counts old new (Ok NumbersSpent) = new ≡ old
 Counts old new (Err fault) = (new ≡ old) ⊎ Takes old new Failed
 
 -- the one answer to a task, or none
-abbrev pub Sends : {S : Type 0} → Program S → (RunKey → ℕ → List Event → Type 0) → Option Held → RunKey → TaskName → List Event → List (TaskName × Sent) → List (TaskName × Sent) → Result Reply StepFault → Type 0
-Sends program tells run key name events old new (Ok reply) =
-    (answer : Answer) × IsReply program tells run key events reply.hit reply.steps reply.outcome answer × (new ≡ old ++ (name, OfWorkflow answer) ∷ [])
-Sends program tells run key name events old new (Err fault) = new ≡ old
+abbrev pub Sends : {S : Type 0} → Program S → Tells → Option Held → WorkflowTask → Answers → Answers
+    → Result Reply StepFault → Type 0
+Sends program tells run task old new (Ok reply) =
+    (answer : Answer)
+    × IsReply program tells run task.run task.events reply.hit reply.steps reply.outcome answer
+    × (new ≡ old ++ (task.name, OfWorkflow answer) ∷ [])
+Sends program tells run task old new (Err fault) = new ≡ old
+
+-- the one answer to a task that was replayed, or none
+abbrev pub SendsAnswer : {S : Type 0} → Program S → Option Held → Option Fault → TaskName → Answers → Answers
+    → Result Outcome StepFault → Type 0
+SendsAnswer program stepped fault name old new (Ok outcome) =
+    (answer : Answer)
+    × IsAnswer program stepped fault answer
+    × (outcome_of answer ≡ outcome)
+    × (new ≡ old ++ (name, OfWorkflow answer) ∷ [])
+SendsAnswer program stepped fault name old new (Err unsent) = new ≡ old
 
 -- the one answer to an activity task, which the handler may give, or none
-abbrev pub SendsActivity : (ActivityTask → ActivityAnswer → Type 0) → ActivityTask → List (TaskName × Sent) → List (TaskName × Sent) → Result Outcome StepFault → Type 0
+abbrev pub SendsActivity : Answerable → ActivityTask → Answers → Answers → Result Outcome StepFault → Type 0
 SendsActivity may task old new (Ok outcome) =
-    (answer : ActivityAnswer) × may task answer × (activity_outcome answer ≡ outcome) × (new ≡ old ++ (task.name, OfActivity answer) ∷ [])
+    (answer : ActivityAnswer)
+    × may task answer
+    × (activity_outcome answer ≡ outcome)
+    × (new ≡ old ++ (task.name, OfActivity answer) ∷ [])
 SendsActivity may task old new (Err fault) = new ≡ old
+
+-- a task that got no answer, by why
+abbrev pub unanswered : TaskName → StepFault → Result Served SourceFault
+unanswered name OutOfMemory = Ok (NoMemory name)
+unanswered name (Source fault) = Err fault
+
+-- what serving a workflow task answers, by what was sent
+abbrev pub served_workflow : TaskName → Result Reply StepFault → Result Served SourceFault
+served_workflow name (Ok reply) = Ok (Workflow name reply.hit reply.steps reply.outcome)
+served_workflow name (Err fault) = unanswered name fault
+
+-- what serving an activity task answers, by what was sent
+abbrev pub served_activity : TaskName → Result Outcome StepFault → Result Served SourceFault
+served_activity name (Ok outcome) = Ok (Activity name outcome)
+served_activity name (Err fault) = unanswered name fault
 
 -- each seat took at most as many tasks as its worker had turns
 abbrev pub WithinTurns : List Shares → List ℕ → List Shares → Type 0
@@ -137,7 +204,8 @@ WithinTurns [] [] [] = Unit {0}
 WithinTurns (old ∷ olds) (turns ∷ rest) (new ∷ news) = (new.taken ≤ old.taken + turns) × WithinTurns olds rest news
 WithinTurns _ _ _ = ⊥
 
--- where a worker kept a fault, the failures of its source rose: those of each source at first, the faults, and those of the sources in the end
+-- where a worker kept a fault, the failures of its source rose: those of each source at first, the faults,
+-- and those of the sources in the end
 abbrev pub AllRoseIfFailed : List ℕ → List (Option SourceFault) → List ℕ → Type 0
 AllRoseIfFailed [] [] [] = Unit {0}
 AllRoseIfFailed (old ∷ olds) (fault ∷ faults) (new ∷ news) = RoseIfFailed fault old new × AllRoseIfFailed olds faults news

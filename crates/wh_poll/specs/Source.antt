@@ -1,9 +1,11 @@
 -- Words on sources of tasks.
-use Rattle.std.specs.Prelude.{◌↔◌, ℕ, ◌<◌, ◌≤◌, ◌==◌, cond, List, Option, Some, None, Result, Ok, Err}
+use Rattle.std.specs.Prelude.{◌↔◌, ℕ, ◌<◌, ◌≤◌, List, Option, Some, None, Result, Ok, Err}
 use Rattle.wh_events.specs.declared.event.Event.{Event}
 use Rattle.wh_events.specs.declared.key.RunKey.{RunKey}
+use Rattle.wh_slots.specs.declared.TaskName.{TaskName}
 use Rattle.wh_poll.specs.declared.source.Polled.{Polled}
 use Rattle.wh_poll.specs.declared.source.Polled.TheVariants.{Task, Nothing, Closed}
+use Rattle.wh_poll.specs.declared.source.Sent.{Sent}
 use Rattle.wh_poll.specs.declared.source.SourceFault.{SourceFault}
 use Rattle.wh_poll.specs.declared.source.SourceFault.TheVariants.{Source, OutOfMemory}
 use Rattle.wh_poll.specs.declared.source.WorkflowTask.{WorkflowTask}
@@ -15,16 +17,38 @@ pub data Delivery : Type 0 where
   Workflow : WorkflowTask → Delivery
   Activity : ActivityTask → Delivery
 
--- the same facts hold by both
-abbrev pub SameRelation : {A : Type 0} → (A → Type 0) → (A → Type 0) → Type 0
-SameRelation {A} p q = (a : A) → p a ↔ q a
+-- the answers that a source was sent, each with its task's name
+abbrev pub Answers : Type 0
+Answers = List (TaskName × Sent)
+
+-- which tasks a source delivers
+abbrev pub Delivers : Type 1
+Delivers = Delivery → Type 0
+
+-- which histories a source tells of a run up to a number
+abbrev pub Tells : Type 1
+Tells = RunKey → ℕ → List Event → Type 0
+
+-- which answers an activity task may get
+abbrev pub Answerable : Type 1
+Answerable = ActivityTask → ActivityAnswer → Type 0
+
+-- both deliver the same tasks
+abbrev pub SameDeliveries : Delivers → Delivers → Type 0
+SameDeliveries p q = (task : Delivery) → p task ↔ q task
 
 -- both tell the same histories
-abbrev pub SameTelling : (RunKey → ℕ → List Event → Type 0) → (RunKey → ℕ → List Event → Type 0) → Type 0
+abbrev pub SameTelling : Tells → Tells → Type 0
 SameTelling p q = (key : RunKey) (up_to : ℕ) (history : List Event) → p key up_to history ↔ q key up_to history
 
+-- a source delivers the same tasks and tells the same histories as before
+pub record SameTasks (old_delivers : Delivers) (old_tells : Tells)
+    (new_delivers : Delivers) (new_tells : Tells) : Type 0 where
+  pub delivers : SameDeliveries old_delivers new_delivers
+  pub tells : SameTelling old_tells new_tells
+
 -- both let the same answers be given
-abbrev pub SameMay : (ActivityTask → ActivityAnswer → Type 0) → (ActivityTask → ActivityAnswer → Type 0) → Type 0
+abbrev pub SameMay : Answerable → Answerable → Type 0
 SameMay p q = (task : ActivityTask) (answer : ActivityAnswer) → p task answer ↔ q task answer
 
 -- it holds of the task, where the poll gave one
@@ -44,7 +68,3 @@ abbrev pub RoseIfFailed : Option SourceFault → ℕ → ℕ → Type 0
 RoseIfFailed None old new = old ≤ new
 RoseIfFailed (Some Source) old new = old < new
 RoseIfFailed (Some OutOfMemory) old new = old ≤ new
-
--- how often a source of which one call fails has failed, by the calls that are left before that one: once where none is
-abbrev pub spent : ℕ → ℕ
-spent left = cond (left == 0) 1 0

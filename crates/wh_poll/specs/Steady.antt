@@ -9,7 +9,7 @@ use Rattle.wh_replay.specs.Replays.{ends_in_task}
 use Rattle.wh_replay.specs.Runs.{Held}
 use Rattle.wh_slots.specs.declared.TaskName.{TaskName}
 use Rattle.wh_cache.specs.Cache.{Entry, entry_of}
-use Rattle.wh_host.specs.Machine.{Claim, HostView, Event, UseWorkflow, GiveRun, step}
+use Rattle.wh_host.specs.Machine.{Claim, HostView, Event, UseWorkflow, GiveRun, opening, step}
 use Rattle.wh_host.specs.Machine.{Answer as GiveReply}
 use Rattle.wh_poll.specs.Tasks.{Steps, IsAnswer, answer_to}
 
@@ -35,7 +35,12 @@ pub record Steady : Type 0 where
   pub host : HostView
   pub in_hand : List Entry
 
--- a use for a task of the run with its events after one number up to another; the reply, what replay of the task gives, and the answer
+-- a host that has just opened, with no run in hand
+abbrev pub beginning : ℕ → ℕ → ℕ → ℕ → Steady
+beginning workflow activity capacity bound = record { host = opening workflow activity capacity bound; in_hand = [] }
+
+-- a use for a task of the run with its events after one number up to another; the reply, what replay of the
+-- task gives, and the answer
 pub record Use : Type 0 where
   pub permit : Claim
   pub name : TaskName
@@ -49,7 +54,8 @@ pub record Use : Type 0 where
   pub hit : Bool
   pub answer : Answer
 
--- a use with its task, a give of a run in hand (with those before it and after it there), or another event of the host, evictions and finishes among them
+-- a use with its task, a give of a run in hand (with those before it and after it there), or another event of
+-- the host, evictions and finishes among them
 pub data Move : Type 0 where
   Uses : Use → Move
   Gives : Claim → List Entry → Held → List Entry → GiveReply → Move
@@ -65,7 +71,8 @@ with_run None runs = runs
 with_run (Some run) runs = entry_of run ∷ runs
 
 -- the use is accepted, its task ends in a started task of the history, and the answer is that of its replay
-pub record IsUse {S : Type 0} (program : Program S) (table : Table) (old : Steady) (u : Use) (new : Steady) : Type 0 where
+pub record IsUse {S : Type 0} (program : Program S) (table : Table)
+    (old : Steady) (u : Use) (new : Steady) : Type 0 where
   pub accepted : step old.host (UseWorkflow u.permit u.name u.key (Ok (u.held, u.cached))) new.host
   pub some : u.after < u.up_to
   pub within : u.up_to ≤ length (table u.key)
@@ -85,8 +92,11 @@ BringsNoRun _ = Unit {0}
 abbrev pub move : {S : Type 0} → Program S → Table → Steady → Move → Steady → Type 0
 move program table old (Uses u) new = IsUse program table old u new
 move program table old (Gives held before run after reply) new =
-    (old.in_hand ≡ before ++ entry_of run ∷ after) × step old.host (GiveRun held run reply) new.host × (new.in_hand ≡ before ++ after)
-move program table old (Happens event) new = BringsNoRun event × step old.host event new.host × (new.in_hand ≡ old.in_hand)
+    (old.in_hand ≡ before ++ entry_of run ∷ after)
+    × step old.host (GiveRun held run reply) new.host
+    × (new.in_hand ≡ before ++ after)
+move program table old (Happens event) new =
+    BringsNoRun event × step old.host event new.host × (new.in_hand ≡ old.in_hand)
 
 -- a list of moves leads from one state to another
 abbrev pub Moves : {S : Type 0} → Program S → Table → Steady → List Move → Steady → Type 0

@@ -8,6 +8,7 @@ use Rattle.wh_replay.specs.declared.run.Answer.{Answer}
 use Rattle.wh_replay.specs.declared.run.Answer.TheVariants.{Fail}
 use Rattle.wh_replay.specs.Replays.{ends_in_task}
 use Rattle.wh_poll.specs.Numbers.{last_number}
+use Rattle.wh_poll.specs.Source.{Tells}
 use Rattle.wh_workflow.specs.Law.{Program}
 use Rattle.wh_workflow.specs.Counting.{risen}
 use Rattle.wh_replay.specs.Runs.{Held, follows, run_of, steps, advance_steps}
@@ -16,7 +17,8 @@ use Rattle.wh_poll.specs.declared.source.SourceFault.TheVariants.{Source as Fail
 use Rattle.wh_poll.specs.declared.task.StepFault.{StepFault}
 use Rattle.wh_poll.specs.declared.task.StepFault.TheVariants.{Source, OutOfMemory}
 
--- the events that a task is replayed from: its own, none, those of the run followed by its own, or those that the source tells
+-- the events that a task is replayed from: its own, none, those of the run followed by its own, or those that
+-- the source tells
 pub data Basis : Type 0 where
   Own : Basis
   Nothing : Basis
@@ -27,7 +29,8 @@ pub data Basis : Type 0 where
 abbrev pub later_basis : Option Held → List Event → Basis
 later_basis None [] = Nothing
 later_basis None (event ∷ rest) = Told
-later_basis (Some run) events = if ends_in_task events then (if follows (length run.events) events then Joined run.events else Told) else Nothing
+later_basis (Some run) events =
+    if ends_in_task events then (if follows (length run.events) events then Joined run.events else Told) else Nothing
 
 -- the first that applies
 abbrev pub basis_of : Option Held → List Event → Basis
@@ -40,18 +43,22 @@ answer_to program events = answered (run_of program events)
 module _ {S : Type 0} (program : Program S) where
   -- without a fault a run of the key holds the events, and the meter rises by the steps; a fault answers the events
   abbrev pub Replays : RunKey → List Event → ℕ → Option Held → Option Fault → ℕ → ℕ → Type 0
-  Replays key events steps (Some run) None before after = (run ≡ record { key = key; events = events }) × IsOk (run_of program events) × (after ≡ risen before steps)
+  Replays key events steps (Some run) None before after =
+      (run ≡ record { key = key; events = events }) × IsOk (run_of program events) × (after ≡ risen before steps)
   Replays key events steps None (Some fault) before after = answer_to program events ≡ Fail fault
   Replays key events steps (Some run) (Some fault) before after = ⊥
   Replays key events steps None None before after = ⊥
 
   -- replay from the first event of what the source tells
-  abbrev pub ReplaysTold : (RunKey → ℕ → List Event → Type 0) → RunKey → ℕ → Option Held → Option Fault → ℕ → ℕ → Type 0
+  abbrev pub ReplaysTold : Tells → RunKey → ℕ → Option Held → Option Fault → ℕ → ℕ → Type 0
   ReplaysTold tells key up_to run fault before after =
-      (history : List Event) × tells key up_to history × Replays key history (steps program history) run fault before after
+      (history : List Event)
+      × tells key up_to history
+      × Replays key history (steps program history) run fault before after
 
   -- the run and the fault that a task gives, whether its run was hit, and the meter before and after
-  abbrev pub StepsFrom : Basis → (RunKey → ℕ → List Event → Type 0) → Option Held → RunKey → List Event → Option Held → Option Fault → Bool → ℕ → ℕ → Type 0
+  abbrev pub StepsFrom : Basis → Tells → Option Held → RunKey → List Event
+      → Option Held → Option Fault → Bool → ℕ → ℕ → Type 0
   StepsFrom Own tells run key events stepped fault hit before after =
       Replays key events (steps program events) stepped fault before after × (hit ≡ false)
   StepsFrom Nothing tells run key events stepped fault hit before after =
@@ -62,7 +69,8 @@ module _ {S : Type 0} (program : Program S) where
       ReplaysTold tells key (last_number events) stepped fault before after × (hit ≡ false)
 
   -- the same, from the first basis that applies
-  abbrev pub Steps : (RunKey → ℕ → List Event → Type 0) → Option Held → RunKey → List Event → Option Held → Option Fault → Bool → ℕ → ℕ → Type 0
+  abbrev pub Steps : Tells → Option Held → RunKey → List Event
+      → Option Held → Option Fault → Bool → ℕ → ℕ → Type 0
   Steps tells run key events stepped fault hit before after =
       StepsFrom (basis_of run events) tells run key events stepped fault hit before after
 

@@ -1,14 +1,14 @@
 //! Answers to tasks: a task is replayed or run, and its answer is sent.
-ghost use Rattle.std.specs.Prelude.{◌≡◌, IfOk, IfSome};
-ghost use Rattle.wh_poll.specs.Source.{SameRelation, SameTelling, SameMay};
+ghost use Rattle.std.specs.Prelude.{◌≡◌, Err, IfOk, IfSome};
+ghost use Rattle.wh_poll.specs.Source.{SameTasks, SameMay};
 ghost use Rattle.wh_poll.specs.Tasks.{IsAnswer, HasAnswer, FailsOnlySource};
-ghost use Rattle.wh_poll.specs.Serve.{outcome_of, activity_outcome, Sends, SendsActivity};
+ghost use Rattle.wh_poll.specs.Serve.{outcome_of, activity_outcome, Sends, SendsAnswer, SendsActivity};
 
 use crate::handler::ActivityHandler;
-use crate::source::{ActivityAnswer, ActivityTask, TaskSource};
+use crate::source::{ActivityAnswer, ActivityTask, TaskSource, WorkflowTask};
 use crate::task::{StepFault, Stepped, replay_task};
 use std::alloc::Global;
-use wh_events::{Event, OutOfMemory, RunKey};
+use wh_events::OutOfMemory;
 use wh_host::Outcome;
 use wh_replay::{Answer, Fault, Run};
 use wh_slots::TaskName;
@@ -29,51 +29,79 @@ pub struct Answered<W: Workflow> {
     pub sent: Result<Reply, StepFault>,
 }
 
-/// Replays a workflow task over a new meter, and sends the answer. Also where sending fails the run comes back.
-pub fn answer_workflow<W: Workflow, S: TaskSource>(
+/// Replays a workflow task over a new meter, and sends the answer. Also where sending fails the run
+/// comes back.
+pub fn answer_by_replay<W: Workflow, S: TaskSource>(
     alloc: Global,
     run: Option<Run<W>>,
-    key: &RunKey,
-    name: TaskName,
-    events: Vec<Event>,
+    task: WorkflowTask,
     source: &mut S,
 ) -> Answered<W>
-    requires { IfSome run (λ run. run.key ≡ key.now) }
-    ensures sends { Sends W.program (S.tells source.old) run key.now name events.items (S.answers source.old) (S.answers source.new) result.sent }
+    requires { IfSome run (λ run. run.key ≡ task.run) }
+    ensures sends { Sends W.program (S.tells source.old) run task
+        (S.answers source.old) (S.answers source.new) result.sent }
     ensures failures { FailsOnlySource result.sent (S.failures source.old) (S.failures source.new) }
-    ensures delivers { SameRelation (S.delivers source.old) (S.delivers source.new) }
-    ensures tells { SameTelling (S.tells source.old) (S.tells source.new) }
+    ensures same { SameTasks (S.delivers source.old) (S.tells source.old) (S.delivers source.new) (S.tells source.new) }
 {
+    if let Some(run) = &run {
+        // Its contract says that the held events are replayed.
+        run.held_len();
+    }
+    let WorkflowTask {
+        name,
+        run: key,
+        events,
+    } = task;
     let mut meter = Meter::new();
-    let stepped = match replay_task(alloc, run, key, events, source, &mut meter) {
+    let stepped = replay_task(alloc, run, &key, events.into_inner(), source, &mut meter);
+    let Stepped { run, fault, hit } = match stepped {
         Ok(stepped) => stepped,
-        Err(fault) => {
-            return Answered {
-                run: None,
-                sent: Err(fault),
-            };
-        }
+        Err(fault) => return not_answered(fault),
     };
-    let Stepped { run, fault, hit } = stepped;
-    let Ok(answer) = answer_with(alloc, &run, fault) else {
-        return Answered {
-            run,
-            sent: Err(StepFault::OutOfMemory),
-        };
-    };
-    let sent = match source.answer_workflow(name, &answer) {
-        Ok(()) => Ok(Reply {
+    let steps = meter.count();
+    let sent = match send_answer(alloc, name, &run, fault, source) {
+        Ok(outcome) => Ok(Reply {
             hit,
-            steps: meter.count(),
-            outcome: outcome_of(&answer),
+            steps,
+            outcome,
         }),
-        Err(fault) => Err(StepFault::Source(fault)),
+        Err(fault) => Err(fault),
     };
     Answered { run, sent }
 }
 
-// `Fail` of the fault, else the commands of the run.
-fn answer_with<W: Workflow>(
+/// Nothing was sent, and no run comes back.
+fn not_answered<W: Workflow>(fault: StepFault) -> Answered<W>
+    ensures { result.sent ≡ Err fault }
+{
+    Answered {
+        run: None,
+        sent: Err(fault),
+    }
+}
+
+/// Sends the answer to a workflow task that was replayed.
+fn send_answer<W: Workflow, S: TaskSource>(
+    alloc: Global,
+    name: TaskName,
+    run: &Option<Run<W>>,
+    fault: Option<Fault>,
+    source: &mut S,
+) -> Result<Outcome, StepFault>
+    requires { HasAnswer run.now fault }
+    ensures sends { SendsAnswer W.program run.now fault name (S.answers source.old) (S.answers source.new) result }
+    ensures failures { FailsOnlySource result (S.failures source.old) (S.failures source.new) }
+    ensures same { SameTasks (S.delivers source.old) (S.tells source.old) (S.delivers source.new) (S.tells source.new) }
+{
+    let answer = answer_of(alloc, run, fault)?;
+    match source.answer_workflow(name, &answer) {
+        Ok(()) => Ok(outcome_of(&answer)),
+        Err(fault) => Err(StepFault::Source(fault)),
+    }
+}
+
+/// `Fail` of the fault, else the commands of the run.
+fn answer_of<W: Workflow>(
     alloc: Global,
     run: &Option<Run<W>>,
     fault: Option<Fault>,
@@ -88,7 +116,7 @@ fn answer_with<W: Workflow>(
     run.answer(alloc)
 }
 
-// How a task ends with this answer.
+/// How a task ends with this answer.
 fn outcome_of(answer: &Answer) -> Outcome
     ensures { result ≡ outcome_of answer.now }
 {
@@ -99,27 +127,33 @@ fn outcome_of(answer: &Answer) -> Outcome
 }
 
 /// Runs an activity task, and sends the handler's answer.
-pub fn answer_activity<S: TaskSource, A: ActivityHandler>(
+pub fn answer_by_handler<S: TaskSource, A: ActivityHandler>(
     task: &ActivityTask,
     source: &mut S,
     handler: &mut A,
 ) -> Result<Outcome, StepFault>
     ensures sends { SendsActivity (A.may handler.old) task.now (S.answers source.old) (S.answers source.new) result }
     ensures failures { FailsOnlySource result (S.failures source.old) (S.failures source.new) }
-    ensures delivers { SameRelation (S.delivers source.old) (S.delivers source.new) }
-    ensures tells { SameTelling (S.tells source.old) (S.tells source.new) }
+    ensures same { SameTasks (S.delivers source.old) (S.tells source.old) (S.delivers source.new) (S.tells source.new) }
     ensures may { SameMay (A.may handler.old) (A.may handler.new) }
 {
     let answer = match handler.run(task) {
         Ok(answer) => answer,
         Err(_) => return Err(StepFault::OutOfMemory),
     };
-    let outcome = match &answer {
-        ActivityAnswer::Completed(_) => Outcome::Completed,
-        ActivityAnswer::Failed(_) => Outcome::Failed,
-    };
+    let outcome = activity_outcome(&answer);
     match source.answer_activity(task.name, &answer) {
         Ok(()) => Ok(outcome),
         Err(fault) => Err(StepFault::Source(fault)),
+    }
+}
+
+/// How an activity task ends with this answer.
+fn activity_outcome(answer: &ActivityAnswer) -> Outcome
+    ensures { result ≡ activity_outcome answer.now }
+{
+    match answer {
+        ActivityAnswer::Completed(_) => Outcome::Completed,
+        ActivityAnswer::Failed(_) => Outcome::Failed,
     }
 }

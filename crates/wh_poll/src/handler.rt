@@ -7,7 +7,8 @@ use std::sync::Wait;
 use wh_events::{OutOfMemory, Text};
 use wh_slots::TaskName;
 
-/// Runs activities, one for each worker. What an activity does is its own; contracts see what it may answer.
+/// Runs activities, one for each worker. What an activity does is its own; contracts see what it
+/// may answer.
 pub trait ActivityHandler {
     ghost use Rattle.wh_poll.specs.Source.{SameMay};
     ghost use Rattle.wh_poll.specs.declared.source.ActivityTask.{ActivityTask};
@@ -16,20 +17,22 @@ pub trait ActivityHandler {
     /// Which answers a task may get. No call changes it.
     ghost may: { Self → ActivityTask → ActivityAnswer → Type 0 };
 
-    /// Runs the task and gives its answer. `OutOfMemory` where no room was found: the task then gets no answer.
+    /// Runs the task and gives its answer. `OutOfMemory` where no room was found: the task then
+    /// gets no answer.
     fn run(&mut self, task: &ActivityTask) -> Result<ActivityAnswer, OutOfMemory>
         ensures answer { IfOk result (λ answer. may self.old task.now answer) }
         ensures may { SameMay (may self.old) (may self.new) };
 }
 
-/// Is entered right before a workflow task is stepped, while no lock of the host is held. It may wait, and so let a test have
-/// two tasks overlap; it must come back for the worker to go on.
+/// Is entered right before a workflow task is stepped, while no lock of the host is held. It may
+/// wait, and so let a test have two tasks overlap; it must come back for the worker to go on.
 pub trait Gate {
     /// Lets the task go on, now or later.
     fn enter<R: Wait>(&self, rt: &R, name: TaskName);
 }
 
-/// The handler of a worker that has no activities: it fails each task with the reason "no activities".
+/// The handler of a worker that has no activities: it fails each task with the reason "no
+/// activities".
 #[derive(Drop)]
 pub struct NoActivities {
     /// Where the reason is made.

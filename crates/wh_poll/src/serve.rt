@@ -1,10 +1,10 @@
 //! One turn of a worker.
-ghost use Rattle.std.specs.Prelude.{◌≡◌, ◌+◌, IfSome, MatchOption};
-ghost use Rattle.wh_poll.specs.Source.{SameRelation, SameTelling, SameMay, FailsOnly};
-ghost use Rattle.wh_poll.specs.Serve.{Serves, IsOfKind, Counts, MayCount, ended};
-ghost use Rattle.wh_slots.specs.declared.SlotKind.TheVariants.{Workflow as WorkflowKind, Activity as ActivityKind};
+ghost use Rattle.std.specs.Prelude.{◌≡◌, IfSome, MatchOption};
+ghost use Rattle.wh_poll.specs.Source.{SameTasks, SameMay, FailsOnly};
+ghost use Rattle.wh_poll.specs.Tasks.{FailsOnlySource};
+ghost use Rattle.wh_poll.specs.Serve.{Serves, ServesWorkflow, ServesActivity, Sends, IsOfKind, Counts, MayCount, with_taken, ended, unanswered, served_workflow, served_activity};
 
-use crate::answer::{Answered, Reply, answer_activity, answer_workflow};
+use crate::answer::{Answered, Reply, answer_by_handler, answer_by_replay};
 use crate::handler::{ActivityHandler, Gate};
 use crate::source::{Polled, SourceFault, TaskSource, WorkflowTask};
 use crate::task::StepFault;
@@ -61,16 +61,18 @@ pub enum Served {
     NumbersSpent,
 }
 
-/// Serves one task of the kind, if there is one: reserves a slot, polls the source, takes the task in hand, replays it or runs
-/// it, sends its answer, gives the run back to the cache, and finishes the task. The host is locked for each of its own steps
-/// alone; its lock is not held while the source is called, the gate is entered, workflow code is stepped or an activity is run.
+/// Serves one task of the kind, if there is one: reserves a slot, polls the source, takes the task
+/// in hand, replays it or runs it, sends its answer, gives the run back to the cache, and finishes
+/// the task. The host is locked for each of its own steps alone; its lock is not held while the
+/// source is called, the gate is entered, workflow code is stepped or an activity is run.
 ///
-/// `Workflow` and `Activity` are answered where exactly one answer was sent, under the name of a task that the source delivers:
-/// that of `replay_task` with no run or one of the task's key, and of the handler. Everything else sends nothing. A task that is
-/// answered is of the kind that was asked for. The seat's taken
-/// share rises by one where a task was taken in hand, and its completed or failed share by at most one, as the task's outcome
-/// says. A fault is the source's, after which no slot is left reserved or held by this turn. (Temporal documentation, "Workers",
-/// "Task Queues", "Sticky Execution".)
+/// `Workflow` and `Activity` are answered where exactly one answer was sent, under the name of a
+/// task that the source delivers: that of `replay_task` with no run or one of the task's key, and
+/// of the handler. Everything else sends nothing. A task that is answered is of the kind that was
+/// asked for. The seat's taken share rises by one where a task was taken in hand, and its completed
+/// or failed share by at most one, as the task's outcome says. A fault is the source's, after which
+/// no slot is left reserved or held by this turn. (Temporal documentation, "Workers", "Task
+/// Queues", "Sticky Execution".)
 pub fn serve_one<
     R: Wait,
     W: Workflow,
@@ -90,12 +92,12 @@ pub fn serve_one<
     gate: &G,
     kind: SlotKind,
 ) -> Result<Served, SourceFault>
-    ensures serves { Serves W.program (S.tells source.old) (S.delivers source.old) (A.may handler.old) (S.answers source.old) (S.answers source.new) result }
+    ensures serves { Serves W.program (S.tells source.old) (S.delivers source.old) (A.may handler.old)
+        (S.answers source.old) (S.answers source.new) result }
     ensures kind { IsOfKind kind result }
     ensures counts { Counts seat.old seat.new result }
     ensures failures { FailsOnly result (S.failures source.old) (S.failures source.new) }
-    ensures delivers { SameRelation (S.delivers source.old) (S.delivers source.new) }
-    ensures tells { SameTelling (S.tells source.old) (S.tells source.new) }
+    ensures same { SameTasks (S.delivers source.old) (S.tells source.old) (S.delivers source.new) (S.tells source.new) }
     ensures may { SameMay (A.may handler.old) (A.may handler.new) }
 {
     let reserved = host.lock(rt).reserve(kind);
@@ -106,76 +108,70 @@ pub fn serve_one<
         Err(ReserveFault::NumbersSpent) => return Ok(Served::NumbersSpent),
     };
     match kind {
-        SlotKind::Workflow => serve_workflow(rt, alloc, host, seat, source, handler, gate, permit),
+        SlotKind::Workflow => serve_workflow(rt, alloc, host, seat, source, gate, permit),
         SlotKind::Activity => serve_activity(rt, host, seat, source, handler, permit),
     }
 }
 
-// Serves a workflow task under the permit.
-fn serve_workflow<
-    R: Wait,
-    W: Workflow,
-    T: Ledger,
-    C: Ledger,
-    F: Ledger,
-    S: TaskSource,
-    A: ActivityHandler,
-    G: Gate,
->(
+/// Serves a workflow task under the permit.
+#[tactic(auto, using(crate::proofs::Turns::serves_sent, crate::proofs::Turns::counts_sent, crate::proofs::Turns::fails_sent))]
+fn serve_workflow<R: Wait, W: Workflow, T: Ledger, C: Ledger, F: Ledger, S: TaskSource, G: Gate>(
     rt: &R,
     alloc: Global,
     host: &Host<W, T, C, F>,
     seat: &mut Seat<T, C, F>,
     source: &mut S,
-    _handler: &A,
     gate: &G,
     permit: Permit,
 ) -> Result<Served, SourceFault>
-    ensures serves { Serves W.program (S.tells source.old) (S.delivers source.old) (A.may _handler.now) (S.answers source.old) (S.answers source.new) result }
-    ensures kind { IsOfKind WorkflowKind result }
+    ensures serves { ServesWorkflow W.program (S.tells source.old) (S.delivers source.old)
+        (S.answers source.old) (S.answers source.new) result }
     ensures counts { Counts seat.old seat.new result }
     ensures failures { FailsOnly result (S.failures source.old) (S.failures source.new) }
-    ensures delivers { SameRelation (S.delivers source.old) (S.delivers source.new) }
-    ensures tells { SameTelling (S.tells source.old) (S.tells source.new) }
+    ensures same { SameTasks (S.delivers source.old) (S.tells source.old) (S.delivers source.new) (S.tells source.new) }
 {
-    let polled = source.poll_workflow();
-    let task = match polled {
+    let task = match source.poll_workflow() {
         Ok(Polled::Task(task)) => task,
         Ok(Polled::Nothing) => return released(rt, host, permit, Ok(Served::Idle)),
         Ok(Polled::Closed) => return released(rt, host, permit, Ok(Served::Closed)),
         Err(fault) => return released(rt, host, permit, Err(fault)),
     };
-    let WorkflowTask {
-        name,
-        run: key,
-        events,
-    } = task;
-    let copied = key.try_copy();
-    let Ok(copy) = copied else {
+    let name = task.name;
+    let Ok(key) = task.run.try_copy() else {
         return released(rt, host, permit, Ok(Served::NoMemory { name }));
     };
-    let Some((held, cached)) = use_workflow(rt, host, permit, name, copy, seat) else {
+    let Some((held, cached)) = take_workflow(rt, host, permit, name, key, seat) else {
         return Ok(Served::Repeated { name });
     };
     gate.enter(rt, name);
-    let answered = answer_workflow(alloc, cached, &key, name, events.into_inner(), source);
-    drop(key);
-    let Answered { run, sent } = answered;
-    give(rt, host, &held, run);
-    finish(rt, host, held, ended(sent), seat);
-    match sent {
-        Ok(reply) => Ok(Served::Workflow {
-            name,
-            hit: reply.hit,
-            steps: reply.steps,
-            outcome: reply.outcome,
-        }),
-        Err(StepFault::OutOfMemory) => Ok(Served::NoMemory { name }),
-        Err(StepFault::Source(fault)) => Err(fault),
-    }
+    let sent = answer_held(rt, alloc, host, &held, cached, task, source);
+    finish(rt, host, held, outcome_of(sent), seat);
+    served_workflow(name, sent)
 }
 
-// Serves an activity task under the permit.
+/// Answers a workflow task from the run that was cached, if one was, and gives the run to the
+/// cache.
+fn answer_held<R: Wait, W: Workflow, T: Ledger, C: Ledger, F: Ledger, S: TaskSource>(
+    rt: &R,
+    alloc: Global,
+    host: &Host<W, T, C, F>,
+    held: &Held,
+    cached: Option<Run<W>>,
+    task: WorkflowTask,
+    source: &mut S,
+) -> Result<Reply, StepFault>
+    requires { IfSome cached (λ run. run.key ≡ task.run) }
+    ensures sends { Sends W.program (S.tells source.old) cached task
+        (S.answers source.old) (S.answers source.new) result }
+    ensures failures { FailsOnlySource result (S.failures source.old) (S.failures source.new) }
+    ensures same { SameTasks (S.delivers source.old) (S.tells source.old) (S.delivers source.new) (S.tells source.new) }
+{
+    let Answered { run, sent } = answer_by_replay(alloc, cached, task, source);
+    give_back(rt, host, held, run);
+    sent
+}
+
+/// Serves an activity task under the permit.
 fn serve_activity<
     R: Wait,
     W: Workflow,
@@ -192,37 +188,77 @@ fn serve_activity<
     handler: &mut A,
     permit: Permit,
 ) -> Result<Served, SourceFault>
-    ensures serves { Serves W.program (S.tells source.old) (S.delivers source.old) (A.may handler.old) (S.answers source.old) (S.answers source.new) result }
-    ensures kind { IsOfKind ActivityKind result }
+    ensures serves { ServesActivity (A.may handler.old) (S.delivers source.old)
+        (S.answers source.old) (S.answers source.new) result }
     ensures counts { Counts seat.old seat.new result }
     ensures failures { FailsOnly result (S.failures source.old) (S.failures source.new) }
-    ensures delivers { SameRelation (S.delivers source.old) (S.delivers source.new) }
-    ensures tells { SameTelling (S.tells source.old) (S.tells source.new) }
+    ensures same { SameTasks (S.delivers source.old) (S.tells source.old) (S.delivers source.new) (S.tells source.new) }
     ensures may { SameMay (A.may handler.old) (A.may handler.new) }
 {
-    let polled = source.poll_activity();
-    let task = match polled {
+    let task = match source.poll_activity() {
         Ok(Polled::Task(task)) => task,
         Ok(Polled::Nothing) => return released(rt, host, permit, Ok(Served::Idle)),
         Ok(Polled::Closed) => return released(rt, host, permit, Ok(Served::Closed)),
         Err(fault) => return released(rt, host, permit, Err(fault)),
     };
     let name = task.name;
-    let Some(held) = use_activity(rt, host, permit, name, seat) else {
+    let Some(held) = take_activity(rt, host, permit, name, seat) else {
         return Ok(Served::Repeated { name });
     };
-    let sent = answer_activity(&task, source, handler);
+    let sent = answer_by_handler(&task, source, handler);
     drop(task);
     finish(rt, host, held, sent.unwrap_or(Outcome::Failed), seat);
+    served_activity(name, sent)
+}
+
+/// What serving a workflow task answers, by what was sent.
+fn served_workflow(name: TaskName, sent: Result<Reply, StepFault>) -> Result<Served, SourceFault>
+    ensures { result ≡ served_workflow name sent }
+{
     match sent {
-        Ok(outcome) => Ok(Served::Activity { name, outcome }),
-        Err(StepFault::OutOfMemory) => Ok(Served::NoMemory { name }),
-        Err(StepFault::Source(fault)) => Err(fault),
+        Ok(reply) => Ok(Served::Workflow {
+            name,
+            hit: reply.hit,
+            steps: reply.steps,
+            outcome: reply.outcome,
+        }),
+        Err(fault) => unanswered(name, fault),
     }
 }
 
-// Uses the permit. Where the use is refused, the permit is released.
-fn use_workflow<R: Wait, W: Workflow, T: Ledger, C: Ledger, F: Ledger>(
+/// What serving an activity task answers, by what was sent.
+fn served_activity(name: TaskName, sent: Result<Outcome, StepFault>) -> Result<Served, SourceFault>
+    ensures { result ≡ served_activity name sent }
+{
+    match sent {
+        Ok(outcome) => Ok(Served::Activity { name, outcome }),
+        Err(fault) => unanswered(name, fault),
+    }
+}
+
+/// What serving a task answers to which nothing was sent.
+fn unanswered(name: TaskName, fault: StepFault) -> Result<Served, SourceFault>
+    ensures { result ≡ unanswered name fault }
+{
+    match fault {
+        StepFault::OutOfMemory => Ok(Served::NoMemory { name }),
+        StepFault::Source(fault) => Err(fault),
+    }
+}
+
+/// How a workflow task ends, by what was sent.
+fn outcome_of(sent: Result<Reply, StepFault>) -> Outcome
+    ensures { result ≡ ended sent }
+{
+    match sent {
+        Ok(reply) => reply.outcome,
+        Err(_) => Outcome::Failed,
+    }
+}
+
+/// Takes a workflow task in hand, with the run that is cached for its key, if one is. Where the
+/// host refuses, the permit is released.
+fn take_workflow<R: Wait, W: Workflow, T: Ledger, C: Ledger, F: Ledger>(
     rt: &R,
     host: &Host<W, T, C, F>,
     permit: Permit,
@@ -230,8 +266,8 @@ fn use_workflow<R: Wait, W: Workflow, T: Ledger, C: Ledger, F: Ledger>(
     key: RunKey,
     seat: &mut Seat<T, C, F>,
 ) -> Option<(Held, Option<Run<W>>)>
-    ensures own { IfSome result (λ used. IfSome used.1 (λ run. run.key ≡ key)) }
-    ensures seat { MatchOption result (seat.new ≡ seat.old) (λ _. seat.new ≡ record seat.old { taken = seat.old.taken + 1 }) }
+    ensures own { IfSome result (λ taken. IfSome taken.1 (λ run. run.key ≡ key)) }
+    ensures seat { MatchOption result (seat.new ≡ seat.old) (λ _. seat.new ≡ with_taken seat.old) }
 {
     let used = host.lock(rt).use_workflow(permit, name, key, seat);
     match used {
@@ -243,15 +279,15 @@ fn use_workflow<R: Wait, W: Workflow, T: Ledger, C: Ledger, F: Ledger>(
     }
 }
 
-// Uses the permit. Where the use is refused, the permit is released.
-fn use_activity<R: Wait, W: Workflow, T: Ledger, C: Ledger, F: Ledger>(
+/// Takes an activity task in hand. Where the host refuses, the permit is released.
+fn take_activity<R: Wait, W: Workflow, T: Ledger, C: Ledger, F: Ledger>(
     rt: &R,
     host: &Host<W, T, C, F>,
     permit: Permit,
     name: TaskName,
     seat: &mut Seat<T, C, F>,
 ) -> Option<Held>
-    ensures { MatchOption result (seat.new ≡ seat.old) (λ _. seat.new ≡ record seat.old { taken = seat.old.taken + 1 }) }
+    ensures { MatchOption result (seat.new ≡ seat.old) (λ _. seat.new ≡ with_taken seat.old) }
 {
     let used = host.lock(rt).use_activity(permit, name, seat);
     match used {
@@ -263,7 +299,7 @@ fn use_activity<R: Wait, W: Workflow, T: Ledger, C: Ledger, F: Ledger>(
     }
 }
 
-// The permit was not used.
+/// The permit was not used.
 fn release<R: Wait, W: Workflow, T: Ledger, C: Ledger, F: Ledger>(
     rt: &R,
     host: &Host<W, T, C, F>,
@@ -272,7 +308,7 @@ fn release<R: Wait, W: Workflow, T: Ledger, C: Ledger, F: Ledger>(
     let _released = host.lock(rt).release(permit);
 }
 
-// The permit was not used, and this was served.
+/// The permit was not used, and this was served.
 fn released<R: Wait, W: Workflow, T: Ledger, C: Ledger, F: Ledger>(
     rt: &R,
     host: &Host<W, T, C, F>,
@@ -285,8 +321,8 @@ fn released<R: Wait, W: Workflow, T: Ledger, C: Ledger, F: Ledger>(
     served
 }
 
-// Gives the run that replay gave, if it gave one.
-fn give<R: Wait, W: Workflow, T: Ledger, C: Ledger, F: Ledger>(
+/// Gives the run that replay gave to the cache, if it gave one.
+fn give_back<R: Wait, W: Workflow, T: Ledger, C: Ledger, F: Ledger>(
     rt: &R,
     host: &Host<W, T, C, F>,
     held: &Held,
@@ -299,17 +335,7 @@ fn give<R: Wait, W: Workflow, T: Ledger, C: Ledger, F: Ledger>(
     drop(given);
 }
 
-// How a workflow task ends, by what was sent.
-fn ended(sent: Result<Reply, StepFault>) -> Outcome
-    ensures { result ≡ ended sent }
-{
-    match sent {
-        Ok(reply) => reply.outcome,
-        Err(_) => Outcome::Failed,
-    }
-}
-
-// Frees the held place, and counts the outcome.
+/// Frees the held place, and counts the outcome.
 fn finish<R: Wait, W: Workflow, T: Ledger, C: Ledger, F: Ledger>(
     rt: &R,
     host: &Host<W, T, C, F>,

@@ -5,14 +5,16 @@ use wh_events::{Event, Items, OutOfMemory, Payload, RunKey, Text};
 use wh_replay::Answer;
 use wh_slots::TaskName;
 
-/// A workflow task, as a poll of a Task Queue gives it (Temporal documentation, "Workers" and "Task Queues").
+/// A workflow task, as a poll of a Task Queue gives it (Temporal documentation, "Workers" and "Task
+/// Queues").
 #[derive(Drop, Debug)]
 pub struct WorkflowTask {
     /// The source's name of the task, under which it is answered.
     pub name: TaskName,
     /// The run that the task belongs to.
     pub run: RunKey,
-    /// Events of the run's history: all of them from the first, or those since the last task ("Sticky Execution").
+    /// Events of the run's history: all of them from the first, or those since the last task
+    /// ("Sticky Execution").
     pub events: Items<Event>,
 }
 
@@ -81,16 +83,17 @@ pub enum SourceFault {
     OutOfMemory,
 }
 
-/// A source of tasks, one for each worker: what a worker polls, and what it answers. It has a list of the answers that it was
-/// sent, a count of its failures, which no call lowers, and two relations that no call changes: which tasks it delivers, and which
-/// histories it tells. That it tells the truth about its histories is its own promise.
+/// A source of tasks, one for each worker: what a worker polls, and what it answers. It has a list
+/// of the answers that it was sent, a count of its failures, which no call lowers, and two
+/// relations that no call changes: which tasks it delivers, and which histories it tells. That it
+/// tells the truth about its histories is its own promise.
 pub trait TaskSource {
     ghost use Rattle.wh_slots.specs.declared.TaskName.{TaskName};
     ghost use Rattle.wh_events.specs.declared.event.Event.{Event};
     ghost use Rattle.wh_events.specs.declared.key.RunKey.{RunKey};
     ghost use Rattle.wh_poll.specs.declared.source.Sent.{Sent};
     ghost use Rattle.wh_poll.specs.declared.source.Sent.TheVariants.{Workflow as OfWorkflow, Activity as OfActivity};
-    ghost use Rattle.wh_poll.specs.Source.{Delivery, Workflow, Activity, SameRelation, SameTelling, IfTask, FailsOnly};
+    ghost use Rattle.wh_poll.specs.Source.{Delivery, Workflow, Activity, SameTasks, IfTask, FailsOnly};
 
     /// The answers that were sent, with their tasks' names.
     ghost answers: { Self → List (TaskName × Sent) };
@@ -109,32 +112,29 @@ pub trait TaskSource {
         ensures task { IfOk result (IfTask (λ task. delivers self.old (Workflow task))) }
         ensures answers { answers self.new ≡ answers self.old }
         ensures failures { FailsOnly result (failures self.old) (failures self.new) }
-        ensures delivers { SameRelation (delivers self.old) (delivers self.new) }
-        ensures tells { SameTelling (tells self.old) (tells self.new) };
+        ensures same { SameTasks (delivers self.old) (tells self.old) (delivers self.new) (tells self.new) };
 
     /// The next activity task, if there is one. A fault gives none, and sends nothing.
     fn poll_activity(&mut self) -> Result<Polled<ActivityTask>, SourceFault>
         ensures task { IfOk result (IfTask (λ task. delivers self.old (Activity task))) }
         ensures answers { answers self.new ≡ answers self.old }
         ensures failures { FailsOnly result (failures self.old) (failures self.new) }
-        ensures delivers { SameRelation (delivers self.old) (delivers self.new) }
-        ensures tells { SameTelling (tells self.old) (tells self.new) };
+        ensures same { SameTasks (delivers self.old) (tells self.old) (delivers self.new) (tells self.new) };
 
-    /// The history of a run from its first event up to the one of a number. A fault gives none, and sends nothing.
+    /// The history of a run from its first event up to the one of a number. A fault gives none, and
+    /// sends nothing.
     fn whole(&mut self, key: &RunKey, up_to: u64) -> Result<Vec<Event>, SourceFault>
         ensures told { IfOk result (λ history. tells self.old key.now up_to history.items) }
         ensures answers { answers self.new ≡ answers self.old }
         ensures failures { FailsOnly result (failures self.old) (failures self.new) }
-        ensures delivers { SameRelation (delivers self.old) (delivers self.new) }
-        ensures tells { SameTelling (tells self.old) (tells self.new) };
+        ensures same { SameTasks (delivers self.old) (tells self.old) (delivers self.new) (tells self.new) };
 
     /// Sends the answer to the workflow task of a name. After a fault nothing was sent.
     fn answer_workflow(&mut self, name: TaskName, answer: &Answer) -> Result<(), SourceFault>
         ensures sent { OnOk result (answers self.new ≡ answers self.old ++ (name, OfWorkflow answer.now) ∷ []) }
         ensures unsent { OnErr result (answers self.new ≡ answers self.old) }
         ensures failures { FailsOnly result (failures self.old) (failures self.new) }
-        ensures delivers { SameRelation (delivers self.old) (delivers self.new) }
-        ensures tells { SameTelling (tells self.old) (tells self.new) };
+        ensures same { SameTasks (delivers self.old) (tells self.old) (delivers self.new) (tells self.new) };
 
     /// Sends the answer to the activity task of a name. After a fault nothing was sent.
     fn answer_activity(
@@ -145,6 +145,5 @@ pub trait TaskSource {
         ensures sent { OnOk result (answers self.new ≡ answers self.old ++ (name, OfActivity answer.now) ∷ []) }
         ensures unsent { OnErr result (answers self.new ≡ answers self.old) }
         ensures failures { FailsOnly result (failures self.old) (failures self.new) }
-        ensures delivers { SameRelation (delivers self.old) (delivers self.new) }
-        ensures tells { SameTelling (tells self.old) (tells self.new) };
+        ensures same { SameTasks (delivers self.old) (tells self.old) (delivers self.new) (tells self.new) };
 }

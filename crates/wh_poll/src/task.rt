@@ -1,6 +1,6 @@
 //! Replay of one workflow task.
 ghost use Rattle.std.specs.Prelude.{◌≡◌, ◌≤◌, false, Some, None, IfOk, IfSome};
-ghost use Rattle.wh_poll.specs.Source.{SameRelation, SameTelling};
+ghost use Rattle.wh_poll.specs.Source.{SameTasks};
 ghost use Rattle.wh_replay.specs.Runs.{follows, steps};
 ghost use Rattle.wh_poll.specs.Numbers.{last_number};
 ghost use Rattle.wh_poll.specs.Tasks.{later_basis, StepsFrom, Steps, Replays, ReplaysTold, HasAnswer, FailsOnlySource};
@@ -11,11 +11,13 @@ use wh_events::{Event, OutOfMemory, RunKey};
 use wh_replay::{AdvanceFault, Fault, Run, RunFault};
 use wh_workflow::{Meter, Workflow};
 
-/// What replay of a workflow task gave: a run or a fault. The answer is `Fail` of the fault, else the run's commands.
+/// What replay of a workflow task gave: a run or a fault. The answer is `Fail` of the fault, else
+/// the run's commands.
 #[derive(Drop)]
 pub struct Stepped<W: Workflow> {
-    /// The run that may be cached. Without a fault it holds the history that the task was replayed from. After `NotATask` it is
-    /// the run that was handed in, if there was one, as it was; after any other fault there is none.
+    /// The run that may be cached. Without a fault it holds the history that the task was replayed
+    /// from. After `NotATask` it is the run that was handed in, if there was one, as it was; after
+    /// any other fault there is none.
     pub run: Option<Run<W>>,
     /// Why the task is answered `Fail`.
     pub fault: Option<Fault>,
@@ -43,17 +45,23 @@ impl From<OutOfMemory> for StepFault {
     }
 }
 
-/// Replays a workflow task from its run, if one was cached, and its events, by the first case that applies:
+/// Replays a workflow task from its run, if one was cached, and its events, by the first case that
+/// applies:
 ///
-/// 1. The events begin with the first of the history: they are replayed by themselves, and the run is dropped.
-/// 2. There are no events, or there is a run and the events do not end in a started task: the fault is `NotATask`, the source is
+/// 1. The events begin with the first of the history: they are replayed by themselves, and the run
+///    is dropped.
+/// 2. There are no events, or there is a run and the events do not end in a started task: the fault
+///    is `NotATask`, the source is
 ///    not asked, and the run comes back.
-/// 3. There is a run and the events begin right after those that it holds: it is advanced by them, a hit.
-/// 4. Else the source is asked for the whole history up to the last event, which is replayed from the first; the run is dropped.
+/// 3. There is a run and the events begin right after those that it holds: it is advanced by them,
+///    a hit.
+/// 4. Else the source is asked for the whole history up to the last event, which is replayed from
+///    the first; the run is dropped.
 ///
-/// The meter rises by the steps of replay, in the third case by those of the new tasks alone where the events confirm the run.
-/// `Source` where the source fails when it is asked, `OutOfMemory` where no room was found; then the run is dropped and nothing is
-/// left to send. (Temporal documentation, "Sticky Execution": a Worker that has no cached run asks for the full history.)
+/// The meter rises by the steps of replay, in the third case by those of the new tasks alone where
+/// the events confirm the run. `Source` where the source fails when it is asked, `OutOfMemory`
+/// where no room was found; then the run is dropped and nothing is left to send. (Temporal
+/// documentation, "Sticky Execution": a Worker that has no cached run asks for the full history.)
 pub fn replay_task<W: Workflow, S: TaskSource>(
     alloc: Global,
     run: Option<Run<W>>,
@@ -63,14 +71,14 @@ pub fn replay_task<W: Workflow, S: TaskSource>(
     meter: &mut Meter,
 ) -> Result<Stepped<W>, StepFault>
     requires { IfSome run (λ run. run.key ≡ key.now) }
-    ensures stepped { IfOk result (λ stepped. Steps W.program (S.tells source.old) run key.now events.items stepped.run stepped.fault stepped.hit meter.old meter.new) }
+    ensures stepped { IfOk result (λ stepped. Steps W.program (S.tells source.old) run key.now events.items
+        stepped.run stepped.fault stepped.hit meter.old meter.new) }
     ensures key { IfOk result (λ stepped. IfSome stepped.run (λ run. run.key ≡ key.now)) }
     ensures one { IfOk result (λ stepped. HasAnswer stepped.run stepped.fault) }
     ensures never_lowered { meter.old ≤ meter.new }
     ensures answers { S.answers source.new ≡ S.answers source.old }
     ensures failures { FailsOnlySource result (S.failures source.old) (S.failures source.new) }
-    ensures delivers { SameRelation (S.delivers source.old) (S.delivers source.new) }
-    ensures tells { SameTelling (S.tells source.old) (S.tells source.new) }
+    ensures same { SameTasks (S.delivers source.old) (S.tells source.old) (S.delivers source.new) (S.tells source.new) }
 {
     if is_whole(events.as_slice()) {
         drop(run);
@@ -82,7 +90,7 @@ pub fn replay_task<W: Workflow, S: TaskSource>(
     }
 }
 
-// Replays events that do not begin with the first, from a run.
+/// Replays events that do not begin with the first, from a run.
 fn replay_held<W: Workflow, S: TaskSource>(
     alloc: Global,
     run: Run<W>,
@@ -92,14 +100,15 @@ fn replay_held<W: Workflow, S: TaskSource>(
     meter: &mut Meter,
 ) -> Result<Stepped<W>, StepFault>
     requires { run.key ≡ key.now }
-    ensures stepped { IfOk result (λ stepped. StepsFrom W.program (later_basis (Some run) events.items) (S.tells source.old) (Some run) key.now events.items stepped.run stepped.fault stepped.hit meter.old meter.new) }
+    ensures stepped { IfOk result (λ stepped.
+        StepsFrom W.program (later_basis (Some run) events.items) (S.tells source.old) (Some run) key.now events.items
+        stepped.run stepped.fault stepped.hit meter.old meter.new) }
     ensures key { IfOk result (λ stepped. IfSome stepped.run (λ run. run.key ≡ key.now)) }
     ensures one { IfOk result (λ stepped. HasAnswer stepped.run stepped.fault) }
     ensures never_lowered { meter.old ≤ meter.new }
     ensures answers { S.answers source.new ≡ S.answers source.old }
     ensures failures { FailsOnlySource result (S.failures source.old) (S.failures source.new) }
-    ensures delivers { SameRelation (S.delivers source.old) (S.delivers source.new) }
-    ensures tells { SameTelling (S.tells source.old) (S.tells source.new) }
+    ensures same { SameTasks (S.delivers source.old) (S.tells source.old) (S.delivers source.new) (S.tells source.new) }
 {
     let up_to = last_number(events.as_slice());
     match run.advance(alloc, events, meter) {
@@ -123,7 +132,7 @@ fn replay_held<W: Workflow, S: TaskSource>(
     }
 }
 
-// Replays events that do not begin with the first, without a run.
+/// Replays events that do not begin with the first, without a run.
 fn replay_unheld<W: Workflow, S: TaskSource>(
     alloc: Global,
     key: &RunKey,
@@ -131,14 +140,15 @@ fn replay_unheld<W: Workflow, S: TaskSource>(
     source: &mut S,
     meter: &mut Meter,
 ) -> Result<Stepped<W>, StepFault>
-    ensures stepped { IfOk result (λ stepped. StepsFrom W.program (later_basis None events.now) (S.tells source.old) None key.now events.now stepped.run stepped.fault stepped.hit meter.old meter.new) }
+    ensures stepped { IfOk result (λ stepped.
+        StepsFrom W.program (later_basis None events.now) (S.tells source.old) None key.now events.now
+        stepped.run stepped.fault stepped.hit meter.old meter.new) }
     ensures key { IfOk result (λ stepped. IfSome stepped.run (λ run. run.key ≡ key.now)) }
     ensures one { IfOk result (λ stepped. HasAnswer stepped.run stepped.fault) }
     ensures never_lowered { meter.old ≤ meter.new }
     ensures answers { S.answers source.new ≡ S.answers source.old }
     ensures failures { FailsOnlySource result (S.failures source.old) (S.failures source.new) }
-    ensures delivers { SameRelation (S.delivers source.old) (S.delivers source.new) }
-    ensures tells { SameTelling (S.tells source.old) (S.tells source.new) }
+    ensures same { SameTasks (S.delivers source.old) (S.tells source.old) (S.delivers source.new) (S.tells source.new) }
 {
     if events.is_empty() {
         return Ok(Stepped {
@@ -150,14 +160,15 @@ fn replay_unheld<W: Workflow, S: TaskSource>(
     replay_told(alloc, key, last_number(events), source, meter)
 }
 
-// Replays events from the first.
+/// Replays events from the first.
 fn replay_first<W: Workflow>(
     alloc: Global,
     key: &RunKey,
     events: Vec<Event>,
     meter: &mut Meter,
 ) -> Result<Stepped<W>, OutOfMemory>
-    ensures replays { IfOk result (λ stepped. Replays W.program key.now events.items (steps W.program events.items) stepped.run stepped.fault meter.old meter.new) }
+    ensures replays { IfOk result (λ stepped. Replays W.program key.now events.items (steps W.program events.items)
+        stepped.run stepped.fault meter.old meter.new) }
     ensures miss { IfOk result (λ stepped. stepped.hit ≡ false) }
     ensures never_lowered { meter.old ≤ meter.new }
 {
@@ -177,7 +188,7 @@ fn replay_first<W: Workflow>(
     }
 }
 
-// Replays what the source tells, from the first event.
+/// Replays what the source tells, from the first event.
 fn replay_told<W: Workflow, S: TaskSource>(
     alloc: Global,
     key: &RunKey,
@@ -185,13 +196,13 @@ fn replay_told<W: Workflow, S: TaskSource>(
     source: &mut S,
     meter: &mut Meter,
 ) -> Result<Stepped<W>, StepFault>
-    ensures replays { IfOk result (λ stepped. ReplaysTold W.program (S.tells source.old) key.now up_to stepped.run stepped.fault meter.old meter.new) }
+    ensures replays { IfOk result (λ stepped. ReplaysTold W.program (S.tells source.old) key.now up_to
+        stepped.run stepped.fault meter.old meter.new) }
     ensures miss { IfOk result (λ stepped. stepped.hit ≡ false) }
     ensures never_lowered { meter.old ≤ meter.new }
     ensures answers { S.answers source.new ≡ S.answers source.old }
     ensures failures { FailsOnlySource result (S.failures source.old) (S.failures source.new) }
-    ensures delivers { SameRelation (S.delivers source.old) (S.delivers source.new) }
-    ensures tells { SameTelling (S.tells source.old) (S.tells source.new) }
+    ensures same { SameTasks (S.delivers source.old) (S.tells source.old) (S.delivers source.new) (S.tells source.new) }
 {
     let history = match source.whole(key, up_to) {
         Ok(history) => history,
@@ -200,7 +211,7 @@ fn replay_told<W: Workflow, S: TaskSource>(
     Ok(replay_first(alloc, key, history, meter)?)
 }
 
-// Whether the events begin with the first of a history.
+/// Whether the events begin with the first of a history.
 fn is_whole(events: &[Event]) -> bool
     ensures { result ≡ follows 0 events.now }
 {

@@ -1,7 +1,9 @@
 //! Workers, one thread for each seat.
-ghost use Rattle.std.specs.Prelude.{◌≡◌, ◌≤◌, ◌<◌, ◌+◌, ℕ, IfOk, map, vec_len, slice_index_or};
+ghost use Rattle.std.specs.Prelude.{◌≡◌, ◌≤◌, ◌<◌, ◌+◌, ℕ, None, IfOk, not, length, map, vec_len, slice_index_or};
+ghost use Rattle.std.specs.Bool.{OnTrue};
 ghost use denote.Param.Send.{IsSend};
-ghost use Rattle.wh_poll.specs.Source.{RoseIfFailed};
+ghost use Rattle.wh_poll.specs.Source.{SameTasks, FailsOnly, RoseIfFailed};
+ghost use Rattle.wh_poll.specs.Workers.{first_fault, other, is_last, next_rota};
 ghost use Rattle.wh_poll.specs.Serve.{WithinTurns, AllRoseIfFailed};
 
 use crate::handler::{ActivityHandler, Gate};
@@ -29,7 +31,57 @@ pub struct Worker<T: Ledger, C: Ledger, F: Ledger, S> {
     pub fault: Option<SourceFault>,
 }
 
-// What a worker begins with.
+impl<T: Ledger, C: Ledger, F: Ledger, S: TaskSource> Worker<T, C, F, S> {
+    /// A worker that has done nothing.
+    fn new(seat: Seat<T, C, F>, source: S) -> Self
+        ensures { result ≡ record { seat = seat; source = source; fault = None } }
+    {
+        Worker {
+            seat,
+            source,
+            fault: None,
+        }
+    }
+
+    /// Serves one task of the kind, and keeps the fault of the source, if it is the first.
+    fn serve<R: Wait, W: Workflow, A: ActivityHandler, G: Gate>(
+        &mut self,
+        rt: &R,
+        alloc: Global,
+        host: &Host<W, T, C, F>,
+        handler: &mut A,
+        gate: &G,
+        kind: SlotKind,
+    ) -> Result<Served, SourceFault>
+        ensures taken { self.new.seat.taken ≤ self.old.seat.taken + 1 }
+        ensures fault { self.new.fault ≡ first_fault self.old.fault result }
+        ensures failures { FailsOnly result (S.failures self.old.source) (S.failures self.new.source) }
+        ensures same { SameTasks (S.delivers self.old.source) (S.tells self.old.source)
+            (S.delivers self.new.source) (S.tells self.new.source) }
+        ensures answered { length (S.answers self.new.source) + self.old.seat.taken
+            ≤ length (S.answers self.old.source) + self.new.seat.taken }
+    {
+        let seat = &mut self.seat;
+        let served = serve_one(rt, alloc, host, seat, &mut self.source, handler, gate, kind);
+        self.fault = first_fault(self.fault, served);
+        served
+    }
+}
+
+/// The fault that a worker keeps after a turn.
+fn first_fault(
+    kept: Option<SourceFault>,
+    served: Result<Served, SourceFault>,
+) -> Option<SourceFault>
+    ensures { result ≡ first_fault kept served }
+{
+    match (kept, served) {
+        (None, Err(fault)) => Some(fault),
+        _ => kept,
+    }
+}
+
+/// What a worker begins with.
 #[derive(Drop)]
 struct Job<T: Ledger, C: Ledger, F: Ledger, S, A> {
     seat: Seat<T, C, F>,
@@ -38,9 +90,48 @@ struct Job<T: Ledger, C: Ledger, F: Ledger, S, A> {
     turns: u64,
 }
 
-/// Serves tasks, at most one a turn: workflow and activity tasks by turns, workflow tasks first. A kind that is closed is not
-/// served again, and each later turn goes to the other. It ends when both are closed, when the host drains, or after so many
-/// turns. The first fault of the source is kept, and the work goes on.
+/// Which kind a worker serves next, and whether the other one is closed.
+#[derive(Clone, Copy)]
+struct Rota {
+    kind: SlotKind,
+    other_closed: bool,
+}
+
+impl Rota {
+    /// Goes on after a turn that served this: to the other kind, unless that one is closed. False
+    /// where no turn follows.
+    fn goes_on(&mut self, served: Result<Served, SourceFault>) -> bool
+        ensures ends { result ≡ not (is_last self.old.other_closed served) }
+        ensures next { OnTrue result (self.new ≡ next_rota self.old served) }
+    {
+        let is_closed = matches!(served, Ok(Served::Closed));
+        if matches!(served, Ok(Served::Draining)) || (is_closed && self.other_closed) {
+            return false;
+        }
+        if !self.other_closed {
+            self.kind = other(self.kind);
+            self.other_closed = is_closed;
+        }
+        true
+    }
+}
+
+/// The other kind.
+fn other(kind: SlotKind) -> SlotKind
+    ensures { result ≡ other kind }
+{
+    match kind {
+        SlotKind::Workflow => SlotKind::Activity,
+        SlotKind::Activity => SlotKind::Workflow,
+    }
+}
+
+/// Serves tasks, at most one a turn: workflow and activity tasks by turns, workflow tasks first. A
+/// kind that is closed is not served again, and each later turn goes to the other. It ends when
+/// both are closed, when the host drains, or after so many turns. The first fault of the source is
+/// kept, and the work goes on. What the source delivers and tells stays the same, and it was sent
+/// at most as many answers as the seat took tasks.
+#[tactic(auto, using(crate::proofs::Turns::rose_kept))]
 pub fn work<
     R: Wait,
     W: Workflow,
@@ -56,65 +147,34 @@ pub fn work<
     host: &Host<W, T, C, F>,
     seat: Seat<T, C, F>,
     source: S,
-    handler: A,
+    mut handler: A,
     gate: &G,
     turns: u64,
 ) -> Worker<T, C, F, S>
     ensures taken { result.seat.taken ≤ seat.taken + turns }
     ensures fault { RoseIfFailed result.fault (S.failures source) (S.failures result.source) }
+    ensures same { SameTasks (S.delivers source) (S.tells source) (S.delivers result.source) (S.tells result.source) }
+    ensures answered { length (S.answers result.source) + seat.taken ≤ length (S.answers source) + result.seat.taken }
 {
-    let mut seat = seat;
-    let mut source = source;
-    let mut handler = handler;
-    let mut fault = None;
-    let mut kind = SlotKind::Workflow;
-    let mut one_closed = false;
+    let mut worker = Worker::new(seat, source);
+    let mut rota = Rota {
+        kind: SlotKind::Workflow,
+        other_closed: false,
+    };
     for _turn in 0..turns {
-        let served = serve_one(
-            rt,
-            alloc,
-            host,
-            &mut seat,
-            &mut source,
-            &mut handler,
-            gate,
-            kind,
-        );
-        if let Err(first) = served {
-            if fault.is_none() {
-                fault = Some(first);
-            }
-        }
-        let is_closed = matches!(served, Ok(Served::Closed));
-        if matches!(served, Ok(Served::Draining)) || (is_closed && one_closed) {
+        let served = worker.serve(rt, alloc, host, &mut handler, gate, rota.kind);
+        if !rota.goes_on(served) {
             break;
         }
-        if !one_closed {
-            kind = other(kind);
-        }
-        if is_closed {
-            one_closed = true;
-        }
     }
-    Worker {
-        seat,
-        source,
-        fault,
-    }
+    worker
 }
 
-// The other kind.
-fn other(kind: SlotKind) -> SlotKind {
-    match kind {
-        SlotKind::Workflow => SlotKind::Activity,
-        SlotKind::Activity => SlotKind::Workflow,
-    }
-}
-
-/// Runs a worker in a thread of its own for each seat, with the source, the handler and the turns of the same place. The four
-/// lists are equally long. The workers come back in the order of the seats, the taken share of each has risen by at most its
-/// turns, and where one kept a fault, its own source has failed. `OutOfMemory` where no room was found; then the seats are given
-/// up. (Temporal documentation, "Workers": a Worker Process runs many task executors.)
+/// Runs a worker in a thread of its own for each seat, with the source, the handler and the turns
+/// of the same place. The four lists are equally long. The workers come back in the order of the
+/// seats, the taken share of each has risen by at most its turns, and where one kept a fault, its
+/// own source has failed. `OutOfMemory` where no room was found; then the seats are given up.
+/// (Temporal documentation, "Workers": a Worker Process runs many task executors.)
 pub fn run_workers<
     R: Threads + Wait + Sync,
     W: Workflow + Send,
@@ -137,14 +197,16 @@ pub fn run_workers<
     requires sources { vec_len sources ≡ vec_len seats }
     requires handlers { vec_len handlers ≡ vec_len seats }
     requires turns { vec_len turns ≡ vec_len seats }
-    ensures turns { IfOk result (λ workers. WithinTurns seats.items turns.items (map (λ worker. worker.seat) workers.items)) }
-    ensures faults { IfOk result (λ workers. AllRoseIfFailed (map (λ source. S.failures source) sources.items) (map (λ worker. worker.fault) workers.items) (map (λ worker. S.failures worker.source) workers.items)) }
+    ensures turns { IfOk result (λ workers.
+        WithinTurns seats.items turns.items (map (λ worker. worker.seat) workers.items)) }
+    ensures faults { IfOk result (λ workers. AllRoseIfFailed (map (λ source. S.failures source) sources.items)
+        (map (λ worker. worker.fault) workers.items) (map (λ worker. S.failures worker.source) workers.items)) }
 {
     let jobs = jobs_of(alloc, seats, sources, handlers, turns)?;
     Ok(run_jobs(rt, alloc, host, gate, jobs)?)
 }
 
-// Runs a worker in a thread of its own for each job.
+/// Runs a worker in a thread of its own for each job.
 fn run_jobs<
     R: Threads + Wait + Sync,
     W: Workflow + Send,
@@ -162,8 +224,12 @@ fn run_jobs<
     jobs: Vec<Job<T, C, F, S, A>>,
 ) -> Result<Vec<Worker<T, C, F, S>>, AllocError>
     ensures count { IfOk result (λ workers. vec_len workers ≡ vec_len jobs) }
-    ensures turns { IfOk result (λ workers. (i : ℕ) (j : _) (w : _) → i < vec_len jobs → (slice_index_or workers.items i w).seat.taken ≤ (slice_index_or jobs.items i j).seat.taken + (slice_index_or jobs.items i j).turns) }
-    ensures faults { IfOk result (λ workers. (i : ℕ) (j : _) (w : _) → i < vec_len jobs → RoseIfFailed (slice_index_or workers.items i w).fault (S.failures (slice_index_or jobs.items i j).source) (S.failures (slice_index_or workers.items i w).source)) }
+    ensures turns { IfOk result (λ workers. (i : ℕ) (j : _) (w : _) → i < vec_len jobs →
+        (slice_index_or workers.items i w).seat.taken
+        ≤ (slice_index_or jobs.items i j).seat.taken + (slice_index_or jobs.items i j).turns) }
+    ensures faults { IfOk result (λ workers. (i : ℕ) (j : _) (w : _) → i < vec_len jobs →
+        RoseIfFailed (slice_index_or workers.items i w).fault
+        (S.failures (slice_index_or jobs.items i j).source) (S.failures (slice_index_or workers.items i w).source)) }
 {
     thread::map_vec(
         rt,
@@ -177,7 +243,7 @@ fn run_jobs<
     )
 }
 
-// Serves tasks for a job.
+/// Serves tasks for a job.
 fn work_job<
     R: Wait,
     W: Workflow,
@@ -206,7 +272,7 @@ fn work_job<
     work(rt, alloc, host, seat, source, handler, gate, turns)
 }
 
-// One job for each seat, in their order.
+/// One job for each seat, in their order.
 fn jobs_of<T: Ledger, C: Ledger, F: Ledger, S: Drop, A: Drop>(
     alloc: Global,
     mut seats: Vec<Seat<T, C, F>>,

@@ -1,5 +1,5 @@
 -- A source over scripted histories: which tasks it gives, what it tells, and how its tasks were answered.
-use Rattle.std.specs.Prelude.{◌≡◌, ℕ, ◌+◌, ◌-◌, ◌*◌, ◌/◌, ◌<◌, min, Bool, false, List, [], ◌∷◌, length, drop, take, get_or, slice_get, Option, Some, None, if◌then◌else◌, eqb, leb, ltb, bytes_eq, codes, String, string_bytes, Vec, sum_by, count_by}
+use Rattle.std.specs.Prelude.{◌≡◌, ℕ, ◌+◌, ◌-◌, ◌*◌, ◌/◌, ◌<◌, min, Bool, false, List, [], ◌∷◌, ◌++◌, length, drop, take, get_or, slice_get, Option, Some, None, if◌then◌else◌, eqb, leb, ltb, bytes_eq, codes, String, string_bytes, Vec, sum_by, count_by}
 use Rattle.std.specs.declared.alloc.Global.{Global}
 use Rattle.wh_events.specs.declared.event.Event.{Event}
 use Rattle.wh_events.specs.declared.key.RunKey.{RunKey}
@@ -20,21 +20,32 @@ pub record Scripted : Type 0 where
   pub name : List ℕ
   pub events : List Event
 
--- a source as contracts see it: its histories, the round of its next task and the place of the history that comes next in it, both counted from 0, and the answers that it was sent
+-- a source as contracts see it: its histories, the round of its next task and the place of the history that comes
+-- next in it, both counted from 0, and the answers that it was sent
 pub record Stage : Type 0 where
   pub histories : List Scripted
   pub round : ℕ
   pub next : ℕ
   pub answers : List (TaskName × Sent)
 
+-- a source that gave no task yet, and was sent no answer
+abbrev pub opening_stage : List Scripted → Stage
+opening_stage histories = record { histories = histories; round = 0; next = 0; answers = [] }
+
+-- one more answer was sent, under the name of its task
+abbrev pub with_answer : Stage → TaskName → Sent → Stage
+with_answer stage name sent = record stage { answers = stage.answers ++ (name, sent) ∷ [] }
+
 -- a history as it is given
 abbrev pub scripted : (ℕ × String Global × Vec Event Global) → Scripted
 scripted given = record { index = given.0; name = string_bytes given.1; events = given.2.items }
 
--- the ends of the tasks of a list of events, where so many events stand before it: how many events stand before and up to each event that starts a task
+-- the ends of the tasks of a list of events, where so many events stand before it: how many events stand before
+-- and up to each event that starts a task
 abbrev pub ends_after : ℕ → List Event → List ℕ
 ends_after before [] = []
-ends_after before (event ∷ rest) = if is_task_started event then (before + 1) ∷ ends_after (before + 1) rest else ends_after (before + 1) rest
+ends_after before (event ∷ rest) =
+    if is_task_started event then (before + 1) ∷ ends_after (before + 1) rest else ends_after (before + 1) rest
 
 -- the ends of the tasks of a history
 abbrev pub ends_of : List Event → List ℕ
@@ -50,7 +61,8 @@ begin_at ends n = if eqb n 0 then 0 else get_or ends (n - 1) 0
 
 -- the events of the n-th task, counted from 0: those up to its end, without those of the tasks before it
 abbrev pub events_of : List Event → ℕ → List Event
-events_of events n = take (get_or (ends_of events) n 0 - begin_at (ends_of events) n) (drop (begin_at (ends_of events) n) events)
+events_of events n =
+    take (get_or (ends_of events) n 0 - begin_at (ends_of events) n) (drop (begin_at (ends_of events) n) events)
 
 -- the token of a task: the file's index times 2^64 plus the number of the event that starts the task
 abbrev pub token : ℕ → ℕ → TaskName
@@ -62,13 +74,23 @@ key_of name = record { workflow_id = name; run_id = codes "recorded" }
 
 -- the n-th task of a history, counted from 0
 abbrev pub task_of : Scripted → ℕ → WorkflowTask
-task_of history n = record { name = token history.index (last_number (events_of history.events n)); run = key_of history.name; events = events_of history.events n }
+task_of history n = record {
+  name = token history.index (last_number (events_of history.events n));
+  run = key_of history.name;
+  events = events_of history.events n;
+}
 
 -- the task is one of a history's
 abbrev pub IsTaskOf : List Scripted → WorkflowTask → Type 0
-IsTaskOf histories task = (place n : ℕ) × (history : Scripted) × (slice_get histories place ≡ Some history) × (n < tasks_in history) × (task ≡ task_of history n)
+IsTaskOf histories task =
+    (place n : ℕ)
+    × (history : Scripted)
+    × (slice_get histories place ≡ Some history)
+    × (n < tasks_in history)
+    × (task ≡ task_of history n)
 
--- the place of the first history that has an n-th task, counted from 0, where so many histories stand before it, if there is one
+-- the place of the first history that has an n-th task, counted from 0, where so many histories stand before it,
+-- if there is one
 abbrev pub first_with : ℕ → ℕ → List Scripted → Option ℕ
 first_with before n [] = None
 first_with before n (history ∷ rest) = if ltb n (tasks_in history) then Some before else first_with (before + 1) n rest
@@ -77,7 +99,8 @@ first_with before n (history ∷ rest) = if ltb n (tasks_in history) then Some b
 abbrev pub round_after : ℕ → ℕ
 round_after round = min (round + 1) 0xffff_ffff_ffff_ffff
 
--- the round and the history of the next task, by the first history that is left in this round and the first of the next round
+-- the round and the history of the next task, by the first history that is left in this round and the first of the
+-- next round
 abbrev pub upcoming_by : ℕ → Option ℕ → Option ℕ → Option (ℕ × ℕ)
 upcoming_by round (Some place) later = Some (round, place)
 upcoming_by round None (Some place) = Some (round_after round, place)
@@ -85,11 +108,20 @@ upcoming_by round None None = None
 
 -- the round of the next task and the place of its history, if a task is left
 abbrev pub upcoming : Stage → Option (ℕ × ℕ)
-upcoming stage = upcoming_by stage.round (first_with stage.next stage.round (drop stage.next stage.histories)) (first_with 0 (round_after stage.round) stage.histories)
+upcoming stage =
+    upcoming_by stage.round
+    (first_with stage.next stage.round (drop stage.next stage.histories))
+    (first_with 0 (round_after stage.round) stage.histories)
 
 -- a poll gives the next task and goes on behind it, and where no task is left the source is closed and stays as it is
 abbrev pub Polls : Stage → Polled WorkflowTask → Stage → Type 0
-Polls old (Task task) new = (round place : ℕ) × (history : Scripted) × (upcoming old ≡ Some (round, place)) × (slice_get old.histories place ≡ Some history) × (task ≡ task_of history round) × (new ≡ record old { round = round; next = place + 1 })
+Polls old (Task task) new =
+    (round place : ℕ)
+    × (history : Scripted)
+    × (upcoming old ≡ Some (round, place))
+    × (slice_get old.histories place ≡ Some history)
+    × (task ≡ task_of history round)
+    × (new ≡ record old { round = round; next = place + 1 })
 Polls old Nothing new = ⊥
 Polls old Closed new = (upcoming old ≡ None) × (new ≡ old)
 
@@ -106,16 +138,23 @@ events_up_to number (event ∷ rest) = if leb event.number number then event ∷
 -- the first history of the name with its place, where so many histories stand before it, if there is one
 abbrev pub first_named : ℕ → List ℕ → List Scripted → Option (ℕ × Scripted)
 first_named before name [] = None
-first_named before name (history ∷ rest) = if bytes_eq history.name name then Some (before, history) else first_named (before + 1) name rest
+first_named before name (history ∷ rest) =
+    if bytes_eq history.name name then Some (before, history) else first_named (before + 1) name rest
 
 -- the events of a history up to a number, if there is one
 abbrev pub events_in : ℕ → Option (ℕ × Scripted) → List Event
 events_in up_to None = []
 events_in up_to (Some found) = events_up_to up_to found.1.events
 
--- what the source tells of a key: the events of the first history of its name up to the number, none where the run is not `recorded`
+-- what the source tells of a key: the events of the first history of its name up to the number, none where the run
+-- is not `recorded`
 abbrev pub told : List Scripted → RunKey → ℕ → List Event
-told histories key up_to = if bytes_eq key.run_id (codes "recorded") then events_in up_to (first_named 0 key.workflow_id histories) else []
+told histories key up_to =
+    if bytes_eq key.run_id (codes "recorded") then events_in up_to (first_named 0 key.workflow_id histories) else []
+
+-- the source tells this of a key and a number
+abbrev pub Recounts : List Scripted → RunKey → ℕ → List Event → Type 0
+Recounts histories key up_to history = history ≡ told histories key up_to
 
 -- how many tasks of the history at a place were polled
 abbrev pub polled_at : Stage → ℕ → Scripted → ℕ
@@ -130,9 +169,13 @@ completes index name _ = false
 abbrev pub completed_of : ℕ → List (TaskName × Sent) → ℕ
 completed_of index answers = count_by (λ sent. completes index sent.0 sent.1) answers
 
+-- the same, by the history and its place
 abbrev pub tally_by : Stage → Option (ℕ × Scripted) → Option (ℕ × ℕ × ℕ)
 tally_by stage None = None
-tally_by stage (Some found) = Some (polled_at stage found.0 found.1, completed_of found.1.index stage.answers, polled_at stage found.0 found.1 - completed_of found.1.index stage.answers)
+tally_by stage (Some found) =
+    let polled = polled_at stage found.0 found.1 in
+    let completed = completed_of found.1.index stage.answers in
+    Some (polled, completed, polled - completed)
 
 -- how many tasks of the first history of the name were polled, how many were completed, and the others of them
 abbrev pub tally_of : Stage → List ℕ → Option (ℕ × ℕ × ℕ)

@@ -1,7 +1,7 @@
 //! A source that gives the tasks of recorded histories.
 ghost use Rattle.std.specs.Prelude.{◌≡◌, ◌<◌, ◌-◌, ◌++◌, ◌∷◌, [], get_or, length, map, take, drop, option_map, IfOk, IfErr, IfSome, OnOk, OnErr};
-ghost use Rattle.wh_recorded.specs.Rounds.{scripted, ends_of, tasks_in, begin_at, task_of, key_of, events_up_to, first_named, completed_of, tally_of, deliveries_of, first_with, upcoming, told, Gives, Polls};
-ghost use Rattle.wh_poll.specs.Source.{Delivery, FailsOnly, IfTask, SameRelation, SameTelling};
+ghost use Rattle.wh_recorded.specs.Rounds.{scripted, opening_stage, with_answer, ends_of, tasks_in, begin_at, task_of, key_of, events_up_to, first_named, completed_of, tally_of, deliveries_of, first_with, upcoming, told, Gives, Recounts, Polls};
+ghost use Rattle.wh_poll.specs.Source.{Delivery, FailsOnly, IfTask, SameTasks};
 ghost use Rattle.wh_poll.specs.declared.source.Polled.{Polled};
 ghost use Rattle.wh_poll.specs.declared.source.Sent.{Sent};
 ghost use Rattle.wh_poll.specs.declared.source.SourceFault.{SourceFault};
@@ -225,17 +225,22 @@ impl Model for ScriptSource {
 
     ghost Value = { Stage };
 
-    ghost view = { λ s. record { histories = s.histories.items; round = s.round; next = s.next; answers = s.answers.items } };
+    ghost view = { λ s. record {
+      histories = s.histories.items;
+      round = s.round;
+      next = s.next;
+      answers = s.answers.items;
+    } };
 }
 
 impl ScriptSource {
-    /// A source over histories, each with the index of its file and its name. `OutOfMemory` where no
-    /// room was found for the places of their tasks; the histories are dropped then.
+    /// A source over histories, each with the index of its file and its name. `OutOfMemory` where
+    /// no room was found for the places of their tasks; the histories are dropped then.
     pub fn new(
         alloc: Global,
         histories: Vec<(u64, String, Vec<Event>)>,
     ) -> Result<ScriptSource, OutOfMemory>
-        ensures { IfOk result (λ source. source ≡ record { histories = map scripted histories.items; round = 0; next = 0; answers = [] }) }
+        ensures { IfOk result (λ source. source ≡ opening_stage (map scripted histories.items)) }
     {
         let mut scripted = Vec::new(alloc);
         for history in histories {
@@ -263,8 +268,8 @@ impl ScriptSource {
     }
 
     /// For the first history of the name: how many of its tasks were polled, how many answers
-    /// without a fault were sent to tasks of its file, and by how many the tasks are more than those.
-    /// `None` where no history has the name.
+    /// without a fault were sent to tasks of its file, and by how many the tasks are more than
+    /// those. `None` where no history has the name.
     pub fn tally(&self, name: &str) -> Option<(u64, u64, u64)>
         ensures { result ≡ tally_of self.now name.now }
     {
@@ -279,7 +284,8 @@ impl ScriptSource {
         Some((tasks, completed, tasks.saturating_sub(completed)))
     }
 
-    /// The answers that it was sent, each with the name of its task, in the order in which they came.
+    /// The answers that it was sent, each with the name of its task, in the order in which they
+    /// came.
     pub fn answers(&self) -> &[(TaskName, Sent)]
         ensures { result.now ≡ self.now.answers }
     {
@@ -290,7 +296,8 @@ impl ScriptSource {
     fn upcoming(&self) -> Option<(usize, usize)>
         ensures exact { result ≡ upcoming self.now }
         ensures within { IfSome result (λ found. found.1 < length self.now.histories) }
-        ensures has { IfSome result (λ found. (other : _) → found.0 < tasks_in (get_or self.now.histories found.1 other)) }
+        ensures has { IfSome result (λ found. (other : _) →
+            found.0 < tasks_in (get_or self.now.histories found.1 other)) }
     {
         let histories = self.histories.as_slice();
         if let Some(place) = find_task(histories, self.next, self.round) {
@@ -303,8 +310,7 @@ impl ScriptSource {
 }
 
 impl TaskSource for ScriptSource {
-    ghost use Rattle.std.specs.Prelude.{◌≡◌};
-    ghost use Rattle.wh_recorded.specs.Rounds.{Gives, told};
+    ghost use Rattle.wh_recorded.specs.Rounds.{Gives, Recounts};
 
     ghost answers = { λ source. source.answers };
 
@@ -312,7 +318,7 @@ impl TaskSource for ScriptSource {
 
     ghost delivers = { λ source. Gives source.histories };
 
-    ghost tells = { λ source key up_to history. history ≡ told source.histories key up_to };
+    ghost tells = { λ source. Recounts source.histories };
 
     fn poll_workflow(&mut self) -> Result<Polled<WorkflowTask>, SourceFault>
         ensures next { IfOk result (λ polled. Polls self.old polled self.new) }
@@ -323,8 +329,8 @@ impl TaskSource for ScriptSource {
         ensures task { IfOk result (IfTask (λ task. Gives self.old.histories (Delivery.Workflow task))) }
         ensures answers { self.new.answers ≡ self.old.answers }
         ensures failures { FailsOnly result 0 0 }
-        ensures delivers { SameRelation (Gives self.old.histories) (Gives self.new.histories) }
-        ensures tells { SameTelling (λ key up_to history. history ≡ told self.old.histories key up_to) (λ key up_to history. history ≡ told self.new.histories key up_to) }
+        ensures same { SameTasks (Gives self.old.histories) (Recounts self.old.histories)
+            (Gives self.new.histories) (Recounts self.new.histories) }
     {
         let Some((round, place)) = self.upcoming() else {
             return Ok(Polled::Closed);
@@ -362,7 +368,7 @@ impl TaskSource for ScriptSource {
     }
 
     fn answer_workflow(&mut self, name: TaskName, answer: &Answer) -> Result<(), SourceFault>
-        ensures stored { OnOk result (self.new ≡ record self.old { answers = self.old.answers ++ (name, Sent.Workflow answer.now) ∷ [] }) }
+        ensures stored { OnOk result (self.new ≡ with_answer self.old name (Sent.Workflow answer.now)) }
         ensures memory { IfErr result (λ fault. fault ≡ SourceFault.OutOfMemory) }
         ensures kept { OnErr result (self.new ≡ self.old) }
     {
@@ -377,7 +383,7 @@ impl TaskSource for ScriptSource {
         name: TaskName,
         answer: &ActivityAnswer,
     ) -> Result<(), SourceFault>
-        ensures stored { OnOk result (self.new ≡ record self.old { answers = self.old.answers ++ (name, Sent.Activity answer.now) ∷ [] }) }
+        ensures stored { OnOk result (self.new ≡ with_answer self.old name (Sent.Activity answer.now)) }
         ensures memory { IfErr result (λ fault. fault ≡ SourceFault.OutOfMemory) }
         ensures kept { OnErr result (self.new ≡ self.old) }
     {

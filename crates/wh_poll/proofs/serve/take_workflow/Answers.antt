@@ -2,7 +2,7 @@ use Rattle.std.proofs.Common.{◌≡◌, Option, sym, subst}
 use Rattle.std.specs.Prelude.{IfSome}
 use Rattle.wh_replay.specs.Runs.{Held}
 use Rattle.wh_poll.proofs.Lookups.{lookup-own}
-use Rattle.wh_poll.proofs.serve.use_workflow.Goals as goal
+use Rattle.wh_poll.proofs.serve.take_workflow.Goals as goal
 
 pub returns-in-Ok-clause-own : goal.returns-in-Ok-clause-own
 returns-in-Ok-clause-own g c =
