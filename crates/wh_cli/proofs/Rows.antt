@@ -3,7 +3,7 @@ use Rattle.std.proofs.Common.{◌≡◌, ◌∙◌, ℕ, suc, ◌+◌, ◌<◌, 
 use Rattle.std.specs.Prelude.{◌%◌, get_or}
 use Rattle.std.proofs.lemmas.List.{get_or-map, length-map}
 use Rattle.std.proofs.Math.Nat.{mod-lt}
-use Rattle.wh_samples.specs.Rounds.{Stage}
+use Rattle.wh_recorded.specs.Rounds.{Stage}
 use Rattle.wh_cli.specs.declared.dealing.Dealt.{Dealt}
 use Rattle.wh_cli.specs.declared.service_report.Row.{Row}
 use Rattle.wh_cli.specs.Services.{no_source, source_at, row_from, rows_from}

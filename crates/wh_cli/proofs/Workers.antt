@@ -9,7 +9,7 @@ use Rattle.wh_host.specs.declared.reply.Totals.{Totals}
 use Rattle.wh_host.specs.Machine.{totals_of}
 use Rattle.wh_poll.specs.declared.source.SourceFault.{SourceFault}
 use Rattle.wh_poll.specs.Serve.{WithinTurns}
-use Rattle.wh_samples.specs.Rounds.{Stage}
+use Rattle.wh_recorded.specs.Rounds.{Stage}
 use Rattle.wh_cli.specs.declared.dealing.Dealt.{Dealt}
 use Rattle.wh_cli.specs.declared.service_report.Row.{Row}
 use Rattle.wh_cli.specs.Services.{rows_from, Left, IsService}

@@ -6,7 +6,7 @@ ghost use Rattle.wh_cli.specs.Services.{dealt_of};
 use std::alloc::Global;
 use wh_events::{Event, OutOfMemory, Text};
 use wh_json::{ReadFault, read_events};
-use wh_samples::ScriptSource;
+use wh_recorded::ScriptSource;
 
 /// A file by its name, and why it cannot be read, if so.
 #[derive(Drop)]

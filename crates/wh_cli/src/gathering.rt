@@ -2,7 +2,7 @@
 
 ghost use Rattle.std.specs.Prelude.{◌≡◌, ◌<◌, IfOk, is_none, length, map, vec_len};
 ghost use Rattle.std.specs.List.{list_all};
-ghost use Rattle.wh_samples.specs.Rounds.{tally_of};
+ghost use Rattle.wh_recorded.specs.Rounds.{tally_of};
 ghost use Rattle.wh_cli.specs.Services.{tally_from, row_from, rows_from};
 ghost use Rattle.wh_cli.specs.Served.{IsServiceOf};
 
@@ -14,7 +14,7 @@ use wh_events::OutOfMemory;
 use wh_host::{Host, Totals};
 use wh_ledger::Seat;
 use wh_poll::Worker;
-use wh_samples::ScriptSource;
+use wh_recorded::ScriptSource;
 use wh_workflow::Workflow;
 
 /// What the workers did.

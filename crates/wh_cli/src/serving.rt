@@ -24,7 +24,7 @@ use wh_events::OutOfMemory;
 use wh_host::{Config, Host, OpenFault};
 use wh_ledger::Seat;
 use wh_poll::{NoActivities, OpenGate, Worker, run_workers};
-use wh_samples::ScriptSource;
+use wh_recorded::ScriptSource;
 use wh_workflow::Workflow;
 
 /// As many turns for each worker as its source has tasks, and one more for each kind of tasks, by
