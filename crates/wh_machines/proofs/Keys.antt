@@ -7,9 +7,9 @@ use Rattle.std.specs.Ordering.{nat_cmp}
 use Rattle.std.specs.BTreeMap.{is_at}
 use Rattle.slab.specs.Slab as slab
 use Rattle.wh_machines.specs.declared.opening.Opening.{Opening}
-use Rattle.wh_events.specs.Kinds.{Effect}
-use Rattle.wh_events.specs.Kinds.Effect.{Starts, Cancels, Closes}
-use Rattle.wh_machines.specs.Noted.{marked}
+use Rattle.wh_events.specs.declared.kind.Effect.{Effect}
+use Rattle.wh_events.specs.declared.kind.Effect.TheVariants.{Starts, Cancels, Closes}
+use Rattle.wh_machines.specs.Changes.{with_effect}
 use Rattle.wh_machines.specs.Tables.{IsKeyed, has_number}
 
 -- a test by `cmp` is one by `==`
@@ -151,7 +151,7 @@ module _ (s : slab.Slab Opening) (key : ℕ) (old new : Opening) (was : slab.get
   pub others_kept : (other : ℕ) → other ≢ key → slab.get (slab.with_value s key new) other ≡ slab.get s other
   others_kept other apart = get_or-set_other s.slots key other (Some new) None apart
 
-pub marked-number : (effect : Effect) (by : ℕ) (opening : Opening) → (marked effect by opening).number ≡ opening.number
+pub marked-number : (effect : Effect) (by : ℕ) (opening : Opening) → (with_effect effect by opening).number ≡ opening.number
 marked-number Starts by opening = refl
 marked-number Cancels by opening = refl
 marked-number Closes by opening = refl

@@ -1,4 +1,4 @@
--- One more event in place changes what is kept of the things as `noted` and `noted_name` say.
+-- One more event in place changes what is kept of the things as `things_after` and `names_after` say.
 use Rattle.std.proofs.Common.{◌≡◌, ℕ, zero, suc, ◌+◌, ◌-◌, ◌<◌, ◌≤◌, Bool, true, false, ◌&&◌, ◌||◌, cond, eqb, ltb, List, [], ◌∷◌, ◌++◌, length, Option, Some, None, is_none, option_map, slice_get, refl, sym, ap, subst, ◌∙◌, inl, inr, arith}
 use Rattle.std.specs.Prelude.{IfSome}
 use Rattle.std.specs.Str.{bytes_eq}
@@ -10,8 +10,9 @@ use Rattle.std.proofs.lemmas.Option.{slice_get_past}
 use Rattle.wh_events.specs.declared.event.Event.{Event}
 use Rattle.wh_events.specs.declared.place.Thing.{Thing}
 use Rattle.wh_events.specs.declared.place.Thing.TheVariants.{Activity, Timer, Child, CancelRequest, SignalRequest}
-use Rattle.wh_events.specs.Kinds.{Effect, Role}
-use Rattle.wh_events.specs.Kinds.Effect.{Starts, Cancels, Closes}
+use Rattle.wh_events.specs.declared.kind.Effect.{Effect}
+use Rattle.wh_events.specs.Kinds.{Role}
+use Rattle.wh_events.specs.declared.kind.Effect.TheVariants.{Starts, Cancels, Closes}
 use Rattle.wh_events.specs.Kinds.Role.{Opens, Refers, CancelsChild, Plain}
 use Rattle.wh_events.specs.Kinds.{role_of, closes_run_of}
 use Rattle.wh_events.specs.Machines.{or_else, same_thing, opens_under, starts_number, closes_number, cancels_number, is_number, is_open, open_named, last_named, role_at, role_in}
@@ -22,7 +23,7 @@ use Rattle.wh_machines.specs.declared.opening.Opening.{Opening}
 use Rattle.wh_machines.specs.declared.openings.Openings.{Openings}
 use Rattle.wh_machines.specs.declared.names.Names.{Names}
 use Rattle.wh_machines.specs.Openings.{closes_test, starts_test, cancels_test, named_of, opening_with, opened_by, opening_of}
-use Rattle.wh_machines.specs.Noted.{fresh, marked, noted, noted_name}
+use Rattle.wh_machines.specs.Changes.{new_opening, with_effect, things_after, names_after}
 use Rattle.wh_machines.specs.Tables.{IsTracked, IsSound, opening_in, named_in}
 use Rattle.wh_machines.proofs.Placed.{accepted, reference_there, child_there, numbered_after}
 use Rattle.wh_machines.specs.declared.jumps.Jump.{Jump}
@@ -43,7 +44,7 @@ same_thing_sym SignalRequest SignalRequest = refl
 same_thing_sym _ _ = refl
 
 name_step : (role : Role) (thing : Thing) (id : List ℕ) (by : ℕ) (last : Option ℕ) (old : Thing → List ℕ → Option ℕ) → old thing id ≡ cond (is_named thing) last None
-    → cond (is_named thing) (or_else (cond (opens_under thing id role) (Some by) None) last) None ≡ noted_name role by old thing id
+    → cond (is_named thing) (or_else (cond (opens_under thing id role) (Some by) None) last) None ≡ names_after role by old thing id
 name_step (Opens other other_id) thing id by last old was =
     rw (same_thing_sym other thing, nat_list_eq_equiv.symm other_id id) (step (same_thing thing other && bytes_eq id other_id) refl)
   where
@@ -141,8 +142,8 @@ module _ (number : ℕ) (before : List Event) (below : length before < number) w
     cancels_quiet Plain h = refl
 
 -- a thing whose number is past the events is as it was opened
-pub still_fresh : (events : List Event) (number : ℕ) (previous : Option ℕ) → fault_after [] events ≡ None → length events ≤ number → opening_with events number previous ≡ fresh number previous
-still_fresh events number previous placed fits =
+pub still_new : (events : List Event) (number : ℕ) (previous : Option ℕ) → fault_after [] events ≡ None → length events ≤ number → opening_with events number previous ≡ new_opening number previous
+still_new events number previous placed fits =
     let starts = first_by_none (starts_test number) number (λ before event p h below. starts_quiet number before below (role_of event.body) ((accepted before event h).allowed)) [] events refl placed (omega arith) in
     let cancels = first_by_none (cancels_test number) number (λ before event p h below. cancels_quiet number before below p (role_of event.body) ((accepted before event h).allowed)) [] events refl placed (omega arith) in
     let closes = first_by_none (closes_test number) number (λ before event p h below. closes_quiet number before below (role_of event.body) ((accepted before event h).allowed)) [] events refl placed (omega arith) in
@@ -151,8 +152,8 @@ still_fresh events number previous placed fits =
 -- ---- the things
 
 -- the thing with each effect that an event may have on it
-abbrev touched : Option ℕ → Option ℕ → Option ℕ → Opening → Opening
-touched started cancelling closed opening = record {
+abbrev with_effects : Option ℕ → Option ℕ → Option ℕ → Opening → Opening
+with_effects started cancelling closed opening = record {
   number = opening.number;
   started = or_else opening.started started;
   cancelling = or_else opening.cancelling cancelling;
@@ -160,13 +161,13 @@ touched started cancelling closed opening = record {
   previous = opening.previous;
 }
 
-untouched : (o : Option Opening) → option_map (touched None None None) o ≡ o
+untouched : (o : Option Opening) → option_map (with_effects None None None) o ≡ o
 untouched None = refl
 untouched (Some opening) = simp or_else-none
 
 touched_marked : (effect : Effect) (by : ℕ) (o : Option Opening)
-    → option_map (touched (cond (starts_number 0 (Refers Timer 0 effect)) (Some by) None) (cond (cancels_number [] 0 (Refers Timer 0 effect)) (Some by) None) (cond (closes_number 0 (Refers Timer 0 effect)) (Some by) None)) o
-    ≡ option_map (marked effect by) o
+    → option_map (with_effects (cond (starts_number 0 (Refers Timer 0 effect)) (Some by) None) (cond (cancels_number [] 0 (Refers Timer 0 effect)) (Some by) None) (cond (closes_number 0 (Refers Timer 0 effect)) (Some by) None)) o
+    ≡ option_map (with_effect effect by) o
 touched_marked effect by None = refl
 touched_marked Starts by (Some opening) = simp or_else-none
 touched_marked Cancels by (Some opening) = simp or_else-none
@@ -174,47 +175,47 @@ touched_marked Closes by (Some opening) = simp or_else-none
 
 module _ (events : List Event) (number by : ℕ) where
   abbrev touched_by : Role → Opening → Opening
-  touched_by role = touched (cond (starts_number number role) (Some by) None) (cond (cancels_number events number role) (Some by) None) (cond (closes_number number role) (Some by) None)
+  touched_by role = with_effects (cond (starts_number number role) (Some by) None) (cond (cancels_number events number role) (Some by) None) (cond (closes_number number role) (Some by) None)
 
-  touch_noted : (role : Role) (names : Thing → List ℕ → Option ℕ) (old : ℕ → Option Opening) → eqb by number ≡ false
+  touched-things_after : (role : Role) (names : Thing → List ℕ → Option ℕ) (old : ℕ → Option Opening) → eqb by number ≡ false
       → ((workflow_id : List ℕ) → role ≡ CancelsChild workflow_id → open_named events Child workflow_id ≡ names Child workflow_id)
-      → option_map (touched_by role) (old number) ≡ noted role by names old number
-  touch_noted (Opens thing id) names old apart child = untouched (old number) ∙ sym (ap (λ b. cond b (Some (fresh by (names thing id))) (old number)) apart)
-  touch_noted (Refers thing target Starts) names old apart child = step (eqb number target)
+      → option_map (touched_by role) (old number) ≡ things_after role by names old number
+  touched-things_after (Opens thing id) names old apart child = untouched (old number) ∙ sym (ap (λ b. cond b (Some (new_opening by (names thing id))) (old number)) apart)
+  touched-things_after (Refers thing target Starts) names old apart child = step (eqb number target)
     where
-      step : (b : Bool) → option_map (touched (cond b (Some by) None) None None) (old number) ≡ cond b (option_map (marked Starts by) (old number)) (old number)
+      step : (b : Bool) → option_map (with_effects (cond b (Some by) None) None None) (old number) ≡ cond b (option_map (with_effect Starts by) (old number)) (old number)
       step true = touched_marked Starts by (old number)
       step false = untouched (old number)
-  touch_noted (Refers thing target Cancels) names old apart child = step (eqb number target)
+  touched-things_after (Refers thing target Cancels) names old apart child = step (eqb number target)
     where
-      step : (b : Bool) → option_map (touched None (cond b (Some by) None) None) (old number) ≡ cond b (option_map (marked Cancels by) (old number)) (old number)
+      step : (b : Bool) → option_map (with_effects None (cond b (Some by) None) None) (old number) ≡ cond b (option_map (with_effect Cancels by) (old number)) (old number)
       step true = touched_marked Cancels by (old number)
       step false = untouched (old number)
-  touch_noted (Refers thing target Closes) names old apart child = step (eqb number target)
+  touched-things_after (Refers thing target Closes) names old apart child = step (eqb number target)
     where
-      step : (b : Bool) → option_map (touched None None (cond b (Some by) None)) (old number) ≡ cond b (option_map (marked Closes by) (old number)) (old number)
+      step : (b : Bool) → option_map (with_effects None None (cond b (Some by) None)) (old number) ≡ cond b (option_map (with_effect Closes by) (old number)) (old number)
       step true = touched_marked Closes by (old number)
       step false = untouched (old number)
-  touch_noted (CancelsChild workflow_id) names old apart child =
+  touched-things_after (CancelsChild workflow_id) names old apart child =
       rw (child workflow_id refl, apart) (step (is_number number (names Child workflow_id)))
     where
-      step : (b : Bool) → option_map (touched None (cond b (Some by) None) None) (old number) ≡ cond b (option_map (marked Cancels by) (old number)) (old number)
+      step : (b : Bool) → option_map (with_effects None (cond b (Some by) None) None) (old number) ≡ cond b (option_map (with_effect Cancels by) (old number)) (old number)
       step true = touched_marked Cancels by (old number)
       step false = untouched (old number)
-  touch_noted Plain names old apart child = untouched (old number)
+  touched-things_after Plain names old apart child = untouched (old number)
 
-noted_same : (role : Role) (by number : ℕ) (names other_names : Thing → List ℕ → Option ℕ) (old other_old : ℕ → Option Opening) → ((thing : Thing) (id : List ℕ) → names thing id ≡ other_names thing id) → ((k : ℕ) → old k ≡ other_old k)
-    → noted role by names old number ≡ noted role by other_names other_old number
-noted_same (Opens thing id) by number names other_names old other_old named opened = rw (named thing id, opened number) refl
-noted_same (Refers thing target effect) by number names other_names old other_old named opened = rw (opened number) refl
-noted_same (CancelsChild workflow_id) by number names other_names old other_old named opened = rw (named Child workflow_id, opened number) refl
-noted_same Plain by number names other_names old other_old named opened = opened number
+things_after-same : (role : Role) (by number : ℕ) (names other_names : Thing → List ℕ → Option ℕ) (old other_old : ℕ → Option Opening) → ((thing : Thing) (id : List ℕ) → names thing id ≡ other_names thing id) → ((k : ℕ) → old k ≡ other_old k)
+    → things_after role by names old number ≡ things_after role by other_names other_old number
+things_after-same (Opens thing id) by number names other_names old other_old named opened = rw (named thing id, opened number) refl
+things_after-same (Refers thing target effect) by number names other_names old other_old named opened = rw (opened number) refl
+things_after-same (CancelsChild workflow_id) by number names other_names old other_old named opened = rw (named Child workflow_id, opened number) refl
+things_after-same Plain by number names other_names old other_old named opened = opened number
 
-noted_name_same : (role : Role) (by : ℕ) (old other_old : Thing → List ℕ → Option ℕ) → ((thing : Thing) (id : List ℕ) → old thing id ≡ other_old thing id) → (thing : Thing) (id : List ℕ) → noted_name role by old thing id ≡ noted_name role by other_old thing id
-noted_name_same (Opens other other_id) by old other_old same thing id = rw (same thing id) refl
-noted_name_same (Refers other target effect) by old other_old same thing id = same thing id
-noted_name_same (CancelsChild workflow_id) by old other_old same thing id = same thing id
-noted_name_same Plain by old other_old same thing id = same thing id
+names_after-same : (role : Role) (by : ℕ) (old other_old : Thing → List ℕ → Option ℕ) → ((thing : Thing) (id : List ℕ) → old thing id ≡ other_old thing id) → (thing : Thing) (id : List ℕ) → names_after role by old thing id ≡ names_after role by other_old thing id
+names_after-same (Opens other other_id) by old other_old same thing id = rw (same thing id) refl
+names_after-same (Refers other target effect) by old other_old same thing id = same thing id
+names_after-same (CancelsChild workflow_id) by old other_old same thing id = same thing id
+names_after-same Plain by old other_old same thing id = same thing id
 
 module _ (events : List Event) (event : Event) (placed : fault_after [] events ≡ None) (fits : place_fault events event ≡ None) where
   more_placed : fault_after [] (events ++ event ∷ []) ≡ None
@@ -273,34 +274,34 @@ module _ (events : List Event) (event : Event) (placed : fault_after [] events �
           rw (ne_eqb number 0 nonzero) (ap (λ o. opened_by (events ++ event ∷ []) number (role_in o)) same ∙ opened_push number (role_at events number) (omega arith))
 
   -- what is kept of what the event opens
-  new_step : (role : Role) → role_of event.body ≡ role → opened_by (events ++ event ∷ []) event.number role ≡ noted role event.number (named_of events) (opening_of events) event.number
+  new_step : (role : Role) → role_of event.body ≡ role → opened_by (events ++ event ∷ []) event.number role ≡ things_after role event.number (named_of events) (opening_of events) event.number
   new_step (Opens thing id) is =
       let at = numbered in
       let index : length events ≡ event.number - 1 = omega arith in
       let size = length_push events event in
       let before = take_at events (event ∷ []) (event.number - 1) index in
       ap (λ list. Some (opening_with (events ++ event ∷ []) event.number (named_of list thing id))) before
-      ∙ ap Some (still_fresh (events ++ event ∷ []) event.number (named_of events thing id) more_placed (omega arith))
-      ∙ sym (ap (λ b. cond b (Some (fresh event.number (named_of events thing id))) (opening_of events event.number)) (eq-eqb event.number event.number refl))
+      ∙ ap Some (still_new (events ++ event ∷ []) event.number (named_of events thing id) more_placed (omega arith))
+      ∙ sym (ap (λ b. cond b (Some (new_opening event.number (named_of events thing id))) (opening_of events event.number)) (eq-eqb event.number event.number refl))
   new_step (Refers thing target effect) is =
       let at = numbered in
       nothing (eqb event.number target) (opening_of events event.number) (past_none events event.number (omega arith))
     where
-      nothing : (b : Bool) (o : Option Opening) → o ≡ None → None ≡ cond b (option_map (marked effect event.number) o) o
+      nothing : (b : Bool) (o : Option Opening) → o ≡ None → None ≡ cond b (option_map (with_effect effect event.number) o) o
       nothing true o h = rw h refl
       nothing false o h = sym h
   new_step (CancelsChild workflow_id) is =
       let at = numbered in
       let size = length_push events event in
       let other = last_below event.number events (omega arith) placed Child workflow_id (last_named events Child workflow_id) refl in
-      ap Some (still_fresh (events ++ event ∷ []) event.number None more_placed (omega arith))
+      ap Some (still_new (events ++ event ∷ []) event.number None more_placed (omega arith))
       ∙ sym (rw (other, eq-eqb event.number event.number refl) refl)
   new_step Plain is =
       let at = numbered in
       sym (past_none events event.number (omega arith))
 
-  pub opening_noted : (number : ℕ) → opening_of (events ++ event ∷ []) number ≡ noted (role_of event.body) event.number (named_of events) (opening_of events) number
-  opening_noted number = by (eqb event.number number) refl
+  pub opening_of-push : (number : ℕ) → opening_of (events ++ event ∷ []) number ≡ things_after (role_of event.body) event.number (named_of events) (opening_of events) number
+  opening_of-push number = by (eqb event.number number) refl
     where
       here : opening_of (events ++ event ∷ []) event.number ≡ opened_by (events ++ event ∷ []) event.number (role_of event.body)
       here =
@@ -309,28 +310,28 @@ module _ (events : List Event) (event : Event) (placed : fault_after [] events �
           rw (ne_eqb event.number 0 (omega arith)) (ap (λ k. opened_by (events ++ event ∷ []) event.number (role_in (slice_get (events ++ event ∷ []) k))) index
           ∙ ap (λ o. opened_by (events ++ event ∷ []) event.number (role_in o)) (slice_get_end events event))
 
-      by : (b : Bool) → eqb event.number number ≡ b → opening_of (events ++ event ∷ []) number ≡ noted (role_of event.body) event.number (named_of events) (opening_of events) number
+      by : (b : Bool) → eqb event.number number ≡ b → opening_of (events ++ event ∷ []) number ≡ things_after (role_of event.body) event.number (named_of events) (opening_of events) number
       by true e =
           let same = eqb-true event.number number e in
-          subst (λ n. opening_of (events ++ event ∷ []) n ≡ noted (role_of event.body) event.number (named_of events) (opening_of events) n) same (here ∙ new_step (role_of event.body) refl)
-      by false e = earlier_step number e ∙ touch_noted events number event.number (role_of event.body) (named_of events) (opening_of events) e child_named
+          subst (λ n. opening_of (events ++ event ∷ []) n ≡ things_after (role_of event.body) event.number (named_of events) (opening_of events) n) same (here ∙ new_step (role_of event.body) refl)
+      by false e = earlier_step number e ∙ touched-things_after events number event.number (role_of event.body) (named_of events) (opening_of events) e child_named
 
-  pub named_noted : (thing : Thing) (id : List ℕ) → named_of (events ++ event ∷ []) thing id ≡ noted_name (role_of event.body) event.number (named_of events) thing id
-  named_noted thing id =
+  pub named_of-push : (thing : Thing) (id : List ℕ) → named_of (events ++ event ∷ []) thing id ≡ names_after (role_of event.body) event.number (named_of events) thing id
+  named_of-push thing id =
       ap (λ o. cond (is_named thing) o None) (last_named-push thing id events event)
       ∙ name_step (role_of event.body) thing id event.number (last_named events thing id) (named_of events) refl
 
   -- the tables after the event
-  pub tracked_push : (over : Bool) (openings new_openings : Openings) (names new_names : Names) (jumps : List Jump) (jump : Jump) → IsTracked events over openings names jumps → IsSound new_openings
-      → ((number : ℕ) → opening_in new_openings number ≡ noted (role_of event.body) event.number (named_in names) (opening_in openings) number)
-      → ((thing : Thing) (id : List ℕ) → named_in new_names thing id ≡ noted_name (role_of event.body) event.number (named_in names) thing id)
-      → IfSome jump.to (IsAlike events (role_of event.body))
+  pub tracked_push : (role : Role) → role ≡ role_of event.body → (over : Bool) (openings new_openings : Openings) (names new_names : Names) (jumps : List Jump) (jump : Jump) → IsTracked events over openings names jumps → IsSound new_openings
+      → ((number : ℕ) → opening_in new_openings number ≡ things_after role event.number (named_in names) (opening_in openings) number)
+      → ((thing : Thing) (id : List ℕ) → named_in new_names thing id ≡ names_after role event.number (named_in names) thing id)
+      → IfSome jump.to (IsAlike events role)
       → IsTracked (events ++ event ∷ []) (closes_run_of event.body) new_openings new_names (jumps ++ jump ∷ [])
-  tracked_push over openings new_openings names new_names jumps jump before sound opened named alike = record {
+  tracked_push role is over openings new_openings names new_names jumps jump before sound opened named alike = record {
     placed = more_placed;
     ended = sym (over_push events event (accepted events event fits).unfinished);
     sound = sound;
-    opened = λ number. opened number ∙ noted_same (role_of event.body) event.number number (named_in names) (named_of events) (opening_in openings) (opening_of events) before.named before.opened ∙ sym (opening_noted number);
-    named = λ thing id. named thing id ∙ noted_name_same (role_of event.body) event.number (named_in names) (named_of events) before.named thing id ∙ sym (named_noted thing id);
-    jumping = jumps_back-push events event jumps jump before.jumping alike;
+    opened = λ number. opened number ∙ ap (λ r. things_after r event.number (named_in names) (opening_in openings) number) is ∙ things_after-same (role_of event.body) event.number number (named_in names) (named_of events) (opening_in openings) (opening_of events) before.named before.opened ∙ sym (opening_of-push number);
+    named = λ thing id. named thing id ∙ ap (λ r. names_after r event.number (named_in names) thing id) is ∙ names_after-same (role_of event.body) event.number (named_in names) (named_of events) before.named thing id ∙ sym (named_of-push thing id);
+    jumping = jumps_back-push events event jumps jump before.jumping (subst (λ (r : Role). IfSome jump.to (IsAlike events r)) is alike);
   }

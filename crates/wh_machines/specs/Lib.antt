@@ -1,7 +1,6 @@
 pub mod Lookups
-pub mod Roles
 pub mod Openings
-pub mod Noted
+pub mod Changes
 pub mod Jumps
 pub mod Tables
 pub mod Chain

@@ -1,18 +1,10 @@
 -- What a track answers of its events.
 use Rattle.std.specs.Prelude.{ℕ, ◌-◌, List, take, drop, Option, Some, None}
 use Rattle.wh_events.specs.declared.event.Event.{Event}
-use Rattle.wh_events.specs.declared.place.OpenKind.{OpenKind}
-use Rattle.wh_events.specs.declared.place.OpenKind.TheVariants.{Activity as ActivityKind, Timer as TimerKind, Child as ChildKind}
 use Rattle.wh_events.specs.declared.place.Status.{Status}
 use Rattle.wh_events.specs.declared.place.Thing.{Thing}
-use Rattle.wh_events.specs.declared.place.Thing.TheVariants.{Activity, Timer, Child}
+pub use Rattle.wh_events.specs.Kinds.{thing_of}
 use Rattle.wh_events.specs.Machines.{last_named, status_of}
-
--- the things that are of the kind
-abbrev pub thing_of : OpenKind → Thing
-thing_of ActivityKind = Activity
-thing_of TimerKind = Timer
-thing_of ChildKind = Child
 
 -- the number with where the events leave what its event opened
 abbrev pub with_status : List Event → Option ℕ → Option (ℕ × Status)

@@ -1,3 +1,5 @@
+//! Short ways back over the things of one kind and id.
+
 ghost use Rattle.std.specs.Prelude.{◌≡◌, IfSome, IsSome};
 ghost use Rattle.wh_machines.specs.Jumps.{jump_at, back_by, IsShort};
 
@@ -25,6 +27,7 @@ fn target(jumps: &[Jump], number: EventNo) -> Option<EventNo>
     }
 }
 
+/// How many things are before the event of the number.
 fn depth(jumps: &[Jump], number: EventNo) -> u64 {
     match jumps.get((number.get() - 1) as usize) {
         Some(jump) => jump.depth,
@@ -32,7 +35,9 @@ fn depth(jumps: &[Jump], number: EventNo) -> u64 {
     }
 }
 
-/// The jump of a thing that comes next after the one of the number. It goes there, or, where two jumps from there are equally long, past both: so a walk back takes steps in proportion to the logarithm of what it passes (E. W. Myers, "An applicative random-access stack", 1983).
+/// The jump of a thing that comes next after the one of the number. It goes there, or, where two
+/// jumps from there are equally long, past both: so a walk back takes steps in proportion to the
+/// logarithm of what it passes (E. W. Myers, "An applicative random-access stack", 1983).
 pub fn jump_behind(jumps: &[Jump], previous: EventNo) -> Jump
     ensures some { IsSome result.to }
     ensures short { IfSome result.to (IsShort jumps.now previous) }
@@ -56,7 +61,8 @@ pub fn jump_behind(jumps: &[Jump], previous: EventNo) -> Jump
     }
 }
 
-/// The next thing of a walk back from one past the place: where its jump goes, if that is past the place too, else the one before it.
+/// The next thing of a walk back from one past the place: where its jump goes, if that is past the
+/// place too, else the one before it.
 pub fn step_back(
     jumps: &[Jump],
     number: EventNo,

@@ -8,7 +8,6 @@ mod note;
 mod opening;
 mod openings;
 mod place;
-mod role;
 mod track;
 
 pub use fault::PushFault;

@@ -1,14 +1,17 @@
+//! The last thing under each id.
+
 ghost use Rattle.std.specs.Prelude.{◌≡◌, ℕ, List, None, OnOk, OnErr, string_bytes};
 ghost use Rattle.std.specs.BTreeMap.{get_by_text};
 ghost use Rattle.std.specs.Map.{update};
 ghost use Rattle.std.specs.Str.{bytes_eq};
-ghost use Rattle.wh_machines.specs.Noted.{with_name};
+ghost use Rattle.wh_machines.specs.Changes.{with_name};
 
 use std::alloc::Global;
 use std::collections::BTreeMap;
 use wh_events::{EventNo, OutOfMemory, Thing};
 
-/// The last thing that was opened under each id, for the kinds whose open things have different ids.
+/// The last thing that was opened under each id, for the kinds whose open things have different
+/// ids.
 #[derive(Debug, Drop)]
 pub struct Names {
     pub activities: BTreeMap<String, EventNo>,
@@ -22,7 +25,8 @@ fn put(
     id: String,
     number: EventNo,
 ) -> Result<(), OutOfMemory>
-    ensures ok { OnOk result ((other : List ℕ) → get_by_text names.new other ≡ update bytes_eq (get_by_text names.old) (string_bytes id) (Some number) other) }
+    ensures ok { OnOk result ((other : List ℕ) → get_by_text names.new other
+        ≡ update bytes_eq (get_by_text names.old) (string_bytes id) (Some number) other) }
     ensures err { OnErr result ((other : List ℕ) → get_by_text names.new other ≡ get_by_text names.old other) }
 {
     names.insert(id, number)?;
@@ -63,8 +67,10 @@ impl Names {
         id: &str,
         number: EventNo,
     ) -> Result<(), OutOfMemory>
-        ensures ok { OnOk result ((other : Thing) (other_id : List ℕ) → named_in self.new other other_id ≡ with_name (named_in self.old) thing id.now number other other_id) }
-        ensures err { OnErr result ((other : Thing) (other_id : List ℕ) → named_in self.new other other_id ≡ named_in self.old other other_id) }
+        ensures ok { OnOk result ((other : Thing) (other_id : List ℕ) → named_in self.new other other_id
+            ≡ with_name (named_in self.old) thing id.now number other other_id) }
+        ensures err { OnErr result ((other : Thing) (other_id : List ℕ) → named_in self.new other other_id
+            ≡ named_in self.old other other_id) }
     {
         match thing {
             Thing::Activity => put(&mut self.activities, String::from_str(alloc, id)?, number),

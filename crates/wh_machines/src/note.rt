@@ -1,32 +1,35 @@
+//! Notes an event in the tables.
+
 ghost use Rattle.std.specs.Prelude.{◌≡◌, ℕ, List, None, OnOk, OnErr};
-ghost use Rattle.wh_events.specs.Kinds.{role_of};
-ghost use Rattle.wh_machines.specs.Noted.{noted, noted_name};
+ghost use Rattle.wh_events.specs.Kinds.{role_seen};
+ghost use Rattle.wh_machines.specs.Changes.{things_after, names_after};
 ghost use Rattle.wh_machines.specs.Tables.{IsSound, opening_in, named_in};
 
 use crate::names::Names;
 use crate::opening::Opening;
 use crate::openings::Openings;
-use crate::role::{Effect, Role, read_role};
 use std::alloc::Global;
-use wh_events::{Event, OutOfMemory, Thing};
+use wh_events::{Effect, EventNo, OutOfMemory, Role, Thing};
 
-/// Notes an event in the tables. Without memory they stay as they were.
+/// Notes an event of that number and role in the tables. Without memory they stay as they were.
 pub fn note(
     alloc: Global,
     openings: &mut Openings,
     names: &mut Names,
-    event: &Event,
+    number: EventNo,
+    role: Role<'_>,
 ) -> Result<(), OutOfMemory>
     requires sound { IsSound openings.old }
-    requires unknown { opening_in openings.old event.now.number ≡ None }
+    requires unknown { opening_in openings.old number ≡ None }
     ensures sound { IsSound openings.new }
-    ensures opened { OnOk result ((number : ℕ) → opening_in openings.new number ≡ noted (role_of event.now.body) event.now.number (named_in names.old) (opening_in openings.old) number) }
-    ensures named { OnOk result ((thing : Thing) (id : List ℕ) → named_in names.new thing id ≡ noted_name (role_of event.now.body) event.now.number (named_in names.old) thing id) }
-    ensures same_opened { OnErr result ((number : ℕ) → opening_in openings.new number ≡ opening_in openings.old number) }
-    ensures same_named { OnErr result ((thing : Thing) (id : List ℕ) → named_in names.new thing id ≡ named_in names.old thing id) }
+    ensures opened { OnOk result ((opened : ℕ) → opening_in openings.new opened
+        ≡ things_after (role_seen role.entry) number (named_in names.old) (opening_in openings.old) opened) }
+    ensures named { OnOk result ((thing : Thing) (id : List ℕ) → named_in names.new thing id
+        ≡ names_after (role_seen role.entry) number (named_in names.old) thing id) }
+    ensures same_opened { OnErr result ((n : ℕ) → opening_in openings.new n ≡ opening_in openings.old n) }
+    ensures same_named { OnErr result ((t : Thing) (id : List ℕ) → named_in names.new t id ≡ named_in names.old t id) }
 {
-    let number = event.number;
-    match read_role(&event.body) {
+    match role {
         Role::Opens { thing, id } => {
             openings.insert(Opening::new(number, names.last(thing, id)))?;
             if let Err(full) = names.set(alloc, thing, id, number) {

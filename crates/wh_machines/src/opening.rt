@@ -1,10 +1,10 @@
-ghost use Rattle.std.specs.Prelude.{◌≡◌};
-ghost use Rattle.wh_machines.specs.Noted.{fresh, marked};
-ghost use Rattle.wh_machines.specs.Openings.{status_up_to, up_to};
-ghost use Rattle.wh_machines.specs.Roles.{effect_seen};
+//! A thing that was opened, and what changed it.
 
-use crate::role::Effect;
-use wh_events::{EventNo, Status};
+ghost use Rattle.std.specs.Prelude.{◌≡◌};
+ghost use Rattle.wh_machines.specs.Changes.{new_opening, with_effect};
+ghost use Rattle.wh_machines.specs.Openings.{status_up_to, up_to};
+
+use wh_events::{Effect, EventNo, Status};
 
 /// A thing that an event opened, and the numbers of the first events that changed it.
 #[derive(Clone, Copy, Debug)]
@@ -18,9 +18,10 @@ pub struct Opening {
 }
 
 impl Opening {
-    /// What the event of the number opened, of which nothing more is known; `previous` is the opening of its kind and id before it.
+    /// What the event of the number opened, of which nothing more is known; `previous` is the
+    /// opening of its kind and id before it.
     pub fn new(number: EventNo, previous: Option<EventNo>) -> Self
-        ensures { result ≡ fresh number previous }
+        ensures { result ≡ new_opening number previous }
     {
         Opening {
             number,
@@ -33,7 +34,7 @@ impl Opening {
 
     /// Keeps the event of the number, if it is the first with this effect.
     pub fn mark(&mut self, effect: Effect, by: EventNo)
-        ensures { self.new ≡ marked (effect_seen effect) by self.old }
+        ensures { self.new ≡ with_effect effect by self.old }
     {
         match effect {
             Effect::Starts => self.started = self.started.or(Some(by)),

@@ -1,13 +1,13 @@
+//! The table of the things that were opened.
+
 ghost use Rattle.std.specs.Prelude.{◌≡◌, ℕ, Some, None, Option, IfSome, OnOk, OnErr, eqb, if◌then◌else◌};
-ghost use Rattle.wh_machines.specs.Noted.{with_opening, with_mark};
-ghost use Rattle.wh_machines.specs.Roles.{effect_seen};
+ghost use Rattle.wh_machines.specs.Changes.{with_opening, with_mark};
 
 use crate::opening::Opening;
-use crate::role::Effect;
 use slab::Slab;
 use std::alloc::Global;
 use std::collections::BTreeMap;
-use wh_events::{EventNo, OutOfMemory};
+use wh_events::{Effect, EventNo, OutOfMemory};
 
 /// The things that the events opened, each found by the number of its event.
 #[derive(Debug, Drop)]
@@ -43,7 +43,8 @@ impl Openings {
         requires sound { IsSound self.old }
         requires unknown { opening_in self.old opening.number ≡ None }
         ensures sound { IsSound self.new }
-        ensures ok { OnOk result ((number : ℕ) → opening_in self.new number ≡ with_opening (opening_in self.old) opening number) }
+        ensures ok { OnOk result ((number : ℕ) → opening_in self.new number
+            ≡ with_opening (opening_in self.old) opening number) }
         ensures err { OnErr result ((number : ℕ) → opening_in self.new number ≡ opening_in self.old number) }
     {
         self.entries.reserve(1)?;
@@ -57,7 +58,8 @@ impl Openings {
     pub fn remove(&mut self, number: u64)
         requires { IsSound self.old }
         ensures sound { IsSound self.new }
-        ensures removed { (other : ℕ) → opening_in self.new other ≡ (if eqb number other then None else opening_in self.old other) }
+        ensures removed { (other : ℕ) → opening_in self.new other
+            ≡ (if eqb number other then None else opening_in self.old other) }
     {
         if let Some(key) = self.keys.remove(&number) {
             let _ = self.entries.try_remove(key);
@@ -68,7 +70,8 @@ impl Openings {
     pub fn mark(&mut self, number: u64, effect: Effect, by: EventNo)
         requires { IsSound self.old }
         ensures sound { IsSound self.new }
-        ensures marked { (other : ℕ) → opening_in self.new other ≡ with_mark (opening_in self.old) (Some number) (effect_seen effect) by other }
+        ensures marked { (other : ℕ) → opening_in self.new other
+            ≡ with_mark (opening_in self.old) (Some number) effect by other }
     {
         let Some(key) = self.keys.get(&number).copied() else {
             return;

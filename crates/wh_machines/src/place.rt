@@ -1,12 +1,14 @@
+//! What the place of an event depends on.
+
 ghost use Rattle.std.specs.Prelude.{◌≡◌};
-ghost use Rattle.wh_events.specs.Kinds.{role_of};
+ghost use Rattle.wh_events.specs.Kinds.{role_seen};
 ghost use Rattle.wh_events.specs.Machines.{opened_thing, opened_id, role_at};
 ghost use Rattle.wh_events.specs.Places as places;
 
-use crate::role::{Role, read_role};
-use wh_events::{Class, Event, EventKind, Thing};
+use wh_events::{Class, Event, Role, Thing};
 
-/// The most events of one run. Temporal ends a run whose history grows longer: <https://docs.temporal.io/workflow-execution/limits>.
+/// The most events of one run. Temporal ends a run whose history grows longer:
+/// <https://docs.temporal.io/workflow-execution/limits>.
 pub const MOST_EVENTS: u64 = 51_200;
 
 /// Whether the event starts the run.
@@ -23,11 +25,11 @@ pub fn is_named(thing: Thing) -> bool
     matches!(thing, Thing::Activity | Thing::Timer | Thing::Child)
 }
 
-/// Whether the kind of event opens such a thing.
-fn opens_thing(thing: Thing, kind: &EventKind) -> bool
-    ensures { result ≡ places.is_thing thing (opened_thing (role_of kind.now)) }
+/// Whether an event of the role opens such a thing.
+fn opens_thing(thing: Thing, role: Role<'_>) -> bool
+    ensures { result ≡ places.is_thing thing (opened_thing (role_seen role.entry)) }
 {
-    match read_role(kind) {
+    match role {
         Role::Opens { thing: other, .. } => thing == other,
         Role::CancelsChild { .. } => thing == Thing::CancelRequest,
         Role::Refers { .. } | Role::Plain => false,
@@ -39,19 +41,21 @@ pub fn opens_at(events: &[Event], thing: Thing, number: u64) -> bool
     ensures { result ≡ places.is_thing thing (opened_thing (role_at events.now number)) }
 {
     match events.get(number.saturating_sub(1) as usize) {
-        Some(event) => opens_thing(thing, &event.body),
+        Some(event) => opens_thing(thing, event.role()),
         None => false,
     }
 }
 
-/// The id under which the event of the number, counted from 1, opened something (for the kinds of events see <https://docs.temporal.io/references/events>). It is the empty text where there is no such event or it opened nothing.
+/// The id under which the event of the number, counted from 1, opened something (for the kinds of
+/// events see <https://docs.temporal.io/references/events>). It is the empty text where there is no
+/// such event or it opened nothing.
 pub fn opened_id(events: &[Event], number: u64) -> &str
     ensures { result.now ≡ opened_id (role_at events.now number) }
 {
     let Some(event) = events.get(number.saturating_sub(1) as usize) else {
         return "";
     };
-    match read_role(&event.body) {
+    match event.role() {
         Role::Opens { id, .. } => id,
         Role::CancelsChild { workflow_id } => workflow_id,
         Role::Refers { .. } | Role::Plain => "",

@@ -1,6 +1,8 @@
+//! The events of a run with the tables of what they opened.
+
 ghost use Rattle.std.specs.Prelude.{◌≡◌, IsTrue, ◌-◌, ◌+◌, ◌<◌, ◌≤◌, ◌↔◌, ◌++◌, ◌∷◌, [], true, not, is_some, length, option_copied, slice_get, OnOk, OnErr, IfOk, IfSome, Option, vec_len};
 ghost use Rattle.std.specs.Vec.{vec_capacity};
-ghost use Rattle.wh_events.specs.Kinds.{role_of};
+ghost use Rattle.wh_events.specs.Kinds.{role_of, role_seen};
 ghost use Rattle.wh_events.specs.Machines as machines;
 ghost use Rattle.wh_events.specs.Places as places;
 ghost use Rattle.wh_events.specs.declared.place.PlaceFault.{PlaceFault};
@@ -13,12 +15,13 @@ use crate::names::Names;
 use crate::note::note;
 use crate::openings::Openings;
 use crate::place;
-use crate::role::{Role, read_role, thing_of};
 use std::alloc::Global;
 use std::marker::Model;
-use wh_events::{Event, EventNo, OpenKind, OutOfMemory, PlaceFault, Status, Thing};
+use wh_events::{Event, EventNo, OpenKind, OutOfMemory, PlaceFault, Role, Status, Thing};
 
-/// The events of a run, each in place after those before it, and tables of what they opened (the kinds of events: <https://docs.temporal.io/references/events>). Contracts see the list of the events, and each look-up is its definition over that list.
+/// The events of a run, each in place after those before it, and tables of what they opened (the
+/// kinds of events: <https://docs.temporal.io/references/events>). Contracts see the list of the
+/// events, and each look-up is its definition over that list.
 #[derive(Debug, Drop)]
 pub struct Track {
     events: Vec<Event>,
@@ -56,19 +59,29 @@ impl Track {
         }
     }
 
-    /// Takes an event that is in place after those before it. `Place` where it is not, with the least fault that it has; this comes before `OutOfMemory`, for which nothing stays of the event in the tables. After either the track is as it was, and the event is dropped.
+    /// Takes an event that is in place after those before it. `Place` where it is not, with the
+    /// least fault that it has; this comes before `OutOfMemory`, for which nothing stays of the
+    /// event in the tables. After either the track is as it was, and the event is dropped.
     pub fn push(&mut self, event: Event) -> Result<(), PushFault>
-        ensures fault { (fault : PlaceFault) → (result ≡ Err (PushFault.Place fault)) ↔ (places.place_fault self.old event ≡ Some fault) }
+        ensures fault { (fault : PlaceFault) → (result ≡ Err (PushFault.Place fault))
+            ↔ (places.place_fault self.old event ≡ Some fault) }
         ensures ok { OnOk result (self.new ≡ self.old ++ event ∷ []) }
         ensures err { OnErr result (self.new ≡ self.old) }
     {
-        if let Some(fault) = self.place_fault(&event) {
+        let role = event.role();
+        if let Some(fault) = self.place_fault(&event, role) {
             return Err(PushFault::Place(fault));
         }
-        let jump = self.jump_of(&event);
+        let jump = self.jump_of(role);
         self.events.reserve(1)?;
         self.jumps.reserve(1)?;
-        note(self.alloc, &mut self.openings, &mut self.names, &event)?;
+        note(
+            self.alloc,
+            &mut self.openings,
+            &mut self.names,
+            event.number,
+            role,
+        )?;
         self.over = event.closes_run();
         self.events.push_reserved(event);
         self.jumps.push_reserved(jump);
@@ -98,7 +111,8 @@ impl Track {
         self.events.as_slice()
     }
 
-    /// Where the thing that the event of the number opened stands after all events; `None` where there is no such event or it opened nothing.
+    /// Where the thing that the event of the number opened stands after all events; `None` where
+    /// there is no such event or it opened nothing.
     pub fn status(&self, number: EventNo) -> Option<Status>
         ensures { result ≡ machines.status_at self.now number }
     {
@@ -110,21 +124,22 @@ impl Track {
     pub fn open_named(&self, kind: OpenKind, id: &str) -> Option<EventNo>
         ensures { result ≡ machines.open_named self.now (thing_of kind) id.now }
     {
-        self.open_thing(thing_of(kind), id)
+        self.open_thing(kind.thing(), id)
     }
 
     /// The number of the last thing that was opened of a kind under an id, be it open or closed.
     pub fn last_named(&self, kind: OpenKind, id: &str) -> Option<EventNo>
         ensures { result ≡ machines.last_named self.now (thing_of kind) id.now }
     {
-        self.names.last(thing_of(kind), id)
+        self.names.last(kind.thing(), id)
     }
 
-    /// The last thing of a kind and an id among the events up to the number `place`, and where it stands there, as if no event followed.
+    /// The last thing of a kind and an id among the events up to the number `place`, and where it
+    /// stands there, as if no event followed.
     pub fn last_at(&self, kind: OpenKind, id: &str, place: u64) -> Option<(EventNo, Status)>
         ensures { result ≡ last_at self.now (thing_of kind) id.now place }
     {
-        let mut last = self.names.last(thing_of(kind), id);
+        let mut last = self.names.last(kind.thing(), id);
         while let Some(number) = last {
             let opening = self.openings.find(number.get())?;
             if number.get() <= place {
@@ -147,7 +162,8 @@ impl Track {
         }
     }
 
-    /// The events strictly between two numbers, of which 0 stands before the first event and one more than their count behind the last.
+    /// The events strictly between two numbers, of which 0 stands before the first event and one
+    /// more than their count behind the last.
     pub fn between(&self, from: u64, to: u64) -> &[Event]
         requires rising { from < to }
         requires within { to ≤ length self.now + 1 }
@@ -156,7 +172,8 @@ impl Track {
         &self.events[from as usize..(to - 1) as usize]
     }
 
-    /// A track of the same events. `OutOfMemory` where no room was found for it; this one stays as it is.
+    /// A track of the same events. `OutOfMemory` where no room was found for it; this one stays as
+    /// it is.
     pub fn try_copy(&self) -> Result<Self, OutOfMemory>
         ensures { IfOk result (λ copy. copy ≡ self.now) }
     {
@@ -193,11 +210,11 @@ impl Track {
         }
     }
 
-    /// How a walk back gets on from what the event opens.
-    fn jump_of(&self, event: &Event) -> Jump
-        ensures { IfSome result.to (IsAlike self.now (role_of event.now.body)) }
+    /// How a walk back gets on from what an event of the role opens.
+    fn jump_of(&self, role: Role<'_>) -> Jump
+        ensures { IfSome result.to (IsAlike self.now (role_seen role.entry)) }
     {
-        let Role::Opens { thing, id } = read_role(&event.body) else {
+        let Role::Opens { thing, id } = role else {
             return NO_JUMP;
         };
         match self.names.last(thing, id) {
@@ -206,9 +223,10 @@ impl Track {
         }
     }
 
-    /// The least fault that the event has after those before it.
+    /// The least fault that the event, which has the role, has after those before it.
     #[tactic(auto, unfolding(wh_events::specs::Places::place_fault))]
-    fn place_fault(&self, event: &Event) -> Option<PlaceFault>
+    fn place_fault(&self, event: &Event, role: Role<'_>) -> Option<PlaceFault>
+        requires { role_seen role ≡ role_of event.now.body }
         ensures { result ≡ places.place_fault self.now event.now }
     {
         let len = self.events.len() as u64;
@@ -221,7 +239,7 @@ impl Track {
         if self.over {
             return Some(PlaceFault::AfterClose);
         }
-        if let Some(fault) = self.role_fault(event) {
+        if let Some(fault) = self.role_fault(role) {
             return Some(fault);
         }
         if len >= place::MOST_EVENTS {
@@ -230,11 +248,11 @@ impl Track {
         None
     }
 
-    /// The least fault that lies in what the event does to the things of the events.
-    fn role_fault(&self, event: &Event) -> Option<PlaceFault>
-        ensures { result ≡ places.role_fault self.now (role_of event.now.body) }
+    /// The least fault that lies in what an event of the role does to the things of the events.
+    fn role_fault(&self, role: Role<'_>) -> Option<PlaceFault>
+        ensures { result ≡ places.role_fault self.now (role_seen role.entry) }
     {
-        match read_role(&event.body) {
+        match role {
             Role::Opens { thing, id } => {
                 if place::is_named(thing) && self.open_thing(thing, id).is_some() {
                     Some(PlaceFault::IdInUse)

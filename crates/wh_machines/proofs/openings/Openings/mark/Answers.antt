@@ -1,6 +1,5 @@
 use Rattle.std.proofs.Common.{◌≡◌, Some, sym, ap, ◌∙◌}
-use Rattle.wh_machines.specs.Roles.{effect_seen}
-use Rattle.wh_machines.specs.Noted.{marked}
+use Rattle.wh_machines.specs.Changes.{with_effect}
 use Rattle.wh_machines.specs.Tables.{key_of, entry_at}
 use Rattle.wh_machines.proofs.Keys.{change_sound, change_found, value_written, others_kept, marked-number}
 use Rattle.wh_machines.proofs.openings.Openings.mark.Goals as goal
@@ -12,7 +11,7 @@ returns-in-Some-get_mut c =
     let key = c.in-Some.key in
     let before = c.in-Some-get_mut.opening.now in
     let after = c.mark.new.self in
-    let effect = effect_seen c.args.effect in
+    let effect = c.args.effect in
     let there : key_of old c.args.number ≡ Some key = sym c.get.ensures.value ∙ sym c.copied.ensures ∙ c.in-Some.is in
     let was : slab.get old.entries key ≡ Some before = sym c.in-Some-get_mut.ensures.value in
     let numbered : after.number ≡ before.number = ap (λ o. o.number) c.mark.ensures ∙ marked-number effect c.args.by before in
@@ -21,5 +20,5 @@ returns-in-Some-get_mut c =
     let others = others_kept old.entries key before after was in
     record {
       sound = change_sound (key_of old) (entry_at old) c.requires new c.args.number key before after there was numbered written others;
-      marked = change_found (key_of old) (entry_at old) c.requires new c.args.number key before after there was numbered written others (marked effect c.args.by) c.mark.ensures;
+      marked = change_found (key_of old) (entry_at old) c.requires new c.args.number key before after there was numbered written others (with_effect effect c.args.by) c.mark.ensures;
     }

@@ -1,7 +1,7 @@
 use Rattle.std.proofs.Common.{◌≡◌, ◌<◌, Some, None, take, unwrap_or, sym, ap, ◌∙◌, arith}
 use Rattle.wh_machines.specs.Jumps.{jump_at, back_by}
 use Rattle.wh_machines.specs.Lookups.{thing_of, last_at, with_status}
-use Rattle.wh_machines.specs.Openings.{opening_of}
+use Rattle.wh_machines.specs.Openings.{opening_of, status_up_to}
 use Rattle.wh_machines.specs.Tables.{opening_in}
 use Rattle.wh_machines.proofs.Found.{is_named_kind, walk_opened, walk_on, walk_end, walk_status, walk_smaller}
 use Rattle.wh_machines.proofs.track.Track.last_at.Goals as goal
@@ -23,8 +23,10 @@ returns-then-get-place c =
     let found : opening_of events c.in-Some.number ≡ Some c.in_ok-opening.opening = sym (c.self.invariant.opened c.in-Some.number) ∙ ap (opening_in c.self.inside.openings) (sym c.get.ensures.kept) ∙ sym c.in_ok-opening.ensures in
     let number = c.get-in-Some.ensures.kept in
     let near = c.if-get-place.true in
+    let here : Some (c.in-Some.number, status_up_to c.args.place c.in_ok-opening.opening) ≡ last_at events thing c.args.id.now c.args.place =
+    walk_status events thing c.args.id.now c.args.place c.self.invariant.placed c.in-Some.number c.in_ok-opening.opening (omega arith) within found in
     ap (λ status. Some (c.in-Some.number, status)) c.status_up_to.ensures
-    ∙ walk_status events thing c.args.id.now c.args.place c.self.invariant.placed c.in-Some.number c.in_ok-opening.opening (omega arith) within found
+    ∙ here
     ∙ ap (λ list. last_at list thing c.args.id.now c.args.place) c.self.view_is
 
 pub loop-last-smaller : goal.loop-last-smaller
