@@ -1,0 +1,65 @@
+//! What must hold of a host after a soak.
+ghost use Rattle.std.specs.Prelude.{◌≡◌, ◌↔◌, IsOk, IsTrue, OnOk, map, true};
+ghost use Rattle.bench_soak.specs.Sound.{IsSound};
+
+use crate::same::same_answers;
+use crate::soak::{Findings, Tally};
+use wh_host::Totals;
+use wh_samples::ScriptSource;
+
+/// Checks the totals of a closed host, and what its workers counted.
+fn check(totals: Totals, tally: Tally) -> Result<(), &'static str>
+    ensures { IsOk result ↔ IsSound totals tally }
+{
+    let taken = u128::from(totals.taken);
+    if u128::from(totals.completed) + u128::from(totals.failed) != taken {
+        return Err("what was taken is not what was completed and what failed");
+    }
+    if totals.in_hand != 0 {
+        return Err("tasks are in hand after the last worker ended");
+    }
+    if u128::from(tally.hits) + u128::from(tally.misses) != taken || totals.taken != tally.tasks {
+        return Err("not every task was taken and answered once");
+    }
+    Ok(())
+}
+
+/// Whether each source was sent what the other one in its place was sent.
+fn are_alike(sources: &[ScriptSource], plain: &[ScriptSource]) -> bool
+    ensures { IsTrue result → map (λ source. source.answers) sources.now ≡ map (λ source. source.answers) plain.now }
+{
+    if sources.len() != plain.len() {
+        return false;
+    }
+    for place in 0..sources.len() {
+        if !same_answers(sources[place].answers(), plain[place].answers()) {
+            return false;
+        }
+    }
+    true
+}
+
+/// Checks what a soak with a cache found: the host's totals, what the workers counted, that the
+/// host drained, that runs were evicted where there is a cache, and that the answers are those of a
+/// plain soak without a cache.
+pub fn judge(
+    found: &Findings<ScriptSource>,
+    plain: &Findings<ScriptSource>,
+    cache: usize,
+) -> Result<(), &'static str>
+    ensures sound { OnOk result (IsSound found.now.totals found.now.tally) }
+    ensures drained { OnOk result (found.now.is_drained ≡ true) }
+    ensures same { OnOk result (map (λ s. s.answers) found.now.sources.items ≡ map (λ s. s.answers) plain.now.sources.items) }
+{
+    check(found.totals, found.tally)?;
+    if !found.is_drained {
+        return Err("a slot was reserved on a host that drains");
+    }
+    if 0 < cache && found.evicted == 0 {
+        return Err("no cached run was evicted");
+    }
+    if !are_alike(found.sources.as_slice(), plain.sources.as_slice()) {
+        return Err("the answers are not those that are given without a cache");
+    }
+    Ok(())
+}
