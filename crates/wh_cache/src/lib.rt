@@ -157,8 +157,9 @@ impl<W: Workflow> Sticky<W> {
         }
     }
 
-    /// Puts a run in front that the cache takes, in place of the one of its key, and hands out those
-    /// that have to go, the least recently used first. The run comes back where no memory was found.
+    /// Puts a run in front that the cache takes, in place of the one of its key, and hands out
+    /// those that have to go, the least recently used first. The run comes back where no memory was
+    /// found.
     fn enter(&mut self, run: Run<W>) -> Result<Vec<Run<W>>, Run<W>>
         requires { MayEnter self.old run }
         ensures entered { IfOk result (λ gone. Enters self.old run self.new gone.items) }
