@@ -5,7 +5,7 @@ use Rattle.std.specs.Map.{lookup_entry, remove_entry}
 use Rattle.std.proofs.Math.Seq.{take-append_seam}
 use Rattle.std.proofs.lemmas.List.{take-append-drop, length-take-le}
 use Rattle.std.proofs.lemmas.Bool.{eqb-true}
-use Rattle.wh_events.specs.declared.event.Event.{Event as HistoryEvent}
+use Rattle.wh_events.specs.declared.event.Event.{Event}
 use Rattle.wh_replay.specs.declared.fault.Fault.{Fault}
 use Rattle.wh_events.specs.declared.key.RunKey.{RunKey}
 use Rattle.wh_replay.specs.declared.run.Answer.{Answer}
@@ -20,20 +20,20 @@ use Rattle.wh_slots.specs.declared.SlotKind.{SlotKind}
 use Rattle.wh_slots.specs.declared.SlotKind.TheVariants.{Workflow, Activity}
 use Rattle.wh_slots.specs.declared.ReserveFault.{ReserveFault}
 use Rattle.wh_slots.specs.declared.NotReserved.{NotReserved}
-use Rattle.wh_cache.specs.Cache.{Entry, CacheView, entry_of, held_of, Enters, Reply, IsKept, HasPushedOut, IsOff, IsShort, IsLarge, HasNoMemory, Puts}
+use Rattle.wh_cache.specs.Cache.{Entry, CacheView, entry_of, held_of, Enters, PutReply, IsKept, HasPushedOut, IsOff, IsShort, IsLarge, HasNoMemory, Puts}
 use Rattle.wh_host.specs.declared.reply.Outcome.{Outcome}
-use Rattle.wh_host.specs.Machine.{Claim, HostView, Event, Reserve, Release, UseWorkflow, UseActivity, GiveRun, EvictRun, Finish, Drain, ReadCounts, IsPut, IsMarked, IsNotHeld, step, reserve_step, release_step, give_step, finishes}
-use Rattle.wh_host.specs.Machine.{Answer as GiveReply}
+use Rattle.wh_host.specs.Machine.{Claim, HostView, Call, Reserve, Release, UseWorkflow, UseActivity, GiveRun, EvictRun, Finish, Drain, ReadCounts, IsPut, IsMarked, IsNotHeld, step, reserve_step, release_step, give_step, finishes}
+use Rattle.wh_host.specs.Machine.{GiveReply}
 use Rattle.wh_poll.specs.Steady.{Table, IsTable, IsNumbered, told_by, HoldsBeginning, AllHoldBeginnings, Steady, Use, with_run, IsUse, BringsNoRun, Move, Uses, Gives, Happens, move, Moves, IsAnswered, AllAnswered, IsSteady}
 
-IsNumbered-append : (n : ℕ) (xs ys : List HistoryEvent) → IsNumbered n (xs ++ ys) → IsNumbered (n + length xs) ys
-IsNumbered-append n [] ys h = let same : n ≡ n + length {A = HistoryEvent} [] = omega arith in subst (λ (k : ℕ). IsNumbered k ys) same h
+IsNumbered-append : (n : ℕ) (xs ys : List Event) → IsNumbered n (xs ++ ys) → IsNumbered (n + length xs) ys
+IsNumbered-append n [] ys h = let same : n ≡ n + length {A = Event} [] = omega arith in subst (λ (k : ℕ). IsNumbered k ys) same h
 IsNumbered-append n (x ∷ xs) ys h =
     let same : (n + 1) + length xs ≡ n + length (x ∷ xs) = omega arith in
     subst (λ (k : ℕ). IsNumbered k ys) same (IsNumbered-append (n + 1) xs ys h.1)
 
 -- the last of numbered events has the number of their place
-last-numbered : (n : ℕ) (e : HistoryEvent) (es rest : List HistoryEvent) → IsNumbered n ((e ∷ es) ++ rest) → last_number (e ∷ es) + 1 ≡ n + length (e ∷ es)
+last-numbered : (n : ℕ) (e : Event) (es rest : List Event) → IsNumbered n ((e ∷ es) ++ rest) → last_number (e ∷ es) + 1 ≡ n + length (e ∷ es)
 last-numbered n e [] rest h =
     let one : length (e ∷ []) - 1 ≡ 0 = omega arith in
     let here : last_number (e ∷ []) ≡ e.number = ap (λ (i : ℕ). number_or_zero (slice_get (e ∷ []) i)) one in
@@ -44,7 +44,7 @@ last-numbered n e (f ∷ es) rest h =
     let more = last-numbered (n + 1) f es rest h.1 in omega (arith, here, more)
 
 -- how a list ends does not depend on what is before its last part
-ends-append : (xs : List HistoryEvent) (e : HistoryEvent) (es : List HistoryEvent) → ends_in_task (xs ++ (e ∷ es)) ≡ ends_in_task (e ∷ es)
+ends-append : (xs : List Event) (e : Event) (es : List Event) → ends_in_task (xs ++ (e ∷ es)) ≡ ends_in_task (e ∷ es)
 ends-append [] e es = refl
 ends-append (x ∷ []) e es = refl
 ends-append (x ∷ y ∷ ys) e es = ends-append (y ∷ ys) e es
@@ -54,7 +54,7 @@ length-zero [] h = refl
 length-zero (x ∷ xs) h = absurd (omega (arith, h))
 
 -- what a delivery gives is right: its answer is that of the history, and a run that it gives holds the history
-abbrev pub IsRunOf : RunKey → List HistoryEvent → Option Held → Type 0
+abbrev pub IsRunOf : RunKey → List Event → Option Held → Type 0
 IsRunOf key history None = Unit {0}
 IsRunOf key history (Some run) = run ≡ record { key = key; events = history }
 
@@ -62,23 +62,23 @@ abbrev pub IsCached : Table → RunKey → Option Held → Type 0
 IsCached table key None = Unit {0}
 IsCached table key (Some run) = (key ≡ run.key) × HoldsBeginning table (entry_of run)
 
-pub record IsRight {S : Type 0} (program : Program S) (key : RunKey) (history : List HistoryEvent) (stepped : Option Held) (fault : Option Fault) : Type 0 where
+pub record IsRight {S : Type 0} (program : Program S) (key : RunKey) (history : List Event) (stepped : Option Held) (fault : Option Fault) : Type 0 where
   pub answer : (answer : Answer) → IsAnswer program stepped fault answer → answer ≡ answer_to program history
   pub run : IsRunOf key history stepped
 
 module _ {S : Type 0} (program : Program S) (key : RunKey) where
-  Replays-right : (history : List HistoryEvent) (steps : ℕ) (stepped : Option Held) (fault : Option Fault) (before after : ℕ) → Replays program key history steps stepped fault before after → IsRight program key history stepped fault
+  Replays-right : (history : List Event) (steps : ℕ) (stepped : Option Held) (fault : Option Fault) (before after : ℕ) → Replays program key history steps stepped fault before after → IsRight program key history stepped fault
   Replays-right history steps (Some run) None before after r =
       record { answer = λ answer a. a ∙ ap (λ (x : Held). answer_to program x.events) r.0; run = r.0 }
   Replays-right history steps None (Some fault) before after r = record { answer = λ answer a. a ∙ sym r; run = tt }
   Replays-right history steps (Some run) (Some fault) before after r = absurd r
   Replays-right history steps None None before after r = absurd r
 
-  module _ (table : Table) (numbered : IsTable table) (front : List HistoryEvent) (e : HistoryEvent) (es rest : List HistoryEvent)
+  module _ (table : Table) (numbered : IsTable table) (front : List Event) (e : Event) (es rest : List Event)
       (is : table key ≡ front ++ ((e ∷ es) ++ rest)) (ends : ends_in_task (front ++ (e ∷ es)) ≡ true)
       (stepped : Option Held) (fault : Option Fault) (hit : Bool) (before after : ℕ) where
     counted : IsNumbered (1 + length front) ((e ∷ es) ++ rest)
-    counted = IsNumbered-append 1 front ((e ∷ es) ++ rest) (subst (λ (l : List HistoryEvent). IsNumbered 1 l) is (numbered key))
+    counted = IsNumbered-append 1 front ((e ∷ es) ++ rest) (subst (λ (l : List Event). IsNumbered 1 l) is (numbered key))
 
     number : e.number ≡ 1 + length front
     number = counted.0
@@ -92,9 +92,9 @@ module _ {S : Type 0} (program : Program S) (key : RunKey) where
         let all = length-append front (e ∷ es) in
         let up_to : last_number (e ∷ es) ≡ length (front ++ (e ∷ es)) = omega (arith, more, all) in
         let same : t.0 ≡ front ++ (e ∷ es) =
-        t.1 ∙ ap (λ (n : ℕ). take n (table key)) up_to ∙ ap (λ (l : List HistoryEvent). take (length (front ++ (e ∷ es))) l) split ∙ take-append_seam (front ++ (e ∷ es)) rest
+        t.1 ∙ ap (λ (n : ℕ). take n (table key)) up_to ∙ ap (λ (l : List Event). take (length (front ++ (e ∷ es))) l) split ∙ take-append_seam (front ++ (e ∷ es)) rest
         in
-        subst (λ (history : List HistoryEvent). IsRight program key history stepped fault) same (Replays-right t.0 (steps program t.0) stepped fault before after t.2)
+        subst (λ (history : List Event). IsRight program key history stepped fault) same (Replays-right t.0 (steps program t.0) stepped fault before after t.2)
 
     joined : (run : Held) (b c : Bool) → IsCached table key (Some run) → b ≡ true → (c ≡ true → e.number ≡ length run.events + 1)
         → StepsFrom program (if b then (if c then Joined run.events else Told) else Nothing) (told_by table) (Some run) key (e ∷ es) stepped fault hit before after
@@ -103,10 +103,10 @@ module _ {S : Type 0} (program : Program S) (key : RunKey) where
         let n = c refl in
         let long : length run.events ≡ length front = omega (arith, n, number) in
         let held : run.events ≡ front =
-        sym (take-append_seam run.events cached.1.0) ∙ ap (λ (l : List HistoryEvent). take (length run.events) l) (sym cached.1.1 ∙ ap table (sym cached.0) ∙ is)
+        sym (take-append_seam run.events cached.1.0) ∙ ap (λ (l : List Event). take (length run.events) l) (sym cached.1.1 ∙ ap table (sym cached.0) ∙ is)
         ∙ ap (λ (n : ℕ). take n (front ++ ((e ∷ es) ++ rest))) long ∙ take-append_seam front ((e ∷ es) ++ rest)
         in
-        subst (λ (l : List HistoryEvent). IsRight program key (l ++ (e ∷ es)) stepped fault) held
+        subst (λ (l : List Event). IsRight program key (l ++ (e ∷ es)) stepped fault) held
         (Replays-right (run.events ++ (e ∷ es)) (advance_steps program run.events (e ∷ es)) stepped fault before after s.0)
     joined run true false cached b c s = told s.0
     joined run false c cached b d s = absurd (cc)
@@ -120,7 +120,7 @@ module _ {S : Type 0} (program : Program S) (key : RunKey) where
     own true run cached b s =
         let n = b refl in
         let none : [] ≡ front = sym (length-zero front (omega (arith, n, number))) in
-        subst (λ (l : List HistoryEvent). IsRight program key (l ++ (e ∷ es)) stepped fault) none
+        subst (λ (l : List Event). IsRight program key (l ++ (e ∷ es)) stepped fault) none
         (Replays-right (e ∷ es) (steps program (e ∷ es)) stepped fault before after s.0)
     own false run cached b s = later run cached s
 
@@ -174,8 +174,8 @@ module _ (table : Table) where
   removed : (old new : HostView) (key : RunKey) → new.cache.runs ≡ remove_entry (same_key key) old.cache.runs → AllHoldBeginnings table old.cache.runs → AllHoldBeginnings table new.cache.runs
   removed old new key same all = subst (AllHoldBeginnings table) (sym same) (AllHold-remove (same_key key) old.cache.runs all)
 
-  -- no event of the host but a give puts a run into the cache that was not there
-  happens-keeps : (old new : HostView) (event : Event) → BringsNoRun event → step old event new → AllHoldBeginnings table old.cache.runs → AllHoldBeginnings table new.cache.runs
+  -- no call of the host but a give puts a run into the cache that was not there
+  happens-keeps : (old new : HostView) (call : Call) → BringsNoRun call → step old call new → AllHoldBeginnings table old.cache.runs → AllHoldBeginnings table new.cache.runs
   happens-keeps old new (Reserve kind reply) none r all = kept old new (reserve-cache old new kind reply r) all
   happens-keeps old new (Release permit reply) none r all = kept old new (release-cache old new permit.0 permit reply r) all
   happens-keeps old new (UseWorkflow permit name key (Ok used)) none r all = removed old new key (ap (λ (v : HostView). v.cache.runs) r.changed) all
@@ -196,7 +196,7 @@ module _ (table : Table) where
   same-cache : (old new : CacheView) → new ≡ old → AllHoldBeginnings table old.runs → AllHoldBeginnings table new.runs
   same-cache old new same all = subst (λ (c : CacheView). AllHoldBeginnings table c.runs) (sym same) all
 
-  puts-keeps : (old : CacheView) (run : Held) (new : CacheView) (reply : Reply) → Puts old run new reply → HoldsBeginning table (entry_of run) → AllHoldBeginnings table old.runs → AllHoldBeginnings table new.runs
+  puts-keeps : (old : CacheView) (run : Held) (new : CacheView) (reply : PutReply) → Puts old run new reply → HoldsBeginning table (entry_of run) → AllHoldBeginnings table old.runs → AllHoldBeginnings table new.runs
   puts-keeps old run new IsKept p holds all = enters-keeps old run new [] p holds all
   puts-keeps old run new (HasPushedOut gone) p holds all = enters-keeps old run new gone p.0 holds all
   puts-keeps old run new (IsOff back) p holds all = same-cache old new p.2 all
@@ -209,12 +209,12 @@ module _ (table : Table) where
   give-keeps old new held run (IsMarked back) r holds all = kept old new (ap (λ (v : HostView). v.cache) r.2) all
   give-keeps old new held run (IsPut reply) r holds all = puts-keeps old.cache run new.cache reply r.1 holds all
 
-  gained : (key : RunKey) (history rest : List HistoryEvent) (stepped : Option Held) (runs : List Entry) → table key ≡ history ++ rest → IsRunOf key history stepped → AllHoldBeginnings table runs → AllHoldBeginnings table (with_run stepped runs)
+  gained : (key : RunKey) (history rest : List Event) (stepped : Option Held) (runs : List Entry) → table key ≡ history ++ rest → IsRunOf key history stepped → AllHoldBeginnings table runs → AllHoldBeginnings table (with_run stepped runs)
   gained key history rest None runs is right all = all
   gained key history rest (Some run) runs is right all = (subst (λ (r : Held). HoldsBeginning table (entry_of r)) (sym right) (rest, is), all)
 
   module _ {S : Type 0} (program : Program S) (numbered : IsTable table) where
-    some-right : (key : RunKey) (front events rest : List HistoryEvent) → table key ≡ front ++ (events ++ rest) → 0 < length events → ends_in_task (front ++ events) ≡ true
+    some-right : (key : RunKey) (front events rest : List Event) → table key ≡ front ++ (events ++ rest) → 0 < length events → ends_in_task (front ++ events) ≡ true
         → (stepped : Option Held) (fault : Option Fault) (hit : Bool) (before after : ℕ) (run : Option Held)
         → IsCached table key run → Steps program (told_by table) run key events stepped fault hit before after → IsRight program key (front ++ events) stepped fault
     some-right key front [] rest is some ends stepped fault hit before after run cached s = absurd (omega (arith, some))
@@ -226,13 +226,13 @@ module _ (table : Table) where
         let history = take u.up_to (table u.key) in
         let parts : take u.after history ++ drop u.after history ≡ history = take-append-drop u.after history in
         let is : table u.key ≡ take u.after history ++ (drop u.after history ++ drop u.up_to (table u.key)) =
-        sym (take-append-drop u.up_to (table u.key)) ∙ ap (λ (l : List HistoryEvent). l ++ drop u.up_to (table u.key)) (sym parts) ∙ append_assoc (take u.after history) (drop u.after history) (drop u.up_to (table u.key))
+        sym (take-append-drop u.up_to (table u.key)) ∙ ap (λ (l : List Event). l ++ drop u.up_to (table u.key)) (sym parts) ∙ append_assoc (take u.after history) (drop u.after history) (drop u.up_to (table u.key))
         in
         let long = length-take-le u.up_to (table u.key) r.within in
         let left = length-drop u.after history in
         let some : 0 < length (drop u.after history) = let less = r.some in omega (arith, long, left, less) in
         let cached : IsCached table u.key u.cached = subst (IsCached table u.key) (sym r.accepted.handed_out) (cached-of u.key old.host.cache.runs all) in
-        subst (λ (l : List HistoryEvent). IsRight program u.key l u.stepped u.fault) parts
+        subst (λ (l : List Event). IsRight program u.key l u.stepped u.fault) parts
         (some-right u.key (take u.after history) (drop u.after history) (drop u.up_to (table u.key)) is some (ap ends_in_task parts ∙ r.starts) u.stepped u.fault u.hit r.before r.meter u.cached cached r.replayed)
 
     move-right : (old : Steady) (m : Move) (new : Steady) → IsSteady table old → move program table old m new → IsAnswered program table m × IsSteady table new

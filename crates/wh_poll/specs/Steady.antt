@@ -1,6 +1,6 @@
 -- A host that serves tasks of one table of histories, and what each task is answered.
 use Rattle.std.specs.Prelude.{◌≡◌, ℕ, ◌+◌, ◌<◌, ◌≤◌, ◌++◌, Bool, true, List, [], ◌∷◌, length, take, drop, Option, Some, None, Ok}
-use Rattle.wh_events.specs.declared.event.Event.{Event as HistoryEvent}
+use Rattle.wh_events.specs.declared.event.Event.{Event}
 use Rattle.wh_events.specs.declared.key.RunKey.{RunKey}
 use Rattle.wh_workflow.specs.Law.{Program}
 use Rattle.wh_replay.specs.declared.fault.Fault.{Fault}
@@ -9,16 +9,16 @@ use Rattle.wh_replay.specs.Replays.{ends_in_task}
 use Rattle.wh_replay.specs.Runs.{Held}
 use Rattle.wh_slots.specs.declared.TaskName.{TaskName}
 use Rattle.wh_cache.specs.Cache.{Entry, entry_of}
-use Rattle.wh_host.specs.Machine.{Claim, HostView, Event, UseWorkflow, GiveRun, opening, step}
-use Rattle.wh_host.specs.Machine.{Answer as GiveReply}
+use Rattle.wh_host.specs.Machine.{Claim, HostView, Call, UseWorkflow, GiveRun, opening, step}
+use Rattle.wh_host.specs.Machine.{GiveReply}
 use Rattle.wh_poll.specs.Tasks.{Steps, IsAnswer, answer_to}
 
 -- the histories by their run keys; a run that is not there has none
 abbrev pub Table : Type 0
-Table = RunKey → List HistoryEvent
+Table = RunKey → List Event
 
 -- the numbers of the events count up from this one
-abbrev pub IsNumbered : ℕ → List HistoryEvent → Type 0
+abbrev pub IsNumbered : ℕ → List Event → Type 0
 IsNumbered number [] = Unit {0}
 IsNumbered number (event ∷ rest) = (event.number ≡ number) × IsNumbered (number + 1) rest
 
@@ -27,7 +27,7 @@ abbrev pub IsTable : Table → Type 0
 IsTable table = (key : RunKey) → IsNumbered 1 (table key)
 
 -- the source tells the history up to the number
-abbrev pub told_by : Table → RunKey → ℕ → List HistoryEvent → Type 0
+abbrev pub told_by : Table → RunKey → ℕ → List Event → Type 0
 told_by table key up_to history = history ≡ take up_to (table key)
 
 -- the host, and the runs that were replayed and not given yet, as the cache would keep them
@@ -59,10 +59,10 @@ pub record Use : Type 0 where
 pub data Move : Type 0 where
   Uses : Use → Move
   Gives : Claim → List Entry → Held → List Entry → GiveReply → Move
-  Happens : Event → Move
+  Happens : Call → Move
 
 -- the events of the task
-abbrev pub task_of : Table → Use → List HistoryEvent
+abbrev pub task_of : Table → Use → List Event
 task_of table use_of = drop use_of.after (take use_of.up_to (table use_of.key))
 
 -- the runs in hand, with the one that replay gave, if it gave one
@@ -83,8 +83,8 @@ pub record IsUse {S : Type 0} (program : Program S) (table : Table)
   pub answered : IsAnswer program u.stepped u.fault u.answer
   pub in_hand : new.in_hand ≡ with_run u.stepped old.in_hand
 
--- the event brings no run in
-abbrev pub BringsNoRun : Event → Type 0
+-- the call brings no run in
+abbrev pub BringsNoRun : Call → Type 0
 BringsNoRun (GiveRun held run reply) = ⊥
 BringsNoRun _ = Unit {0}
 
@@ -116,7 +116,7 @@ AllAnswered program table (m ∷ ms) = IsAnswered program table m × AllAnswered
 
 -- the run holds a beginning of its history
 abbrev pub HoldsBeginning : Table → Entry → Type 0
-HoldsBeginning table run = (rest : List HistoryEvent) × (table run.0 ≡ run.1 ++ rest)
+HoldsBeginning table run = (rest : List Event) × (table run.0 ≡ run.1 ++ rest)
 
 -- so does each of the runs
 abbrev pub AllHoldBeginnings : Table → List Entry → Type 0
