@@ -248,8 +248,8 @@ module _ (table : Table) where
     move-right old (Gives held before run after reply) new all r =
         let parts = AllHold-one before (entry_of run) after (subst (AllHoldBeginnings table) r.0 all.1) in
         (tt, (give-keeps old.host new.host held run reply r.1 parts.0 all.0, subst (AllHoldBeginnings table) (sym r.2) parts.1))
-    move-right old (Happens event) new all r =
-        (tt, (happens-keeps old.host new.host event r.0 r.1 all.0, subst (AllHoldBeginnings table) (sym r.2) all.1))
+    move-right old (Happens call) new all r =
+        (tt, (happens-keeps old.host new.host call r.0 r.1 all.0, subst (AllHoldBeginnings table) (sym r.2) all.1))
 
     pub Moves-right : (old : Steady) (moves : List Move) (new : Steady) → IsSteady table old → Moves program table old moves new → AllAnswered program table moves × IsSteady table new
     Moves-right old [] new all r = (tt, subst (IsSteady table) (sym r) all)

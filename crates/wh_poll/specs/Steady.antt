@@ -95,8 +95,8 @@ move program table old (Gives held before run after reply) new =
     (old.in_hand ≡ before ++ entry_of run ∷ after)
     × step old.host (GiveRun held run reply) new.host
     × (new.in_hand ≡ before ++ after)
-move program table old (Happens event) new =
-    BringsNoRun event × step old.host event new.host × (new.in_hand ≡ old.in_hand)
+move program table old (Happens call) new =
+    BringsNoRun call × step old.host call new.host × (new.in_hand ≡ old.in_hand)
 
 -- a list of moves leads from one state to another
 abbrev pub Moves : {S : Type 0} → Program S → Table → Steady → List Move → Steady → Type 0
@@ -107,7 +107,7 @@ Moves program table old (m ∷ ms) new = (next : Steady) × move program table o
 abbrev pub IsAnswered : {S : Type 0} → Program S → Table → Move → Type 0
 IsAnswered program table (Uses u) = u.answer ≡ answer_to program (take u.up_to (table u.key))
 IsAnswered program table (Gives held before run after reply) = Unit {0}
-IsAnswered program table (Happens event) = Unit {0}
+IsAnswered program table (Happens call) = Unit {0}
 
 -- so is each task of the moves
 abbrev pub AllAnswered : {S : Type 0} → Program S → Table → List Move → Type 0
