@@ -56,7 +56,11 @@ impl Model for Script {
 
     ghost view = { λ s. record { previous = s.previous; cut = s.cut; issued = s.issued.items; late = s.late.items } };
 
-    ghost invariant = { λ s. record { each : length s.late.items ≡ length s.issued.items; counted : s.count ≡ length (given s.issued.items); ended : s.closed ≡ some_act act_closes s.issued.items } };
+    ghost invariant = { λ s. record {
+      each : length s.late.items ≡ length s.issued.items;
+      counted : s.count ≡ length (given s.issued.items);
+      ended : s.closed ≡ some_act act_closes s.issued.items;
+    } };
 }
 
 impl Script {

@@ -27,7 +27,8 @@ impl Model for Versions {
 
     ghost view = { λ v. v.entries.items };
 
-    ghost invariant = { λ v. (change_id : List ℕ) → get_by_text v.by_change change_id ≡ lookup_version change_id v.entries.items };
+    ghost invariant = { λ v. (change_id : List ℕ) →
+        get_by_text v.by_change change_id ≡ lookup_version change_id v.entries.items };
 }
 
 impl Versions {

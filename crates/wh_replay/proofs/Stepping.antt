@@ -6,7 +6,7 @@ use Rattle.wh_events.specs.declared.event.Event.{Event}
 use Rattle.wh_events.specs.declared.kind.EventKind.{EventKind}
 use Rattle.wh_events.specs.declared.kind.EventKind.TheVariants.{WorkflowTaskCompleted}
 use Rattle.wh_events.specs.Kinds.{class_of}
-use Rattle.wh_events.specs.Cuts.{is_inert_class, is_task_completed_kind, is_task_started, is_inert, is_task_completed, until_completed, after_completed, next_core, is_cut, is_recorded, record_of, cuts}
+use Rattle.wh_events.specs.Cuts.{is_inert_class, is_task_completed_kind, is_inert, is_task_completed, until_completed, after_completed, is_cut, is_recorded, record_of, cuts}
 use Rattle.wh_events.specs.Places.{fault_after}
 use Rattle.wh_machines.specs.Lookups.{events_between}
 use Rattle.wh_machines.proofs.Placed.{NumberedFrom, numbered_after}

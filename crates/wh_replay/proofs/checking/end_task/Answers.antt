@@ -1,4 +1,4 @@
-use Rattle.std.proofs.Common.{◌≡◌, ◌∙◌, Ok, List, Option, sym, ap, option_map}
+use Rattle.std.proofs.Common.{◌∙◌, Ok, List, Option, sym, ap, option_map}
 use Rattle.wh_events.specs.declared.event.Event.{Event}
 use Rattle.wh_events.specs.Cuts.{commanded}
 use Rattle.wh_workflow.specs.Names.{mismatch}

@@ -1,4 +1,4 @@
-use Rattle.std.proofs.Common.{◌≡◌, ◌∙◌, Ok, sym, ap, []}
+use Rattle.std.proofs.Common.{◌≡◌, ◌∙◌, Ok, sym, ap}
 use Rattle.wh_activation.specs.Cutting.{jobs_at}
 use Rattle.wh_workflow.specs.Activations.{activate}
 use Rattle.wh_match.specs.Issuing.{Issuing}
