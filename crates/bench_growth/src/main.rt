@@ -18,7 +18,7 @@ use std::rt::Runtime;
 use std::time::{Duration, Instant};
 use wh_events::{Event, OutOfMemory, RunKey, Text};
 use wh_replay::Run;
-use wh_samples::Flood;
+use wh_sample_workflows::Flood;
 use wh_workflow::{Meter, Workflow};
 
 /// How the program is called.

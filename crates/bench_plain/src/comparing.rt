@@ -1,0 +1,83 @@
+//! Counts of histories, of which both replays say the same or not.
+use crate::lookups::same_lookups;
+use crate::replay::{check, copy_of};
+use std::alloc::Global;
+use wh_events::{Event, OutOfMemory};
+use wh_replay::{Checked, Fault, RunFault};
+use wh_workflow::Workflow;
+
+/// How many histories were compared, and what both replays said of them.
+#[derive(Clone, Copy)]
+pub(crate) struct Counts {
+    /// All histories.
+    pub(crate) histories: u64,
+    /// Those of which both replays say the same, and whose look-ups are alike if they are in place.
+    pub(crate) alike: u64,
+    /// Those that replay.
+    pub(crate) good: u64,
+    /// Those with a fault of place.
+    pub(crate) misplaced: u64,
+    /// Those with a command that can't stand, or without code.
+    pub(crate) faulty: u64,
+    /// Those whose commands differ from a record.
+    pub(crate) different: u64,
+}
+
+impl Counts {
+    /// Nothing was compared.
+    pub(crate) fn new() -> Self {
+        Counts {
+            histories: 0,
+            alike: 0,
+            good: 0,
+            misplaced: 0,
+            faulty: 0,
+            different: 0,
+        }
+    }
+
+    /// The count that the answer belongs to.
+    fn count_of(&mut self, answer: Result<Checked, RunFault>) -> &mut u64 {
+        match answer {
+            Ok(_) => &mut self.good,
+            Err(RunFault::Fault(Fault::Place { .. })) => &mut self.misplaced,
+            Err(RunFault::Fault(Fault::Workflow { .. })) => &mut self.faulty,
+            Err(RunFault::Fault(Fault::Mismatch { .. })) => &mut self.different,
+            Err(_) => &mut self.histories,
+        }
+    }
+}
+
+/// Whether the answer is a fault of place.
+fn is_misplaced(answer: Result<Checked, RunFault>) -> bool {
+    matches!(answer, Err(RunFault::Fault(Fault::Place { .. })))
+}
+
+/// Compares what both replays say of a history, and counts it.
+pub(crate) fn compare<W: Workflow>(
+    alloc: Global,
+    events: &[Event],
+    counts: &mut Counts,
+) -> Result<(), OutOfMemory> {
+    let answer = wh_replay::check::<W>(alloc, copy_of(alloc, events)?);
+    let same = check::<W>(alloc, events) == answer;
+    counts.histories = counts.histories.saturating_add(1);
+    if same && (is_misplaced(answer) || same_lookups(alloc, events)) {
+        counts.alike = counts.alike.saturating_add(1);
+    }
+    let count = counts.count_of(answer);
+    *count = count.saturating_add(1);
+    Ok(())
+}
+
+/// Compares what both replays say of each beginning of a history.
+pub(crate) fn compare_all<W: Workflow>(
+    alloc: Global,
+    events: &[Event],
+    counts: &mut Counts,
+) -> Result<(), OutOfMemory> {
+    for end in 0..=events.len() {
+        compare::<W>(alloc, &events[..end], counts)?;
+    }
+    Ok(())
+}

@@ -1,0 +1,52 @@
+//! Which events are cuts, and what their records are, found by going over what follows.
+use wh_events::{Class, Event, EventKind};
+
+/// The first event that is not inert.
+fn next_core(rest: &[Event]) -> Option<&Event> {
+    for event in rest {
+        if !matches!(event.class(), Class::Inert) {
+            return Some(event);
+        }
+    }
+    None
+}
+
+/// Whether the event is a cut of a history that goes on with the rest: the first of the rest that
+/// is not inert completes the task, or there is none.
+pub(crate) fn is_cut(event: &Event, rest: &[Event]) -> bool {
+    if !matches!(event.body, EventKind::WorkflowTaskStarted) {
+        return false;
+    }
+    match next_core(rest) {
+        Some(next) => matches!(next.body, EventKind::WorkflowTaskCompleted),
+        None => true,
+    }
+}
+
+/// Whether a cut before the rest is recorded.
+pub(crate) fn is_recorded(rest: &[Event]) -> bool {
+    let Some(next) = next_core(rest) else {
+        return false;
+    };
+    matches!(next.body, EventKind::WorkflowTaskCompleted)
+}
+
+/// What stands before the next completed task, or the end.
+pub(crate) fn until_completed(events: &[Event]) -> &[Event] {
+    for (place, event) in events.iter().enumerate() {
+        if matches!(event.body, EventKind::WorkflowTaskCompleted) {
+            return &events[..place];
+        }
+    }
+    events
+}
+
+/// What stands behind the next completed task.
+pub(crate) fn after_completed(events: &[Event]) -> &[Event] {
+    for (place, event) in events.iter().enumerate() {
+        if matches!(event.body, EventKind::WorkflowTaskCompleted) {
+            return &events[place + 1..];
+        }
+    }
+    &events[events.len()..]
+}

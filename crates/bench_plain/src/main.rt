@@ -1,0 +1,119 @@
+//! Compares `wh_replay` with replay as its definition computes it: by going over the list of events
+//! anew for each place, each task and each look-up, in quadratic time. It tells how many histories
+//! were compared, of how many both say the same, and what they say.
+#![tactic(auto)]
+
+mod blink;
+mod comparing;
+mod cuts;
+mod generated;
+mod lookups;
+mod notation;
+mod places;
+mod replay;
+mod things;
+
+use crate::blink::Blink;
+use crate::comparing::{Counts, compare, compare_all};
+use crate::generated::{changed, of_letters};
+use crate::notation::{ROWS, events_of};
+use rand_pcg::Pcg32;
+use std::alloc::Global;
+use std::io::ErrorKind;
+use std::process::ExitCode;
+use std::rt::{Files, Runtime};
+use std::{fs, io};
+use wh_events::{Event, OutOfMemory};
+use wh_json::read_events;
+use wh_sample_workflows::All;
+use wh_workflow::{Pair, Workflow};
+
+/// The folder of the example histories.
+const FOLDER: &str = "histories";
+
+/// How many histories of letters are made.
+const OF_LETTERS: u32 = 4_000;
+
+/// How many changed ones are made of each example.
+const CHANGED: u32 = 200;
+
+/// The histories of the folder.
+fn read_histories<R: Files + AllocGlobal + Clone + Drop>(rt: &R) -> io::Result<Vec<Vec<Event>>> {
+    let mut histories = Vec::new(rt.alloc());
+    for entry in fs::read_dir(rt, FOLDER)? {
+        let bytes = fs::read(rt, entry?.path())?;
+        let Ok(events) = read_events(rt.alloc(), bytes.as_slice()) else {
+            return Err(ErrorKind::InvalidData.into());
+        };
+        histories.push(events)?;
+    }
+    Ok(histories)
+}
+
+/// Compares both replays on each beginning of an example, and of the example with a change.
+fn compare_example<W: Workflow>(
+    alloc: Global,
+    history: &[Event],
+    counts: &mut Counts,
+) -> Result<(), OutOfMemory> {
+    compare_all::<W>(alloc, history, counts)?;
+    let mut random = Pcg32::new(42, 54);
+    for _history in 0..CHANGED {
+        let events = changed(alloc, &mut random, history)?;
+        compare::<W>(alloc, events.as_slice(), counts)?;
+    }
+    Ok(())
+}
+
+/// Compares both replays on each beginning of the histories in letters, and on generated ones.
+fn compare_letters<W: Workflow>(alloc: Global, counts: &mut Counts) -> Result<(), OutOfMemory> {
+    for row in ROWS {
+        let events = events_of(alloc, row)?;
+        compare_all::<W>(alloc, events.as_slice(), counts)?;
+    }
+    let mut random = Pcg32::new(42, 54);
+    for _history in 0..OF_LETTERS {
+        let events = of_letters(alloc, &mut random)?;
+        compare::<W>(alloc, events.as_slice(), counts)?;
+    }
+    Ok(())
+}
+
+/// Compares both replays on all histories.
+fn run<R: Runtime + AllocGlobal, W: Workflow>(rt: &R) -> io::Result<Counts> {
+    let mut counts = Counts::new();
+    for history in read_histories(rt)? {
+        let Ok(()) = compare_example::<W>(rt.alloc(), history.as_slice(), &mut counts) else {
+            return Err(ErrorKind::OutOfMemory.into());
+        };
+    }
+    let Ok(()) = compare_letters::<W>(rt.alloc(), &mut counts) else {
+        return Err(ErrorKind::OutOfMemory.into());
+    };
+    Ok(counts)
+}
+
+/// The status is 0 where both replays say the same of all histories, 1 where they don't, and 2
+/// where the histories can't be read.
+fn main(rt: HostRuntime) -> ExitCode {
+    let counts = match run::<HostRuntime, Pair<Blink, All>>(&rt) {
+        Ok(counts) => counts,
+        Err(error) => {
+            let _ = eprintln!(&rt; "bench_plain: {error}");
+            return ExitCode::from(2);
+        }
+    };
+    let Counts {
+        histories,
+        alike,
+        good,
+        misplaced,
+        faulty,
+        different,
+    } = counts;
+    let _ = println!(&rt; "{histories} histories, both replays say the same of {alike}");
+    let _ = println!(&rt;
+        "{good} replay, {misplaced} are not in place, {faulty} have a command that can't stand, {different} differ from a record"
+    );
+    ExitCode::from(u8::from(alike != histories))
+}

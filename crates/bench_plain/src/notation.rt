@@ -1,0 +1,100 @@
+//! Histories as letters, one for each event.
+use std::alloc::Global;
+use wh_events::{Event, EventKind, EventNo, Items, OutOfMemory, Text};
+
+/// The letters that `kind_of` knows, but for those of starts.
+pub(crate) const LETTERS: &[u8] = b"qscfngTUFCAarKkxmD";
+
+/// Histories that a blinking workflow gives, and some that it can't give. Where an event refers to
+/// another, that is event 6.
+pub(crate) const ROWS: [&[u8]; 15] = [
+    b"",
+    b"Bqs",
+    b"BscscTFscT",
+    b"BscscTscC",
+    b"BscscTgscCTs",
+    b"BsfscscTqs",
+    b"BgggscT",
+    b"OscscT",
+    b"Bscsc",
+    b"BscscU",
+    b"BscscTD",
+    b"BscscTDs",
+    b"BscscTFF",
+    b"BscscTT",
+    b"BscF",
+];
+
+/// The text.
+fn text(alloc: Global, content: &str) -> Result<Text, OutOfMemory> {
+    Ok(Text::new(String::from_str(alloc, content)?))
+}
+
+/// The start of a run of a workflow type.
+fn start(alloc: Global, workflow: &str) -> Result<EventKind, OutOfMemory> {
+    Ok(EventKind::WorkflowExecutionStarted {
+        workflow: text(alloc, workflow)?,
+        input: Items::new(Vec::new(alloc)),
+    })
+}
+
+/// The event that a letter stands for, which refers to the event of the number, if to any.
+#[rattlefmt::skip]
+fn kind_of(alloc: Global, letter: u8, number: u64) -> Result<EventKind, OutOfMemory> {
+    Ok(match letter {
+        b'B' => start(alloc, "Blink")?,
+        b'R' => start(alloc, "Racer")?,
+        b'O' => start(alloc, "Other")?,
+        b'q' => EventKind::WorkflowTaskScheduled,
+        b's' => EventKind::WorkflowTaskStarted,
+        b'c' => EventKind::WorkflowTaskCompleted,
+        b'f' => EventKind::WorkflowTaskFailed,
+        b'n' => EventKind::WorkflowTaskTimedOut,
+        b'g' => EventKind::WorkflowExecutionSignaled { name: text(alloc, "stop")?, input: Items::new(Vec::new(alloc)) },
+        b'T' => EventKind::TimerStarted { id: text(alloc, "t")? },
+        b'U' => EventKind::TimerStarted { id: text(alloc, "u")? },
+        b'F' => EventKind::TimerFired { started: number },
+        b'C' => EventKind::TimerCanceled { started: number },
+        b'A' => EventKind::ActivityTaskScheduled { id: text(alloc, "1")?, activity: text(alloc, "race")? },
+        b'a' => EventKind::ActivityTaskStarted { scheduled: number },
+        b'r' => EventKind::ActivityTaskCancelRequested { scheduled: number },
+        b'K' => EventKind::StartChildWorkflowExecutionInitiated { workflow_id: text(alloc, "1")?, workflow: text(alloc, "Nap")? },
+        b'k' => EventKind::RequestCancelExternalWorkflowExecutionInitiated { workflow_id: text(alloc, "1")? },
+        b'x' => EventKind::ChildWorkflowExecutionCanceled { initiated: number },
+        b'm' => EventKind::MarkerRecorded { change_id: text(alloc, "a")?, version: 1 },
+        b'D' => EventKind::WorkflowExecutionCompleted,
+        _ => EventKind::Inert,
+    })
+}
+
+/// Appends the event that a letter stands for, which refers to the event of the number, if to any.
+pub(crate) fn push(
+    alloc: Global,
+    events: &mut Vec<Event>,
+    letter: u8,
+    number: u64,
+) -> Result<(), OutOfMemory> {
+    append(events, kind_of(alloc, letter, number)?)
+}
+
+/// Appends an event of the kind, with the next number.
+pub(crate) fn append(events: &mut Vec<Event>, body: EventKind) -> Result<(), OutOfMemory> {
+    let Some(number) = EventNo::new((events.len() as u64).saturating_add(1)) else {
+        return Err(OutOfMemory);
+    };
+    events.push(Event {
+        number,
+        time: 0,
+        body,
+    })?;
+    Ok(())
+}
+
+/// The events of a row.
+pub(crate) fn events_of(alloc: Global, row: &[u8]) -> Result<Vec<Event>, OutOfMemory> {
+    let mut events = Vec::new(alloc);
+    for letter in row {
+        push(alloc, &mut events, *letter, 6)?;
+    }
+    Ok(events)
+}

@@ -1,6 +1,0 @@
-use Rattle.std.proofs.Common.{◌≡◌, ◌++◌, drop}
-use Rattle.wh_workflow.specs.Jobs.{jobs_by, signal_job}
-use Rattle.wh_plain.proofs.jobs.push_signals.Given as goal
-
-abbrev pub invariant-loop-event : goal.invariant-loop-event
-invariant-loop-event l = l.jobs.items ++ jobs_by signal_job (drop l.event-index l.between) ≡ l.fn.jobs.items ++ jobs_by signal_job l.between

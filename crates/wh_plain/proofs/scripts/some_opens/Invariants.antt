@@ -1,6 +1,0 @@
-use Rattle.std.proofs.Common.{◌≡◌, drop}
-use Rattle.wh_workflow.specs.Scripts.{some_act, act_opens}
-use Rattle.wh_plain.proofs.scripts.some_opens.Given as goal
-
-abbrev pub invariant-loop-command : goal.invariant-loop-command
-invariant-loop-command l = some_act (act_opens l.thing l.id) (drop l.command-index l.commands) ≡ some_act (act_opens l.thing l.id) l.commands
