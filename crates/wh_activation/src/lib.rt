@@ -4,6 +4,3 @@
 mod telling;
 
 pub use telling::jobs;
-
-#[cfg(test)]
-mod tests;

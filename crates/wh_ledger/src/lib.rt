@@ -273,6 +273,3 @@ impl<T: Ledger, C: Ledger, F: Ledger> Books<T, C, F> {
         Ok(totals)
     }
 }
-
-#[cfg(test)]
-mod tests;
