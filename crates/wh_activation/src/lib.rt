@@ -4,6 +4,3 @@
 mod cut_jobs;
 
 pub use cut_jobs::jobs;
-
-#[cfg(test)]
-mod tests;

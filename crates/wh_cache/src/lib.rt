@@ -347,6 +347,3 @@ fn push_out<W: Workflow>(
         gone.push_reserved(Run::from_parts(key, history));
     }
 }
-
-#[cfg(test)]
-mod tests;

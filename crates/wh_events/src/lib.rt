@@ -20,6 +20,3 @@ pub use lists::{Items, Text};
 pub use memory::OutOfMemory;
 pub use number::EventNo;
 pub use place::{OpenKind, PlaceFault, Status, Thing};
-
-#[cfg(test)]
-mod tests;

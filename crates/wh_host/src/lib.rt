@@ -12,6 +12,3 @@ pub use config::{Config, MOST_SEATS, OpenFault};
 pub use host::Host;
 pub use reply::{Counts, Evict, Given, Outcome, Totals};
 pub use state::{HostState, Mark};
-
-#[cfg(test)]
-mod tests;

@@ -304,6 +304,3 @@ fn merge_all<T: Ledger, C: Ledger, F: Ledger>(
     }
     (all_taken, all_completed, all_failed)
 }
-
-#[cfg(test)]
-mod tests;

@@ -14,6 +14,3 @@ pub use fault::PushFault;
 pub use place::opened_id;
 pub use track::Track;
 pub use wh_events::{OpenKind, PlaceFault, Status};
-
-#[cfg(test)]
-mod tests;

@@ -18,6 +18,3 @@ pub use matching::matches;
 pub use script::Script;
 pub use versions::Versions;
 pub use wh_workflow::{Mismatch, WorkflowFault};
-
-#[cfg(test)]
-mod tests;

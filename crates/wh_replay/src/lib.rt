@@ -17,6 +17,3 @@ pub use fault::{Checked, Fault, RunFault};
 pub use history::{MOST_EVENTS, ReplayedHistory};
 pub use run::{AdvanceFault, Answer, Run};
 pub use wh_match::Versions;
-
-#[cfg(test)]
-mod tests;

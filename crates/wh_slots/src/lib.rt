@@ -373,6 +373,3 @@ fn find_named(places: &[Place], name: TaskName) -> Option<usize>
         _ => false,
     })
 }
-
-#[cfg(test)]
-mod tests;

@@ -5,6 +5,3 @@ mod cut;
 mod split;
 
 pub use split::{cuts, is_live, next_cut};
-
-#[cfg(test)]
-mod tests;

@@ -15,6 +15,3 @@ pub use job::{ActivityEnd, ChildEnd, Job};
 pub use meter::Meter;
 pub use pair::{Either, Pair};
 pub use workflow::Workflow;
-
-#[cfg(test)]
-mod tests;

@@ -1,11 +1,12 @@
 //! What the report looks like.
 
-use crate::{Line, Verdict, all_good, write_report};
+use crate::rows::text;
 use std::alloc::Global;
 use std::process::Abort;
-use wh_events::{EventNo, PlaceFault, Text};
+use wh_events::{EventNo, PlaceFault};
 use wh_json::ReadFault;
 use wh_replay::{Checked, Fault};
+use wh_tester::{Line, Verdict, all_good, write_report};
 use wh_workflow::{Mismatch, WorkflowFault};
 
 /// A fault of place, and its name.
@@ -63,12 +64,8 @@ static NAMES: [NameRow; 8] = [
     NameRow { name: "a: ok, 2 tasks", shown: "a: ok, 2 tasks" },
 ];
 
-fn text_of(rt: &impl Abort, alloc: Global, text: &str) -> Text {
-    Text::new(String::from_str(alloc, text).expect(rt, "memory"))
-}
-
 fn add(rt: &impl Abort, alloc: Global, lines: &mut Vec<Line>, name: &str, verdict: Verdict) {
-    let name = text_of(rt, alloc, name);
+    let name = text(rt, alloc, name);
     assert!(rt; lines.push(Line { name, verdict }).is_ok());
 }
 
@@ -221,14 +218,14 @@ fn shows_faults_of_events(rt: HostRuntime) {
 
 #[test]
 fn shows_what_is_not_supported(rt: HostRuntime) {
-    let name = text_of(&rt, rt.alloc(), "A\nB");
+    let name = text(&rt, rt.alloc(), "A\nB");
     unreadable(
         &rt,
         rt.alloc(),
         ReadFault::UnsupportedEvent { at: 4, name },
         "event 4 has the unsupported type A?B",
     );
-    let name = text_of(&rt, rt.alloc(), "Side\u{e9}ffect");
+    let name = text(&rt, rt.alloc(), "Side\u{e9}ffect");
     unreadable(
         &rt,
         rt.alloc(),
@@ -286,10 +283,10 @@ fn keeps_the_order(rt: HostRuntime) {
         Verdict::Unreadable(ReadFault::BadJson),
     );
     assert!(rt; !all_good(lines.as_slice()));
-    let text = report_of(&rt, alloc, lines.as_slice());
+    let report = report_of(&rt, alloc, lines.as_slice());
     let wanted =
         "b.json: ok, 2 tasks\na.json: ok, 0 tasks\nc.json: unreadable, not JSON\n3 files, 2 ok\n";
-    assert_eq!(rt; text.as_str(), wanted);
+    assert_eq!(rt; report.as_str(), wanted);
 }
 
 #[test]

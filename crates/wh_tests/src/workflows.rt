@@ -1,10 +1,11 @@
-use crate::{Command, Job, Meter, Pair, Workflow};
+//! Workflows that answer the same to each job.
+
 use std::alloc::Global;
-use std::process::Abort;
 use wh_events::OutOfMemory;
+use wh_workflow::{Command, Job, Meter, Workflow};
 
 /// Closes the run at each job.
-struct Brief;
+pub(crate) struct Brief;
 
 impl Workflow for Brief {
     ghost use Rattle.std.specs.Prelude.{true, [], ◌∷◌, refl, bytes_eq, codes};
@@ -39,7 +40,7 @@ impl Workflow for Brief {
 }
 
 /// Answers nothing.
-struct Still;
+pub(crate) struct Still;
 
 impl Workflow for Still {
     ghost use Rattle.std.specs.Prelude.{[], refl, bytes_eq, codes};
@@ -69,25 +70,4 @@ impl Workflow for Still {
         meter.tick();
         Ok(())
     }
-}
-
-/// How many commands a run of the workflow type gives to its first job, which is counted once.
-fn answered<W: Workflow>(rt: &impl Abort, alloc: Global, kind: &str) -> usize {
-    assert!(rt; W::handles(kind), "no code");
-    let mut state = W::begin(alloc, kind).expect(rt, "memory");
-    let mut out = Vec::new(alloc);
-    let mut meter = Meter::new();
-    let job = Job::CancelRequested;
-    assert!(rt; W::step(alloc, &mut state, &job, &mut out, &mut meter).is_ok());
-    assert_eq!(rt; meter.count(), 1);
-    out.len()
-}
-
-#[test]
-fn each_type_goes_to_its_workflow(rt: HostRuntime) {
-    let alloc = rt.alloc();
-    assert_eq!(rt; answered::<Pair<Brief, Still>>(&rt, alloc, "Brief"), 1);
-    assert_eq!(rt; answered::<Pair<Brief, Still>>(&rt, alloc, "Still"), 0);
-    assert_eq!(rt; answered::<Pair<Still, Brief>>(&rt, alloc, "Brief"), 1);
-    assert!(rt; !Pair::<Brief, Still>::handles("Other"));
 }

@@ -1,10 +1,14 @@
+//! Shares and totals, gathered when all seats are there.
+
 ghost use Rattle.std.specs.Prelude.{◌≡◌};
 
-use super::*;
+use std::alloc::Global;
 use std::marker::Brand;
 use std::process::Abort;
+use std::sync::ledger::{Blank, Ledger};
+use wh_ledger::{Books, SeatsMissing, Shares};
 
-// Three seats count. With two of them nothing is gathered, with all three their sums are.
+/// Three seats count. With two of them nothing is gathered, with all three their sums are.
 fn day<T: Ledger, C: Ledger, F: Ledger>(
     rt: &impl Abort,
     alloc: Global,

@@ -1,0 +1,91 @@
+//! Runs, how often they are stepped, and histories that are checked.
+
+use crate::rows::{row, shown};
+use crate::workflows::Still;
+use std::alloc::Global;
+use std::process::Abort;
+use wh_histories::{events, key};
+use wh_replay::{Run, check};
+use wh_workflow::{Meter, Workflow};
+
+/// The steps to the second event of a history, and those on to its end: the time and the start, and
+/// then the time and the signal, with the start before it where the first task did not complete.
+const STEPS: &str = "\
+start:Still T C signal:s T => 2, then 4, holds 5
+start:Still T task_timed_out signal:s T => 2, then 5, holds 5
+";
+
+/// A run of the first two events of a history, and its answer.
+fn first_task<W: Workflow>(
+    rt: &impl Abort,
+    alloc: Global,
+    history: &'static str,
+    meter: &mut Meter,
+) -> Run<W> {
+    let mut events = events(alloc, history).expect(rt, history);
+    events.truncate(2);
+    let key = key(alloc, "w").expect(rt, "memory");
+    match Run::from_first(alloc, key, events, meter) {
+        Ok(run) => run,
+        Err(fault) => panic!(rt; "{fault:?}"),
+    }
+}
+
+/// How a run goes on behind the first two events of a history.
+fn steps<W: Workflow>(rt: &impl Abort, alloc: Global, history: &'static str) -> String {
+    let mut meter = Meter::new();
+    let run = first_task::<W>(rt, alloc, history, &mut meter);
+    let first = meter.count();
+    let mut events = events(alloc, history).expect(rt, history);
+    assert!(rt; 2 <= events.len());
+    let next = events.split_off(2).expect(rt, "memory");
+    let Ok(run) = run.advance(alloc, next, &mut meter) else {
+        panic!(rt; "no advance")
+    };
+    let then = meter.count();
+    let held = run.held_len();
+    format!(in alloc; "{first}, then {then}, holds {held}").expect(rt, "memory")
+}
+
+#[test]
+fn only_a_lost_task_is_stepped_again(rt: HostRuntime) {
+    for line in STEPS.lines() {
+        let (history, wanted) = row(&rt, line);
+        let text = steps::<Still>(&rt, rt.alloc(), history);
+        assert_eq!(rt; text.as_str(), wanted);
+    }
+}
+
+/// The copied answer of the first task of a run, in words.
+fn copied_answer<W: Workflow>(rt: &impl Abort, alloc: Global, history: &'static str) -> String {
+    let run = first_task::<W>(rt, alloc, history, &mut Meter::new());
+    let answer = run.answer(alloc).expect(rt, "memory");
+    shown(rt, alloc, &answer.try_copy(alloc))
+}
+
+#[test]
+fn an_answer_is_copied(rt: HostRuntime) {
+    let copy = copied_answer::<Still>(&rt, rt.alloc(), "start:Still T");
+    assert_eq!(rt; copy.as_str(), "Ok(Complete([]))");
+}
+
+/// What a history has.
+const CHECKED: &str = "\
+start:Still T C signal:s T => Ok(Checked tasks: 2, live: true)
+C signal:s T => Err(Fault(Place at: 1, fault: FirstNotStart))
+";
+
+/// What a history has, or its fault.
+fn checked_text<W: Workflow>(rt: &impl Abort, alloc: Global, history: &'static str) -> String {
+    let events = events(alloc, history).expect(rt, history);
+    shown(rt, alloc, &check::<W>(alloc, events))
+}
+
+#[test]
+fn histories_are_checked(rt: HostRuntime) {
+    for line in CHECKED.lines() {
+        let (history, wanted) = row(&rt, line);
+        let text = checked_text::<Still>(&rt, rt.alloc(), history);
+        assert_eq!(rt; text.as_str(), wanted);
+    }
+}
