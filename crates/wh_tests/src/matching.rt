@@ -131,9 +131,8 @@ fn answered(
     shown(rt, alloc, &give(rt, script, track, command))
 }
 
-/// The answers to the words of a row, and then what is sent.
-fn answers(rt: &impl Abort, alloc: Global, row: &Row) {
-    let track = track_of(rt, alloc, row.history);
+/// The answers to the words of a row over its history, and then what is sent.
+fn answers(rt: &impl Abort, alloc: Global, row: &Row, track: &Track) {
     let cut = numbered(rt, row.cut);
     let end = (track.len() as u64).saturating_add(1);
     assert!(rt; row.previous < cut.get() && cut.get() <= track.len() as u64);
@@ -143,32 +142,24 @@ fn answers(rt: &impl Abort, alloc: Global, row: &Row) {
     let mut script = Script::new(alloc, row.previous, cut);
     let mut all = String::new(alloc);
     for word in row.given.split_whitespace() {
-        let answer = answered(
-            rt,
-            alloc,
-            &mut script,
-            &track,
-            recorded,
-            &mut versions,
-            word,
-        );
+        let answer = answered(rt, alloc, &mut script, track, recorded, &mut versions, word);
         all.push_str(answer.as_str()).expect(rt, "memory");
         all.push_str(" ").expect(rt, "memory");
     }
     assert_eq!(rt; all.as_str(), row.answers, "{}", row.history);
-    wants(
-        rt,
-        alloc,
-        row.history,
-        script.reduced().expect(rt, "memory"),
-        row.sent,
-    );
+    let sent = script.reduced().expect(rt, "memory");
+    wants(rt, alloc, row.history, sent, row.sent);
 }
 
 #[test]
 fn answers_commands(rt: HostRuntime) {
     for row in &ROWS {
-        answers(&rt, rt.alloc(), row);
+        answers(
+            &rt,
+            rt.alloc(),
+            row,
+            &track_of(&rt, rt.alloc(), row.history),
+        );
     }
 }
 
