@@ -1,0 +1,55 @@
+/* Put before the C library's allocator by the loader: counts the requests for memory of a process, from
+   its start on, and refuses those whose numbers lie from REFUSE_FROM to REFUSE_TO (none where these are
+   not set). How many there were stands in the first eight bytes of the file that REFUSE_COUNT names, which
+   the process shares, since it may end without a call of what should run at its end. */
+#include <errno.h>
+#include <fcntl.h>
+#include <stdatomic.h>
+#include <stdlib.h>
+#include <sys/mman.h>
+#include <unistd.h>
+
+void *__libc_malloc(size_t size);
+void *__libc_calloc(size_t number, size_t size);
+void *__libc_realloc(void *block, size_t size);
+void *__libc_memalign(size_t alignment, size_t size);
+
+static atomic_ulong *asked;
+static unsigned long from, to;
+
+static unsigned long number_in(const char *name) {
+    const char *text = getenv(name);
+    return text ? strtoul(text, NULL, 10) : 0;
+}
+
+__attribute__((constructor)) static void begin(void) {
+    const char *name = getenv("REFUSE_COUNT");
+    int file = name ? open(name, O_RDWR | O_CREAT | O_TRUNC, 0600) : -1;
+    if (file < 0 || ftruncate(file, sizeof *asked))
+        return;
+    void *shared = mmap(NULL, sizeof *asked, PROT_READ | PROT_WRITE, MAP_SHARED, file, 0);
+    close(file);
+    if (shared == MAP_FAILED)
+        return;
+    from = number_in("REFUSE_FROM");
+    to = number_in("REFUSE_TO");
+    asked = shared;
+}
+
+static int is_refused(void) {
+    if (!asked)
+        return 0;
+    unsigned long number = atomic_fetch_add(asked, 1) + 1;
+    if (!from || number < from || number > to)
+        return 0;
+    errno = ENOMEM;
+    return 1;
+}
+
+void *malloc(size_t size) { return is_refused() ? NULL : __libc_malloc(size); }
+
+void *calloc(size_t number, size_t size) { return is_refused() ? NULL : __libc_calloc(number, size); }
+
+void *realloc(void *block, size_t size) { return is_refused() ? NULL : __libc_realloc(block, size); }
+
+void *aligned_alloc(size_t alignment, size_t size) { return is_refused() ? NULL : __libc_memalign(alignment, size); }
