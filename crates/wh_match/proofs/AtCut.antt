@@ -9,9 +9,9 @@ use Rattle.wh_machines.specs.Lookups.{thing_of, last_at, with_status, events_bet
 use Rattle.wh_machines.proofs.Histories.{place_none, later_none}
 use Rattle.wh_machines.proofs.OpenNamed.{open_if, open_named_last}
 use Rattle.wh_machines.proofs.Found.{is_named_kind}
-use Rattle.wh_workflow.specs.Scripts.{Place, cancels_open, closer_of, has_outside}
+use Rattle.wh_workflow.specs.Scripts.{Standpoint, cancels_open, closer_of, has_outside}
 use Rattle.wh_match.specs.declared.standing.Standing.{Standing}
-use Rattle.wh_match.specs.Issuing.{place_at}
+use Rattle.wh_match.specs.Issuing.{standpoint_at}
 use Rattle.wh_match.specs.Standings.{standing_of, standing_by, standing_in}
 
 -- the first events of a history in place are in place
@@ -24,15 +24,15 @@ first_placed (suc count) before (event ∷ rest) h =
     rw (here, later) refl
 
 -- how things stand, where this one of them is open and that one is the last
-abbrev standing_with : Place → Option ℕ → Option ℕ → Standing
-standing_with place found last = record { is_open = is_some found; is_cancelling = cancels_open place found; is_ended = has_outside (closer_of place.seen last) place.between }
+abbrev standing_with : Standpoint → Option ℕ → Option ℕ → Standing
+standing_with standpoint found last = record { is_open = is_some found; is_cancelling = cancels_open standpoint found; is_ended = has_outside (closer_of standpoint.seen last) standpoint.between }
 
-standing_last : (place : Place) (last : Option ℕ) → standing_with place (open_if place.seen last) last ≡ standing_in place.between (with_status place.seen last)
-standing_last place None = refl
-standing_last place (Some number) = by (closed_by number place.seen) (is_cancelling place.seen number) (is_started place.seen number) refl
+standing_last : (standpoint : Standpoint) (last : Option ℕ) → standing_with standpoint (open_if standpoint.seen last) last ≡ standing_in standpoint.between (with_status standpoint.seen last)
+standing_last standpoint None = refl
+standing_last standpoint (Some number) = by (closed_by number standpoint.seen) (is_cancelling standpoint.seen number) (is_started standpoint.seen number) refl
   where
-    by : (closed : Option ℕ) (cancelling started : Bool) → is_cancelling place.seen number ≡ cancelling
-        → record { is_open = is_some (cond (is_none closed) (Some number) None); is_cancelling = cancels_open place (cond (is_none closed) (Some number) None); is_ended = has_outside closed place.between } ≡ standing_by place.between (status_by closed cancelling started)
+    by : (closed : Option ℕ) (cancelling started : Bool) → is_cancelling standpoint.seen number ≡ cancelling
+        → record { is_open = is_some (cond (is_none closed) (Some number) None); is_cancelling = cancels_open standpoint (cond (is_none closed) (Some number) None); is_ended = has_outside closed standpoint.between } ≡ standing_by standpoint.between (status_by closed cancelling started)
     by (Some closer) cancelling started e = refl
     by None true started e = ap (λ b. record { is_open = true; is_cancelling = b; is_ended = false }) e
     by None false true e = ap (λ b. record { is_open = true; is_cancelling = b; is_ended = false }) e
@@ -40,18 +40,18 @@ standing_last place (Some number) = by (closed_by number place.seen) (is_cancell
 
 -- a look-up of the last thing tells how things stand
 pub standing_found : (events : List Event) (previous cut : ℕ) (kind : OpenKind) (id : List ℕ) → fault_after [] events ≡ None
-    → standing_of (place_at events previous cut None) (thing_of kind) id ≡ standing_in (events_between events previous cut) (last_at events (thing_of kind) id cut)
+    → standing_of (standpoint_at events previous cut None) (thing_of kind) id ≡ standing_in (events_between events previous cut) (last_at events (thing_of kind) id cut)
 standing_found events previous cut kind id placed =
-    let place = place_at events previous cut None in
+    let standpoint = standpoint_at events previous cut None in
     let thing = thing_of kind in
     let found = open_named_last thing id (take cut events) (is_named_kind kind) (first_placed cut [] events placed) in
-    ap (λ o. standing_with place o (last_named (take cut events) thing id)) found ∙ standing_last place (last_named (take cut events) thing id)
+    ap (λ o. standing_with standpoint o (last_named (take cut events) thing id)) found ∙ standing_last standpoint (last_named (take cut events) thing id)
 
 module _ (events : List Event) (previous cut : ℕ) (kind : OpenKind) (id : List ℕ) (placed : fault_after [] events ≡ None) (place : ℕ) (here : place ≡ cut) where
-  pub standing_absent : None ≡ last_at events (thing_of kind) id place → record { is_open = false; is_cancelling = false; is_ended = false } ≡ standing_of (place_at events previous cut None) (thing_of kind) id
+  pub standing_absent : None ≡ last_at events (thing_of kind) id place → record { is_open = false; is_cancelling = false; is_ended = false } ≡ standing_of (standpoint_at events previous cut None) (thing_of kind) id
   standing_absent h = sym (standing_found events previous cut kind id placed ∙ ap (standing_in (events_between events previous cut)) (ap (last_at events (thing_of kind) id) (sym here) ∙ sym h))
 
-  pub standing_told : (number : ℕ) (status : Status) → Some (number, status) ≡ last_at events (thing_of kind) id place → standing_by (events_between events previous place) status ≡ standing_of (place_at events previous cut None) (thing_of kind) id
+  pub standing_told : (number : ℕ) (status : Status) → Some (number, status) ≡ last_at events (thing_of kind) id place → standing_by (events_between events previous place) status ≡ standing_of (standpoint_at events previous cut None) (thing_of kind) id
   standing_told number status h =
       ap (λ n. standing_by (events_between events previous n) status) here
       ∙ sym (standing_found events previous cut kind id placed ∙ ap (standing_in (events_between events previous cut)) (ap (last_at events (thing_of kind) id) (sym here) ∙ sym h))

@@ -9,9 +9,9 @@ ghost use Rattle.std.specs.Result.{result_err};
 ghost use Rattle.std.specs.Vec.{vec_capacity};
 ghost use Rattle.wh_machines.specs.Lookups.{thing_of};
 ghost use Rattle.wh_workflow.specs.Law.{is_ask, is_marker};
-ghost use Rattle.wh_workflow.specs.Scripts.{Place, Settled, act_of, act_fault, command_fault, with_version};
+ghost use Rattle.wh_workflow.specs.Scripts.{Standpoint, Settled, act_of, act_fault, command_fault, with_version};
 ghost use Rattle.wh_match.specs.Faults.{early_fault, range_fault, workflow_fault};
-ghost use Rattle.wh_match.specs.Issuing.{place_in, is_late_act, with_issued, with_asked, choice_in, unmarked_if, reduced_by};
+ghost use Rattle.wh_match.specs.Issuing.{standpoint_in, is_late_act, with_issued, with_asked, choice_in, unmarked_if, reduced_by};
 ghost use Rattle.wh_match.specs.Standings.{standing_of};
 
 use crate::act::{Act, closes, read_act};
@@ -92,10 +92,10 @@ impl Script {
         requires not_ask { is_ask command ≡ false }
         requires not_marker { is_marker command ≡ false }
         ensures fault { (recorded : Option (List Event)) (settled : Settled) →
-            let place = place_in track.now self.old recorded in
-            workflow_fault result ≡ command_fault place settled self.old.issued command }
+            let standpoint = standpoint_in track.now self.old recorded in
+            workflow_fault result ≡ command_fault standpoint settled self.old.issued command }
         ensures ok { let late : Option (List Event) → Bool
-            = λ recorded. is_late_act (place_in track.now self.old recorded) self.old.issued (act_of command) in
+            = λ recorded. is_late_act (standpoint_in track.now self.old recorded) self.old.issued (act_of command) in
             OnOk result ((recorded : Option (List Event)) → self.new ≡ with_issued self.old command (late recorded)) }
         ensures err { OnErr result (self.new ≡ self.old) }
     {
@@ -127,9 +127,9 @@ impl Script {
     ) -> Result<i32, ScriptFault>
         ensures fault { (seen between : List Event) →
             let there = option_map (λ events. commanded events.now) recorded.entry in
-            let place : Place = record { seen = seen; between = between; recorded = there } in
+            let standpoint : Standpoint = record { seen = seen; between = between; recorded = there } in
             let ask = Command.Ask change_id.now min max in
-            workflow_fault result ≡ command_fault place versions.old self.old.issued ask }
+            workflow_fault result ≡ command_fault standpoint versions.old self.old.issued ask }
         ensures version { let there = option_map (λ events. commanded events.now) recorded.entry in
             let choice = choice_in there versions.old change_id.now max in
             IfOk result (λ version. version ≡ choice.version) }
@@ -186,9 +186,9 @@ impl Script {
         ensures fault { (seen between : List Event) →
             let asked = question.entry in
             let there = option_map (λ events. commanded events.now) recorded.entry in
-            let place : Place = record { seen = seen; between = between; recorded = there } in
+            let standpoint : Standpoint = record { seen = seen; between = between; recorded = there } in
             let ask = Command.Ask asked.change_id.now asked.min asked.max in
-            workflow_fault result ≡ command_fault place versions.old self.old.issued ask }
+            workflow_fault result ≡ command_fault standpoint versions.old self.old.issued ask }
         ensures version { let asked = question.entry in
             let there = option_map (λ events. commanded events.now) recorded.entry in
             let choice = choice_in there versions.old asked.change_id.now asked.max in
@@ -245,7 +245,7 @@ impl Script {
     fn standing(&self, track: &Track, kind: OpenKind, id: &str) -> Standing
         requires rising { self.now.previous < self.now.cut }
         requires within { self.now.cut ≤ length track.now }
-        ensures { result ≡ standing_of (place_in track.now self.now None) (thing_of kind) id.now }
+        ensures { result ≡ standing_of (standpoint_in track.now self.now None) (thing_of kind) id.now }
     {
         standing_at(track, self.previous, self.cut, kind, id)
     }
@@ -256,9 +256,9 @@ impl Script {
         requires rising { self.now.previous < self.now.cut }
         requires within { self.now.cut ≤ length track.now }
         requires not_ask { is_ask command.now ≡ false }
-        ensures fault { let place = place_in track.now self.now None in
-            result_err result ≡ act_fault place [] self.now.issued (act_of command.now) }
-        ensures late { let late = is_late_act (place_in track.now self.now None) self.now.issued (act_of command.now) in
+        ensures fault { let standpoint = standpoint_in track.now self.now None in
+            result_err result ≡ act_fault standpoint [] self.now.issued (act_of command.now) }
+        ensures late { let late = is_late_act (standpoint_in track.now self.now None) self.now.issued (act_of command.now) in
             IfOk result (λ is. is ≡ late) }
     {
         let earlier = self.issued.as_slice();
@@ -283,9 +283,9 @@ impl Script {
         requires within { self.now.cut ≤ length track.now }
         requires not_ask { is_ask command.now ≡ false }
         ensures fault { (recorded : Option (List Event)) (settled : Settled) →
-            let place = place_in track.now self.now recorded in
-            result_err result ≡ command_fault place settled self.now.issued command.now }
-        ensures late { let late = is_late_act (place_in track.now self.now None) self.now.issued (act_of command.now) in
+            let standpoint = standpoint_in track.now self.now recorded in
+            result_err result ≡ command_fault standpoint settled self.now.issued command.now }
+        ensures late { let late = is_late_act (standpoint_in track.now self.now None) self.now.issued (act_of command.now) in
             IfOk result (λ is. is ≡ late) }
     {
         match self.early_fault() {

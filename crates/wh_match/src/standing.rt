@@ -3,7 +3,7 @@ ghost use Rattle.std.specs.Prelude.{◌≡◌, ◌<◌, ◌≤◌, ◌-◌, [], 
 ghost use Rattle.wh_events.specs.Places.{fault_after};
 ghost use Rattle.wh_machines.specs.Lookups.{thing_of, events_between};
 ghost use Rattle.wh_workflow.specs.Scripts.{has_outside};
-ghost use Rattle.wh_match.specs.Issuing.{place_at};
+ghost use Rattle.wh_match.specs.Issuing.{standpoint_at};
 ghost use Rattle.wh_match.specs.Standings.{standing_of, standing_by, is_outside_in};
 
 use wh_events::{Class, Event, EventNo, OpenKind, Status};
@@ -78,7 +78,7 @@ pub(crate) fn standing_at(
 ) -> Standing
     requires rising { previous < cut }
     requires within { cut ≤ length track.now }
-    ensures { result ≡ standing_of (place_at track.now previous cut None) (thing_of kind) id.now }
+    ensures { result ≡ standing_of (standpoint_at track.now previous cut None) (thing_of kind) id.now }
 {
     let events = track.events();
     let place = cut.get();

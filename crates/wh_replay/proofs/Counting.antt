@@ -1,4 +1,4 @@
--- The steps of a replay are the pairs of its cuts' scripts.
+-- The steps that a replay counts are those of its cuts' scripts.
 use Rattle.std.proofs.Common.{◌≡◌, ℕ, ◌+◌, ◌≤◌, List, [], ◌∷◌, ◌++◌, length, Option, Some, None, Ok, sym, ap, ◌∙◌, arith, min}
 use Rattle.wh_events.specs.declared.event.Event.{Event}
 use Rattle.wh_events.specs.Cuts.{is_cut}
@@ -8,15 +8,15 @@ use Rattle.wh_workflow.specs.Counting.{risen}
 use Rattle.wh_workflow.specs.Law.{Program, IsLawful}
 use Rattle.wh_workflow.specs.Jobs.{jobs_of}
 use Rattle.wh_workflow.specs.Names.{mismatch}
-use Rattle.wh_workflow.specs.Scripts.{Place, Settled, reduced}
+use Rattle.wh_workflow.specs.Scripts.{Standpoint, Settled, reduced}
 use Rattle.wh_workflow.specs.Activations.{and_then, Progress, activate}
-use Rattle.wh_workflow.specs.ActivationScripts.{Pair, fault_in, ok_unless, outcome}
+use Rattle.wh_workflow.specs.ActivationScripts.{Step, fault_in, ok_unless, outcome}
 use Rattle.wh_workflow.proofs.Following.{whole_meets}
 use Rattle.wh_workflow.proofs.Scripting.{longest_in_words}
 use Rattle.wh_workflow.proofs.Plain.{jobs_plain}
-use Rattle.wh_replay.specs.Replays.{Replayed, place_at, begin_at, reached, close_task, task, replay_after, start, workflow_of, unless_mismatch}
+use Rattle.wh_replay.specs.Replays.{Replayed, standpoint_at, begin_at, reached, close_task, task, replay_after, start, workflow_of, unless_mismatch}
 use Rattle.wh_replay.specs.Runs.{counted, going_on}
-use Rattle.wh_replay.specs.Laws.{pair_count, HasScripts, ended, passed, ran, StepsArePairs, NewStepsArePairs}
+use Rattle.wh_replay.specs.Laws.{step_count, HasScripts, ended, passed, ran, StepsAreScripted, NewStepsAreScripted}
 use Rattle.wh_replay.proofs.Settling.{and_then_ok, ok_same}
 use Rattle.wh_replay.proofs.Advancing.{task_parts}
 use Rattle.wh_replay.proofs.Raising.{top, risen_zero}
@@ -41,16 +41,16 @@ module _ {S : Type 0} where
   matched at None x out e = ok_same x out e
   matched at (Some difference) x out e = cc
 
-  close_meter : (history : List Event) (place : Place) (at : ℕ) (recorded : Option (List Event)) (progress : Progress S) (out : Replayed S) → close_task history place at recorded progress ≡ Ok out → out.meter ≡ progress.meter
-  close_meter history place at None progress out e = sym (ap (λ (r : Replayed S). r.meter) (ok_same (reached progress (reduced place progress.script.issued)) out e))
-  close_meter history place at (Some events) progress out e = sym (ap (λ (r : Replayed S). r.meter) (matched at (mismatch history (reduced place progress.script.issued) events) (reached progress []) out e))
+  close_meter : (history : List Event) (standpoint : Standpoint) (at : ℕ) (recorded : Option (List Event)) (progress : Progress S) (out : Replayed S) → close_task history standpoint at recorded progress ≡ Ok out → out.meter ≡ progress.meter
+  close_meter history standpoint at None progress out e = sym (ap (λ (r : Replayed S). r.meter) (ok_same (reached progress (reduced standpoint progress.script.issued)) out e))
+  close_meter history standpoint at (Some events) progress out e = sym (ap (λ (r : Replayed S). r.meter) (matched at (mismatch history (reduced standpoint progress.script.issued) events) (reached progress []) out e))
 
-  outcome_meter : (program : Program S) (place : Place) (state : S) (settled : Settled) (meter : ℕ) (pairs : List Pair) (out : Progress S) → outcome program place state settled meter pairs ≡ Ok out → out.meter ≡ risen meter (length pairs)
-  outcome_meter program place state settled meter pairs out e = sym (ap (λ (p : Progress S). p.meter) (faultless (fault_in place settled [] pairs) _ out e))
+  outcome_meter : (program : Program S) (standpoint : Standpoint) (state : S) (settled : Settled) (meter : ℕ) (steps : List Step) (out : Progress S) → outcome program standpoint state settled meter steps ≡ Ok out → out.meter ≡ risen meter (length steps)
+  outcome_meter program standpoint state settled meter steps out e = sym (ap (λ (p : Progress S). p.meter) (faultless (fault_in standpoint settled [] steps) _ out e))
 
   -- the scripts of the rest of a history, and how far they raise the meter
   Counts : Program S → List Event → List Event → List Event → Replayed S → Replayed S → Type 0
-  Counts program before between rest current left = (scripts : List (List Pair)) × HasScripts program before between rest current scripts × (left.meter ≡ risen current.meter (pair_count scripts))
+  Counts program before between rest current left = (scripts : List (List Step)) × HasScripts program before between rest current scripts × (left.meter ≡ risen current.meter (step_count scripts))
 
   counts : (program : Program S) → IsLawful program → (before between rest : List Event) (current left : Replayed S) → current.meter ≤ top → replay_after program before between rest current ≡ Ok left → Counts program before between rest current left
   unfolding Counts
@@ -62,29 +62,29 @@ module _ {S : Type 0} where
       test_of (is_cut event rest)
       (λ c.
       let first = and_then_ok (task program before between event rest current) (replay_after program seen [] rest) left (sym (if_true (is_cut event rest) here past c) ∙ e) in
-      let place = place_at before between event rest in
+      let standpoint = standpoint_at before between event rest in
       let jobs = jobs_of seen between event in
-      let parts = task_parts (before ++ event ∷ rest) place event.number first.0 (activate program place jobs (begin_at current)) first.1 in
-      let script = whole_meets program lawful place jobs current.state current.settled current.meter (jobs_plain seen between event) below in
+      let parts = task_parts (before ++ event ∷ rest) standpoint event.number first.0 (activate program standpoint jobs (begin_at current)) first.1 in
+      let script = whole_meets program lawful standpoint jobs current.state current.settled current.meter (jobs_plain seen between event) below in
       let rises : first.0.meter ≡ risen current.meter (length script.0)
-      = close_meter (before ++ event ∷ rest) place event.number place.recorded parts.0 first.0 parts.2 ∙ outcome_meter program place current.state current.settled current.meter script.0 parts.0 (sym script.3 ∙ parts.1) in
+      = close_meter (before ++ event ∷ rest) standpoint event.number standpoint.recorded parts.0 first.0 parts.2 ∙ outcome_meter program standpoint current.state current.settled current.meter script.0 parts.0 (sym script.3 ∙ parts.1) in
       let later = counts program lawful seen [] rest first.0 left (below_risen first.0.meter current.meter (length script.0) rises) first.2 in (
         script.0 ∷ later.0,
-        ran before between event rest current first.0 script.0 later.0 c (longest_in_words program place jobs current.state current.settled script.0 script.1) first.1 later.1,
-        later.2 ∙ (ap (λ m. risen m (pair_count later.0)) rises ∙ risen_twice current.meter (length script.0) (pair_count later.0)),
+        ran before between event rest current first.0 script.0 later.0 c (longest_in_words program standpoint jobs current.state current.settled script.0 script.1) first.1 later.1,
+        later.2 ∙ (ap (λ m. risen m (step_count later.0)) rises ∙ risen_twice current.meter (length script.0) (step_count later.0)),
       ))
       (λ c.
       let later = counts program lawful seen (between ++ event ∷ []) rest current left below (sym (if_false (is_cut event rest) here past c) ∙ e) in
       (later.0, passed before between event rest current later.0 c later.1, later.2))
 
-  pub steps_are_pairs : (program : Program S) → IsLawful program → StepsArePairs program
+  pub steps_are_scripted : (program : Program S) → IsLawful program → StepsAreScripted program
   unfolding Counts
-  steps_are_pairs program lawful events left e =
+  steps_are_scripted program lawful events left e =
       let all = counts program lawful [] [] events (start program (workflow_of events) 0) left (omega arith) (replay_parts program events 0 left e).2 in
       (all.0, all.1, ap counted e ∙ all.2)
 
-  pub new_steps_are_pairs : (program : Program S) → IsLawful program → NewStepsArePairs program
+  pub new_steps_are_scripted : (program : Program S) → IsLawful program → NewStepsAreScripted program
   unfolding Counts
-  new_steps_are_pairs program lawful held new kept left k e =
+  new_steps_are_scripted program lawful held new kept left k e =
       let all = counts program lawful held [] new (record kept { unsent = []; meter = 0 }) left (omega arith) e in
       (all.0, all.1, ap (λ r. counted (and_then r (going_on program held new 0))) k ∙ (ap counted e ∙ all.2))

@@ -1,4 +1,4 @@
--- A live and a recorded activation have one longest script: a workflow that also logs its pairs leaves one log in both.
+-- A live and a recorded activation have one longest script: a workflow that also logs its steps leaves one log in both.
 use Rattle.std.proofs.Common.{◌≡◌, List, [], ◌∷◌, ◌++◌, length, Option, Some, None, Ok, refl, sym, ap, subst, ◌∙◌, append_assoc, arith}
 use Rattle.wh_events.specs.declared.event.Event.{Event}
 use Rattle.wh_workflow.specs.declared.command.Command.{Command}
@@ -7,24 +7,24 @@ use Rattle.wh_workflow.specs.declared.fault.WorkflowFault.{WorkflowFault}
 use Rattle.wh_workflow.specs.Law.{Program, IsLawful}
 use Rattle.wh_workflow.specs.Jobs.{jobs_of}
 use Rattle.wh_workflow.specs.Counting.{risen}
-use Rattle.wh_workflow.specs.Scripts.{Place, Settled}
+use Rattle.wh_workflow.specs.Scripts.{Standpoint, Settled}
 use Rattle.wh_workflow.specs.Activations.{Progress, activate}
-use Rattle.wh_workflow.specs.ActivationScripts.{Pair, IsLongest, commands_in, settled_from, settled_after, first_fault, issued_in, fault_in, ok_unless, state_after}
+use Rattle.wh_workflow.specs.ActivationScripts.{Step, IsLongest, commands_in, settled_from, settled_after, first_fault, issued_in, fault_in, ok_unless, state_after}
 use Rattle.wh_workflow.proofs.Judging.{up_to_fault, neither, all_stand, same_fault}
 use Rattle.wh_workflow.proofs.Following.{state_last, IsScriptBy, IsLongestBy, whole_meets}
 use Rattle.wh_workflow.proofs.Scripting.{longest_in_words, one_is_longest}
 use Rattle.wh_workflow.proofs.Plain.{jobs_plain}
 use Rattle.wh_replay.specs.Views.{progress}
-use Rattle.wh_replay.specs.Laws.{live_place, recorded_place, ScriptsEqual}
+use Rattle.wh_replay.specs.Laws.{live_standpoint, recorded_standpoint, ScriptsEqual}
 use Rattle.wh_replay.proofs.Settling.{ok_same}
 use Rattle.wh_replay.proofs.Confirming.{Known, Covers, activate_same}
 use Rattle.std.proofs.lemmas.List.{append-nil}
 
-settled_last : (settled : Settled) (xs : List Pair) (x : Pair) → settled_after settled (xs ++ x ∷ []) ≡ settled_from (settled_after settled xs) x.job
+settled_last : (settled : Settled) (xs : List Step) (x : Step) → settled_after settled (xs ++ x ∷ []) ≡ settled_from (settled_after settled xs) x.job
 settled_last settled [] x = refl
 settled_last settled (y ∷ xs) x = settled_last (settled_from settled y.job) xs x
 
-commands_last : (xs : List Pair) (x : Pair) → commands_in (xs ++ x ∷ []) ≡ commands_in xs ++ x.commands
+commands_last : (xs : List Step) (x : Step) → commands_in (xs ++ x ∷ []) ≡ commands_in xs ++ x.commands
 commands_last [] x = append-nil x.commands
 commands_last (y ∷ xs) x = ap (λ l. y.commands ++ l) (commands_last xs x) ∙ sym (append_assoc y.commands (commands_in xs) x.commands)
 
@@ -32,26 +32,26 @@ without_fault : {A : Type 0} (fault : Option WorkflowFault) (x out : A) → ok_u
 without_fault None x out e = (refl, ok_same x out e)
 without_fault (Some fault) x out e = cc
 
-same_pairs : (job : Job) (commands : List Command) (x : Pair) (xs ys : List Pair) → job ≡ x.job → x.commands ≡ commands → xs ≡ ys → record { job = job; commands = commands } ∷ xs ≡ x ∷ ys
-same_pairs job commands x xs ys p q r =
-    ap (λ (j : Job). let y : Pair = record { job = j; commands = commands } in y ∷ xs) p
-    ∙ (ap (λ (l : List Command). let y : Pair = record { job = x.job; commands = l } in y ∷ xs) (sym q) ∙ ap (λ l. x ∷ l) r)
+same_steps : (job : Job) (commands : List Command) (x : Step) (xs ys : List Step) → job ≡ x.job → x.commands ≡ commands → xs ≡ ys → record { job = job; commands = commands } ∷ xs ≡ x ∷ ys
+same_steps job commands x xs ys p q r =
+    ap (λ (j : Job). let y : Step = record { job = j; commands = commands } in y ∷ xs) p
+    ∙ (ap (λ (l : List Command). let y : Step = record { job = x.job; commands = l } in y ∷ xs) (sym q) ∙ ap (λ l. x ∷ l) r)
 
--- workflows that give the same commands after the same pairs have the same scripts
-same_script : {A B : Type 0} (one : Program A) (other : Program B) (place : Place) (jobs : List Job) (first : A) (begin : B) (settled : Settled) (pairs : List Pair)
-    → ((before : List Pair) (job : Job) → one.gives (state_after one first before) job ≡ other.gives (state_after other begin before) job) → IsScriptBy one place jobs first settled pairs → IsScriptBy other place jobs begin settled pairs
-same_script one other place jobs first begin settled pairs same p = record {
+-- workflows that give the same commands after the same steps have the same scripts
+same_script : {A B : Type 0} (one : Program A) (other : Program B) (standpoint : Standpoint) (jobs : List Job) (first : A) (begin : B) (settled : Settled) (steps : List Step)
+    → ((before : List Step) (job : Job) → one.gives (state_after one first before) job ≡ other.gives (state_after other begin before) job) → IsScriptBy one standpoint jobs first settled steps → IsScriptBy other standpoint jobs begin settled steps
+same_script one other standpoint jobs first begin settled steps same p = record {
   first_jobs = p.first_jobs;
   begins = p.begins;
   answers = p.answers;
-  steps = λ before after pair e. p.steps before after pair e ∙ ap (up_to_fault place (settled_after settled (before ++ pair ∷ [])) (commands_in before)) (same before pair.job);
+  gives = λ before after step e. p.gives before after step e ∙ ap (up_to_fault standpoint (settled_after settled (before ++ step ∷ [])) (commands_in before)) (same before step.job);
   faultless = p.faultless;
 }
 
--- a state with the pairs that led to it
+-- a state with the steps that led to it
 record Logged (S : Type 0) : Type 0 where
   state : S
-  log : List Pair
+  log : List Step
 
 module _ {S : Type 0} where
   -- the workflow with a log
@@ -63,56 +63,56 @@ module _ {S : Type 0} where
     gives = λ logged job. program.gives logged.state job;
   }
 
-  abbrev begun : S → List Pair → Logged S
+  abbrev begun : S → List Step → Logged S
   begun state log = record { state = state; log = log }
 
-  -- the pairs of the jobs of pairs, with all commands of each step
-  abbrev given_pairs : Program S → S → List Pair → List Pair
-  given_pairs program state [] = []
-  given_pairs program state (x ∷ rest) = record { job = x.job; commands = program.gives state x.job } ∷ given_pairs program (program.after state x.job) rest
+  -- the steps of the jobs of steps, with all commands of each step
+  abbrev given_steps : Program S → S → List Step → List Step
+  given_steps program state [] = []
+  given_steps program state (x ∷ rest) = record { job = x.job; commands = program.gives state x.job } ∷ given_steps program (program.after state x.job) rest
 
-  logged_state : (program : Program S) (state : S) (log pairs : List Pair) → (state_after (logging program) (begun state log) pairs).state ≡ state_after program state pairs
+  logged_state : (program : Program S) (state : S) (log steps : List Step) → (state_after (logging program) (begun state log) steps).state ≡ state_after program state steps
   logged_state program state log [] = refl
   logged_state program state log (x ∷ rest) = logged_state program (program.after state x.job) (log ++ record { job = x.job; commands = program.gives state x.job } ∷ []) rest
 
-  logged_pairs : (program : Program S) (state : S) (log pairs : List Pair) → (state_after (logging program) (begun state log) pairs).log ≡ log ++ given_pairs program state pairs
+  logged_pairs : (program : Program S) (state : S) (log steps : List Step) → (state_after (logging program) (begun state log) steps).log ≡ log ++ given_steps program state steps
   logged_pairs program state log [] = sym (append-nil log)
   logged_pairs program state log (x ∷ rest) =
-      let here : Pair = record { job = x.job; commands = program.gives state x.job } in
-      logged_pairs program (program.after state x.job) (log ++ here ∷ []) rest ∙ append_assoc log (here ∷ []) (given_pairs program (program.after state x.job) rest)
+      let here : Step = record { job = x.job; commands = program.gives state x.job } in
+      logged_pairs program (program.after state x.job) (log ++ here ∷ []) rest ∙ append_assoc log (here ∷ []) (given_steps program (program.after state x.job) rest)
 
   -- the scripts are those of the workflow without a log
-  unlogged : (program : Program S) (place : Place) (jobs : List Job) (state : S) (settled : Settled) (pairs : List Pair) → IsScriptBy (logging program) place jobs (begun state []) settled pairs → IsScriptBy program place jobs state settled pairs
-  unlogged program place jobs state settled pairs = same_script (logging program) program place jobs (begun state []) state settled pairs (λ before job. ap (λ s. program.gives s job) (logged_state program state [] before))
+  unlogged : (program : Program S) (standpoint : Standpoint) (jobs : List Job) (state : S) (settled : Settled) (steps : List Step) → IsScriptBy (logging program) standpoint jobs (begun state []) settled steps → IsScriptBy program standpoint jobs state settled steps
+  unlogged program standpoint jobs state settled steps = same_script (logging program) program standpoint jobs (begun state []) state settled steps (λ before job. ap (λ s. program.gives s job) (logged_state program state [] before))
 
-  longest_unlogged : (program : Program S) (place : Place) (jobs : List Job) (state : S) (settled : Settled) (pairs : List Pair) → IsLongestBy (logging program) place jobs (begun state []) settled pairs → IsLongest program place jobs state settled pairs
-  longest_unlogged program place jobs state settled pairs p =
-      longest_in_words program place jobs state settled pairs (record { script = unlogged program place jobs state settled pairs p.script; longest = λ other o. p.longest other (same_script program (logging program) place jobs state (begun state []) settled other (λ before job. ap (λ s. program.gives s job) (sym (logged_state program state [] before))) o) })
+  longest_unlogged : (program : Program S) (standpoint : Standpoint) (jobs : List Job) (state : S) (settled : Settled) (steps : List Step) → IsLongestBy (logging program) standpoint jobs (begun state []) settled steps → IsLongest program standpoint jobs state settled steps
+  longest_unlogged program standpoint jobs state settled steps p =
+      longest_in_words program standpoint jobs state settled steps (record { script = unlogged program standpoint jobs state settled steps p.script; longest = λ other o. p.longest other (same_script program (logging program) standpoint jobs state (begun state []) settled other (λ before job. ap (λ s. program.gives s job) (sym (logged_state program state [] before))) o) })
 
   -- a script without a fault has all commands of each step
-  all_given : (program : Program S) (place : Place) (jobs : List Job) (state : S) (settled : Settled) (pairs before rest : List Pair) → IsScriptBy program place jobs state settled pairs → pairs ≡ before ++ rest
-      → fault_in place (settled_after settled before) (commands_in before) rest ≡ None → given_pairs program (state_after program state before) rest ≡ rest
-  all_given program place jobs state settled pairs before [] p e none = refl
-  all_given program place jobs state settled pairs before (x ∷ rest) p e none =
+  all_given : (program : Program S) (standpoint : Standpoint) (jobs : List Job) (state : S) (settled : Settled) (steps before rest : List Step) → IsScriptBy program standpoint jobs state settled steps → steps ≡ before ++ rest
+      → fault_in standpoint (settled_after settled before) (commands_in before) rest ≡ None → given_steps program (state_after program state before) rest ≡ rest
+  all_given program standpoint jobs state settled steps before [] p e none = refl
+  all_given program standpoint jobs state settled steps before (x ∷ rest) p e none =
       let here = state_after program state before in
       let commands = program.gives here x.job in
       let now = settled_from (settled_after settled before) x.job in
-      let parts = neither (first_fault place now (commands_in before) x.commands) (fault_in place now (commands_in before ++ x.commands) rest) none in
-      let stands : x.commands ≡ up_to_fault place now (commands_in before) commands = p.steps before rest x e ∙ ap (λ n. up_to_fault place n (commands_in before) commands) (settled_last settled before x) in
-      let free : first_fault place now (commands_in before) commands ≡ None
-      = sym (same_fault place now (commands_in before) commands) ∙ (ap (first_fault place now (commands_in before)) (sym stands) ∙ parts.0) in
-      let later : given_pairs program (state_after program state (before ++ x ∷ [])) rest ≡ rest
-      = all_given program place jobs state settled pairs (before ++ x ∷ []) rest p (e ∙ sym (append_assoc before (x ∷ []) rest))
-      (ap (λ n. fault_in place n (commands_in (before ++ x ∷ [])) rest) (settled_last settled before x) ∙ (ap (λ l. fault_in place now l rest) (commands_last before x) ∙ parts.1)) in
-      same_pairs x.job commands x (given_pairs program (program.after here x.job) rest) rest refl (stands ∙ all_stand place now (commands_in before) commands free)
-      (ap (λ s. given_pairs program s rest) (sym (state_last program state before x)) ∙ later)
+      let parts = neither (first_fault standpoint now (commands_in before) x.commands) (fault_in standpoint now (commands_in before ++ x.commands) rest) none in
+      let stands : x.commands ≡ up_to_fault standpoint now (commands_in before) commands = p.gives before rest x e ∙ ap (λ n. up_to_fault standpoint n (commands_in before) commands) (settled_last settled before x) in
+      let free : first_fault standpoint now (commands_in before) commands ≡ None
+      = sym (same_fault standpoint now (commands_in before) commands) ∙ (ap (first_fault standpoint now (commands_in before)) (sym stands) ∙ parts.0) in
+      let later : given_steps program (state_after program state (before ++ x ∷ [])) rest ≡ rest
+      = all_given program standpoint jobs state settled steps (before ++ x ∷ []) rest p (e ∙ sym (append_assoc before (x ∷ []) rest))
+      (ap (λ n. fault_in standpoint n (commands_in (before ++ x ∷ [])) rest) (settled_last settled before x) ∙ (ap (λ l. fault_in standpoint now l rest) (commands_last before x) ∙ parts.1)) in
+      same_steps x.job commands x (given_steps program (program.after here x.job) rest) rest refl (stands ∙ all_stand standpoint now (commands_in before) commands free)
+      (ap (λ s. given_steps program s rest) (sym (state_last program state before x)) ∙ later)
 
   -- the log that an activation leaves is its longest script
-  record Left (program : Program S) (place : Place) (jobs : List Job) (state : S) (settled : Settled) (out : Progress (Logged S)) : Type 0 where
-    pairs : List Pair
-    longest : IsLongest program place jobs state settled pairs
-    log : out.state.log ≡ pairs
-    issued : out.script.issued ≡ issued_in place settled pairs
+  record Left (program : Program S) (standpoint : Standpoint) (jobs : List Job) (state : S) (settled : Settled) (out : Progress (Logged S)) : Type 0 where
+    steps : List Step
+    longest : IsLongest program standpoint jobs state settled steps
+    log : out.state.log ≡ steps
+    issued : out.script.issued ≡ issued_in standpoint settled steps
 
   lawful_log : (program : Program S) → IsLawful program → IsLawful (logging program)
   lawful_log program lawful logged job = lawful logged.state job
@@ -121,31 +121,31 @@ module _ {S : Type 0} where
       → activate (logging program) (record { seen = seen; between = between; recorded = recorded }) (jobs_of seen between cut) (progress (begun state []) settled [] 0) ≡ Ok out
       → Left program (record { seen = seen; between = between; recorded = recorded }) (jobs_of seen between cut) state settled out
   left_of program lawful seen between cut recorded state settled out e =
-      let place : Place = record { seen = seen; between = between; recorded = recorded } in
+      let standpoint : Standpoint = record { seen = seen; between = between; recorded = recorded } in
       let jobs = jobs_of seen between cut in
-      let meets = whole_meets (logging program) (lawful_log program lawful) place jobs (begun state []) settled 0 (jobs_plain seen between cut) (omega arith) in
-      let found = without_fault (fault_in place settled [] meets.0) _ out (sym meets.3 ∙ e) in
+      let meets = whole_meets (logging program) (lawful_log program lawful) standpoint jobs (begun state []) settled 0 (jobs_plain seen between cut) (omega arith) in
+      let found = without_fault (fault_in standpoint settled [] meets.0) _ out (sym meets.3 ∙ e) in
       let longest = meets.1 in
       record {
-        pairs = meets.0;
-        longest = longest_unlogged program place jobs state settled meets.0 longest;
-        log = sym (ap (λ (p : Progress (Logged S)). p.state.log) found.1) ∙ (logged_pairs program state [] meets.0 ∙ all_given program place jobs state settled meets.0 [] meets.0 (unlogged program place jobs state settled meets.0 longest.script) refl found.0);
+        steps = meets.0;
+        longest = longest_unlogged program standpoint jobs state settled meets.0 longest;
+        log = sym (ap (λ (p : Progress (Logged S)). p.state.log) found.1) ∙ (logged_pairs program state [] meets.0 ∙ all_given program standpoint jobs state settled meets.0 [] meets.0 (unlogged program standpoint jobs state settled meets.0 longest.script) refl found.0);
         issued = sym (ap (λ (p : Progress (Logged S)). p.script.issued) found.1);
       }
 
   -- a longest script without a fault is what the activation with a log goes through
-  ends_well : (program : Program S) → IsLawful program → (seen between : List Event) (cut : Event) (recorded : Option (List Event)) (state : S) (settled : Settled) (pairs : List Pair)
-      → IsLongest program (record { seen = seen; between = between; recorded = recorded }) (jobs_of seen between cut) state settled pairs → fault_in (record { seen = seen; between = between; recorded = recorded }) settled [] pairs ≡ None
+  ends_well : (program : Program S) → IsLawful program → (seen between : List Event) (cut : Event) (recorded : Option (List Event)) (state : S) (settled : Settled) (steps : List Step)
+      → IsLongest program (record { seen = seen; between = between; recorded = recorded }) (jobs_of seen between cut) state settled steps → fault_in (record { seen = seen; between = between; recorded = recorded }) settled [] steps ≡ None
       → (out : Progress (Logged S)) × (activate (logging program) (record { seen = seen; between = between; recorded = recorded }) (jobs_of seen between cut) (progress (begun state []) settled [] 0) ≡ Ok out)
-  ends_well program lawful seen between cut recorded state settled pairs p none =
-      let place : Place = record { seen = seen; between = between; recorded = recorded } in
+  ends_well program lawful seen between cut recorded state settled steps p none =
+      let standpoint : Standpoint = record { seen = seen; between = between; recorded = recorded } in
       let jobs = jobs_of seen between cut in
-      let meets = whole_meets (logging program) (lawful_log program lawful) place jobs (begun state []) settled 0 (jobs_plain seen between cut) (omega arith) in
-      let same : pairs ≡ meets.0 = one_is_longest program place jobs state settled pairs meets.0 p (longest_unlogged program place jobs state settled meets.0 meets.1) in
-      let free : fault_in place settled [] meets.0 ≡ None = ap (fault_in place settled []) (sym same) ∙ none in
+      let meets = whole_meets (logging program) (lawful_log program lawful) standpoint jobs (begun state []) settled 0 (jobs_plain seen between cut) (omega arith) in
+      let same : steps ≡ meets.0 = one_is_longest program standpoint jobs state settled steps meets.0 p (longest_unlogged program standpoint jobs state settled meets.0 meets.1) in
+      let free : fault_in standpoint settled [] meets.0 ≡ None = ap (fault_in standpoint settled []) (sym same) ∙ none in
       let out : Progress (Logged S) = record {
         state = state_after (logging program) (begun state []) meets.0;
-        script = record { settled = settled_after settled meets.0; issued = issued_in place settled meets.0 };
+        script = record { settled = settled_after settled meets.0; issued = issued_in standpoint settled meets.0 };
         meter = risen 0 (length meets.0);
       } in
       (out, meets.3 ∙ ap (λ o. ok_unless o out) free)
@@ -156,11 +156,11 @@ module _ {S : Type 0} where
       let begin : Progress (Logged S) = progress (begun state []) settled [] 0 in
       let ends = ends_well program lawful seen between cut None state settled live p none in
       let first = left_of program lawful seen between cut None state settled ends.0 ends.1 in
-      let same_live : live ≡ first.pairs = one_is_longest program (live_place seen between) jobs state settled live first.pairs p first.longest in
-      let issued : ends.0.script.issued ≡ issued_in (live_place seen between) settled live = first.issued ∙ ap (issued_in (live_place seen between) settled) (sym same_live) in
+      let same_live : live ≡ first.steps = one_is_longest program (live_standpoint seen between) jobs state settled live first.steps p first.longest in
+      let issued : ends.0.script.issued ≡ issued_in (live_standpoint seen between) settled live = first.issued ∙ ap (issued_in (live_standpoint seen between) settled) (sym same_live) in
       let P : List Command → Type 0 = λ l. Covers l events in
       let covered : Covers ends.0.script.issued events = subst P (sym issued) (record { covered = covers }) in
       let known : Known begin.script = record { known = λ change_id h. refl } in
       let again = activate_same (logging program) (lawful_log program lawful) seen between events jobs begin ends.0 known covered ends.1 in
       let second = left_of program lawful seen between cut (Some events) state settled ends.0 again.0 in
-      same_live ∙ (sym first.log ∙ (second.log ∙ one_is_longest program (recorded_place seen between events) jobs state settled second.pairs recorded second.longest r))
+      same_live ∙ (sym first.log ∙ (second.log ∙ one_is_longest program (recorded_standpoint seen between events) jobs state settled second.steps recorded second.longest r))

@@ -6,19 +6,19 @@ use Rattle.wh_workflow.specs.declared.command.Command.TheVariants.{Ask, Marker}
 use Rattle.wh_workflow.specs.declared.job.Job.TheVariants.{Version}
 use Rattle.wh_workflow.specs.declared.fault.WorkflowFault.{WorkflowFault}
 use Rattle.wh_workflow.specs.Law.{is_ask, is_marker, asks_last, records_none}
-use Rattle.wh_workflow.specs.Scripts.{Place, Settled, act_of, choice_of, with_version, command_fault, reduced}
+use Rattle.wh_workflow.specs.Scripts.{Standpoint, Settled, act_of, choice_of, with_version, command_fault, reduced}
 use Rattle.wh_workflow.specs.Activations.{and_then, unless_fault, Script, issue_all, question_in, question_at, question_of, marker_if, Reply, reply, respond, Progress}
 use Rattle.wh_match.specs.declared.fault.ScriptFault.{ScriptFault}
 use Rattle.wh_match.specs.declared.fault.ScriptFault.TheVariants.{Workflow, OutOfMemory}
 use Rattle.wh_match.specs.Faults.{workflow_fault}
-use Rattle.wh_match.specs.Issuing.{Issuing, place_at, place_in, is_late_act, late_marks, with_issued, unmarked_if, with_asked, choice_in, reduced_by}
-use Rattle.wh_match.proofs.Reducing.{late_marks-push, reduced_by-place}
+use Rattle.wh_match.specs.Issuing.{Issuing, standpoint_at, standpoint_in, is_late_act, late_marks, with_issued, unmarked_if, with_asked, choice_in, reduced_by}
+use Rattle.wh_match.proofs.Reducing.{late_marks-push, reduced_by-standpoint}
 use Rattle.wh_workflow.specs.declared.fault.Mismatch.{Mismatch}
 use Rattle.wh_workflow.specs.Names.{mismatch}
 use Rattle.wh_replay.specs.declared.fault.Fault.TheVariants.{Mismatch as Mismatched}
 use Rattle.wh_replay.specs.Replays.{reached, close_task, unless_mismatch}
 use Rattle.wh_replay.specs.declared.cut.Cut.{Cut}
-use Rattle.wh_replay.specs.Views.{place_of, script}
+use Rattle.wh_replay.specs.Views.{standpoint_of, script}
 use Rattle.wh_replay.specs.Activating.{Gives, IsPlain, IsOf}
 use Rattle.wh_replay.proofs.Confirming.{and_parts}
 use Rattle.wh_replay.proofs.Stepping.{slice_get-seam}
@@ -44,11 +44,11 @@ fault_then : {A B : Type 0} (fault : Option WorkflowFault) (one : Result A Workf
 fault_then None one next other e = e
 fault_then (Some fault) one next other e = refl
 
-issue_all-push : (place : Place) (s : Script) (front : List Command) (last : Command) → issue_all place s (front ++ last ∷ []) ≡ and_then (issue_all place s front) (λ next. issue_all place next (last ∷ []))
-issue_all-push place s [] last = refl
-issue_all-push place s (command ∷ front) last =
+issue_all-push : (standpoint : Standpoint) (s : Script) (front : List Command) (last : Command) → issue_all standpoint s (front ++ last ∷ []) ≡ and_then (issue_all standpoint s front) (λ next. issue_all standpoint next (last ∷ []))
+issue_all-push standpoint s [] last = refl
+issue_all-push standpoint s (command ∷ front) last =
     let next : Script = record { settled = s.settled; issued = s.issued ++ command ∷ [] } in
-    fault_then (command_fault place s.settled s.issued command) (issue_all place next front) (λ t. issue_all place t (last ∷ [])) (issue_all place next (front ++ last ∷ [])) (issue_all-push place next front last)
+    fault_then (command_fault standpoint s.settled s.issued command) (issue_all standpoint next front) (λ t. issue_all standpoint t (last ∷ [])) (issue_all standpoint next (front ++ last ∷ [])) (issue_all-push standpoint next front last)
 
 question_of-push : (front : List Command) (last : Command) → question_of (front ++ last ∷ []) ≡ question_in last
 question_of-push front last =
@@ -60,53 +60,53 @@ and_then_twice (Ok x) f g = refl
 and_then_twice (Err fault) f g = refl
 
 -- the last command of a step, after those before it
-pub respond-push : (place : Place) (s : Script) (front : List Command) (last : Command) → respond place s (front ++ last ∷ []) ≡ and_then (issue_all place s front) (λ next. respond place next (last ∷ []))
-respond-push place s front last =
-    ap (λ question. and_then (issue_all place s (front ++ last ∷ [])) (λ next. Ok (reply place next question))) (question_of-push front last)
-    ∙ (ap (λ r. and_then r (λ next. Ok (reply place next (question_in last)))) (issue_all-push place s front last)
-    ∙ and_then_twice (issue_all place s front) (λ next. issue_all place next (last ∷ [])) (λ next. Ok (reply place next (question_in last))))
+pub respond-push : (standpoint : Standpoint) (s : Script) (front : List Command) (last : Command) → respond standpoint s (front ++ last ∷ []) ≡ and_then (issue_all standpoint s front) (λ next. respond standpoint next (last ∷ []))
+respond-push standpoint s front last =
+    ap (λ question. and_then (issue_all standpoint s (front ++ last ∷ [])) (λ next. Ok (reply standpoint next question))) (question_of-push front last)
+    ∙ (ap (λ r. and_then r (λ next. Ok (reply standpoint next (question_in last)))) (issue_all-push standpoint s front last)
+    ∙ and_then_twice (issue_all standpoint s front) (λ next. issue_all standpoint next (last ∷ [])) (λ next. Ok (reply standpoint next (question_in last))))
 
 question_plain : (command : Command) → is_ask command ≡ false → question_in command ≡ None
 question_plain (Ask _ _ _) h = cc
 question_plain _ h = refl
 
 -- a plain command that can stand
-pub plain_ok : (place : Place) (settled : Settled) (issued more : List Command) (command : Command) → command_fault place settled issued command ≡ None → is_ask command ≡ false → more ≡ issued ++ command ∷ []
-    → respond place (script settled issued) (command ∷ []) ≡ Ok (record { script = script settled more; next = None })
-plain_ok place settled issued more command none plain is =
-    ap (λ fault. and_then (unless_fault fault (Ok (script settled (issued ++ command ∷ [])))) (λ next. Ok (reply place next (question_in command)))) none
-    ∙ (ap (λ question. Ok (reply place (script settled (issued ++ command ∷ [])) question)) (question_plain command plain)
+pub plain_ok : (standpoint : Standpoint) (settled : Settled) (issued more : List Command) (command : Command) → command_fault standpoint settled issued command ≡ None → is_ask command ≡ false → more ≡ issued ++ command ∷ []
+    → respond standpoint (script settled issued) (command ∷ []) ≡ Ok (record { script = script settled more; next = None })
+plain_ok standpoint settled issued more command none plain is =
+    ap (λ fault. and_then (unless_fault fault (Ok (script settled (issued ++ command ∷ [])))) (λ next. Ok (reply standpoint next (question_in command)))) none
+    ∙ (ap (λ question. Ok (reply standpoint (script settled (issued ++ command ∷ [])) question)) (question_plain command plain)
     ∙ ap (λ l. let r : Reply = record { script = script settled l; next = None } in Ok r) (sym is))
 
 -- an ask that can stand
-pub asked_ok : (place : Place) (settled after : Settled) (issued more : List Command) (change_id : List ℕ) (low high version : ℤ) → command_fault place settled issued (Ask change_id low high) ≡ None
-    → after ≡ with_version settled change_id (choice_of place settled change_id high).version
-    → more ≡ (issued ++ Ask change_id low high ∷ []) ++ marker_if (choice_of place settled change_id high).marked change_id (choice_of place settled change_id high).version → version ≡ (choice_of place settled change_id high).version
-    → respond place (script settled issued) (Ask change_id low high ∷ []) ≡ Ok (record { script = script after more; next = Some (Version change_id version) })
-asked_ok place settled after issued more change_id low high version none settles issues answers =
+pub asked_ok : (standpoint : Standpoint) (settled after : Settled) (issued more : List Command) (change_id : List ℕ) (low high version : ℤ) → command_fault standpoint settled issued (Ask change_id low high) ≡ None
+    → after ≡ with_version settled change_id (choice_of standpoint settled change_id high).version
+    → more ≡ (issued ++ Ask change_id low high ∷ []) ++ marker_if (choice_of standpoint settled change_id high).marked change_id (choice_of standpoint settled change_id high).version → version ≡ (choice_of standpoint settled change_id high).version
+    → respond standpoint (script settled issued) (Ask change_id low high ∷ []) ≡ Ok (record { script = script after more; next = Some (Version change_id version) })
+asked_ok standpoint settled after issued more change_id low high version none settles issues answers =
     let made : Settled → List Command → ℤ → Result Reply WorkflowFault = λ a l v. Ok (record { script = script a l; next = Some (Version change_id v) }) in
-    let choice = choice_of place settled change_id high in
+    let choice = choice_of standpoint settled change_id high in
     let given = (issued ++ Ask change_id low high ∷ []) ++ marker_if choice.marked change_id choice.version in
-    ap (λ fault. and_then (unless_fault fault (Ok (script settled (issued ++ Ask change_id low high ∷ [])))) (λ next. Ok (reply place next (question_in (Ask change_id low high))))) none
+    ap (λ fault. and_then (unless_fault fault (Ok (script settled (issued ++ Ask change_id low high ∷ [])))) (λ next. Ok (reply standpoint next (question_in (Ask change_id low high))))) none
     ∙ (ap (λ a. made a given choice.version) (sym settles)
     ∙ (ap (λ l. made after l choice.version) (sym issues) ∙ ap (made after more) (sym answers)))
 
 -- a command that can't stand
-pub refused_last : {A : Type 0} (B : Type 0) (place : Place) (settled : Settled) (issued : List Command) (command : Command) (fault : ScriptFault) (seen : A → Reply) → workflow_fault {A = B} (Err fault) ≡ command_fault place settled issued command
-    → Gives (Err fault) (respond place (script settled issued) (command ∷ [])) seen
-refused_last B place settled issued command (Workflow fault) seen is =
-    ap (λ o. and_then (unless_fault o (Ok (script settled (issued ++ command ∷ [])))) (λ next. Ok (reply place next (question_in command)))) (sym is)
-refused_last B place settled issued command OutOfMemory seen is = tt
+pub refused_last : {A : Type 0} (B : Type 0) (standpoint : Standpoint) (settled : Settled) (issued : List Command) (command : Command) (fault : ScriptFault) (seen : A → Reply) → workflow_fault {A = B} (Err fault) ≡ command_fault standpoint settled issued command
+    → Gives (Err fault) (respond standpoint (script settled issued) (command ∷ [])) seen
+refused_last B standpoint settled issued command (Workflow fault) seen is =
+    ap (λ o. and_then (unless_fault o (Ok (script settled (issued ++ command ∷ [])))) (λ next. Ok (reply standpoint next (question_in command)))) (sym is)
+refused_last B standpoint settled issued command OutOfMemory seen is = tt
 
-pub refused_one : {A : Type 0} (B : Type 0) (place : Place) (settled : Settled) (issued : List Command) (command : Command) (rest : List Command) (fault : ScriptFault) (seen : A → Script) (whole : Result Script WorkflowFault) → workflow_fault {A = B} (Err fault) ≡ command_fault place settled issued command
-    → issue_all place (script settled issued) (command ∷ rest) ≡ whole → Gives (Err fault) whole seen
-refused_one B place settled issued command rest (Workflow fault) seen whole is e = sym e ∙ ap (λ o. unless_fault o (issue_all place (script settled (issued ++ command ∷ [])) rest)) (sym is)
-refused_one B place settled issued command rest OutOfMemory seen whole is e = tt
+pub refused_one : {A : Type 0} (B : Type 0) (standpoint : Standpoint) (settled : Settled) (issued : List Command) (command : Command) (rest : List Command) (fault : ScriptFault) (seen : A → Script) (whole : Result Script WorkflowFault) → workflow_fault {A = B} (Err fault) ≡ command_fault standpoint settled issued command
+    → issue_all standpoint (script settled issued) (command ∷ rest) ≡ whole → Gives (Err fault) whole seen
+refused_one B standpoint settled issued command rest (Workflow fault) seen whole is e = sym e ∙ ap (λ o. unless_fault o (issue_all standpoint (script settled (issued ++ command ∷ [])) rest)) (sym is)
+refused_one B standpoint settled issued command rest OutOfMemory seen whole is e = tt
 
 -- a command that can stand, and the rest
-pub issued_one : (place : Place) (settled : Settled) (issued more : List Command) (command : Command) (rest : List Command) → command_fault place settled issued command ≡ None → more ≡ issued ++ command ∷ []
-    → issue_all place (script settled more) rest ≡ issue_all place (script settled issued) (command ∷ rest)
-issued_one place settled issued more command rest none is = ap (λ l. issue_all place (script settled l) rest) is ∙ sym (ap (λ o. unless_fault o (issue_all place (script settled (issued ++ command ∷ [])) rest)) none)
+pub issued_one : (standpoint : Standpoint) (settled : Settled) (issued more : List Command) (command : Command) (rest : List Command) → command_fault standpoint settled issued command ≡ None → more ≡ issued ++ command ∷ []
+    → issue_all standpoint (script settled more) rest ≡ issue_all standpoint (script settled issued) (command ∷ rest)
+issued_one standpoint settled issued more command rest none is = ap (λ l. issue_all standpoint (script settled l) rest) is ∙ sym (ap (λ o. unless_fault o (issue_all standpoint (script settled (issued ++ command ∷ [])) rest)) none)
 
 -- an answer to what equals the whole is one to the whole
 pub gives_along : {A B : Type 0} (result : Result A ScriptFault) (defined whole : Result B WorkflowFault) (seen : A → B) → whole ≡ defined → Gives result defined seen → Gives result whole seen
@@ -118,68 +118,68 @@ gives_then (Ok x) defined seen next whole_seen same gives = ap (λ r. and_then r
 gives_then (Err (Workflow fault)) defined seen next whole_seen same gives = ap (λ r. and_then r (λ y. Ok (next y))) gives
 gives_then (Err OutOfMemory) defined seen next whole_seen same gives = tt
 
--- the place of a script is that of its cut
-pub place_is : (cut : Cut) (s : Issuing) → IsOf cut s → place_in cut.track.now s (place_of cut).recorded ≡ place_of cut
-place_is cut s of = ap (λ k. place_at cut.track.now k s.cut (place_of cut).recorded) of.previous ∙ ap (λ k. place_at cut.track.now cut.previous k (place_of cut).recorded) of.number
+-- the standpoint of a script is that of its cut
+pub place_is : (cut : Cut) (s : Issuing) → IsOf cut s → standpoint_in cut.track.now s (standpoint_of cut).recorded ≡ standpoint_of cut
+place_is cut s of = ap (λ k. standpoint_at cut.track.now k s.cut (standpoint_of cut).recorded) of.previous ∙ ap (λ k. standpoint_at cut.track.now cut.previous k (standpoint_of cut).recorded) of.number
 
 -- a script with one more command is still that of its cut
-pub issued_of : (cut : Cut) (s next : Issuing) (command : Command) → IsOf cut s → next ≡ with_issued s command (is_late_act (place_in cut.track.now s (place_of cut).recorded) s.issued (act_of command)) → IsOf cut next
+pub issued_of : (cut : Cut) (s next : Issuing) (command : Command) → IsOf cut s → next ≡ with_issued s command (is_late_act (standpoint_in cut.track.now s (standpoint_of cut).recorded) s.issued (act_of command)) → IsOf cut next
 issued_of cut s next command of is = record {
   previous = ap (λ (n : Issuing). n.previous) is ∙ of.previous;
   number = ap (λ (n : Issuing). n.cut) is ∙ of.number;
   late =
       ap (λ (n : Issuing). n.late) is
-      ∙ (ap (λ place. s.late ++ is_late_act place s.issued (act_of command) ∷ []) (place_is cut s of)
-      ∙ (ap (λ l. l ++ is_late_act (place_of cut) s.issued (act_of command) ∷ []) of.late
-      ∙ (sym (late_marks-push (place_of cut) s.issued command) ∙ sym (ap (λ (n : Issuing). late_marks (place_of cut) n.issued) is))));
+      ∙ (ap (λ standpoint. s.late ++ is_late_act standpoint s.issued (act_of command) ∷ []) (place_is cut s of)
+      ∙ (ap (λ l. l ++ is_late_act (standpoint_of cut) s.issued (act_of command) ∷ []) of.late
+      ∙ (sym (late_marks-push (standpoint_of cut) s.issued command) ∙ sym (ap (λ (n : Issuing). late_marks (standpoint_of cut) n.issued) is))));
 }
 
-marks_asked : (place : Place) (issued : List Command) (change_id : List ℕ) (low high version : ℤ) (marked : Bool)
-    → (late_marks place issued ++ false ∷ []) ++ unmarked_if marked ≡ late_marks place ((issued ++ Ask change_id low high ∷ []) ++ marker_if marked change_id version)
-marks_asked place issued change_id low high version true =
+marks_asked : (standpoint : Standpoint) (issued : List Command) (change_id : List ℕ) (low high version : ℤ) (marked : Bool)
+    → (late_marks standpoint issued ++ false ∷ []) ++ unmarked_if marked ≡ late_marks standpoint ((issued ++ Ask change_id low high ∷ []) ++ marker_if marked change_id version)
+marks_asked standpoint issued change_id low high version true =
     let ask = Ask change_id low high in
-    ap (λ l. l ++ false ∷ []) (sym (late_marks-push place issued ask)) ∙ sym (late_marks-push place (issued ++ ask ∷ []) (Marker change_id version))
-marks_asked place issued change_id low high version false =
+    ap (λ l. l ++ false ∷ []) (sym (late_marks-push standpoint issued ask)) ∙ sym (late_marks-push standpoint (issued ++ ask ∷ []) (Marker change_id version))
+marks_asked standpoint issued change_id low high version false =
     let ask = Ask change_id low high in
-    append-nil (late_marks place issued ++ false ∷ []) ∙ (sym (late_marks-push place issued ask) ∙ ap (late_marks place) (sym (append-nil (issued ++ ask ∷ []))))
+    append-nil (late_marks standpoint issued ++ false ∷ []) ∙ (sym (late_marks-push standpoint issued ask) ∙ ap (late_marks standpoint) (sym (append-nil (issued ++ ask ∷ []))))
 
-asked_here : (cut : Cut) (s next : Issuing) (settled : Settled) (change_id : List ℕ) (low high : ℤ) → IsOf cut s → next ≡ with_asked s change_id low high (choice_of (place_of cut) settled change_id high) → IsOf cut next
+asked_here : (cut : Cut) (s next : Issuing) (settled : Settled) (change_id : List ℕ) (low high : ℤ) → IsOf cut s → next ≡ with_asked s change_id low high (choice_of (standpoint_of cut) settled change_id high) → IsOf cut next
 asked_here cut s next settled change_id low high of is =
-    let choice = choice_of (place_of cut) settled change_id high in
+    let choice = choice_of (standpoint_of cut) settled change_id high in
     record {
       previous = ap (λ (n : Issuing). n.previous) is ∙ of.previous;
       number = ap (λ (n : Issuing). n.cut) is ∙ of.number;
       late =
           ap (λ (n : Issuing). n.late) is
           ∙ (ap (λ l. (l ++ false ∷ []) ++ unmarked_if choice.marked) of.late
-          ∙ (marks_asked (place_of cut) s.issued change_id low high choice.version choice.marked ∙ sym (ap (λ (n : Issuing). late_marks (place_of cut) n.issued) is)));
+          ∙ (marks_asked (standpoint_of cut) s.issued change_id low high choice.version choice.marked ∙ sym (ap (λ (n : Issuing). late_marks (standpoint_of cut) n.issued) is)));
     }
 
 -- nor does an ask change that
-pub asked_of : (cut : Cut) (s next : Issuing) (settled : Settled) (change_id : List ℕ) (low high : ℤ) (recorded : Option (List Event)) → recorded ≡ (place_of cut).recorded → IsOf cut s
+pub asked_of : (cut : Cut) (s next : Issuing) (settled : Settled) (change_id : List ℕ) (low high : ℤ) (recorded : Option (List Event)) → recorded ≡ (standpoint_of cut).recorded → IsOf cut s
     → next ≡ with_asked s change_id low high (choice_in recorded settled change_id high) → IsOf cut next
 asked_of cut s next settled change_id low high recorded same of is =
     asked_here cut s next settled change_id low high of (is ∙ ap (λ o. with_asked s change_id low high (choice_in o settled change_id high)) same)
 
 -- what is sent of a script
-pub sent_is : (cut : Cut) (s : Issuing) (sent : List Command) → IsOf cut s → sent ≡ reduced_by s.late s.issued → sent ≡ reduced (place_of cut) s.issued
-sent_is cut s sent of is = is ∙ (ap (λ l. reduced_by l s.issued) of.late ∙ reduced_by-place (place_of cut) s.issued)
+pub sent_is : (cut : Cut) (s : Issuing) (sent : List Command) → IsOf cut s → sent ≡ reduced_by s.late s.issued → sent ≡ reduced (standpoint_of cut) s.issued
+sent_is cut s sent of is = is ∙ (ap (λ l. reduced_by l s.issued) of.late ∙ reduced_by-standpoint (standpoint_of cut) s.issued)
 
 -- the end of a task at a cut, of which this is sent
-module _ {S : Type 0} (history : List Event) (place : Place) (at : ℕ) (left : Progress S) (sent : List Command) (is : sent ≡ reduced place left.script.issued) where
+module _ {S : Type 0} (history : List Event) (standpoint : Standpoint) (at : ℕ) (left : Progress S) (sent : List Command) (is : sent ≡ reduced standpoint left.script.issued) where
   -- a live task
-  pub live_task : place.recorded ≡ None → close_task history place at place.recorded left ≡ Ok (reached left sent)
-  live_task e = ap (λ o. close_task history place at o left) e ∙ ap (λ l. Ok (reached left l)) (sym is)
+  pub live_task : standpoint.recorded ≡ None → close_task history standpoint at standpoint.recorded left ≡ Ok (reached left sent)
+  live_task e = ap (λ o. close_task history standpoint at o left) e ∙ ap (λ l. Ok (reached left l)) (sym is)
 
-  compared : (events : List Event) (difference : Option Mismatch) → place.recorded ≡ Some events → difference ≡ mismatch history sent events → close_task history place at place.recorded left ≡ unless_mismatch at difference (reached left [])
+  compared : (events : List Event) (difference : Option Mismatch) → standpoint.recorded ≡ Some events → difference ≡ mismatch history sent events → close_task history standpoint at standpoint.recorded left ≡ unless_mismatch at difference (reached left [])
   compared events difference e d =
-      ap (λ o. close_task history place at o left) e
+      ap (λ o. close_task history standpoint at o left) e
       ∙ (ap (λ l. unless_mismatch at (mismatch history l events) (reached left [])) (sym is) ∙ ap (λ m. unless_mismatch at m (reached left [])) (sym d))
 
   -- a recorded task whose commands match
-  pub matched_task : (events : List Event) (difference : Option Mismatch) → place.recorded ≡ Some events → difference ≡ mismatch history sent events → difference ≡ None → close_task history place at place.recorded left ≡ Ok (reached left [])
+  pub matched_task : (events : List Event) (difference : Option Mismatch) → standpoint.recorded ≡ Some events → difference ≡ mismatch history sent events → difference ≡ None → close_task history standpoint at standpoint.recorded left ≡ Ok (reached left [])
   matched_task events difference e d none = compared events difference e d ∙ ap (λ m. unless_mismatch at m (reached left [])) none
 
   -- and one whose commands differ
-  pub differing_task : (events : List Event) (difference : Option Mismatch) (first : Mismatch) → place.recorded ≡ Some events → difference ≡ mismatch history sent events → difference ≡ Some first → close_task history place at place.recorded left ≡ Err (Mismatched at first)
+  pub differing_task : (events : List Event) (difference : Option Mismatch) (first : Mismatch) → standpoint.recorded ≡ Some events → difference ≡ mismatch history sent events → difference ≡ Some first → close_task history standpoint at standpoint.recorded left ≡ Err (Mismatched at first)
   differing_task events difference first e d some = compared events difference e d ∙ ap (λ m. unless_mismatch at m (reached left [])) some

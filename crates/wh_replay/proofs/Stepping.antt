@@ -13,12 +13,12 @@ use Rattle.wh_machines.proofs.Placed.{NumberedFrom, numbered_after}
 use Rattle.wh_activation.specs.Cutting.{jobs_in, jobs_at}
 use Rattle.wh_split.specs.Splits.{first_of}
 use Rattle.wh_workflow.specs.Law.{Program}
-use Rattle.wh_workflow.specs.Scripts.{Place}
+use Rattle.wh_workflow.specs.Scripts.{Standpoint}
 use Rattle.wh_workflow.specs.Activations.{and_then, activate}
 use Rattle.wh_replay.specs.declared.fault.Fault.{Fault}
 use Rattle.wh_replay.specs.Replays.{Replayed, task, task_after, begin_at, replay_after}
 use Rattle.wh_replay.specs.declared.cut.Cut.{Cut}
-use Rattle.wh_replay.specs.Views.{place_of, place_after, task_of}
+use Rattle.wh_replay.specs.Views.{standpoint_of, standpoint_after, task_of}
 use Rattle.wh_replay.specs.Checks.{ends_live}
 
 -- none of the first events is a cut, where the history goes on with the rest
@@ -224,15 +224,15 @@ module _ {S : Type 0} (program : Program S) where
 
   -- the task of the cut of a number
   abbrev pub task_at : List Event → ℕ → ℕ → Replayed S → Result (Replayed S) Fault
-  task_at events last number current = let place = place_after events last number in task_after events place number (activate program place (jobs_at events last number) (begin_at current))
+  task_at events last number current = let standpoint = standpoint_after events last number in task_after events standpoint number (activate program standpoint (jobs_at events last number) (begin_at current))
 
   -- the task at a cut of the code is that at its number
-  pub task_here : (cut : Cut) (current : Replayed S) → (place_of cut).recorded ≡ (place_after cut.track.now cut.previous cut.number).recorded → task_of program cut current ≡ task_at cut.track.now cut.previous cut.number current
+  pub task_here : (cut : Cut) (current : Replayed S) → (standpoint_of cut).recorded ≡ (standpoint_after cut.track.now cut.previous cut.number).recorded → task_of program cut current ≡ task_at cut.track.now cut.previous cut.number current
   task_here cut current e =
       let events = cut.track.now in
       let P : Option (List Event) → Result (Replayed S) Fault
       = λ recorded.
-      let place : Place = record { seen = take cut.number events; between = events_between events cut.previous cut.number; recorded = recorded } in task_after events place cut.number (activate program place (jobs_at events cut.previous cut.number) (begin_at current)) in
+      let standpoint : Standpoint = record { seen = take cut.number events; between = events_between events cut.previous cut.number; recorded = recorded } in task_after events standpoint cut.number (activate program standpoint (jobs_at events cut.previous cut.number) (begin_at current)) in
       ap P e
 
   -- the next cut of a history, and what follows it
@@ -245,7 +245,7 @@ module _ {S : Type 0} (program : Program S) where
       let there = n.cuts_here in
       let F : List Event → List Event → List Event → ℕ → Option Event → Result (Replayed S) Fault
       = λ whole seen between at got.
-      let place : Place = record { seen = seen; between = between; recorded = if is_recorded more then Some (record_of more) else None } in task_after whole place at (activate program place (jobs_in seen between got) (begin_at current)) in
+      let standpoint : Standpoint = record { seen = seen; between = between; recorded = if is_recorded more then Some (record_of more) else None } in task_after whole standpoint at (activate program standpoint (jobs_in seen between got) (begin_at current)) in
       let next : List Event → Result (Replayed S) Fault → Result (Replayed S) Fault = λ seen r. and_then r (replay_after program seen [] more) in
       let here : F (ys ++ n.cut ∷ more) (ys ++ n.cut ∷ []) n.front n.cut.number (Some n.cut) ≡ task_at events last number current
       = ap (λ l. F l (ys ++ n.cut ∷ []) n.front n.cut.number (Some n.cut)) (sym n.whole)

@@ -11,13 +11,13 @@ use Rattle.wh_events.specs.Names.{IsOpenUnder, IsLastUnder}
 use Rattle.wh_workflow.specs.declared.command.Command.{Command}
 use Rattle.wh_workflow.specs.declared.fault.WorkflowFault.{WorkflowFault}
 use Rattle.wh_workflow.specs.declared.fault.WorkflowFault.TheVariants.{AfterClosing, TooManyCommands, IdInUse, IdReused, NotOpen, AlreadyCancelling, BadRange, VersionOutOfRange, UnknownWorkflow}
-use Rattle.wh_workflow.specs.Scripts.{Place, Settled, Act, act_of, choice_of, given, most_commands, command_fault}
+use Rattle.wh_workflow.specs.Scripts.{Standpoint, Settled, Act, act_of, choice_of, given, most_commands, command_fault}
 use Rattle.wh_workflow.specs.Scripts.Act.{Opening, Cancelling, Closing, Asking}
 
 -- what an activation knows is of a cut, the last event of a history in place: the events between are those right before it
-pub record IsOfCut (place : Place) : Type 0 where
-  pub in_place : InPlace place.seen
-  pub ends : (passed : List Event) × (cut : Event) × (place.seen ≡ passed ++ (place.between ++ cut ∷ []))
+pub record IsOfCut (standpoint : Standpoint) : Type 0 where
+  pub in_place : InPlace standpoint.seen
+  pub ends : (passed : List Event) × (cut : Event) × (standpoint.seen ≡ passed ++ (standpoint.between ++ cut ∷ []))
 
 -- one of the commands does it
 abbrev pub Does : List Command → Act → Type 0
@@ -34,25 +34,25 @@ IsWithdrawn thing id commands =
     (before : List Command) × (opening : Command) × (after : List Command) × (commands ≡ before ++ opening ∷ after) × (act_of opening ≡ Opening thing id) × Does after (Cancelling thing id)
 
 -- it is open by now: opened in this activation and not cancelled, or open at the cut, and no timer that was cancelled in this activation
-abbrev pub IsStillOpen : Place → List Command → Thing → List ℕ → Type 0
-IsStillOpen place earlier thing id = IsLeftOpen thing id earlier ⊎ (HasOpen place.seen thing id × ¬ ((thing ≡ Timer) × Does earlier (Cancelling thing id)))
+abbrev pub IsStillOpen : Standpoint → List Command → Thing → List ℕ → Type 0
+IsStillOpen standpoint earlier thing id = IsLeftOpen thing id earlier ⊎ (HasOpen standpoint.seen thing id × ¬ ((thing ≡ Timer) × Does earlier (Cancelling thing id)))
 
 -- its last opening was closed by an outside event of this activation
-abbrev pub IsEndedHere : Place → Thing → List ℕ → Type 0
-IsEndedHere place thing id = (number : ℕ) × (i : ℕ) × (closer : Event) × IsLastUnder place.seen thing id number × IsAt place.between i closer × IsTrue (is_outside closer) × IsTrue (closes number closer)
+abbrev pub IsEndedHere : Standpoint → Thing → List ℕ → Type 0
+IsEndedHere standpoint thing id = (number : ℕ) × (i : ℕ) × (closer : Event) × IsLastUnder standpoint.seen thing id number × IsAt standpoint.between i closer × IsTrue (is_outside closer) × IsTrue (closes number closer)
 
 -- a cancel of it is late: it is not open at the cut, was not opened in this activation, and was ended by an outside event of it
-abbrev pub IsLateCancel : Place → List Command → Thing → List ℕ → Type 0
-IsLateCancel place earlier thing id = (¬ HasOpen place.seen thing id) × (¬ Does earlier (Opening thing id)) × IsEndedHere place thing id
+abbrev pub IsLateCancel : Standpoint → List Command → Thing → List ℕ → Type 0
+IsLateCancel standpoint earlier thing id = (¬ HasOpen standpoint.seen thing id) × (¬ Does earlier (Opening thing id)) × IsEndedHere standpoint thing id
 
 -- the thing that is open under the id is cancelling at the cut
-abbrev pub IsCancellingAtCut : Place → Thing → List ℕ → Type 0
-IsCancellingAtCut place thing id = (number : ℕ) × IsOpenUnder place.seen thing id number × (status_of place.seen number ≡ CancellingStatus)
+abbrev pub IsCancellingAtCut : Standpoint → Thing → List ℕ → Type 0
+IsCancellingAtCut standpoint thing id = (number : ℕ) × IsOpenUnder standpoint.seen thing id number × (status_of standpoint.seen number ≡ CancellingStatus)
 
 -- an opening under an id that is in use
-abbrev pub UsesId : Place → List Command → Act → Type 0
-UsesId place earlier (Opening thing id) = IsStillOpen place earlier thing id
-UsesId place earlier _ = ⊥
+abbrev pub UsesId : Standpoint → List Command → Act → Type 0
+UsesId standpoint earlier (Opening thing id) = IsStillOpen standpoint earlier thing id
+UsesId standpoint earlier _ = ⊥
 
 -- an opening of what this activation opened and then cancelled
 abbrev pub ReusesId : List Command → Act → Type 0
@@ -60,14 +60,14 @@ ReusesId earlier (Opening thing id) = IsWithdrawn thing id earlier
 ReusesId earlier _ = ⊥
 
 -- a cancel of what is not open by now, and not a late one
-abbrev pub CancelsNothing : Place → List Command → Act → Type 0
-CancelsNothing place earlier (Cancelling thing id) = (¬ IsStillOpen place earlier thing id) × ¬ IsLateCancel place earlier thing id
-CancelsNothing place earlier _ = ⊥
+abbrev pub CancelsNothing : Standpoint → List Command → Act → Type 0
+CancelsNothing standpoint earlier (Cancelling thing id) = (¬ IsStillOpen standpoint earlier thing id) × ¬ IsLateCancel standpoint earlier thing id
+CancelsNothing standpoint earlier _ = ⊥
 
 -- a cancel of an activity or child that is cancelling at the cut, or open at it and cancelled in this activation
-abbrev pub CancelsAgain : Place → List Command → Act → Type 0
-CancelsAgain place earlier (Cancelling thing id) = (¬ (thing ≡ Timer)) × (IsCancellingAtCut place thing id ⊎ (HasOpen place.seen thing id × Does earlier (Cancelling thing id)))
-CancelsAgain place earlier _ = ⊥
+abbrev pub CancelsAgain : Standpoint → List Command → Act → Type 0
+CancelsAgain standpoint earlier (Cancelling thing id) = (¬ (thing ≡ Timer)) × (IsCancellingAtCut standpoint thing id ⊎ (HasOpen standpoint.seen thing id × Does earlier (Cancelling thing id)))
+CancelsAgain standpoint earlier _ = ⊥
 
 -- an ask whose least version is above the greatest, or below -1, or whose greatest is below 0
 abbrev pub AsksBadRange : Act → Type 0
@@ -75,21 +75,21 @@ AsksBadRange (Asking change_id low high) = (high <ℤ low) ⊎ ((low <ℤ negsuc
 AsksBadRange _ = ⊥
 
 -- an ask whose version is not in its range
-abbrev pub GetsOutOfRange : Place → Settled → Act → Type 0
-GetsOutOfRange place settled (Asking change_id low high) = let version = (choice_of place settled change_id high).version in (version <ℤ low) ⊎ (high <ℤ version)
-GetsOutOfRange place settled _ = ⊥
+abbrev pub GetsOutOfRange : Standpoint → Settled → Act → Type 0
+GetsOutOfRange standpoint settled (Asking change_id low high) = let version = (choice_of standpoint settled change_id high).version in (version <ℤ low) ⊎ (high <ℤ version)
+GetsOutOfRange standpoint settled _ = ⊥
 
 -- the row of the table applies to a command after those before it
-abbrev pub RowApplies : Place → Settled → List Command → Command → WorkflowFault → Type 0
-RowApplies place settled earlier command AfterClosing = Does earlier Closing
-RowApplies place settled earlier command TooManyCommands = most_commands ≤ length (given earlier)
-RowApplies place settled earlier command IdInUse = UsesId place earlier (act_of command)
-RowApplies place settled earlier command IdReused = ReusesId earlier (act_of command)
-RowApplies place settled earlier command NotOpen = CancelsNothing place earlier (act_of command)
-RowApplies place settled earlier command AlreadyCancelling = CancelsAgain place earlier (act_of command)
-RowApplies place settled earlier command BadRange = AsksBadRange (act_of command)
-RowApplies place settled earlier command VersionOutOfRange = GetsOutOfRange place settled (act_of command)
-RowApplies place settled earlier command UnknownWorkflow = ⊥
+abbrev pub RowApplies : Standpoint → Settled → List Command → Command → WorkflowFault → Type 0
+RowApplies standpoint settled earlier command AfterClosing = Does earlier Closing
+RowApplies standpoint settled earlier command TooManyCommands = most_commands ≤ length (given earlier)
+RowApplies standpoint settled earlier command IdInUse = UsesId standpoint earlier (act_of command)
+RowApplies standpoint settled earlier command IdReused = ReusesId earlier (act_of command)
+RowApplies standpoint settled earlier command NotOpen = CancelsNothing standpoint earlier (act_of command)
+RowApplies standpoint settled earlier command AlreadyCancelling = CancelsAgain standpoint earlier (act_of command)
+RowApplies standpoint settled earlier command BadRange = AsksBadRange (act_of command)
+RowApplies standpoint settled earlier command VersionOutOfRange = GetsOutOfRange standpoint settled (act_of command)
+RowApplies standpoint settled earlier command UnknownWorkflow = ⊥
 
 -- the number of a row in the table
 abbrev pub row_of : WorkflowFault → ℕ
@@ -104,12 +104,12 @@ row_of VersionOutOfRange = 8
 row_of UnknownWorkflow = 9
 
 -- the least row that applies
-pub record IsLeastRow (place : Place) (settled : Settled) (earlier : List Command) (command : Command) (fault : WorkflowFault) : Type 0 where
-  pub applies : RowApplies place settled earlier command fault
-  pub least : (other : WorkflowFault) → RowApplies place settled earlier command other → row_of fault ≤ row_of other
+pub record IsLeastRow (standpoint : Standpoint) (settled : Settled) (earlier : List Command) (command : Command) (fault : WorkflowFault) : Type 0 where
+  pub applies : RowApplies standpoint settled earlier command fault
+  pub least : (other : WorkflowFault) → RowApplies standpoint settled earlier command other → row_of fault ≤ row_of other
 
 -- the fault of a command at a cut is the least row of the table that applies
 abbrev pub LeastRowDecides : Type 0
-LeastRowDecides = (place : Place) (settled : Settled) (earlier : List Command) (command : Command) → IsOfCut place
-    → ((command_fault place settled earlier command ≡ None) ↔ ((row : WorkflowFault) → ¬ RowApplies place settled earlier command row))
-    × ((fault : WorkflowFault) → (command_fault place settled earlier command ≡ Some fault) ↔ IsLeastRow place settled earlier command fault)
+LeastRowDecides = (standpoint : Standpoint) (settled : Settled) (earlier : List Command) (command : Command) → IsOfCut standpoint
+    → ((command_fault standpoint settled earlier command ≡ None) ↔ ((row : WorkflowFault) → ¬ RowApplies standpoint settled earlier command row))
+    × ((fault : WorkflowFault) → (command_fault standpoint settled earlier command ≡ Some fault) ↔ IsLeastRow standpoint settled earlier command fault)

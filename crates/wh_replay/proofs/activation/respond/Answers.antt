@@ -3,7 +3,7 @@ use Rattle.std.specs.Prelude.{option_to_list}
 use Rattle.std.proofs.lemmas.Result.{err_from_is_err_and}
 use Rattle.wh_workflow.specs.Law.{asks_last, records_none}
 use Rattle.wh_workflow.specs.Activations.{and_then, issue_all, respond}
-use Rattle.wh_replay.specs.Views.{place_of, script}
+use Rattle.wh_replay.specs.Views.{standpoint_of, script}
 use Rattle.wh_replay.proofs.Settling.{gives_err}
 use Rattle.wh_replay.proofs.Responding.{plain_front, respond-push, gives_along}
 use Rattle.wh_replay.proofs.activation.respond.Goals as goal
@@ -22,7 +22,7 @@ issue_last-requires-clause-not_marker c =
 
 pub returns-in_err-issue_all-clause-issued : goal.returns-in_err-issue_all-clause-issued
 returns-in_err-issue_all-clause-issued c =
-    let place = place_of c.args.cut.now in
+    let place = standpoint_of c.args.cut.now in
     let s = script c.args.versions.now c.args.script.now.issued in
     let front = c.pop.new.self.items in
     let last = c.in-Some.last in
@@ -34,7 +34,7 @@ returns-in_err-issue_all-clause-issued c =
 
 pub returns-clause-issued : goal.returns-clause-issued
 returns-clause-issued c =
-    let place = place_of c.args.cut.now in
+    let place = standpoint_of c.args.cut.now in
     let s = script c.args.versions.now c.args.script.now.issued in
     let front = c.pop.new.self.items in
     let last = c.in-Some.last in
