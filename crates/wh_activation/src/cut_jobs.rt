@@ -5,8 +5,8 @@ ghost use Rattle.wh_workflow.specs.Jobs.{id_at, signal_at, start_job, signal_job
 ghost use Rattle.wh_workflow.specs.declared.job.Job.TheVariants.{Activity, Child, SignalSent, SignalFailed};
 
 use std::alloc::Global;
-use wh_events::{Event, EventKind, EventNo, OutOfMemory, Text};
-use wh_machines::{Track, opened_id};
+use wh_events::{Event, EventKind, EventNo, OutOfMemory, Text, opened_id};
+use wh_machines::Track;
 use wh_workflow::{ActivityEnd, ChildEnd, Job};
 
 /// A copy of the id under which the event of the number opened something.

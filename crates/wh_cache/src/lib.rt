@@ -17,8 +17,8 @@ use lru::LruCache;
 use std::alloc::Global;
 use std::marker::Model;
 use std::num::NonZeroUsize;
-use wh_events::{Items, OutOfMemory, RunKey};
-use wh_replay::{MOST_EVENTS, ReplayedHistory, Run};
+use wh_events::{Items, MOST_EVENTS, OutOfMemory, RunKey};
+use wh_replay::{ReplayedHistory, Run};
 use wh_workflow::Workflow;
 
 /// The most runs that a cache may hold.

@@ -2,6 +2,7 @@
 
 ghost use Rattle.std.specs.Prelude.{◌≡◌, IfOk};
 ghost use Rattle.wh_events.specs.Kinds.{class_of, closes_run_of, role_of, role_seen, reference_of};
+ghost use Rattle.wh_events.specs.Machines.{opened_id, role_at};
 
 use crate::kind::{Class, EventKind, Role};
 use crate::lists::Items;
@@ -97,5 +98,21 @@ impl Clone for Event {
 
     fn clone(&self) -> Result<Self, AllocError> {
         self.try_copy().map_err(|_| AllocError)
+    }
+}
+
+/// The id under which the event of the number, counted from 1, opened something (for the kinds of
+/// events see <https://docs.temporal.io/references/events>). It is the empty text where there is no
+/// such event or it opened nothing.
+pub fn opened_id(events: &[Event], number: u64) -> &str
+    ensures { result.now ≡ opened_id (role_at events.now number) }
+{
+    let Some(event) = events.get(number.saturating_sub(1) as usize) else {
+        return "";
+    };
+    match event.role() {
+        Role::Opens { id, .. } => id,
+        Role::CancelsChild { workflow_id } => workflow_id,
+        Role::Refers { .. } | Role::Plain => "",
     }
 }

@@ -13,10 +13,10 @@ mod memory;
 mod number;
 mod place;
 
-pub use event::{Event, Payload};
+pub use event::{Event, Payload, opened_id};
 pub use key::RunKey;
 pub use kind::{Class, Effect, EventKind, Role};
 pub use lists::{Items, Text};
 pub use memory::OutOfMemory;
 pub use number::EventNo;
-pub use place::{OpenKind, PlaceFault, Status, Thing};
+pub use place::{MOST_EVENTS, OpenKind, PlaceFault, Status, Thing};

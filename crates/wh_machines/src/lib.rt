@@ -11,6 +11,5 @@ mod place;
 mod track;
 
 pub use fault::PushFault;
-pub use place::opened_id;
 pub use track::Track;
 pub use wh_events::{OpenKind, PlaceFault, Status};

@@ -2,14 +2,10 @@
 
 ghost use Rattle.std.specs.Prelude.{◌≡◌};
 ghost use Rattle.wh_events.specs.Kinds.{role_seen};
-ghost use Rattle.wh_events.specs.Machines.{opened_thing, opened_id, role_at};
+ghost use Rattle.wh_events.specs.Machines.{opened_thing, role_at};
 ghost use Rattle.wh_events.specs.Places as places;
 
 use wh_events::{Class, Event, Role, Thing};
-
-/// The most events of one run. Temporal ends a run whose history grows longer:
-/// <https://docs.temporal.io/workflow-execution/limits>.
-pub const MOST_EVENTS: u64 = 51_200;
 
 /// Whether the event starts the run.
 pub fn is_start(event: &Event) -> bool
@@ -43,21 +39,5 @@ pub fn opens_at(events: &[Event], thing: Thing, number: u64) -> bool
     match events.get(number.saturating_sub(1) as usize) {
         Some(event) => opens_thing(thing, event.role()),
         None => false,
-    }
-}
-
-/// The id under which the event of the number, counted from 1, opened something (for the kinds of
-/// events see <https://docs.temporal.io/references/events>). It is the empty text where there is no
-/// such event or it opened nothing.
-pub fn opened_id(events: &[Event], number: u64) -> &str
-    ensures { result.now ≡ opened_id (role_at events.now number) }
-{
-    let Some(event) = events.get(number.saturating_sub(1) as usize) else {
-        return "";
-    };
-    match event.role() {
-        Role::Opens { id, .. } => id,
-        Role::CancelsChild { workflow_id } => workflow_id,
-        Role::Refers { .. } | Role::Plain => "",
     }
 }

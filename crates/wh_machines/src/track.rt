@@ -17,7 +17,9 @@ use crate::openings::Openings;
 use crate::place;
 use std::alloc::Global;
 use std::marker::Model;
-use wh_events::{Event, EventNo, OpenKind, OutOfMemory, PlaceFault, Role, Status, Thing};
+use wh_events::{
+    Event, EventNo, MOST_EVENTS, OpenKind, OutOfMemory, PlaceFault, Role, Status, Thing,
+};
 
 /// The events of a run, each in place after those before it, and tables of what they opened (the
 /// kinds of events: <https://docs.temporal.io/references/events>). Contracts see the list of the
@@ -242,7 +244,7 @@ impl Track {
         if let Some(fault) = self.role_fault(role) {
             return Some(fault);
         }
-        if len >= place::MOST_EVENTS {
+        if len >= MOST_EVENTS {
             return Some(PlaceFault::TooManyEvents);
         }
         None

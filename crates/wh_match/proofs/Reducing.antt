@@ -39,33 +39,33 @@ reduced_by-standpoint standpoint issued = sent_by-standpoint standpoint [] issue
 module _ (late : List Bool) (issued : List Command) (place : ℕ) (command : Command) (within : place < length issued) (each : length late ≡ length issued) (here : command ≡ get_or issued place command) where
   -- what is sent of the commands after this one
   abbrev next_sent : List Command
-  next_sent = sent_by (take (standpoint + 1) issued) (drop (standpoint + 1) late) (drop (standpoint + 1) issued)
+  next_sent = sent_by (take (place + 1) issued) (drop (place + 1) late) (drop (place + 1) issued)
 
   -- this one is sent, as the code tells
   abbrev is_told : Bool
-  is_told = is_sent_by (get_or late standpoint false) (take standpoint issued) (take (length issued - (standpoint + 1)) (drop (standpoint + 1) issued)) (act_of command)
+  is_told = is_sent_by (get_or late place false) (take place issued) (take (length issued - (place + 1)) (drop (place + 1) issued)) (act_of command)
 
-  one_sent : sent_by (take standpoint issued) (drop standpoint late) (drop standpoint issued) ≡ cond is_told (command ∷ next_sent) next_sent
+  one_sent : sent_by (take place issued) (drop place late) (drop place issued) ≡ cond is_told (command ∷ next_sent) next_sent
   one_sent =
-      let mark = get_or late standpoint false in
-      let earlier = take standpoint issued in
-      let later = drop (standpoint + 1) issued in
-      let marks = drop (standpoint + 1) late in
-      let inside : standpoint < length late = omega arith in
-      let marks_are : drop standpoint late ≡ mark ∷ marks = drop_more late standpoint false inside in
-      let commands_are : drop standpoint issued ≡ command ∷ later = drop_more issued standpoint command within ∙ ap (λ x. x ∷ later) (sym here) in
-      let taken : earlier ++ command ∷ [] ≡ take (standpoint + 1) issued = ap (λ x. earlier ++ x ∷ []) here ∙ sym (take_more issued standpoint command within) in
-      let rest : take (length issued - (standpoint + 1)) later ≡ later = take_rest issued (standpoint + 1) in
-      ap (λ l. sent_by earlier l (drop standpoint issued)) marks_are
+      let mark = get_or late place false in
+      let earlier = take place issued in
+      let later = drop (place + 1) issued in
+      let marks = drop (place + 1) late in
+      let inside : place < length late = omega arith in
+      let marks_are : drop place late ≡ mark ∷ marks = drop_more late place false inside in
+      let commands_are : drop place issued ≡ command ∷ later = drop_more issued place command within ∙ ap (λ x. x ∷ later) (sym here) in
+      let taken : earlier ++ command ∷ [] ≡ take (place + 1) issued = ap (λ x. earlier ++ x ∷ []) here ∙ sym (take_more issued place command within) in
+      let rest : take (length issued - (place + 1)) later ≡ later = take_rest issued (place + 1) in
+      ap (λ l. sent_by earlier l (drop place issued)) marks_are
       ∙ ap (sent_by earlier (mark ∷ marks)) commands_are
       ∙ ap (λ l. cond (is_sent_by mark earlier later (act_of command)) (command ∷ sent_by l marks later) (sent_by l marks later)) taken
       ∙ ap (λ l. cond (is_sent_by mark earlier l (act_of command)) (command ∷ next_sent) next_sent) (sym rest)
 
-  pub step_sent : (sent whole : List Command) → true ≡ is_told → sent ++ sent_by (take standpoint issued) (drop standpoint late) (drop standpoint issued) ≡ whole → (sent ++ command ∷ []) ++ next_sent ≡ whole
+  pub step_sent : (sent whole : List Command) → true ≡ is_told → sent ++ sent_by (take place issued) (drop place late) (drop place issued) ≡ whole → (sent ++ command ∷ []) ++ next_sent ≡ whole
   step_sent sent whole told h =
       append_assoc sent (command ∷ []) next_sent
       ∙ ap (λ b. sent ++ cond b (command ∷ next_sent) next_sent) told
       ∙ ap (λ l. sent ++ l) (sym one_sent) ∙ h
 
-  pub step_dropped : (sent whole : List Command) → false ≡ is_told → sent ++ sent_by (take standpoint issued) (drop standpoint late) (drop standpoint issued) ≡ whole → sent ++ next_sent ≡ whole
+  pub step_dropped : (sent whole : List Command) → false ≡ is_told → sent ++ sent_by (take place issued) (drop place late) (drop place issued) ≡ whole → sent ++ next_sent ≡ whole
   step_dropped sent whole told h = ap (λ b. sent ++ cond b (command ∷ next_sent) next_sent) told ∙ ap (λ l. sent ++ l) (sym one_sent) ∙ h

@@ -13,12 +13,9 @@ use crate::fault::{Fault, RunFault};
 use crate::pushing::push_all;
 use std::alloc::Global;
 use std::marker::Model;
-use wh_events::{Event, EventNo, Status};
+use wh_events::{Event, EventNo, MOST_EVENTS, Status};
 use wh_machines::Track;
 use wh_workflow::{Command, Meter, Workflow};
-
-/// The most events that a history may have: Temporal ends a run whose history grows beyond them.
-pub const MOST_EVENTS: usize = 51_200;
 
 /// A history that ends in a started workflow task, with what its replay left. Contracts see the
 /// events.

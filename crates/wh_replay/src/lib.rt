@@ -14,6 +14,6 @@ mod run;
 
 pub use checking::check;
 pub use fault::{Checked, Fault, RunFault};
-pub use history::{MOST_EVENTS, ReplayedHistory};
+pub use history::ReplayedHistory;
 pub use run::{AdvanceFault, Answer, Run};
 pub use wh_match::Versions;

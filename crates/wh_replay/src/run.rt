@@ -8,10 +8,10 @@ ghost use Rattle.wh_workflow.specs.Counting.{risen};
 
 use crate::continuing::{ends_in_task, follows};
 use crate::fault::{Fault, RunFault};
-use crate::history::{MOST_EVENTS, ReplayedHistory};
+use crate::history::ReplayedHistory;
 use std::alloc::Global;
 use std::marker::Model;
-use wh_events::{Event, EventNo, Items, OutOfMemory, RunKey, Status};
+use wh_events::{Event, EventNo, Items, MOST_EVENTS, OutOfMemory, RunKey, Status};
 use wh_workflow::{Command, Meter, Workflow};
 
 /// A run of a workflow, as far as its history was replayed: a key, a history that ends in a started

@@ -18,7 +18,7 @@ use Rattle.wh_events.proofs.Standing.{same_event}
 use Rattle.wh_events.proofs.Saying.{some_or_none, status_is_said}
 use Rattle.wh_events.proofs.Naming.{open_unclosed, last_last}
 use Rattle.wh_workflow.specs.declared.command.Command.{Command}
-use Rattle.wh_workflow.specs.declared.command.Command.TheVariants.{StartActivity, CancelActivity, StartTimer, CancelTimer, StartChild, CancelChild, SignalExternal, Ask, Marker, Complete, Fail, Cancel, ContinueAsNew}
+use Rattle.wh_workflow.specs.declared.command.Command.TheVariants.{CancelActivity, CancelTimer, CancelChild}
 use Rattle.wh_workflow.specs.declared.fault.WorkflowFault.{WorkflowFault}
 use Rattle.wh_workflow.specs.declared.fault.WorkflowFault.TheVariants.{AfterClosing, TooManyCommands, IdInUse, IdReused, NotOpen, AlreadyCancelling, BadRange, VersionOutOfRange, UnknownWorkflow}
 use Rattle.wh_workflow.specs.Scripts.{Standpoint, Settled, Act, act_of, act_opens, act_cancels, act_closes, some_act, left_open, withdrawn, is_timer, open_at, still_open, has_outside, closer_of, is_late, cancels_open, is_cancelled, choice_of, fault_if, opening_fault, cancel_fault, ask_fault, act_fault, given, most_commands, command_fault}
@@ -216,16 +216,7 @@ named_act : (command : Command) → IsNamedAct (act_of command)
 named_act (CancelActivity id) = refl
 named_act (CancelTimer id) = refl
 named_act (CancelChild workflow_id) = refl
-named_act (StartActivity _ _ _) = tt
-named_act (StartTimer _ _) = tt
-named_act (StartChild _ _ _) = tt
-named_act (SignalExternal _ _ _) = tt
-named_act (Ask _ _ _) = tt
-named_act (Marker _ _) = tt
-named_act (Complete _) = tt
-named_act (Fail _) = tt
-named_act Cancel = tt
-named_act (ContinueAsNew _ _) = tt
+named_act _ = tt
 
 -- the tests of the rows
 uses : Standpoint → List Command → Act → Bool
