@@ -7,7 +7,7 @@ use Rattle.wh_ledger.specs.declared.Shares.{Shares}
 use Rattle.wh_ledger.specs.Shares.{sums_of}
 use Rattle.wh_host.specs.declared.reply.Totals.{Totals}
 use Rattle.wh_host.specs.Machine.{totals_of}
-use Rattle.wh_poll.specs.declared.source.SourceFault.{SourceFault}
+use Rattle.wh_tasks.specs.declared.source.SourceFault.{SourceFault}
 use Rattle.wh_poll.specs.Serve.{WithinTurns}
 use Rattle.wh_recorded.specs.Rounds.{Stage}
 use Rattle.wh_cli.specs.declared.dealing.Dealt.{Dealt}

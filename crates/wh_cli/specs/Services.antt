@@ -8,7 +8,7 @@ use Rattle.wh_ledger.specs.declared.Shares.{Shares}
 use Rattle.wh_ledger.specs.Shares.{sums_of}
 use Rattle.wh_host.specs.declared.reply.Totals.{Totals}
 use Rattle.wh_host.specs.Machine.{totals_of}
-use Rattle.wh_poll.specs.declared.source.SourceFault.{SourceFault}
+use Rattle.wh_tasks.specs.declared.source.SourceFault.{SourceFault}
 use Rattle.wh_recorded.specs.Rounds.{Stage, tally_of}
 use Rattle.wh_tester.specs.Report.{shown, line_text}
 use Rattle.wh_tester.specs.declared.line.Verdict.TheVariants.{Unreadable}

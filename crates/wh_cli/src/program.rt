@@ -1,10 +1,8 @@
 //! The program: it does what its command line asks for, and ends with a status.
 
 ghost use Rattle.std.specs.Prelude.{◌≡◌, ◌≢◌, Err, IfOk, map, string_bytes};
-ghost use Rattle.wh_cli.specs.Plans.{IsWithinLimits, IsAskedBy, HasFewSlots};
+ghost use Rattle.wh_command_line.specs.Plans.{IsWithinLimits, IsAskedBy, HasFewSlots};
 
-use crate::command_line::{Plan, Refusal, parse};
-use crate::folder::{FolderFault, read_files};
 use crate::replaying::{CommandFault, replay_command};
 use crate::serving::serve_command;
 use std::alloc::Global;
@@ -15,7 +13,9 @@ use std::sync::Wait;
 use std::thread::Threads;
 use std::{env, io};
 use thiserror::Error;
+use wh_command_line::{Plan, Refusal, parse};
 use wh_events::Text;
+use wh_files::{FolderFault, read_files};
 use wh_workflow::Workflow;
 
 /// The status of a run that ends without a full report.

@@ -4,14 +4,13 @@ ghost use Rattle.std.specs.Prelude.{◌≡◌, ◌≢◌, List, Bool, Err, IfOk,
 ghost use Rattle.std.specs.Io.KnownBytes.{Appends};
 ghost use Rattle.wh_host.specs.Machine.{IsConfig};
 ghost use Rattle.wh_host.specs.declared.reply.Totals.{Totals};
-ghost use Rattle.wh_cli.specs.Options.{AreWithinLimits};
+ghost use Rattle.wh_command_line.specs.Options.{AreWithinLimits};
 ghost use Rattle.wh_cli.specs.Services.{dealt_of, IsService, service_text, status_of};
 ghost use Rattle.wh_cli.specs.Served.{IsServiceOf};
 ghost use Rattle.wh_cli.specs.declared.service_report.Row.{Row};
 
 use crate::dealing::deal_sources;
 use crate::gathering::{Service, gather};
-use crate::options::Options;
 use crate::replaying::CommandFault;
 use crate::service_report::{all_served, write_service};
 use std::alloc::Global;
@@ -20,6 +19,7 @@ use std::marker::Brand;
 use std::sync::Wait;
 use std::sync::ledger::{Blank, Ledger};
 use std::thread::Threads;
+use wh_command_line::ServeOptions;
 use wh_events::OutOfMemory;
 use wh_host::{Config, Host, OpenFault};
 use wh_ledger::Seat;
@@ -112,7 +112,7 @@ fn serve_all<W: Workflow + Send, R: Threads + Wait + Sync>(
     rt: &R,
     alloc: Global,
     files: Vec<(String, Vec<u8>)>,
-    options: Options,
+    options: ServeOptions,
 ) -> Result<Service, OutOfMemory>
     ensures { IfOk result (IsServiceOf (map dealt_of files.items) options.workers) }
 {
@@ -176,12 +176,7 @@ pub fn serve_command<W: Workflow + Send, R: Threads + Wait + Sync, O: Write>(
         × (status ≡ status_of faultless rows totals)) }
     ensures unwritten { result ≡ Err CommandFault.OutOfMemory → writer.new ≡ writer.old }
 {
-    let options = Options {
-        workers,
-        cache,
-        cache_events,
-        slots,
-    };
+    let options = ServeOptions::new(workers, cache, cache_events, slots);
     let Ok(service) = serve_all::<W, R>(rt, alloc, files, options) else {
         return Err(CommandFault::OutOfMemory);
     };

@@ -1,7 +1,7 @@
 -- A source of which one call fails: the other source, and which of the calls to come fails, counted from 1.
 use Rattle.std.specs.Prelude.{◌≡◌, ℕ, ◌+◌, ◌-◌, ◌==◌, cond, Result, Err}
-use Rattle.wh_poll.specs.declared.source.SourceFault.{SourceFault}
-use Rattle.wh_poll.specs.declared.source.SourceFault.TheVariants.{Source}
+use Rattle.wh_tasks.specs.declared.source.SourceFault.{SourceFault}
+use Rattle.wh_tasks.specs.declared.source.SourceFault.TheVariants.{Source}
 
 -- a call is counted, and the one that fails answers so and does not reach the other source
 abbrev pub Counts : {S R : Type 0} → S × ℕ → Result R SourceFault → S × ℕ → Type 0

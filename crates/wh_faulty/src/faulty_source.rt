@@ -1,14 +1,14 @@
 //! A source of which one call fails.
 ghost use Rattle.std.specs.Prelude.{◌≡◌, ◌+◌, ◌-◌, ◌++◌, ◌∷◌, [], cond, eqb, IfOk, OnOk, OnErr};
-ghost use Rattle.wh_poll.specs.Source.{Delivery, FailsOnly, IfTask, SameTasks};
-ghost use Rattle.wh_poll.specs.declared.source.Sent.{Sent};
+ghost use Rattle.wh_tasks.specs.Source.{Delivery, FailsOnly, IfTask, SameTasks};
+ghost use Rattle.wh_tasks.specs.declared.source.Sent.{Sent};
 ghost use Rattle.wh_faulty.specs.Failing.{Counts, spent, failures_of};
 
 use std::marker::Model;
 use wh_events::{Event, RunKey};
-use wh_poll::{ActivityAnswer, ActivityTask, Polled, SourceFault, TaskSource, WorkflowTask};
 use wh_replay::Answer;
 use wh_slots::TaskName;
+use wh_tasks::{ActivityAnswer, ActivityTask, Polled, SourceFault, TaskSource, WorkflowTask};
 
 /// Another source, of which one call fails and does not reach it. Every other call is the other
 /// source's, and so is what polls and `whole` may give.

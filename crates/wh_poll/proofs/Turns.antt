@@ -7,18 +7,18 @@ use Rattle.wh_replay.specs.declared.fault.Fault.{Fault}
 use Rattle.wh_events.specs.declared.key.RunKey.{RunKey}
 use Rattle.wh_workflow.specs.Law.{Program}
 use Rattle.wh_replay.specs.Runs.{Held}
-use Rattle.wh_poll.specs.declared.source.WorkflowTask.{WorkflowTask}
-use Rattle.wh_poll.specs.declared.source.SourceFault.{SourceFault}
-use Rattle.wh_poll.specs.declared.task.StepFault.{StepFault}
-use Rattle.wh_poll.specs.declared.task.StepFault.TheVariants.{Source, OutOfMemory}
-use Rattle.wh_poll.specs.declared.source.SourceFault.TheVariants.{Source as Failing, OutOfMemory as Unfed}
+use Rattle.wh_tasks.specs.declared.source.WorkflowTask.{WorkflowTask}
+use Rattle.wh_tasks.specs.declared.source.SourceFault.{SourceFault}
+use Rattle.wh_tasks.specs.declared.task.StepFault.{StepFault}
+use Rattle.wh_tasks.specs.declared.task.StepFault.TheVariants.{Source, OutOfMemory}
+use Rattle.wh_tasks.specs.declared.source.SourceFault.TheVariants.{Source as Failing, OutOfMemory as Unfed}
 use Rattle.wh_ledger.specs.declared.Shares.{Shares}
 use Rattle.wh_host.specs.declared.reply.Outcome.TheVariants.{Failed}
 use Rattle.wh_poll.specs.declared.answer.Reply.{Reply}
 use Rattle.wh_poll.specs.declared.serve.Served.{Served}
-use Rattle.wh_poll.specs.declared.source.Sent.TheVariants.{Workflow as OfWorkflow}
-use Rattle.wh_poll.specs.Source.{Delivers, Tells, Answers, Workflow, SameTelling, FailsOnly, RoseIfFailed}
-use Rattle.wh_poll.specs.Tasks.{Basis, Own, Nothing, Joined, Told, basis_of, StepsFrom, FailsOnlySource}
+use Rattle.wh_tasks.specs.declared.source.Sent.TheVariants.{Workflow as OfWorkflow}
+use Rattle.wh_tasks.specs.Source.{Delivers, Tells, Answers, Workflow, SameTelling, FailsOnly, RoseIfFailed}
+use Rattle.wh_tasks.specs.Tasks.{Basis, Own, Nothing, Joined, Told, basis_of, StepsFrom, FailsOnlySource}
 use Rattle.wh_poll.specs.Serve.{Sends, ServesWorkflow, Counts, MayCount, with_taken, ended, served_workflow}
 use Rattle.wh_poll.specs.Workers.{first_fault}
 

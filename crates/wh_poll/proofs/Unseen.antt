@@ -10,12 +10,12 @@ use Rattle.wh_replay.specs.declared.fault.Fault.{Fault}
 use Rattle.wh_events.specs.declared.key.RunKey.{RunKey}
 use Rattle.wh_replay.specs.declared.run.Answer.{Answer}
 use Rattle.wh_replay.specs.Replays.{ends_in_task}
-use Rattle.wh_poll.specs.Numbers.{number_or_zero, last_number}
+use Rattle.wh_tasks.specs.Numbers.{number_or_zero, last_number}
 use Rattle.wh_events.specs.Keys.{same_key, same_key-true}
 use Rattle.wh_workflow.specs.Law.{Program}
-use Rattle.wh_poll.specs.Tasks.{answer_to}
+use Rattle.wh_tasks.specs.Tasks.{answer_to}
 use Rattle.wh_replay.specs.Runs.{Held, follows, steps, advance_steps}
-use Rattle.wh_poll.specs.Tasks.{Own, Nothing, Joined, Told, later_basis, Replays, ReplaysTold, StepsFrom, Steps, IsAnswer}
+use Rattle.wh_tasks.specs.Tasks.{Own, Nothing, Joined, Told, later_basis, Replays, ReplaysTold, StepsFrom, Steps, IsAnswer}
 use Rattle.wh_slots.specs.declared.SlotKind.{SlotKind}
 use Rattle.wh_slots.specs.declared.SlotKind.TheVariants.{Workflow, Activity}
 use Rattle.wh_slots.specs.declared.ReserveFault.{ReserveFault}

@@ -14,20 +14,20 @@ use Rattle.wh_ledger.specs.declared.Shares.{Shares}
 use Rattle.wh_host.specs.declared.reply.Outcome.{Outcome}
 use Rattle.wh_host.specs.declared.reply.Outcome.TheVariants.{Completed, Failed}
 use Rattle.wh_host.specs.Machine.{with_outcome}
-use Rattle.wh_poll.specs.declared.source.SourceFault.{SourceFault}
-use Rattle.wh_poll.specs.declared.source.WorkflowTask.{WorkflowTask}
-use Rattle.wh_poll.specs.declared.source.ActivityTask.{ActivityTask}
-use Rattle.wh_poll.specs.declared.source.ActivityAnswer.{ActivityAnswer}
-use Rattle.wh_poll.specs.declared.source.ActivityAnswer.TheVariants.{Completed as Done, Failed as Undone}
-use Rattle.wh_poll.specs.declared.task.StepFault.{StepFault}
-use Rattle.wh_poll.specs.declared.task.StepFault.TheVariants.{Source, OutOfMemory}
+use Rattle.wh_tasks.specs.declared.source.SourceFault.{SourceFault}
+use Rattle.wh_tasks.specs.declared.source.WorkflowTask.{WorkflowTask}
+use Rattle.wh_tasks.specs.declared.source.ActivityTask.{ActivityTask}
+use Rattle.wh_tasks.specs.declared.source.ActivityAnswer.{ActivityAnswer}
+use Rattle.wh_tasks.specs.declared.source.ActivityAnswer.TheVariants.{Completed as Done, Failed as Undone}
+use Rattle.wh_tasks.specs.declared.task.StepFault.{StepFault}
+use Rattle.wh_tasks.specs.declared.task.StepFault.TheVariants.{Source, OutOfMemory}
 use Rattle.wh_poll.specs.declared.answer.Reply.{Reply}
 use Rattle.wh_poll.specs.declared.serve.Served.{Served}
 use Rattle.wh_poll.specs.declared.serve.Served.TheVariants.{Workflow, Activity, NoMemory, Repeated, Idle, Closed, NoSlot, Draining, NumbersSpent}
-use Rattle.wh_poll.specs.declared.source.Sent.{Sent}
-use Rattle.wh_poll.specs.declared.source.Sent.TheVariants.{Workflow as OfWorkflow, Activity as OfActivity}
-use Rattle.wh_poll.specs.Source.{Delivers, Tells, Answerable, Answers, Workflow as WorkflowDelivery, Activity as ActivityDelivery, RoseIfFailed}
-use Rattle.wh_poll.specs.Tasks.{Steps, IsAnswer}
+use Rattle.wh_tasks.specs.declared.source.Sent.{Sent}
+use Rattle.wh_tasks.specs.declared.source.Sent.TheVariants.{Workflow as OfWorkflow, Activity as OfActivity}
+use Rattle.wh_tasks.specs.Source.{Delivers, Tells, Answerable, Answers, Workflow as WorkflowDelivery, Activity as ActivityDelivery, RoseIfFailed}
+use Rattle.wh_tasks.specs.Tasks.{Steps, IsAnswer}
 
 -- a workflow task that is answered `Complete` is completed, else failed
 abbrev pub outcome_of : Answer → Outcome

@@ -11,7 +11,7 @@ use Rattle.wh_slots.specs.declared.TaskName.{TaskName}
 use Rattle.wh_cache.specs.Cache.{Entry, entry_of}
 use Rattle.wh_host.specs.Machine.{Claim, HostView, Call, UseWorkflow, GiveRun, opening, step}
 use Rattle.wh_host.specs.Machine.{GiveReply}
-use Rattle.wh_poll.specs.Tasks.{Steps, IsAnswer, answer_to}
+use Rattle.wh_tasks.specs.Tasks.{Steps, IsAnswer, answer_to}
 
 -- the histories by their run keys; a run that is not there has none
 abbrev pub Table : Type 0

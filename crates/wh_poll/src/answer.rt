@@ -1,17 +1,18 @@
 //! Answers to tasks: a task is replayed or run, and its answer is sent.
 ghost use Rattle.std.specs.Prelude.{◌≡◌, Err, IfOk, IfSome};
-ghost use Rattle.wh_poll.specs.Source.{SameTasks, SameMay};
-ghost use Rattle.wh_poll.specs.Tasks.{IsAnswer, HasAnswer, FailsOnlySource};
+ghost use Rattle.wh_tasks.specs.Source.{SameTasks, SameMay};
+ghost use Rattle.wh_tasks.specs.Tasks.{IsAnswer, HasAnswer, FailsOnlySource};
 ghost use Rattle.wh_poll.specs.Serve.{outcome_of, activity_outcome, Sends, SendsAnswer, SendsActivity};
 
-use crate::handler::ActivityHandler;
-use crate::source::{ActivityAnswer, ActivityTask, TaskSource, WorkflowTask};
-use crate::task::{StepFault, Stepped, replay_task};
 use std::alloc::Global;
 use wh_events::OutOfMemory;
 use wh_host::Outcome;
 use wh_replay::{Answer, Fault, Run};
 use wh_slots::TaskName;
+use wh_tasks::{
+    ActivityAnswer, ActivityHandler, ActivityTask, StepFault, Stepped, TaskSource, WorkflowTask,
+    replay_task,
+};
 use wh_workflow::{Meter, Workflow};
 
 /// What was sent: whether a cached run served, the steps that replay took, and how the task ended.

@@ -1,13 +1,10 @@
 //! One turn of a worker.
 ghost use Rattle.std.specs.Prelude.{◌≡◌, IfSome, MatchOption};
-ghost use Rattle.wh_poll.specs.Source.{SameTasks, SameMay, FailsOnly};
-ghost use Rattle.wh_poll.specs.Tasks.{FailsOnlySource};
+ghost use Rattle.wh_tasks.specs.Source.{SameTasks, SameMay, FailsOnly};
+ghost use Rattle.wh_tasks.specs.Tasks.{FailsOnlySource};
 ghost use Rattle.wh_poll.specs.Serve.{Serves, ServesWorkflow, ServesActivity, Sends, IsOfKind, Counts, MayCount, with_taken, ended, unanswered, served_workflow, served_activity};
 
 use crate::answer::{Answered, Reply, answer_by_handler, answer_by_replay};
-use crate::handler::{ActivityHandler, Gate};
-use crate::source::{Polled, SourceFault, TaskSource, WorkflowTask};
-use crate::task::StepFault;
 use std::alloc::Global;
 use std::sync::Wait;
 use std::sync::ledger::Ledger;
@@ -16,6 +13,7 @@ use wh_host::{Host, Outcome};
 use wh_ledger::Seat;
 use wh_replay::Run;
 use wh_slots::{Held, Permit, ReserveFault, SlotKind, TaskName};
+use wh_tasks::{ActivityHandler, Gate, Polled, SourceFault, StepFault, TaskSource, WorkflowTask};
 use wh_workflow::Workflow;
 
 /// What one turn of a worker did.

@@ -2,13 +2,11 @@
 ghost use Rattle.std.specs.Prelude.{◌≡◌, ◌≤◌, ◌<◌, ◌+◌, ℕ, None, IfOk, not, length, map, vec_len, slice_index_or};
 ghost use Rattle.std.specs.Bool.{OnTrue};
 ghost use denote.Param.Send.{IsSend};
-ghost use Rattle.wh_poll.specs.Source.{SameTasks, FailsOnly, RoseIfFailed};
+ghost use Rattle.wh_tasks.specs.Source.{SameTasks, FailsOnly, RoseIfFailed};
 ghost use Rattle.wh_poll.specs.Workers.{first_fault, other, is_last, next_rota};
 ghost use Rattle.wh_poll.specs.Serve.{WithinTurns, AllRoseIfFailed};
 
-use crate::handler::{ActivityHandler, Gate};
 use crate::serve::{Served, serve_one};
-use crate::source::{SourceFault, TaskSource};
 use std::alloc::{AllocError, Global};
 use std::sync::Wait;
 use std::sync::ledger::Ledger;
@@ -18,6 +16,7 @@ use wh_events::OutOfMemory;
 use wh_host::Host;
 use wh_ledger::Seat;
 use wh_slots::SlotKind;
+use wh_tasks::{ActivityHandler, Gate, SourceFault, TaskSource};
 use wh_workflow::Workflow;
 
 /// What a worker hands back when it ends.

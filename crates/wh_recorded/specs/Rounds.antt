@@ -6,13 +6,13 @@ use Rattle.wh_events.specs.declared.key.RunKey.{RunKey}
 use Rattle.wh_events.specs.Cuts.{is_task_started}
 use Rattle.wh_replay.specs.declared.run.Answer.TheVariants.{Complete}
 use Rattle.wh_slots.specs.declared.TaskName.{TaskName}
-use Rattle.wh_poll.specs.declared.source.Sent.{Sent}
-use Rattle.wh_poll.specs.declared.source.Sent.TheVariants.{Workflow as OfWorkflow}
-use Rattle.wh_poll.specs.declared.source.WorkflowTask.{WorkflowTask}
-use Rattle.wh_poll.specs.declared.source.Polled.{Polled}
-use Rattle.wh_poll.specs.declared.source.Polled.TheVariants.{Task, Nothing, Closed}
-use Rattle.wh_poll.specs.Numbers.{last_number}
-use Rattle.wh_poll.specs.Source.{Delivery, Workflow, Activity}
+use Rattle.wh_tasks.specs.declared.source.Sent.{Sent}
+use Rattle.wh_tasks.specs.declared.source.Sent.TheVariants.{Workflow as OfWorkflow}
+use Rattle.wh_tasks.specs.declared.source.WorkflowTask.{WorkflowTask}
+use Rattle.wh_tasks.specs.declared.source.Polled.{Polled}
+use Rattle.wh_tasks.specs.declared.source.Polled.TheVariants.{Task, Nothing, Closed}
+use Rattle.wh_tasks.specs.Numbers.{last_number}
+use Rattle.wh_tasks.specs.Source.{Delivery, Workflow, Activity}
 
 -- a scripted history: the index of its file, its name, and its events
 pub record Scripted : Type 0 where

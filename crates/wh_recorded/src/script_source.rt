@@ -1,19 +1,19 @@
 //! A source that gives the tasks of recorded histories.
 ghost use Rattle.std.specs.Prelude.{◌≡◌, ◌<◌, ◌-◌, ◌++◌, ◌∷◌, [], get_or, length, map, take, drop, option_map, IfOk, IfErr, IfSome, OnOk, OnErr};
 ghost use Rattle.wh_recorded.specs.Rounds.{scripted, opening_stage, with_answer, ends_of, tasks_in, begin_at, task_of, key_of, events_up_to, first_named, completed_of, tally_of, deliveries_of, first_with, upcoming, told, Gives, Recounts, Polls};
-ghost use Rattle.wh_poll.specs.Source.{Delivery, FailsOnly, IfTask, SameTasks};
-ghost use Rattle.wh_poll.specs.declared.source.Polled.{Polled};
-ghost use Rattle.wh_poll.specs.declared.source.Sent.{Sent};
-ghost use Rattle.wh_poll.specs.declared.source.SourceFault.{SourceFault};
+ghost use Rattle.wh_tasks.specs.Source.{Delivery, FailsOnly, IfTask, SameTasks};
+ghost use Rattle.wh_tasks.specs.declared.source.Polled.{Polled};
+ghost use Rattle.wh_tasks.specs.declared.source.Sent.{Sent};
+ghost use Rattle.wh_tasks.specs.declared.source.SourceFault.{SourceFault};
 
 use std::alloc::Global;
 use std::marker::Model;
 use wh_events::{Event, EventKind, Items, OutOfMemory, RunKey, Text};
-use wh_poll::{
-    ActivityAnswer, ActivityTask, Polled, Sent, SourceFault, TaskSource, WorkflowTask, last_number,
-};
 use wh_replay::Answer;
 use wh_slots::TaskName;
+use wh_tasks::{
+    ActivityAnswer, ActivityTask, Polled, Sent, SourceFault, TaskSource, WorkflowTask, last_number,
+};
 
 /// The run id of each history's key.
 const RUN_ID: &str = "recorded";

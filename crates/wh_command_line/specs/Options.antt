@@ -3,7 +3,7 @@ use Rattle.std.specs.Prelude.{◌≡◌, ℕ, List, codes, Some}
 use Rattle.clap.specs.Words.{Row}
 use Rattle.wh_host.specs.Machine.{IsConfig}
 use Rattle.wh_host.specs.declared.config.Config.{Config}
-use Rattle.wh_cli.specs.Lines.{value_named}
+use Rattle.wh_command_line.specs.Lines.{value_named}
 
 -- how large a host the numbers ask for
 abbrev pub config_of : (workers cache cache_events slots : ℕ) → Config

@@ -91,9 +91,9 @@ pub trait TaskSource {
     ghost use Rattle.wh_slots.specs.declared.TaskName.{TaskName};
     ghost use Rattle.wh_events.specs.declared.event.Event.{Event};
     ghost use Rattle.wh_events.specs.declared.key.RunKey.{RunKey};
-    ghost use Rattle.wh_poll.specs.declared.source.Sent.{Sent};
-    ghost use Rattle.wh_poll.specs.declared.source.Sent.TheVariants.{Workflow as OfWorkflow, Activity as OfActivity};
-    ghost use Rattle.wh_poll.specs.Source.{Delivery, Workflow, Activity, SameTasks, IfTask, FailsOnly};
+    ghost use Rattle.wh_tasks.specs.declared.source.Sent.{Sent};
+    ghost use Rattle.wh_tasks.specs.declared.source.Sent.TheVariants.{Workflow as OfWorkflow, Activity as OfActivity};
+    ghost use Rattle.wh_tasks.specs.Source.{Delivery, Workflow, Activity, SameTasks, IfTask, FailsOnly};
 
     /// The answers that were sent, with their tasks' names.
     ghost answers: { Self → List (TaskName × Sent) };

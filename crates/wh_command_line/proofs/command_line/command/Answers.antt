@@ -1,8 +1,8 @@
 use Rattle.std.proofs.Common.{◌∙◌, ap, ap₂}
 use Rattle.std.proofs.lemmas.Result.{IfOk-weaker}
 use Rattle.clap.specs.Words.{App, with_subcommand}
-use Rattle.wh_cli.specs.Lines.{program}
-use Rattle.wh_cli.proofs.command_line.command.Goals as goal
+use Rattle.wh_command_line.specs.Lines.{program}
+use Rattle.wh_command_line.proofs.command_line.command.Goals as goal
 
 pub returns : goal.returns
 unfolding program

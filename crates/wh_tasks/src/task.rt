@@ -1,9 +1,9 @@
 //! Replay of one workflow task.
 ghost use Rattle.std.specs.Prelude.{◌≡◌, ◌≤◌, false, Some, None, IfOk, IfSome};
-ghost use Rattle.wh_poll.specs.Source.{SameTasks};
+ghost use Rattle.wh_tasks.specs.Source.{SameTasks};
 ghost use Rattle.wh_replay.specs.Runs.{follows, steps};
-ghost use Rattle.wh_poll.specs.Numbers.{last_number};
-ghost use Rattle.wh_poll.specs.Tasks.{later_basis, StepsFrom, Steps, Replays, ReplaysTold, HasAnswer, FailsOnlySource};
+ghost use Rattle.wh_tasks.specs.Numbers.{last_number};
+ghost use Rattle.wh_tasks.specs.Tasks.{later_basis, StepsFrom, Steps, Replays, ReplaysTold, HasAnswer, FailsOnlySource};
 
 use crate::source::{SourceFault, TaskSource};
 use std::alloc::Global;
@@ -36,7 +36,7 @@ pub enum StepFault {
 
 impl From<OutOfMemory> for StepFault {
     ghost use Rattle.std.specs.Prelude.{◌≡◌};
-    ghost use Rattle.wh_poll.specs.declared.task.StepFault.TheVariants.{OutOfMemory as NoMemory};
+    ghost use Rattle.wh_tasks.specs.declared.task.StepFault.TheVariants.{OutOfMemory as NoMemory};
 
     ghost from_gives = { λ error fault. fault ≡ NoMemory };
 

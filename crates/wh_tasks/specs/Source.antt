@@ -3,14 +3,14 @@ use Rattle.std.specs.Prelude.{◌↔◌, ℕ, ◌<◌, ◌≤◌, List, Option, 
 use Rattle.wh_events.specs.declared.event.Event.{Event}
 use Rattle.wh_events.specs.declared.key.RunKey.{RunKey}
 use Rattle.wh_slots.specs.declared.TaskName.{TaskName}
-use Rattle.wh_poll.specs.declared.source.Polled.{Polled}
-use Rattle.wh_poll.specs.declared.source.Polled.TheVariants.{Task, Nothing, Closed}
-use Rattle.wh_poll.specs.declared.source.Sent.{Sent}
-use Rattle.wh_poll.specs.declared.source.SourceFault.{SourceFault}
-use Rattle.wh_poll.specs.declared.source.SourceFault.TheVariants.{Source, OutOfMemory}
-use Rattle.wh_poll.specs.declared.source.WorkflowTask.{WorkflowTask}
-use Rattle.wh_poll.specs.declared.source.ActivityTask.{ActivityTask}
-use Rattle.wh_poll.specs.declared.source.ActivityAnswer.{ActivityAnswer}
+use Rattle.wh_tasks.specs.declared.source.Polled.{Polled}
+use Rattle.wh_tasks.specs.declared.source.Polled.TheVariants.{Task, Nothing, Closed}
+use Rattle.wh_tasks.specs.declared.source.Sent.{Sent}
+use Rattle.wh_tasks.specs.declared.source.SourceFault.{SourceFault}
+use Rattle.wh_tasks.specs.declared.source.SourceFault.TheVariants.{Source, OutOfMemory}
+use Rattle.wh_tasks.specs.declared.source.WorkflowTask.{WorkflowTask}
+use Rattle.wh_tasks.specs.declared.source.ActivityTask.{ActivityTask}
+use Rattle.wh_tasks.specs.declared.source.ActivityAnswer.{ActivityAnswer}
 
 -- a task of either kind
 pub data Delivery : Type 0 where

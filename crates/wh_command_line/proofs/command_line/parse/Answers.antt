@@ -3,11 +3,11 @@ use Rattle.std.proofs.lemmas.Result.{IfOk-weaker}
 use Rattle.std.specs.Prelude.{map, option_map, codes, string_bytes}
 use Rattle.clap.specs.Words.{Row, Text, is_simple, subcommand_of}
 use Rattle.clap.proofs.OnLiterals.{clap_on_literals}
-use Rattle.wh_cli.specs.Lines.{program}
-use Rattle.wh_cli.specs.Plans.{Names, IsGiven, IsAskedBy, GivesFewSlots, HasFewSlots}
-use Rattle.wh_cli.specs.declared.command_line.Plan.{Plan}
-use Rattle.wh_cli.specs.declared.command_line.Plan.TheVariants.{Replay, Serve, Help}
-use Rattle.wh_cli.proofs.command_line.parse.Goals as goal
+use Rattle.wh_command_line.specs.Lines.{program}
+use Rattle.wh_command_line.specs.Plans.{Names, IsGiven, IsAskedBy, GivesFewSlots, HasFewSlots}
+use Rattle.wh_command_line.specs.declared.command_line.Plan.{Plan}
+use Rattle.wh_command_line.specs.declared.command_line.Plan.TheVariants.{Replay, Serve, Help}
+use Rattle.wh_command_line.proofs.command_line.parse.Goals as goal
 
 program_is_simple : is_simple program ≡ true
 unfolding clap_on_literals program

@@ -7,15 +7,15 @@ use Rattle.wh_events.specs.declared.key.RunKey.{RunKey}
 use Rattle.wh_replay.specs.declared.run.Answer.{Answer}
 use Rattle.wh_replay.specs.declared.run.Answer.TheVariants.{Fail}
 use Rattle.wh_replay.specs.Replays.{ends_in_task}
-use Rattle.wh_poll.specs.Numbers.{last_number}
-use Rattle.wh_poll.specs.Source.{Tells}
+use Rattle.wh_tasks.specs.Numbers.{last_number}
+use Rattle.wh_tasks.specs.Source.{Tells}
 use Rattle.wh_workflow.specs.Law.{Program}
 use Rattle.wh_workflow.specs.Counting.{risen}
 use Rattle.wh_replay.specs.Runs.{Held, follows, run_of, steps, advance_steps}
 use Rattle.wh_replay.specs.Advances.{answered}
-use Rattle.wh_poll.specs.declared.source.SourceFault.TheVariants.{Source as Failed, OutOfMemory as Unfed}
-use Rattle.wh_poll.specs.declared.task.StepFault.{StepFault}
-use Rattle.wh_poll.specs.declared.task.StepFault.TheVariants.{Source, OutOfMemory}
+use Rattle.wh_tasks.specs.declared.source.SourceFault.TheVariants.{Source as Failed, OutOfMemory as Unfed}
+use Rattle.wh_tasks.specs.declared.task.StepFault.{StepFault}
+use Rattle.wh_tasks.specs.declared.task.StepFault.TheVariants.{Source, OutOfMemory}
 
 -- the events that a task is replayed from: its own, none, those of the run followed by its own, or those that
 -- the source tells

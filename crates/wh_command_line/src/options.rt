@@ -3,8 +3,8 @@
 ghost use Rattle.std.specs.Prelude.{◌≡◌, ◌≢◌, ◌≤◌, Some, Err, IfOk, IfSome};
 ghost use Rattle.clap.specs.Words.{found_of, rows_of};
 ghost use Rattle.wh_host.specs.Machine.{IsConfig};
-ghost use Rattle.wh_cli.specs.Lines.{value_of, value_named};
-ghost use Rattle.wh_cli.specs.Options.{AreWithinLimits, GivesNumbers};
+ghost use Rattle.wh_command_line.specs.Lines.{value_of, value_named};
+ghost use Rattle.wh_command_line.specs.Options.{AreWithinLimits, GivesNumbers, config_of};
 
 use crate::command_line::{Refusal, bad_line};
 use clap::ArgMatches;
@@ -134,26 +134,42 @@ impl Helps {
 
 /// The options of `serve`, each within its limits.
 #[derive(Clone, Copy)]
-pub(crate) struct Options {
+pub struct ServeOptions {
     /// How many workers there are.
-    pub(crate) workers: u64,
+    pub workers: u64,
     /// How many runs the cache holds.
-    pub(crate) cache: u64,
+    pub cache: u64,
     /// How many events the runs of the cache hold together, where 0 is no bound.
-    pub(crate) cache_events: u64,
+    pub cache_events: u64,
     /// How many slots there are of each kind.
-    pub(crate) slots: u64,
+    pub slots: u64,
     ghost within: { AreWithinLimits workers cache cache_events slots },
 }
 
-impl Options {
+impl ServeOptions {
+    /// The options with these numbers.
+    pub fn new(workers: u64, cache: u64, cache_events: u64, slots: u64) -> ServeOptions
+        requires { AreWithinLimits workers cache cache_events slots }
+        ensures workers { result.workers ≡ workers }
+        ensures cache { result.cache ≡ cache }
+        ensures cache_events { result.cache_events ≡ cache_events }
+        ensures slots { result.slots ≡ slots }
+    {
+        ServeOptions {
+            workers,
+            cache,
+            cache_events,
+            slots,
+        }
+    }
+
     /// The options that a subcommand is given.
-    pub(crate) fn given(alloc: Global, given: &ArgMatches<'_>) -> Result<Options, Refusal>
+    pub(crate) fn given(alloc: Global, given: &ArgMatches<'_>) -> Result<ServeOptions, Refusal>
         ensures given { IfOk result (λ o.
             GivesNumbers (rows_of (found_of given.now)) o.workers o.cache o.cache_events o.slots) }
         ensures slots { result ≢ Err Refusal.FewSlots }
     {
-        Ok(Options {
+        Ok(ServeOptions {
             workers: WORKERS.number(alloc, given)?,
             cache: CACHE.number(alloc, given)?,
             cache_events: CACHE_EVENTS.number(alloc, given)?,
@@ -162,9 +178,9 @@ impl Options {
     }
 
     /// How large a host they ask for.
-    pub(crate) fn config(self) -> Config
+    pub fn config(self) -> Config
         ensures config { IsConfig result }
-        ensures seats { result.seats ≡ self.workers }
+        ensures asked { result ≡ config_of self.workers self.cache self.cache_events self.slots }
     {
         Config {
             workflow_slots: self.slots as usize,

@@ -1,4 +1,5 @@
 //! The files of a folder.
+#![tactic(auto)]
 
 use std::alloc::AllocError;
 use std::fs::File;
@@ -23,7 +24,7 @@ impl From<io::Error> for FolderFault {
     ghost use Rattle.std.specs.Prelude.{◌≡◌, ◌↔◌};
     ghost use Rattle.std.specs.IoError.{error_kind};
     ghost use Rattle.std.specs.declared.io.ErrorKind.{ErrorKind};
-    ghost use Rattle.wh_cli.specs.declared.folder.FolderFault.{FolderFault};
+    ghost use Rattle.wh_files.specs.declared.FolderFault.{FolderFault};
 
     ghost from_gives = { λ error fault. (fault ≡ FolderFault.OutOfMemory) ↔ (error_kind error ≡ ErrorKind.OutOfMemory) };
 
@@ -37,7 +38,7 @@ impl From<io::Error> for FolderFault {
 
 impl From<AllocError> for FolderFault {
     ghost use Rattle.std.specs.Prelude.{◌≡◌};
-    ghost use Rattle.wh_cli.specs.declared.folder.FolderFault.{FolderFault};
+    ghost use Rattle.wh_files.specs.declared.FolderFault.{FolderFault};
 
     ghost from_gives = { λ _ fault. fault ≡ FolderFault.OutOfMemory };
 

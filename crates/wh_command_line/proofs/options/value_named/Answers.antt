@@ -3,8 +3,8 @@ use Rattle.std.specs.Prelude.{IfSome, option_map}
 use Rattle.clap.specs.Words.{first_value, rows_of, found_of}
 use Rattle.clap.specs.declared.ArgMatches.{ArgMatches}
 use Rattle.clap.proofs.WalkLemmas.{first_value-rows}
-use Rattle.wh_cli.specs.Lines.{value_of, value_named}
-use Rattle.wh_cli.proofs.options.value_named.Goals as goal
+use Rattle.wh_command_line.specs.Lines.{value_of, value_named}
+use Rattle.wh_command_line.proofs.options.value_named.Goals as goal
 
 -- a value that was read is the one among the rows
 value_among : (m : ArgMatches) (name text : List ℕ) (r : Option ℕ) → Some text ≡ first_value (found_of m) name → IfSome r (λ n. n ≡ value_of text)

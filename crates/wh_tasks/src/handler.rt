@@ -10,9 +10,9 @@ use wh_slots::TaskName;
 /// Runs activities, one for each worker. What an activity does is its own; contracts see what it
 /// may answer.
 pub trait ActivityHandler {
-    ghost use Rattle.wh_poll.specs.Source.{SameMay};
-    ghost use Rattle.wh_poll.specs.declared.source.ActivityTask.{ActivityTask};
-    ghost use Rattle.wh_poll.specs.declared.source.ActivityAnswer.{ActivityAnswer};
+    ghost use Rattle.wh_tasks.specs.Source.{SameMay};
+    ghost use Rattle.wh_tasks.specs.declared.source.ActivityTask.{ActivityTask};
+    ghost use Rattle.wh_tasks.specs.declared.source.ActivityAnswer.{ActivityAnswer};
 
     /// Which answers a task may get. No call changes it.
     ghost may: { Self → ActivityTask → ActivityAnswer → Type 0 };
@@ -41,7 +41,7 @@ pub struct NoActivities {
 
 impl ActivityHandler for NoActivities {
     ghost use Rattle.std.specs.Prelude.{◌≡◌, codes};
-    ghost use Rattle.wh_poll.specs.declared.source.ActivityAnswer.TheVariants.{Failed};
+    ghost use Rattle.wh_tasks.specs.declared.source.ActivityAnswer.TheVariants.{Failed};
 
     ghost may = { λ handler task answer. answer ≡ Failed (codes "no activities") };
 

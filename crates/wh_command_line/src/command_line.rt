@@ -4,11 +4,11 @@ ghost use Rattle.std.specs.Prelude.{◌≡◌, ◌≢◌, ◌↔◌, ◌<◌, fa
 ghost use Rattle.std.specs.Prelude.{string_bytes};
 ghost use Rattle.clap.specs.Words.{app_of, new_app, found_of, rows_of, rule_of};
 ghost use Rattle.clap.specs.declared.builder.Command.TheViews.{out-Command as fields_of};
-ghost use Rattle.wh_cli.specs.Lines.{program, replay, serve, folder, number};
-ghost use Rattle.wh_cli.specs.Plans.{IsWithinLimits, IsHelp, IsServe, IsGiven, IsAskedBy};
-ghost use Rattle.wh_cli.specs.Plans.{GivesFolder, GivesFewSlots, AsksFewSlots, HasFewSlots};
+ghost use Rattle.wh_command_line.specs.Lines.{program, replay, serve, folder, number};
+ghost use Rattle.wh_command_line.specs.Plans.{IsWithinLimits, IsHelp, IsServe, IsGiven, IsAskedBy};
+ghost use Rattle.wh_command_line.specs.Plans.{GivesFolder, GivesFewSlots, AsksFewSlots, HasFewSlots};
 
-use crate::options::{CACHE, CACHE_EVENTS, Helps, NumberOption, Options, SLOTS, WORKERS};
+use crate::options::{CACHE, CACHE_EVENTS, Helps, NumberOption, SLOTS, ServeOptions, WORKERS};
 use clap::error::ErrorKind;
 use clap::{Arg, ArgAction, ArgMatches, Command, Error};
 use std::alloc::{AllocError, Global};
@@ -53,7 +53,7 @@ pub enum Refusal {
 
 impl From<AllocError> for Refusal {
     ghost use Rattle.std.specs.Prelude.{◌≡◌};
-    ghost use Rattle.wh_cli.specs.declared.command_line.Refusal.TheVariants.{OutOfMemory};
+    ghost use Rattle.wh_command_line.specs.declared.command_line.Refusal.TheVariants.{OutOfMemory};
 
     ghost from_gives = { λ _ e. e ≡ OutOfMemory };
 
@@ -166,12 +166,12 @@ fn command<'a>(alloc: Global, helps: &'a Helps) -> Result<Command<'a>, AllocErro
 }
 
 /// The plan to serve with these options.
-fn serve_plan(dir: Text, options: Options) -> Result<Plan, Refusal>
+fn serve_plan(dir: Text, options: ServeOptions) -> Result<Plan, Refusal>
     ensures limits { IfOk result IsWithinLimits }
     ensures kept { IfOk result (IsServe dir options) }
     ensures few { (result ≡ Err Refusal.FewSlots) ↔ (options.slots < options.workers) }
 {
-    let Options {
+    let ServeOptions {
         workers,
         cache,
         cache_events,
@@ -208,7 +208,7 @@ fn asked(alloc: Global, name: &str, given: &ArgMatches<'_>) -> Result<Plan, Refu
     let dir = text_copy(alloc, dir)?;
     match name {
         "replay" => Ok(Plan::Replay { dir }),
-        "serve" => serve_plan(dir, Options::given(alloc, given)?),
+        "serve" => serve_plan(dir, ServeOptions::given(alloc, given)?),
         _ => Err(bad_line(String::from_str(alloc, "error: a command is needed\n"))),
     }
 }

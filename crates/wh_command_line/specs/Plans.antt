@@ -1,11 +1,11 @@
 -- What a command line asks for.
 use Rattle.std.specs.Prelude.{◌≡◌, ℕ, ◌≤◌, ◌<◌, List, codes, Some}
 use Rattle.clap.specs.Words.{Row, Text, first_of, subcommand_of}
-use Rattle.wh_cli.specs.Lines.{program}
-use Rattle.wh_cli.specs.Options.{AreWithinLimits, GivesNumbers}
-use Rattle.wh_cli.specs.declared.command_line.Plan.{Plan}
-use Rattle.wh_cli.specs.declared.options.Options.{Options}
-use Rattle.wh_cli.specs.declared.command_line.Plan.TheVariants.{Replay, Serve, Help}
+use Rattle.wh_command_line.specs.Lines.{program}
+use Rattle.wh_command_line.specs.Options.{AreWithinLimits, GivesNumbers}
+use Rattle.wh_command_line.specs.declared.command_line.Plan.{Plan}
+use Rattle.wh_command_line.specs.declared.options.ServeOptions.{ServeOptions}
+use Rattle.wh_command_line.specs.declared.command_line.Plan.TheVariants.{Replay, Serve, Help}
 
 -- the numbers of a plan are within their limits, with at least as many slots as workers
 abbrev pub IsWithinLimits : Plan → Type 0
@@ -13,7 +13,7 @@ IsWithinLimits (Serve dir workers cache cache_events slots) = AreWithinLimits wo
 IsWithinLimits _ = Unit {0}
 
 -- the plan is to serve a folder with these options
-abbrev pub IsServe : Text → Options → Plan → Type 0
+abbrev pub IsServe : Text → ServeOptions → Plan → Type 0
 IsServe dir options plan = plan ≡ Serve dir options.workers options.cache options.cache_events options.slots
 
 -- the plan is to print a text

@@ -1,0 +1,13 @@
+//! Tasks: the sources that give them and take their answers, the handlers of activities, and the
+//! replay of a workflow task.
+#![tactic(auto)]
+
+mod handler;
+mod source;
+mod task;
+
+pub use handler::{ActivityHandler, Gate, NoActivities, OpenGate};
+pub use source::{
+    ActivityAnswer, ActivityTask, Polled, Sent, SourceFault, TaskSource, WorkflowTask,
+};
+pub use task::{StepFault, Stepped, last_number, replay_task};
