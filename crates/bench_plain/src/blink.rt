@@ -13,9 +13,17 @@ impl Workflow for Blink {
 
     type State = bool;
 
-    ghost program = { record { knows = λ kind. bytes_eq kind (codes "Blink"); initial = λ kind. true; after = λ state job. not state; gives = λ state job. if state then StartTimer (codes "t") 60 ∷ [] else CancelTimer (codes "t") ∷ [] } };
+    ghost program = { record {
+      knows = λ kind. bytes_eq kind (codes "Blink");
+      initial = λ kind. true;
+      after = λ state job. not state;
+      gives = λ state job. if state then StartTimer (codes "t") 60 ∷ [] else CancelTimer (codes "t") ∷ [];
+    } };
 
-    ghost lawful = { elim [ true ↦ λ job. record { few = lit≤ tt; asks = refl; records = refl } | false ↦ λ job. record { few = lit≤ tt; asks = refl; records = refl } ] };
+    ghost lawful = { elim [
+      | true ↦ λ job. record { few = lit≤ tt; asks = refl; records = refl }
+      | false ↦ λ job. record { few = lit≤ tt; asks = refl; records = refl }
+    ] };
 
     fn handles(kind: &str) -> bool {
         kind == "Blink"

@@ -49,7 +49,8 @@ pub fn judge(
 ) -> Result<(), &'static str>
     ensures sound { OnOk result (IsSound found.now.totals found.now.tally) }
     ensures drained { OnOk result (found.now.is_drained ≡ true) }
-    ensures same { OnOk result (map (λ s. s.answers) found.now.sources.items ≡ map (λ s. s.answers) plain.now.sources.items) }
+    ensures same { OnOk result
+        (map (λ s. s.answers) found.now.sources.items ≡ map (λ s. s.answers) plain.now.sources.items) }
 {
     check(found.totals, found.tally)?;
     if !found.is_drained {

@@ -93,8 +93,8 @@ fn write_rows<O: Write>(rows: Vec<Row>, writer: &mut O) -> io::Result<()>
     Ok(())
 }
 
-/// Writes a line for each file in the order given, then the totals. After an error some of the report
-/// may have been written.
+/// Writes a line for each file in the order given, then the totals. After an error some of the
+/// report may have been written.
 pub fn write_service<O: Write>(rows: Vec<Row>, totals: Totals, writer: &mut O) -> io::Result<()>
     ensures { OnOk result (Appends (O.contents writer.old) (O.contents writer.new) (service_text rows.items totals)) }
 {

@@ -213,9 +213,10 @@ fn asked(alloc: Global, name: &str, given: &ArgMatches<'_>) -> Result<Plan, Refu
     }
 }
 
-/// The plan of a command line, whose first word is the program's name. `BadLine` holds what is wrong
-/// with the line, as it is shown. `FewSlots` comes only where the line names numbers within their
-/// limits, with fewer slots than workers. `OutOfMemory` comes where there is no memory to read it.
+/// The plan of a command line, whose first word is the program's name. `BadLine` holds what is
+/// wrong with the line, as it is shown. `FewSlots` comes only where the line names numbers within
+/// their limits, with fewer slots than workers. `OutOfMemory` comes where there is no memory to
+/// read it.
 pub fn parse<'a>(alloc: Global, words: &'a [String]) -> Result<Plan, Refusal>
     ensures limits { IfOk result IsWithinLimits }
     ensures asked { IfOk result (IsAskedBy (map string_bytes words.entry.now)) }

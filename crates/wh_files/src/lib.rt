@@ -26,7 +26,8 @@ impl From<io::Error> for FolderFault {
     ghost use Rattle.std.specs.declared.io.ErrorKind.{ErrorKind};
     ghost use Rattle.wh_files.specs.declared.FolderFault.{FolderFault};
 
-    ghost from_gives = { λ error fault. (fault ≡ FolderFault.OutOfMemory) ↔ (error_kind error ≡ ErrorKind.OutOfMemory) };
+    ghost from_gives = { λ error fault.
+        (fault ≡ FolderFault.OutOfMemory) ↔ (error_kind error ≡ ErrorKind.OutOfMemory) };
 
     fn from(error: io::Error) -> FolderFault {
         if error.kind() == ErrorKind::OutOfMemory {

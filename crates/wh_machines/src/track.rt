@@ -1,6 +1,8 @@
 //! The events of a run with the tables of what they opened.
 
-ghost use Rattle.std.specs.Prelude.{◌≡◌, IsTrue, ◌-◌, ◌+◌, ◌<◌, ◌≤◌, ◌↔◌, ◌++◌, ◌∷◌, [], true, not, is_some, length, option_copied, slice_get, OnOk, OnErr, IfOk, IfSome, Option, vec_len};
+ghost use Rattle.std.specs.Prelude.{◌≡◌, IsTrue, ◌-◌, ◌+◌, ◌<◌, ◌≤◌, ◌↔◌, ◌++◌, ◌∷◌, [], true, not};
+ghost use Rattle.std.specs.Prelude.{is_some, length, option_copied, slice_get, OnOk, OnErr, IfOk};
+ghost use Rattle.std.specs.Prelude.{IfSome, Option, vec_len};
 ghost use Rattle.std.specs.Vec.{vec_capacity};
 ghost use Rattle.wh_events.specs.Kinds.{role_of, role_seen};
 ghost use Rattle.wh_events.specs.Machines as machines;

@@ -1,5 +1,6 @@
 //! The commands of an activation, as they are issued.
-ghost use Rattle.std.specs.Prelude.{◌≡◌, ◌+◌, ◌<◌, ◌≤◌, ◌++◌, ◌∷◌, [], List, Bool, Option, None, false, length, vec_len, IfOk, OnOk, OnErr, option_map};
+ghost use Rattle.std.specs.Prelude.{◌≡◌, ◌+◌, ◌<◌, ◌≤◌, ◌++◌, ◌∷◌, [], List, Bool, Option, None};
+ghost use Rattle.std.specs.Prelude.{false, length, vec_len, IfOk, OnOk, OnErr, option_map};
 ghost use Rattle.wh_workflow.specs.Activations.{marker_if};
 ghost use Rattle.wh_events.specs.Cuts.{commanded};
 ghost use Rattle.wh_workflow.specs.declared.command.Command.{Command};
@@ -11,7 +12,8 @@ ghost use Rattle.wh_machines.specs.Lookups.{thing_of};
 ghost use Rattle.wh_workflow.specs.Law.{is_ask, is_marker};
 ghost use Rattle.wh_workflow.specs.Scripts.{Standpoint, Settled, act_of, act_fault, command_fault, with_version};
 ghost use Rattle.wh_match.specs.Faults.{early_fault, range_fault, workflow_fault};
-ghost use Rattle.wh_match.specs.Issuing.{standpoint_in, is_late_act, with_issued, with_asked, choice_in, unmarked_if, reduced_by};
+ghost use Rattle.wh_match.specs.Issuing.{standpoint_in, is_late_act, with_issued, with_asked};
+ghost use Rattle.wh_match.specs.Issuing.{choice_in, unmarked_if, reduced_by};
 ghost use Rattle.wh_match.specs.Standings.{standing_of};
 
 use crate::act::{Act, closes, read_act};
@@ -258,8 +260,8 @@ impl Script {
         requires not_ask { is_ask command.now ≡ false }
         ensures fault { let standpoint = standpoint_in track.now self.now None in
             result_err result ≡ act_fault standpoint [] self.now.issued (act_of command.now) }
-        ensures late { let late = is_late_act (standpoint_in track.now self.now None) self.now.issued (act_of command.now) in
-            IfOk result (λ is. is ≡ late) }
+        ensures late { let standpoint = standpoint_in track.now self.now None in
+            IfOk result (λ late. late ≡ is_late_act standpoint self.now.issued (act_of command.now)) }
     {
         let earlier = self.issued.as_slice();
         match read_act(command) {
@@ -285,8 +287,8 @@ impl Script {
         ensures fault { (recorded : Option (List Event)) (settled : Settled) →
             let standpoint = standpoint_in track.now self.now recorded in
             result_err result ≡ command_fault standpoint settled self.now.issued command.now }
-        ensures late { let late = is_late_act (standpoint_in track.now self.now None) self.now.issued (act_of command.now) in
-            IfOk result (λ is. is ≡ late) }
+        ensures late { let standpoint = standpoint_in track.now self.now None in
+            IfOk result (λ late. late ≡ is_late_act standpoint self.now.issued (act_of command.now)) }
     {
         match self.early_fault() {
             Some(fault) => Err(fault),
@@ -344,7 +346,8 @@ fn settle_asked(
     ensures items { let ask = Command.Ask question.entry.change_id.now question.entry.min question.entry.max in
         IfOk result (λ asked. asked.items ≡ ask ∷ marker_if chosen.marked question.entry.change_id.now chosen.version) }
     ensures few { IfOk result (λ asked. vec_len asked ≤ 2) }
-    ensures settled { OnOk result (versions.new ≡ with_version versions.old question.entry.change_id.now chosen.version) }
+    ensures settled { OnOk result
+        (versions.new ≡ with_version versions.old question.entry.change_id.now chosen.version) }
     ensures unsettled { OnErr result (versions.new ≡ versions.old) }
 {
     let asked = asked_commands(alloc, question, chosen)?;

@@ -2,7 +2,9 @@
 ghost use Rattle.std.specs.Prelude.{◌≡◌, IfSome, MatchOption};
 ghost use Rattle.wh_tasks.specs.Source.{SameTasks, SameMay, FailsOnly};
 ghost use Rattle.wh_tasks.specs.Tasks.{FailsOnlySource};
-ghost use Rattle.wh_poll.specs.Serve.{Serves, ServesWorkflow, ServesActivity, Sends, IsOfKind, Counts, MayCount, with_taken, ended, unanswered, served_workflow, served_activity};
+ghost use Rattle.wh_poll.specs.Serve.{Serves, ServesWorkflow, ServesActivity, Sends, IsOfKind};
+ghost use Rattle.wh_poll.specs.Serve.{Counts, MayCount, with_taken, ended, unanswered};
+ghost use Rattle.wh_poll.specs.Serve.{served_workflow, served_activity};
 
 use crate::answer::{Answered, Reply, answer_by_handler, answer_by_replay};
 use std::alloc::Global;

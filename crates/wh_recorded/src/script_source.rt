@@ -1,6 +1,10 @@
 //! A source that gives the tasks of recorded histories.
-ghost use Rattle.std.specs.Prelude.{◌≡◌, ◌<◌, ◌-◌, ◌++◌, ◌∷◌, [], get_or, length, map, take, drop, option_map, IfOk, IfErr, IfSome, OnOk, OnErr};
-ghost use Rattle.wh_recorded.specs.Rounds.{scripted, opening_stage, with_answer, ends_of, tasks_in, begin_at, task_of, key_of, events_up_to, first_named, completed_of, tally_of, deliveries_of, first_with, upcoming, told, Gives, Recounts, Polls};
+ghost use Rattle.std.specs.Prelude.{◌≡◌, ◌<◌, ◌-◌, ◌++◌, ◌∷◌, [], get_or, length, map, take, drop};
+ghost use Rattle.std.specs.Prelude.{option_map, IfOk, IfErr, IfSome, OnOk, OnErr};
+ghost use Rattle.wh_recorded.specs.Rounds.{scripted, opening_stage, with_answer, ends_of, tasks_in};
+ghost use Rattle.wh_recorded.specs.Rounds.{begin_at, task_of, key_of, events_up_to, first_named};
+ghost use Rattle.wh_recorded.specs.Rounds.{completed_of, tally_of, deliveries_of, first_with};
+ghost use Rattle.wh_recorded.specs.Rounds.{upcoming, told, Gives, Recounts, Polls};
 ghost use Rattle.wh_tasks.specs.Source.{Delivery, FailsOnly, IfTask, SameTasks};
 ghost use Rattle.wh_tasks.specs.declared.source.Polled.{Polled};
 ghost use Rattle.wh_tasks.specs.declared.source.Sent.{Sent};

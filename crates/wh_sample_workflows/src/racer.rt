@@ -16,7 +16,7 @@ use wh_workflow::{ActivityEnd, Command, Job, Meter, Workflow};
 /// |---|---|---|---|
 /// | racing | `Start` | `StartActivity{1, race}`, without an input, `StartTimer{t, 30}` | racing |
 /// | racing | `TimerFired` of `t` | `CancelActivity{1}`, `StartTimer{u, 5}` | late |
-/// | racing | `Activity` `1`, `Completed` with a result | `CancelTimer{t}`, `Complete` with that result | done |
+/// | racing | `Activity` `1`, `Completed` | `CancelTimer{t}`, `Complete` with its result | done |
 /// | racing | `Activity` `1`, another end | `CancelTimer{t}`, `Fail{race}` | done |
 /// | late | `TimerFired` of `u` | `Complete`, without a result | done |
 ///

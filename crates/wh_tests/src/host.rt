@@ -362,7 +362,8 @@ fn totals<R: Wait + Abort, W: Workflow, T: Ledger, C: Ledger, F: Ledger>(
     failed: Blank,
 ) -> Totals
     requires taken { (taken.name ≡ T.name) × (taken.parts ≡ T.parts) × (taken.parts ≡ day.now.config.seats) }
-    requires completed { (completed.name ≡ C.name) × (completed.parts ≡ C.parts) × (completed.parts ≡ day.now.config.seats) }
+    requires completed { (completed.name ≡ C.name) × (completed.parts ≡ C.parts)
+        × (completed.parts ≡ day.now.config.seats) }
     requires failed { (failed.name ≡ F.name) × (failed.parts ≡ F.parts) × (failed.parts ≡ day.now.config.seats) }
 {
     let opened = Host::<W, T, C, F>::open(alloc, day.config, taken, completed, failed);

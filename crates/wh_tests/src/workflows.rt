@@ -14,7 +14,12 @@ impl Workflow for Brief {
 
     type State = bool;
 
-    ghost program = { record { knows = λ kind. bytes_eq kind (codes "Brief"); initial = λ kind. true; after = λ state job. state; gives = λ state job. Cancel ∷ [] } };
+    ghost program = { record {
+      knows = λ kind. bytes_eq kind (codes "Brief");
+      initial = λ kind. true;
+      after = λ state job. state;
+      gives = λ state job. Cancel ∷ [];
+    } };
 
     ghost lawful = { λ state job. record { few = lit≤ tt; asks = refl; records = refl } };
 
@@ -48,7 +53,12 @@ impl Workflow for Still {
 
     type State = u64;
 
-    ghost program = { record { knows = λ kind. bytes_eq kind (codes "Still"); initial = λ kind. 0; after = λ state job. state; gives = λ state job. [] } };
+    ghost program = { record {
+      knows = λ kind. bytes_eq kind (codes "Still");
+      initial = λ kind. 0;
+      after = λ state job. state;
+      gives = λ state job. [];
+    } };
 
     ghost lawful = { λ state job. record { few = lit≤ tt; asks = refl; records = refl } };
 
