@@ -1,20 +1,25 @@
 -- What the command `serve` did: its report, and its status.
-use Rattle.std.specs.Prelude.{◌≡◌, ℕ, ◌+◌, ◌%◌, ◌&&◌, List, [], ◌∷◌, ◌++◌, length, map, get_or, codes, decimal, Bool, false, Option, Some, None, is_none, Result, Ok, Err, String, string_bytes, Vec, if◌then◌else◌, eqb}
+use Rattle.std.specs.Prelude.{◌≡◌, ℕ, ◌+◌, ◌<◌, ◌≤◌, ◌%◌, ◌&&◌, List, [], ◌∷◌, ◌++◌, length, map, get_or, codes, decimal, Bool, false, Option, Some, None, is_none, Result, Ok, Err, String, string_bytes, Vec, if◌then◌else◌, eqb}
 use Rattle.std.specs.List.{flat_map, list_all}
 use Rattle.std.specs.declared.alloc.Global.{Global}
 use Rattle.wh_json.specs.declared.fault.ReadFault.{ReadFault}
 use Rattle.wh_json.specs.Events.{history}
 use Rattle.wh_ledger.specs.declared.Shares.{Shares}
-use Rattle.wh_ledger.specs.Shares.{sums_of}
+use Rattle.wh_ledger.specs.Shares.{sums_of, no_shares}
 use Rattle.wh_host.specs.declared.reply.Totals.{Totals}
 use Rattle.wh_host.specs.Machine.{totals_of}
 use Rattle.wh_tasks.specs.declared.source.SourceFault.{SourceFault}
-use Rattle.wh_recorded.specs.Rounds.{Stage, tally_of}
+use Rattle.wh_events.specs.declared.event.Event.{Event}
+use Rattle.wh_recorded.specs.Rounds.{Stage, Scripted, ComesFrom, scripted, opening_stage, tally_of}
 use Rattle.wh_tester.specs.Report.{shown, line_text}
 use Rattle.wh_tester.specs.declared.line.Verdict.TheVariants.{Unreadable}
 use Rattle.wh_cli.specs.declared.dealing.Dealt.{Dealt}
 use Rattle.wh_cli.specs.declared.service_report.Tally.{Tally}
 use Rattle.wh_cli.specs.declared.service_report.Row.{Row}
+
+-- a file: its name, and its bytes
+abbrev pub File : Type 0
+File = String Global × Vec ℕ Global
 
 -- the fault, if there is one
 abbrev pub fault_of : {A : Type 0} → Result A ReadFault → Option ReadFault
@@ -22,8 +27,30 @@ fault_of (Ok x) = None
 fault_of (Err fault) = Some fault
 
 -- a file by its name, and why it cannot be read
-abbrev pub dealt_of : String Global × Vec ℕ Global → Dealt
+abbrev pub dealt_of : File → Dealt
 dealt_of file = record { name = string_bytes file.0; fault = fault_of (history file.1.items) }
+
+-- the history of a file, under the index and the name of the file, where it can be read
+abbrev pub read_as : ℕ → List ℕ → Result (List Event) ReadFault → List Scripted
+read_as index name (Ok events) = record { index = index; name = name; events = events } ∷ []
+read_as index name (Err fault) = []
+
+abbrev pub history_of : ℕ → File → List Scripted
+history_of index file = read_as index (string_bytes file.0) (history file.1.items)
+
+-- what one of so many workers is dealt of files, where so many stand before them: the workers take turns
+abbrev pub hand_from : (count worker before : ℕ) → List File → List Scripted
+hand_from count worker before [] = []
+hand_from count worker before (file ∷ rest) =
+    (if eqb (before % count) worker then history_of before file else []) ++ hand_from count worker (before + 1) rest
+
+-- what a worker is dealt of all files
+abbrev pub hand_of : (count worker : ℕ) → List File → List Scripted
+hand_of count worker files = hand_from count worker 0 files
+
+-- a hand as contracts see it
+abbrev pub hand_seen : Vec (ℕ × String Global × Vec Event Global) Global → List Scripted
+hand_seen hand = map scripted hand.items
 
 -- how many tasks of a file its source gave, and how they ended: none, where it has none of its name
 abbrev pub tally_from : Option (ℕ × ℕ × ℕ) → Tally
@@ -58,15 +85,31 @@ pub record Left : Type 0 where
   pub source : Stage
   pub fault : Option SourceFault
 
--- what so many workers did with the files that they were dealt: a row for each file, the sums of what their seats counted, and
+-- what a worker leaves that did nothing
+abbrev pub none_left : Left
+none_left = record { counted = no_shares; source = no_source; fault = None }
+
+abbrev pub left_of : Shares → Stage → Option SourceFault → Left
+left_of counted source fault = record { counted = counted; source = source; fault = fault }
+
+-- what is gathered of the files and of what the workers leave: a row for each file, the sums of what their seats counted, and
 -- whether none of them has a fault
-pub record IsService (dealt : List Dealt) (count : ℕ) (rows : List Row) (totals : Totals) (faultless : Bool) : Type 0 where
-  pub left : List Left
-  pub workers : length left ≡ count
+pub record IsGathered (left : List Left) (dealt : List Dealt) (rows : List Row) (totals : Totals) (faultless : Bool) : Type 0 where
   pub told : rows ≡ rows_from (map (λ worker. worker.source) left) 0 dealt
   pub sums : totals ≡ totals_of (sums_of (map (λ worker. worker.counted) left))
   pub balanced : totals.taken ≡ totals.completed + totals.failed + totals.in_hand
   pub no_fault : faultless ≡ list_all (λ worker. is_none worker.fault) left
+
+-- what so many workers did with files: each had a source over the histories that it was dealt, and no others; the source that
+-- it leaves comes from that one, and was sent at most as many answers as the worker's seat took tasks
+pub record IsService (files : List File) (count : ℕ) (rows : List Row) (totals : Totals) (faultless : Bool) : Type 0 where
+  pub left : List Left
+  pub workers : length left ≡ count
+  pub own : (worker : ℕ) → worker < count
+      → ComesFrom (get_or left worker none_left).source (opening_stage (hand_of count worker files))
+  pub answered : (worker : ℕ) → worker < count
+      → length (get_or left worker none_left).source.answers ≤ (get_or left worker none_left).counted.taken
+  pub gathered : IsGathered left (map dealt_of files) rows totals faultless
 
 -- `<tasks> tasks, <completed> completed, <failed> failed`
 abbrev pub tally_text : Tally → List ℕ

@@ -1,7 +1,8 @@
 //! Files are dealt to workers.
 
-ghost use Rattle.std.specs.Prelude.{◌≡◌, ◌<◌, IfOk, length, map, vec_len};
-ghost use Rattle.wh_cli.specs.Services.{dealt_of};
+ghost use Rattle.std.specs.Prelude.{◌≡◌, ◌<◌, ◌++◌, ℕ, [], IfOk, OnOk, get_or, length, map, replicate, vec_len};
+ghost use Rattle.wh_recorded.specs.Rounds.{opening_stage};
+ghost use Rattle.wh_cli.specs.Services.{dealt_of, hand_of, hand_seen, history_of, no_source};
 
 use std::alloc::Global;
 use wh_events::{Event, OutOfMemory, Text};
@@ -20,7 +21,7 @@ type Hand = Vec<(u64, String, Vec<Event>)>;
 
 /// An empty hand for each worker.
 fn empty_hands(alloc: Global, workers: usize) -> Result<Vec<Hand>, OutOfMemory>
-    ensures { IfOk result (λ hands. vec_len hands ≡ workers) }
+    ensures { IfOk result (λ hands. map hand_seen hands.items ≡ replicate workers []) }
 {
     let mut hands = Vec::new(alloc);
     for _worker in 0..workers {
@@ -36,7 +37,8 @@ fn deal_file(
     file: (String, Vec<u8>),
     hand: &mut Hand,
 ) -> Result<Dealt, OutOfMemory>
-    ensures { IfOk result (λ dealt. dealt ≡ dealt_of file) }
+    ensures dealt { IfOk result (λ dealt. dealt ≡ dealt_of file) }
+    ensures hand { OnOk result (hand_seen hand.new ≡ hand_seen hand.old ++ history_of index file) }
 {
     let (name, bytes) = file;
     let fault = match read_events(alloc, bytes.as_slice()) {
@@ -63,6 +65,9 @@ fn deal(
     requires { 0 < length hands.old }
     ensures hands { length hands.new ≡ length hands.old }
     ensures dealt { IfOk result (λ dealt. dealt.items ≡ map dealt_of files.items) }
+    ensures histories { OnOk result ((worker : ℕ) → worker < length hands.old →
+        get_or (map hand_seen hands.new) worker []
+        ≡ get_or (map hand_seen hands.old) worker [] ++ hand_of (length hands.old) worker files.items) }
 {
     let mut dealt = Vec::new(alloc);
     for file in files {
@@ -75,7 +80,7 @@ fn deal(
 
 /// A source over each worker's histories.
 fn sources_of(alloc: Global, hands: Vec<Hand>) -> Result<Vec<ScriptSource>, OutOfMemory>
-    ensures { IfOk result (λ sources. vec_len sources ≡ vec_len hands) }
+    ensures { IfOk result (λ sources. sources.items ≡ map (λ hand. opening_stage (hand_seen hand)) hands.items) }
 {
     let mut sources = Vec::new(alloc);
     for hand in hands {
@@ -91,7 +96,10 @@ pub(crate) fn deal_sources(
     workers: usize,
 ) -> Result<(Vec<Dealt>, Vec<ScriptSource>), OutOfMemory>
     requires { 0 < workers }
-    ensures { IfOk result (λ both. (both.0.items ≡ map dealt_of files.items) × (vec_len both.1 ≡ workers)) }
+    ensures dealt { IfOk result (λ both. both.0.items ≡ map dealt_of files.items) }
+    ensures count { IfOk result (λ both. vec_len both.1 ≡ workers) }
+    ensures histories { IfOk result (λ both. (worker : ℕ) → worker < workers →
+        get_or both.1.items worker no_source ≡ opening_stage (hand_of workers worker files.items)) }
 {
     let mut hands = empty_hands(alloc, workers)?;
     let dealt = deal(alloc, files, hands.as_mut_slice())?;

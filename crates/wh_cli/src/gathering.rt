@@ -3,8 +3,8 @@
 ghost use Rattle.std.specs.Prelude.{◌≡◌, ◌<◌, IfOk, is_none, length, map, vec_len};
 ghost use Rattle.std.specs.List.{list_all};
 ghost use Rattle.wh_recorded.specs.Rounds.{tally_of};
-ghost use Rattle.wh_cli.specs.Services.{tally_from, row_from, rows_from};
-ghost use Rattle.wh_cli.specs.Served.{IsServiceOf};
+ghost use Rattle.wh_cli.specs.Services.{left_of, tally_from, row_from, rows_from};
+ghost use Rattle.wh_cli.specs.Served.{IsGatheredOf};
 
 use crate::dealing::Dealt;
 use crate::service_report::{Row, Tally};
@@ -111,7 +111,8 @@ pub(crate) fn gather<W: Workflow, T: Ledger, C: Ledger, F: Ledger>(
 ) -> Result<Service, OutOfMemory>
     requires some { 0 < vec_len workers }
     requires all { T.parts ≡ vec_len workers }
-    ensures { IfOk result (IsServiceOf dealt.items (vec_len workers)) }
+    ensures { IfOk result (IsGatheredOf
+        (map (λ worker. left_of worker.seat worker.source worker.fault) workers.items) dealt.items) }
 {
     let rows = rows_of(alloc, dealt, workers.as_slice())?;
     let faultless = are_faultless(workers.as_slice());

@@ -5,7 +5,11 @@ ghost use Rattle.std.specs.Io.KnownBytes.{Appends};
 ghost use Rattle.wh_host.specs.Machine.{IsConfig};
 ghost use Rattle.wh_host.specs.declared.reply.Totals.{Totals};
 ghost use Rattle.wh_command_line.specs.Options.{AreWithinLimits};
-ghost use Rattle.wh_cli.specs.Services.{dealt_of, IsService, service_text, status_of};
+ghost use Rattle.std.specs.List.{AllZip};
+ghost use Rattle.wh_tasks.specs.Source.{KeepsOrigin};
+ghost use Rattle.wh_poll.specs.Serve.{AllAnsweredWithin};
+ghost use Rattle.wh_recorded.specs.Rounds.{ComesFrom};
+ghost use Rattle.wh_cli.specs.Services.{IsService, service_text, status_of};
 ghost use Rattle.wh_cli.specs.Served.{IsServiceOf};
 ghost use Rattle.wh_cli.specs.declared.service_report.Row.{Row};
 
@@ -65,7 +69,12 @@ fn work_all<
     sources: Vec<ScriptSource>,
 ) -> Result<Vec<Worker<T, C, F, ScriptSource>>, OutOfMemory>
     requires { vec_len sources ≡ vec_len seats }
-    ensures { IfOk result (λ workers. vec_len workers ≡ vec_len seats) }
+    ensures count { IfOk result (λ workers. vec_len workers ≡ vec_len seats) }
+    ensures origins { IfOk result (λ workers.
+        AllZip (KeepsOrigin ComesFrom) sources.items (map (λ worker. worker.source) workers.items)) }
+    ensures answered { IfOk result (λ workers.
+        AllAnsweredWithin (map (λ source. length source.answers) sources.items) seats.items
+        (map (λ worker. length worker.source.answers) workers.items) (map (λ worker. worker.seat) workers.items)) }
 {
     let turns = turns_of(alloc, sources.as_slice())?;
     let handlers = handlers_of(alloc, seats.len())?;
@@ -95,7 +104,7 @@ fn serve_with<
     requires completed { (completed.name ≡ C.name) × (completed.parts ≡ C.parts)
         × (completed.parts ≡ config.seats) }
     requires failed { (failed.name ≡ F.name) × (failed.parts ≡ F.parts) × (failed.parts ≡ config.seats) }
-    ensures { IfOk result (IsServiceOf (map dealt_of files.items) config.seats) }
+    ensures { IfOk result (IsServiceOf files.items config.seats) }
 {
     let (dealt, sources) = deal_sources(alloc, files, config.seats)?;
     let (host, seats) = match Host::<W, T, C, F>::open(alloc, config, taken, completed, failed) {
@@ -114,7 +123,7 @@ fn serve_all<W: Workflow + Send, R: Threads + Wait + Sync>(
     files: Vec<(String, Vec<u8>)>,
     options: ServeOptions,
 ) -> Result<Service, OutOfMemory>
-    ensures { IfOk result (IsServiceOf (map dealt_of files.items) options.workers) }
+    ensures { IfOk result (IsServiceOf files.items options.workers) }
 {
     let workers = options.workers;
     serve_with::<W, R, Brand, Brand, Brand>(
@@ -171,7 +180,7 @@ pub fn serve_command<W: Workflow + Send, R: Threads + Wait + Sync, O: Write>(
 ) -> Result<u8, CommandFault>
     requires { AreWithinLimits workers cache cache_events slots }
     ensures report { IfOk result (λ status. (rows : List Row) × (totals : Totals) × (faultless : Bool)
-        × IsService (map dealt_of files.items) workers rows totals faultless
+        × IsService files.items workers rows totals faultless
         × Appends (O.contents writer.old) (O.contents writer.new) (service_text rows totals)
         × (status ≡ status_of faultless rows totals)) }
     ensures unwritten { result ≡ Err CommandFault.OutOfMemory → writer.new ≡ writer.old }

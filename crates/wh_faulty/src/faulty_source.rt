@@ -1,6 +1,6 @@
 //! A source of which one call fails.
 ghost use Rattle.std.specs.Prelude.{◌≡◌, ◌+◌, ◌-◌, ◌++◌, ◌∷◌, [], cond, eqb, IfOk, OnOk, OnErr};
-ghost use Rattle.wh_tasks.specs.Source.{Delivery, FailsOnly, IfTask, SameTasks};
+ghost use Rattle.wh_tasks.specs.Source.{Delivery, FailsOnly, IfTask, KeepsOrigin, SameTasks};
 ghost use Rattle.wh_tasks.specs.declared.source.Sent.{Sent};
 ghost use Rattle.wh_faulty.specs.Failing.{Counts, spent, failures_of};
 
@@ -66,6 +66,8 @@ impl<S: TaskSource> TaskSource for FaultySource<S> {
 
     ghost tells = { λ source. S.tells source.0 };
 
+    ghost comes_from = { λ later first. S.comes_from later.0 first.0 };
+
     fn poll_workflow(&mut self) -> Result<Polled<WorkflowTask>, SourceFault>
         ensures counted { Counts self.old result self.new }
 
@@ -75,6 +77,7 @@ impl<S: TaskSource> TaskSource for FaultySource<S> {
         ensures failures { FailsOnly result (failures_of S.failures self.old) (failures_of S.failures self.new) }
         ensures same { SameTasks (S.delivers self.old.0) (S.tells self.old.0)
             (S.delivers self.new.0) (S.tells self.new.0) }
+        ensures origin { KeepsOrigin S.comes_from self.old.0 self.new.0 }
     {
         if is_due(&mut self.left) {
             return Err(SourceFault::Source);
@@ -91,6 +94,7 @@ impl<S: TaskSource> TaskSource for FaultySource<S> {
         ensures failures { FailsOnly result (failures_of S.failures self.old) (failures_of S.failures self.new) }
         ensures same { SameTasks (S.delivers self.old.0) (S.tells self.old.0)
             (S.delivers self.new.0) (S.tells self.new.0) }
+        ensures origin { KeepsOrigin S.comes_from self.old.0 self.new.0 }
     {
         if is_due(&mut self.left) {
             return Err(SourceFault::Source);
@@ -107,6 +111,7 @@ impl<S: TaskSource> TaskSource for FaultySource<S> {
         ensures failures { FailsOnly result (failures_of S.failures self.old) (failures_of S.failures self.new) }
         ensures same { SameTasks (S.delivers self.old.0) (S.tells self.old.0)
             (S.delivers self.new.0) (S.tells self.new.0) }
+        ensures origin { KeepsOrigin S.comes_from self.old.0 self.new.0 }
     {
         if is_due(&mut self.left) {
             return Err(SourceFault::Source);
@@ -124,6 +129,7 @@ impl<S: TaskSource> TaskSource for FaultySource<S> {
         ensures failures { FailsOnly result (failures_of S.failures self.old) (failures_of S.failures self.new) }
         ensures same { SameTasks (S.delivers self.old.0) (S.tells self.old.0)
             (S.delivers self.new.0) (S.tells self.new.0) }
+        ensures origin { KeepsOrigin S.comes_from self.old.0 self.new.0 }
     {
         if is_due(&mut self.left) {
             return Err(SourceFault::Source);
@@ -145,6 +151,7 @@ impl<S: TaskSource> TaskSource for FaultySource<S> {
         ensures failures { FailsOnly result (failures_of S.failures self.old) (failures_of S.failures self.new) }
         ensures same { SameTasks (S.delivers self.old.0) (S.tells self.old.0)
             (S.delivers self.new.0) (S.tells self.new.0) }
+        ensures origin { KeepsOrigin S.comes_from self.old.0 self.new.0 }
     {
         if is_due(&mut self.left) {
             return Err(SourceFault::Source);

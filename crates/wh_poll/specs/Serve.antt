@@ -210,3 +210,11 @@ abbrev pub AllRoseIfFailed : List ℕ → List (Option SourceFault) → List ℕ
 AllRoseIfFailed [] [] [] = Unit {0}
 AllRoseIfFailed (old ∷ olds) (fault ∷ faults) (new ∷ news) = RoseIfFailed fault old new × AllRoseIfFailed olds faults news
 AllRoseIfFailed _ _ _ = ⊥
+
+-- each source was sent at most as many answers as its seat took tasks: how many answers the sources had at first and
+-- what the seats had counted, and both in the end
+abbrev pub AllAnsweredWithin : List ℕ → List Shares → List ℕ → List Shares → Type 0
+AllAnsweredWithin [] [] [] [] = Unit {0}
+AllAnsweredWithin (sent ∷ sents) (old ∷ olds) (more ∷ mores) (new ∷ news) =
+    (more + old.taken ≤ sent + new.taken) × AllAnsweredWithin sents olds mores news
+AllAnsweredWithin _ _ _ _ = ⊥

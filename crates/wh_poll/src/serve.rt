@@ -1,6 +1,6 @@
 //! One turn of a worker.
 ghost use Rattle.std.specs.Prelude.{◌≡◌, IfSome, MatchOption};
-ghost use Rattle.wh_tasks.specs.Source.{SameTasks, SameMay, FailsOnly};
+ghost use Rattle.wh_tasks.specs.Source.{KeepsOrigin, SameTasks, SameMay, FailsOnly};
 ghost use Rattle.wh_tasks.specs.Tasks.{FailsOnlySource};
 ghost use Rattle.wh_poll.specs.Serve.{Serves, ServesWorkflow, ServesActivity, Sends, IsOfKind};
 ghost use Rattle.wh_poll.specs.Serve.{Counts, MayCount, with_taken, ended, unanswered};
@@ -98,6 +98,7 @@ pub fn serve_one<
     ensures counts { Counts seat.old seat.new result }
     ensures failures { FailsOnly result (S.failures source.old) (S.failures source.new) }
     ensures same { SameTasks (S.delivers source.old) (S.tells source.old) (S.delivers source.new) (S.tells source.new) }
+    ensures origin { KeepsOrigin S.comes_from source.old source.new }
     ensures may { SameMay (A.may handler.old) (A.may handler.new) }
 {
     let reserved = host.lock(rt).reserve(kind);
@@ -129,6 +130,7 @@ fn serve_workflow<R: Wait, W: Workflow, T: Ledger, C: Ledger, F: Ledger, S: Task
     ensures counts { Counts seat.old seat.new result }
     ensures failures { FailsOnly result (S.failures source.old) (S.failures source.new) }
     ensures same { SameTasks (S.delivers source.old) (S.tells source.old) (S.delivers source.new) (S.tells source.new) }
+    ensures origin { KeepsOrigin S.comes_from source.old source.new }
 {
     let task = match source.poll_workflow() {
         Ok(Polled::Task(task)) => task,
@@ -165,6 +167,7 @@ fn answer_held<R: Wait, W: Workflow, T: Ledger, C: Ledger, F: Ledger, S: TaskSou
         (S.answers source.old) (S.answers source.new) result }
     ensures failures { FailsOnlySource result (S.failures source.old) (S.failures source.new) }
     ensures same { SameTasks (S.delivers source.old) (S.tells source.old) (S.delivers source.new) (S.tells source.new) }
+    ensures origin { KeepsOrigin S.comes_from source.old source.new }
 {
     let Answered { run, sent } = answer_by_replay(alloc, cached, task, source);
     give_back(rt, host, held, run);
@@ -193,6 +196,7 @@ fn serve_activity<
     ensures counts { Counts seat.old seat.new result }
     ensures failures { FailsOnly result (S.failures source.old) (S.failures source.new) }
     ensures same { SameTasks (S.delivers source.old) (S.tells source.old) (S.delivers source.new) (S.tells source.new) }
+    ensures origin { KeepsOrigin S.comes_from source.old source.new }
     ensures may { SameMay (A.may handler.old) (A.may handler.new) }
 {
     let task = match source.poll_activity() {

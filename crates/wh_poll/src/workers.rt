@@ -2,9 +2,10 @@
 ghost use Rattle.std.specs.Prelude.{◌≡◌, ◌≤◌, ◌<◌, ◌+◌, ℕ, None, IfOk, not, length, map, vec_len, slice_index_or};
 ghost use Rattle.std.specs.Bool.{OnTrue};
 ghost use denote.Param.Send.{IsSend};
-ghost use Rattle.wh_tasks.specs.Source.{SameTasks, FailsOnly, RoseIfFailed};
+ghost use Rattle.wh_tasks.specs.Source.{KeepsOrigin, SameTasks, FailsOnly, RoseIfFailed};
 ghost use Rattle.wh_poll.specs.Workers.{first_fault, other, is_last, next_rota};
-ghost use Rattle.wh_poll.specs.Serve.{WithinTurns, AllRoseIfFailed};
+ghost use Rattle.wh_poll.specs.Serve.{WithinTurns, AllRoseIfFailed, AllAnsweredWithin};
+ghost use Rattle.std.specs.List.{AllZip};
 
 use crate::serve::{Served, serve_one};
 use std::alloc::{AllocError, Global};
@@ -57,6 +58,7 @@ impl<T: Ledger, C: Ledger, F: Ledger, S: TaskSource> Worker<T, C, F, S> {
         ensures failures { FailsOnly result (S.failures self.old.source) (S.failures self.new.source) }
         ensures same { SameTasks (S.delivers self.old.source) (S.tells self.old.source)
             (S.delivers self.new.source) (S.tells self.new.source) }
+        ensures origin { KeepsOrigin S.comes_from self.old.source self.new.source }
         ensures answered { length (S.answers self.new.source) + self.old.seat.taken
             ≤ length (S.answers self.old.source) + self.new.seat.taken }
     {
@@ -128,8 +130,8 @@ fn other(kind: SlotKind) -> SlotKind
 /// Serves tasks, at most one a turn: workflow and activity tasks by turns, workflow tasks first. A
 /// kind that is closed is not served again, and each later turn goes to the other. It ends when
 /// both are closed, when the host drains, or after so many turns. The first fault of the source is
-/// kept, and the work goes on. What the source delivers and tells stays the same, and it was sent
-/// at most as many answers as the seat took tasks.
+/// kept, and the work goes on. The source that comes back comes from the one that was handed in,
+/// delivers and tells the same, and was sent at most as many answers as the seat took tasks.
 #[tactic(auto, using(crate::proofs::Turns::rose_kept))]
 pub fn work<
     R: Wait,
@@ -153,6 +155,7 @@ pub fn work<
     ensures taken { result.seat.taken ≤ seat.taken + turns }
     ensures fault { RoseIfFailed result.fault (S.failures source) (S.failures result.source) }
     ensures same { SameTasks (S.delivers source) (S.tells source) (S.delivers result.source) (S.tells result.source) }
+    ensures origin { KeepsOrigin S.comes_from source result.source }
     ensures answered { length (S.answers result.source) + seat.taken ≤ length (S.answers source) + result.seat.taken }
 {
     let mut worker = Worker::new(seat, source);
@@ -172,7 +175,8 @@ pub fn work<
 /// Runs a worker in a thread of its own for each seat, with the source, the handler and the turns
 /// of the same place. The four lists are equally long. The workers come back in the order of the
 /// seats, the taken share of each has risen by at most its turns, and where one kept a fault, its
-/// own source has failed. `OutOfMemory` where no room was found; then the seats are given up.
+/// own source has failed. Each source comes from the one of its place, and was sent at most as many
+/// answers as its seat took tasks. `OutOfMemory` where no room was found; then the seats are given up.
 /// (Temporal documentation, "Workers": a Worker Process runs many task executors.)
 pub fn run_workers<
     R: Threads + Wait + Sync,
@@ -200,6 +204,11 @@ pub fn run_workers<
         WithinTurns seats.items turns.items (map (λ worker. worker.seat) workers.items)) }
     ensures faults { IfOk result (λ workers. AllRoseIfFailed (map (λ source. S.failures source) sources.items)
         (map (λ worker. worker.fault) workers.items) (map (λ worker. S.failures worker.source) workers.items)) }
+    ensures origins { IfOk result (λ workers.
+        AllZip (KeepsOrigin S.comes_from) sources.items (map (λ worker. worker.source) workers.items)) }
+    ensures answered { IfOk result (λ workers.
+        AllAnsweredWithin (map (λ source. length (S.answers source)) sources.items) seats.items
+        (map (λ worker. length (S.answers worker.source)) workers.items) (map (λ worker. worker.seat) workers.items)) }
 {
     let jobs = jobs_of(alloc, seats, sources, handlers, turns)?;
     Ok(run_jobs(rt, alloc, host, gate, jobs)?)
@@ -229,6 +238,11 @@ fn run_jobs<
     ensures faults { IfOk result (λ workers. (i : ℕ) (j : _) (w : _) → i < vec_len jobs →
         RoseIfFailed (slice_index_or workers.items i w).fault
         (S.failures (slice_index_or jobs.items i j).source) (S.failures (slice_index_or workers.items i w).source)) }
+    ensures origins { IfOk result (λ workers. (i : ℕ) (j : _) (w : _) → i < vec_len jobs →
+        KeepsOrigin S.comes_from (slice_index_or jobs.items i j).source (slice_index_or workers.items i w).source) }
+    ensures answered { IfOk result (λ workers. (i : ℕ) (j : _) (w : _) → i < vec_len jobs →
+        length (S.answers (slice_index_or workers.items i w).source) + (slice_index_or jobs.items i j).seat.taken
+        ≤ length (S.answers (slice_index_or jobs.items i j).source) + (slice_index_or workers.items i w).seat.taken) }
 {
     thread::map_vec(
         rt,
@@ -238,6 +252,9 @@ fn run_jobs<
             requires state { IsSend W.State.row }
             ensures turns { result.seat.taken ≤ job.seat.taken + job.turns }
             ensures fault { RoseIfFailed result.fault (S.failures job.source) (S.failures result.source) }
+            ensures origin { KeepsOrigin S.comes_from job.source result.source }
+            ensures answered { length (S.answers result.source) + job.seat.taken
+                ≤ length (S.answers job.source) + result.seat.taken }
         { work_job(rt, alloc, host, gate, job) },
     )
 }
@@ -261,6 +278,9 @@ fn work_job<
 ) -> Worker<T, C, F, S>
     ensures turns { result.seat.taken ≤ job.seat.taken + job.turns }
     ensures fault { RoseIfFailed result.fault (S.failures job.source) (S.failures result.source) }
+    ensures origin { KeepsOrigin S.comes_from job.source result.source }
+    ensures answered { length (S.answers result.source) + job.seat.taken
+        ≤ length (S.answers job.source) + result.seat.taken }
 {
     let Job {
         seat,

@@ -4,8 +4,8 @@ ghost use Rattle.std.specs.Prelude.{option_map, IfOk, IfErr, IfSome, OnOk, OnErr
 ghost use Rattle.wh_recorded.specs.Rounds.{scripted, opening_stage, with_answer, ends_of, tasks_in};
 ghost use Rattle.wh_recorded.specs.Rounds.{begin_at, task_of, key_of, events_up_to, first_named};
 ghost use Rattle.wh_recorded.specs.Rounds.{completed_of, tally_of, deliveries_of, first_with};
-ghost use Rattle.wh_recorded.specs.Rounds.{upcoming, told, Gives, Recounts, Polls};
-ghost use Rattle.wh_tasks.specs.Source.{Delivery, FailsOnly, IfTask, SameTasks};
+ghost use Rattle.wh_recorded.specs.Rounds.{upcoming, told, ComesFrom, Gives, Recounts, Polls};
+ghost use Rattle.wh_tasks.specs.Source.{Delivery, FailsOnly, IfTask, KeepsOrigin, SameTasks};
 ghost use Rattle.wh_tasks.specs.declared.source.Polled.{Polled};
 ghost use Rattle.wh_tasks.specs.declared.source.Sent.{Sent};
 ghost use Rattle.wh_tasks.specs.declared.source.SourceFault.{SourceFault};
@@ -314,7 +314,7 @@ impl ScriptSource {
 }
 
 impl TaskSource for ScriptSource {
-    ghost use Rattle.wh_recorded.specs.Rounds.{Gives, Recounts};
+    ghost use Rattle.wh_recorded.specs.Rounds.{Gives, Recounts, ComesFrom};
 
     ghost answers = { λ source. source.answers };
 
@@ -323,6 +323,8 @@ impl TaskSource for ScriptSource {
     ghost delivers = { λ source. Gives source.histories };
 
     ghost tells = { λ source. Recounts source.histories };
+
+    ghost comes_from = { ComesFrom };
 
     fn poll_workflow(&mut self) -> Result<Polled<WorkflowTask>, SourceFault>
         ensures next { IfOk result (λ polled. Polls self.old polled self.new) }
@@ -335,6 +337,7 @@ impl TaskSource for ScriptSource {
         ensures failures { FailsOnly result 0 0 }
         ensures same { SameTasks (Gives self.old.histories) (Recounts self.old.histories)
             (Gives self.new.histories) (Recounts self.new.histories) }
+        ensures origin { KeepsOrigin ComesFrom self.old self.new }
     {
         let Some((round, place)) = self.upcoming() else {
             return Ok(Polled::Closed);

@@ -47,6 +47,10 @@ pub record SameTasks (old_delivers : Delivers) (old_tells : Tells)
   pub delivers : SameDeliveries old_delivers new_delivers
   pub tells : SameTelling old_tells new_tells
 
+-- what a source came from before, it comes from afterwards
+abbrev pub KeepsOrigin : {S : Type 0} → (S → S → Type 0) → S → S → Type 0
+KeepsOrigin comes_from old new = (first : _) → comes_from old first → comes_from new first
+
 -- both let the same answers be given
 abbrev pub SameMay : Answerable → Answerable → Type 0
 SameMay p q = (task : ActivityTask) (answer : ActivityAnswer) → p task answer ↔ q task answer

@@ -84,9 +84,10 @@ pub enum SourceFault {
 }
 
 /// A source of tasks, one for each worker: what a worker polls, and what it answers. It has a list
-/// of the answers that it was sent, a count of its failures, which no call lowers, and two
-/// relations that no call changes: which tasks it delivers, and which histories it tells. That it
-/// tells the truth about its histories is its own promise.
+/// of the answers that it was sent, a count of its failures, which no call lowers, two relations
+/// that no call changes: which tasks it delivers, and which histories it tells, and one that no
+/// call leads out of: which sources it comes from. That it tells the truth about its histories is
+/// its own promise.
 pub trait TaskSource {
     ghost use Rattle.wh_slots.specs.declared.TaskName.{TaskName};
     ghost use Rattle.wh_events.specs.declared.event.Event.{Event};
@@ -94,6 +95,7 @@ pub trait TaskSource {
     ghost use Rattle.wh_tasks.specs.declared.source.Sent.{Sent};
     ghost use Rattle.wh_tasks.specs.declared.source.Sent.TheVariants.{Workflow as OfWorkflow, Activity as OfActivity};
     ghost use Rattle.wh_tasks.specs.Source.{Delivery, Workflow, Activity, SameTasks, IfTask, FailsOnly};
+    ghost use Rattle.wh_tasks.specs.Source.{KeepsOrigin};
 
     /// The answers that were sent, with their tasks' names.
     ghost answers: { Self → List (TaskName × Sent) };
@@ -107,19 +109,25 @@ pub trait TaskSource {
     /// What `whole` may give for a run's key and a number. No call changes it.
     ghost tells: { Self → RunKey → ℕ → List Event → Type 0 };
 
+    /// Which sources this one comes from: what calls may have made it of. No call leads away from
+    /// them, so a source says by it what its calls keep.
+    ghost comes_from: { Self → Self → Type 0 };
+
     /// The next workflow task, if there is one. A fault gives none, and sends nothing.
     fn poll_workflow(&mut self) -> Result<Polled<WorkflowTask>, SourceFault>
         ensures task { IfOk result (IfTask (λ task. delivers self.old (Workflow task))) }
         ensures answers { answers self.new ≡ answers self.old }
         ensures failures { FailsOnly result (failures self.old) (failures self.new) }
-        ensures same { SameTasks (delivers self.old) (tells self.old) (delivers self.new) (tells self.new) };
+        ensures same { SameTasks (delivers self.old) (tells self.old) (delivers self.new) (tells self.new) }
+        ensures origin { KeepsOrigin comes_from self.old self.new };
 
     /// The next activity task, if there is one. A fault gives none, and sends nothing.
     fn poll_activity(&mut self) -> Result<Polled<ActivityTask>, SourceFault>
         ensures task { IfOk result (IfTask (λ task. delivers self.old (Activity task))) }
         ensures answers { answers self.new ≡ answers self.old }
         ensures failures { FailsOnly result (failures self.old) (failures self.new) }
-        ensures same { SameTasks (delivers self.old) (tells self.old) (delivers self.new) (tells self.new) };
+        ensures same { SameTasks (delivers self.old) (tells self.old) (delivers self.new) (tells self.new) }
+        ensures origin { KeepsOrigin comes_from self.old self.new };
 
     /// The history of a run from its first event up to the one of a number. A fault gives none, and
     /// sends nothing.
@@ -127,14 +135,16 @@ pub trait TaskSource {
         ensures told { IfOk result (λ history. tells self.old key.now up_to history.items) }
         ensures answers { answers self.new ≡ answers self.old }
         ensures failures { FailsOnly result (failures self.old) (failures self.new) }
-        ensures same { SameTasks (delivers self.old) (tells self.old) (delivers self.new) (tells self.new) };
+        ensures same { SameTasks (delivers self.old) (tells self.old) (delivers self.new) (tells self.new) }
+        ensures origin { KeepsOrigin comes_from self.old self.new };
 
     /// Sends the answer to the workflow task of a name. After a fault nothing was sent.
     fn answer_workflow(&mut self, name: TaskName, answer: &Answer) -> Result<(), SourceFault>
         ensures sent { OnOk result (answers self.new ≡ answers self.old ++ (name, OfWorkflow answer.now) ∷ []) }
         ensures unsent { OnErr result (answers self.new ≡ answers self.old) }
         ensures failures { FailsOnly result (failures self.old) (failures self.new) }
-        ensures same { SameTasks (delivers self.old) (tells self.old) (delivers self.new) (tells self.new) };
+        ensures same { SameTasks (delivers self.old) (tells self.old) (delivers self.new) (tells self.new) }
+        ensures origin { KeepsOrigin comes_from self.old self.new };
 
     /// Sends the answer to the activity task of a name. After a fault nothing was sent.
     fn answer_activity(
@@ -145,5 +155,6 @@ pub trait TaskSource {
         ensures sent { OnOk result (answers self.new ≡ answers self.old ++ (name, OfActivity answer.now) ∷ []) }
         ensures unsent { OnErr result (answers self.new ≡ answers self.old) }
         ensures failures { FailsOnly result (failures self.old) (failures self.new) }
-        ensures same { SameTasks (delivers self.old) (tells self.old) (delivers self.new) (tells self.new) };
+        ensures same { SameTasks (delivers self.old) (tells self.old) (delivers self.new) (tells self.new) }
+        ensures origin { KeepsOrigin comes_from self.old self.new };
 }

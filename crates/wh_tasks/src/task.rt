@@ -1,6 +1,6 @@
 //! Replay of one workflow task.
 ghost use Rattle.std.specs.Prelude.{◌≡◌, ◌≤◌, false, Some, None, IfOk, IfSome};
-ghost use Rattle.wh_tasks.specs.Source.{SameTasks};
+ghost use Rattle.wh_tasks.specs.Source.{KeepsOrigin, SameTasks};
 ghost use Rattle.wh_replay.specs.Runs.{follows, steps};
 ghost use Rattle.wh_tasks.specs.Numbers.{last_number};
 ghost use Rattle.wh_tasks.specs.Tasks.{later_basis, StepsFrom, Steps, Replays, ReplaysTold, HasAnswer, FailsOnlySource};
@@ -79,6 +79,7 @@ pub fn replay_task<W: Workflow, S: TaskSource>(
     ensures answers { S.answers source.new ≡ S.answers source.old }
     ensures failures { FailsOnlySource result (S.failures source.old) (S.failures source.new) }
     ensures same { SameTasks (S.delivers source.old) (S.tells source.old) (S.delivers source.new) (S.tells source.new) }
+    ensures origin { KeepsOrigin S.comes_from source.old source.new }
 {
     if is_whole(events.as_slice()) {
         drop(run);
@@ -109,6 +110,7 @@ fn replay_held<W: Workflow, S: TaskSource>(
     ensures answers { S.answers source.new ≡ S.answers source.old }
     ensures failures { FailsOnlySource result (S.failures source.old) (S.failures source.new) }
     ensures same { SameTasks (S.delivers source.old) (S.tells source.old) (S.delivers source.new) (S.tells source.new) }
+    ensures origin { KeepsOrigin S.comes_from source.old source.new }
 {
     let up_to = last_number(events.as_slice());
     match run.advance(alloc, events, meter) {
@@ -149,6 +151,7 @@ fn replay_unheld<W: Workflow, S: TaskSource>(
     ensures answers { S.answers source.new ≡ S.answers source.old }
     ensures failures { FailsOnlySource result (S.failures source.old) (S.failures source.new) }
     ensures same { SameTasks (S.delivers source.old) (S.tells source.old) (S.delivers source.new) (S.tells source.new) }
+    ensures origin { KeepsOrigin S.comes_from source.old source.new }
 {
     if events.is_empty() {
         return Ok(Stepped {
@@ -203,6 +206,7 @@ fn replay_told<W: Workflow, S: TaskSource>(
     ensures answers { S.answers source.new ≡ S.answers source.old }
     ensures failures { FailsOnlySource result (S.failures source.old) (S.failures source.new) }
     ensures same { SameTasks (S.delivers source.old) (S.tells source.old) (S.delivers source.new) (S.tells source.new) }
+    ensures origin { KeepsOrigin S.comes_from source.old source.new }
 {
     let history = match source.whole(key, up_to) {
         Ok(history) => history,
