@@ -3,7 +3,7 @@
 ghost use Rattle.std.specs.Prelude.{◌≡◌};
 
 use crate::cache::{put_word, run_of};
-use crate::rows::{row, shown};
+use crate::rows::{row, shown, wants};
 use crate::workflows::Still;
 use std::alloc::Global;
 use std::marker::Brand;
@@ -42,46 +42,46 @@ static DAYS: [Day; 2] = [
         // marked, and a run of another key is not the task's. The least recently used run goes. A
         // name is in hand once. A task stays in hand.
         steps: "\
-first a => 0
-second a => 0
-give first a start:Still S*4 T => kept
-give second a start:Still S T => shorter
-give second a start:Still S*4 T => shorter
-fail a => true
-finish a => true
-first a => 6
-give first a start:Still S*4 T => kept
-finish a => true
+hold 1 a => 0
+hold 2 a => 0
+give 1 a start:Still S*4 T => kept
+give 2 a start:Still S T => shorter
+give 2 a start:Still S*4 T => shorter
+finish 1 => true
+fail 2 => true
+hold 1 a => 6
+give 1 a start:Still S*4 T => kept
+finish 1 => true
 evict a => Evicted
 evict a => NotCached
-first a => 0
-give first b start:Still S T => not held
+hold 1 a => 0
+give 1 b start:Still S T => not held
 evict a => Marked
-give first a start:Still S T => marked
-finish a => true
+give 1 a start:Still S T => marked
+finish 1 => true
 evict a => NotCached
-first a => 0
-give first a start:Still S T => kept
-finish a => true
-first b => 0
-give first b start:Still S T => kept
-finish b => true
-first c => 0
-give first c start:Still S T => gone a
-finish c => true
-first b => 3
-give first b start:Still S*4 T => kept
-finish b => true
-first a => 0
-give first a start:Still S T => gone c
-finish a => true
-first c => 0
-give first c start:Still S T => gone b
-finish c => true
-first a => 3
-repeat b => TaskInHand
-finish a => true
-first h => 0
+hold 1 a => 0
+give 1 a start:Still S T => kept
+finish 1 => true
+hold 1 b => 0
+give 1 b start:Still S T => kept
+finish 1 => true
+hold 1 c => 0
+give 1 c start:Still S T => gone a
+finish 1 => true
+hold 1 b => 3
+give 1 b start:Still S*4 T => kept
+finish 1 => true
+hold 1 a => 0
+give 1 a start:Still S T => gone c
+finish 1 => true
+hold 1 c => 0
+give 1 c start:Still S T => gone b
+finish 1 => true
+hold 7 a => 3
+repeat 7 b => TaskInHand
+finish 7 => true
+hold 9 h => 0
 ",
         cached: 3,
         totals: Totals {
@@ -100,15 +100,15 @@ first h => 0
             seats: 1,
         },
         steps: "\
-first a => 0
-give first a start:Still S T => off
-finish a => true
-first b => 0
-give first b start:Still S T => off
-finish b => true
-first a => 0
-give first a start:Still S*4 T => off
-finish a => true
+hold 1 a => 0
+give 1 a start:Still S T => off
+finish 1 => true
+hold 1 b => 0
+give 1 b start:Still S T => off
+finish 1 => true
+hold 1 a => 0
+give 1 a start:Still S*4 T => off
+finish 1 => true
 counts => taken 3, completed 3, cached 0, cached events 0
 ",
         cached: 0,
@@ -120,6 +120,28 @@ counts => taken 3, completed 3, cached 0, cached events 0
         },
     },
 ];
+
+/// A task in hand.
+#[derive(Drop)]
+struct Task {
+    name: TaskName,
+    held: Held,
+}
+
+/// The name of a task, and what stands behind it in a step.
+fn named(rt: &impl Abort, step: &'static str) -> (TaskName, &'static str) {
+    let (name, rest) = step.split_once(' ').unwrap_or((step, ""));
+    let number = name.parse::<u64>().expect(rt, step);
+    (TaskName(u128::from(number)), rest)
+}
+
+/// Takes the task of a name out of those in hand.
+fn task_of(rt: &impl Abort, tasks: &mut Vec<Task>, name: TaskName) -> Task {
+    let place = tasks.iter().position(|task| task.name == name);
+    let place = place.expect(rt, "no such task");
+    assert!(rt; place < tasks.len());
+    tasks.remove(place)
+}
 
 /// How many events a run holds, 0 where there is none.
 fn held_len<W: Workflow>(run: &Option<Run<W>>) -> usize {
@@ -173,7 +195,7 @@ fn hold<R: Wait + Abort, W: Workflow, T: Ledger, C: Ledger, F: Ledger>(
     rt: &R,
     host: &Host<W, T, C, F>,
     seat: &mut Seat<T, C, F>,
-    tasks: &mut Vec<Held>,
+    tasks: &mut Vec<Task>,
     permit: Permit,
     name: TaskName,
     key: RunKey,
@@ -182,23 +204,23 @@ fn hold<R: Wait + Abort, W: Workflow, T: Ledger, C: Ledger, F: Ledger>(
     let Ok((held, run)) = used else {
         panic!(rt; "use")
     };
-    assert!(rt; tasks.push(held).is_ok());
+    assert!(rt; tasks.push(Task { name, held }).is_ok());
     held_len(&run)
 }
 
-/// The second use of the first task's name is refused, the permit comes back, and nothing is
-/// counted.
+/// The second use of a name is refused, the permit comes back, and nothing is counted.
 fn repeat<R: Wait + Abort, W: Workflow, T: Ledger, C: Ledger, F: Ledger>(
     rt: &R,
     alloc: Global,
     host: &Host<W, T, C, F>,
     seat: &mut Seat<T, C, F>,
+    name: TaskName,
     run: &str,
 ) -> UseFault {
     let before = host.lock(rt).counts(seat);
     let permit = reserve(rt, host, SlotKind::Workflow);
     let key = key(alloc, run).expect(rt, "memory");
-    let used = host.lock(rt).use_workflow(permit, TaskName(1), key, seat);
+    let used = host.lock(rt).use_workflow(permit, name, key, seat);
     let Err((permit, _key, fault)) = used else {
         panic!(rt; "a name is in hand twice")
     };
@@ -219,16 +241,17 @@ fn give<R: Wait + Abort, W: Workflow, T: Ledger, C: Ledger, F: Ledger>(
     given_word(rt, alloc, &given)
 }
 
-/// Ends the task that was taken in hand last.
+/// Ends the task of a name.
 fn finish<R: Wait + Abort, W: Workflow, T: Ledger, C: Ledger, F: Ledger>(
     rt: &R,
     host: &Host<W, T, C, F>,
     seat: &mut Seat<T, C, F>,
-    tasks: &mut Vec<Held>,
+    tasks: &mut Vec<Task>,
+    name: TaskName,
     outcome: Outcome,
 ) -> bool {
-    let held = tasks.pop().expect(rt, "a task");
-    let finished = host.lock(rt).finish(held, outcome, seat);
+    let task = task_of(rt, tasks, name);
+    let finished = host.lock(rt).finish(task.held, outcome, seat);
     finished.is_ok()
 }
 
@@ -246,18 +269,19 @@ fn counts_text<R: Wait + Abort, W: Workflow, T: Ledger, C: Ledger, F: Ledger>(
     text.expect(rt, "memory")
 }
 
-/// Gives a run of a step back under the first or the second task in hand.
+/// Gives a run back under the task of a name.
 fn give_step<R: Wait + Abort, W: Workflow, T: Ledger, C: Ledger, F: Ledger>(
     rt: &R,
     alloc: Global,
     host: &Host<W, T, C, F>,
-    tasks: &[Held],
-    step: &'static str,
+    tasks: &[Task],
+    name: TaskName,
+    run: &'static str,
 ) -> String {
-    let (task, run) = step.split_once(' ').expect(rt, step);
-    let (name, history) = run.split_once(' ').expect(rt, step);
-    let held = tasks.get(usize::from(task == "second")).expect(rt, step);
-    give(rt, alloc, host, held, run_of(rt, alloc, name, history))
+    let (key, history) = run.split_once(' ').expect(rt, run);
+    let task = tasks.iter().find(|task| task.name == name);
+    let task = task.expect(rt, "no such task");
+    give(rt, alloc, host, &task.held, run_of(rt, alloc, key, history))
 }
 
 /// Takes the task of a run in hand at the next place.
@@ -266,13 +290,13 @@ fn hold_next<R: Wait + Abort, W: Workflow, T: Ledger, C: Ledger, F: Ledger>(
     alloc: Global,
     host: &Host<W, T, C, F>,
     seat: &mut Seat<T, C, F>,
-    tasks: &mut Vec<Held>,
-    name: u128,
+    tasks: &mut Vec<Task>,
+    name: TaskName,
     run: &str,
 ) -> usize {
     let permit = reserve(rt, host, SlotKind::Workflow);
     let key = key(alloc, run).expect(rt, "memory");
-    hold(rt, host, seat, tasks, permit, TaskName(name), key)
+    hold(rt, host, seat, tasks, permit, name, key)
 }
 
 fn evict<R: Wait + Abort, W: Workflow, T: Ledger, C: Ledger, F: Ledger>(
@@ -285,29 +309,44 @@ fn evict<R: Wait + Abort, W: Workflow, T: Ledger, C: Ledger, F: Ledger>(
     host.lock(rt).evict(&key)
 }
 
-/// What a host answers to a step: a word, and most often the name of a run.
+/// What a host answers to a step about the task of a name: a word, the name, and most often a run.
+fn task_step<R: Wait + Abort, W: Workflow, T: Ledger, C: Ledger, F: Ledger>(
+    rt: &R,
+    alloc: Global,
+    host: &Host<W, T, C, F>,
+    seat: &mut Seat<T, C, F>,
+    tasks: &mut Vec<Task>,
+    word: &str,
+    rest: &'static str,
+) -> String {
+    let (name, run) = named(rt, rest);
+    let (done, bad) = (Outcome::Completed, Outcome::Failed);
+    match word {
+        "hold" => shown(
+            rt,
+            alloc,
+            &hold_next(rt, alloc, host, seat, tasks, name, run),
+        ),
+        "give" => give_step(rt, alloc, host, tasks.as_slice(), name, run),
+        "repeat" => shown(rt, alloc, &repeat(rt, alloc, host, seat, name, run)),
+        "finish" => shown(rt, alloc, &finish(rt, host, seat, tasks, name, done)),
+        _ => shown(rt, alloc, &finish(rt, host, seat, tasks, name, bad)),
+    }
+}
+
+/// What a host answers to a step.
 fn answered<R: Wait + Abort, W: Workflow, T: Ledger, C: Ledger, F: Ledger>(
     rt: &R,
     alloc: Global,
     host: &Host<W, T, C, F>,
     seat: &mut Seat<T, C, F>,
-    tasks: &mut Vec<Held>,
+    tasks: &mut Vec<Task>,
     step: &'static str,
 ) -> String {
-    let (word, run) = step.split_once(' ').unwrap_or((step, ""));
-    match word {
-        "first" => shown(rt, alloc, &hold_next(rt, alloc, host, seat, tasks, 1, run)),
-        "second" => shown(rt, alloc, &hold_next(rt, alloc, host, seat, tasks, 2, run)),
-        "give" => give_step(rt, alloc, host, tasks.as_slice(), run),
-        "repeat" => shown(rt, alloc, &repeat(rt, alloc, host, seat, run)),
-        "finish" => shown(
-            rt,
-            alloc,
-            &finish(rt, host, seat, tasks, Outcome::Completed),
-        ),
-        "fail" => shown(rt, alloc, &finish(rt, host, seat, tasks, Outcome::Failed)),
-        "evict" => shown(rt, alloc, &evict(rt, alloc, host, run)),
-        _ => counts_text(rt, alloc, host, seat),
+    match step.split_once(' ') {
+        None => counts_text(rt, alloc, host, seat),
+        Some(("evict", run)) => shown(rt, alloc, &evict(rt, alloc, host, run)),
+        Some((word, rest)) => task_step(rt, alloc, host, seat, tasks, word, rest),
     }
 }
 
@@ -334,7 +373,7 @@ fn close<R: Wait + Abort, W: Workflow, T: Ledger, C: Ledger, F: Ledger>(
     host: Host<W, T, C, F>,
     seats: Vec<Seat<T, C, F>>,
     mut seat: Seat<T, C, F>,
-    mut tasks: Vec<Held>,
+    mut tasks: Vec<Task>,
     permit: Permit,
     key: RunKey,
     cached: usize,
@@ -342,9 +381,10 @@ fn close<R: Wait + Abort, W: Workflow, T: Ledger, C: Ledger, F: Ledger>(
     let Err((host, mut seats, _missing)) = host.close(seats) else {
         panic!(rt; "closed with a seat missing")
     };
-    let found = hold(rt, &host, &mut seat, &mut tasks, permit, TaskName(10), key);
+    let name = TaskName(10);
+    let found = hold(rt, &host, &mut seat, &mut tasks, permit, name, key);
     assert_eq!(rt; found, cached);
-    assert!(rt; finish(rt, &host, &mut seat, &mut tasks, Outcome::Completed));
+    assert!(rt; finish(rt, &host, &mut seat, &mut tasks, name, Outcome::Completed));
     assert!(rt; seats.push(seat).is_ok());
     match host.close(seats) {
         Ok(totals) => totals,
@@ -399,7 +439,7 @@ fn days_of_a_host(rt: HostRuntime) {
     }
 }
 
-/// Why no host of these sizes is opened.
+/// Why no host of these sizes is opened, `None` where one is.
 fn fault_of<W: Workflow, T: Ledger, C: Ledger, F: Ledger>(
     alloc: Global,
     config: Config,
@@ -414,35 +454,52 @@ fn fault_of<W: Workflow, T: Ledger, C: Ledger, F: Ledger>(
     HostState::<W, T, C, F>::open(alloc, config, taken, completed, failed).err()
 }
 
-/// Too many seats, and no place for a workflow task.
-static REFUSED: [Config; 2] = [
-    Config {
-        workflow_slots: 2,
-        activity_slots: 1,
-        cache: 2,
-        cache_events: 0,
-        seats: 65,
+/// Sizes of a host, and why it is not opened.
+struct Sizes {
+    config: Config,
+    fault: &'static str,
+}
+
+/// Sizes within their limits, too many seats, and no place for a workflow task.
+static SIZES: [Sizes; 3] = [
+    Sizes {
+        config: SMALL,
+        fault: "None",
     },
-    Config {
-        workflow_slots: 0,
-        activity_slots: 1,
-        cache: 2,
-        cache_events: 0,
-        seats: 3,
+    Sizes {
+        config: Config {
+            workflow_slots: 2,
+            activity_slots: 1,
+            cache: 2,
+            cache_events: 0,
+            seats: 65,
+        },
+        fault: "Some(BadConfig)",
+    },
+    Sizes {
+        config: Config {
+            workflow_slots: 0,
+            activity_slots: 1,
+            cache: 2,
+            cache_events: 0,
+            seats: 3,
+        },
+        fault: "Some(BadConfig)",
     },
 ];
 
 #[test]
-fn sizes_are_refused(rt: HostRuntime) {
-    for config in &REFUSED {
+fn sizes_are_judged(rt: HostRuntime) {
+    for sizes in &SIZES {
+        let config = sizes.config;
         let seats = config.seats as u64;
         let fault = fault_of::<Still, Brand, Brand, Brand>(
             rt.alloc(),
-            *config,
+            config,
             Blank::new(seats),
             Blank::new(seats),
             Blank::new(seats),
         );
-        assert_eq!(rt; fault, Some(OpenFault::BadConfig));
+        wants(&rt, rt.alloc(), "sizes", fault, sizes.fault);
     }
 }

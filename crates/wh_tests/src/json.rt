@@ -390,8 +390,9 @@ fn reads_each_kind(rt: HostRuntime) {
     }
 }
 
-/// Both texts are read as the same events.
+/// Both texts are read as the same ten events.
 fn reads_alike(rt: &impl Abort, alloc: Global, first: &str, second: &str) {
+    answers(rt, alloc, first.as_bytes(), "10 events");
     let events = read_events(alloc, first.as_bytes());
     let wanted = shown(rt, alloc, &events);
     let others = read_events(alloc, second.as_bytes());

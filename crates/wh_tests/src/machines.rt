@@ -1,34 +1,19 @@
 //! Which events are in place, and where things stand.
 
-use crate::rows::{numbered, push_all, row, text, track_of, wants};
+use crate::rows::{numbered, row, text, track_of, wants};
 use std::alloc::Global;
 use std::process::Abort;
 use wh_events::{Event, EventKind, Items, OpenKind, PlaceFault, Status, Text};
+use wh_histories::events;
 use wh_machines::{PushFault, Track};
 
-/// What becomes of the last event of a history.
+/// A history, what becomes of further events, each pushed with the next number, and how many events
+/// the track then holds.
 const PLACES: &str = "\
-nap/5 timer_fired:9 => Err(Place(NoSuchRef))
-nap/5 timer_fired:6 => Err(Place(NoSuchRef))
-nap/5 timer_fired:0 => Err(Place(NoSuchRef))
-nap/5 timer_fired:3 => Err(Place(WrongKindRef))
-nap/5 cancel_child:kid => Err(Place(NoSuchRef))
-nap/5 timer:nap => Err(Place(IdInUse))
-nap/5 completed S => Err(Place(AfterClose))
-nap/6 timer_fired:5 => Err(Place(AlreadyClosed))
-ignored => Err(Place(FirstNotStart))
-nap/6 => Ok(())
+nap/5 then timer_fired:9 timer_fired:6 timer_fired:0 timer_fired:3 cancel_child:kid timer:nap completed S => ([Err(Place(NoSuchRef)), Err(Place(NoSuchRef)), Err(Place(NoSuchRef)), Err(Place(WrongKindRef)), Err(Place(NoSuchRef)), Err(Place(IdInUse)), Ok(()), Err(Place(AfterClose))], 6)
+nap/5 then timer_fired:5 timer_fired:5 => ([Ok(()), Err(Place(AlreadyClosed))], 6)
+ then ignored => ([Err(Place(FirstNotStart))], 0)
 ";
-
-#[test]
-fn judges_places(rt: HostRuntime) {
-    for line in PLACES.lines() {
-        let (history, wanted) = row(&rt, line);
-        let mut track = Track::new(rt.alloc());
-        let pushed = push_all(&rt, rt.alloc(), &mut track, history);
-        wants(&rt, rt.alloc(), history, pushed, wanted);
-    }
-}
 
 /// Pushes an event of the kind, with the next number.
 fn push(rt: &impl Abort, track: &mut Track, body: EventKind) -> Result<(), PushFault> {
@@ -38,6 +23,32 @@ fn push(rt: &impl Abort, track: &mut Track, body: EventKind) -> Result<(), PushF
         time: 0,
         body,
     })
+}
+
+/// What becomes of further events on the track of a history, and how many events it then holds.
+fn pushes(
+    rt: &impl Abort,
+    alloc: Global,
+    history: &'static str,
+    further: &'static str,
+) -> (Vec<Result<(), PushFault>>, usize) {
+    let mut track = track_of(rt, alloc, history);
+    let mut answers = Vec::new(alloc);
+    for event in events(alloc, further).expect(rt, further) {
+        let answer = push(rt, &mut track, event.body);
+        assert!(rt; answers.push(answer).is_ok());
+    }
+    (answers, track.into_events().len())
+}
+
+#[test]
+fn judges_places(rt: HostRuntime) {
+    for line in PLACES.lines() {
+        let (given, wanted) = row(&rt, line);
+        let (history, further) = given.split_once(" then ").expect(&rt, given);
+        let pushed = pushes(&rt, rt.alloc(), history, further);
+        wants(&rt, rt.alloc(), given, pushed, wanted);
+    }
 }
 
 /// Starts a timer of the id, which is in place.

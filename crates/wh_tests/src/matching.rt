@@ -131,13 +131,15 @@ fn answered(
     shown(rt, alloc, &give(rt, script, track, command))
 }
 
-/// The answers to the words of a row over its history, and then what is sent.
+/// The answers to the words of a row over its history, and then what is sent. What is recorded of a
+/// task stands behind its completion, which is the event after the cut.
 fn answers(rt: &impl Abort, alloc: Global, row: &Row, track: &Track) {
     let cut = numbered(rt, row.cut);
     let end = (track.len() as u64).saturating_add(1);
     assert!(rt; row.previous < cut.get() && cut.get() <= track.len() as u64);
     assert!(rt; cut.get() < end);
-    let recorded = track.between(cut.get(), end);
+    let behind = track.between(cut.get(), end);
+    let recorded = behind.get(1..).unwrap_or(behind);
     let mut versions = Versions::new(alloc);
     let mut script = Script::new(alloc, row.previous, cut);
     let mut all = String::new(alloc);

@@ -73,6 +73,7 @@ fn an_answer_is_copied(rt: HostRuntime) {
 const CHECKED: &str = "\
 start:Still T C signal:s T => Ok(Checked tasks: 2, live: true)
 C signal:s T => Err(Fault(Place at: 1, fault: FirstNotStart))
+C signal:s T | 'eventId':'3' -> 'eventId':'5' | 'eventId':'2' -> 'eventId':'4' | 'eventId':'1' -> 'eventId':'3' => Err(Fault(Place at: 1, fault: FirstNotStart))
 ";
 
 /// What a history has, or its fault.

@@ -5,7 +5,7 @@ use std::fmt::Debug;
 use std::process::Abort;
 use wh_events::{EventNo, Text};
 use wh_histories::events;
-use wh_machines::{PushFault, Track};
+use wh_machines::Track;
 
 /// What is given in a row, and what is wanted of it.
 pub(crate) fn row(rt: &impl Abort, line: &'static str) -> (&'static str, &'static str) {
@@ -52,22 +52,11 @@ pub(crate) fn text(rt: &impl Abort, alloc: Global, content: &str) -> Text {
     Text::new(String::from_str(alloc, content).expect(rt, "memory"))
 }
 
-/// Pushes the events of a history, up to one that is refused.
-pub(crate) fn push_all(
-    rt: &impl Abort,
-    alloc: Global,
-    track: &mut Track,
-    history: &'static str,
-) -> Result<(), PushFault> {
-    for event in events(alloc, history).expect(rt, history) {
-        track.push(event)?;
-    }
-    Ok(())
-}
-
 /// The track of a history whose events are in place.
 pub(crate) fn track_of(rt: &impl Abort, alloc: Global, history: &'static str) -> Track {
     let mut track = Track::new(alloc);
-    push_all(rt, alloc, &mut track, history).expect(rt, history);
+    for event in events(alloc, history).expect(rt, history) {
+        track.push(event).expect(rt, history);
+    }
     track
 }
