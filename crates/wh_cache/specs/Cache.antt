@@ -36,8 +36,8 @@ abbrev pub held_by : List Entry → ℕ
 held_by [] = 0
 held_by (r ∷ rs) = length r.1.events + held_by rs
 
--- the machines, versions and unsent commands of each run are those that replay of its held events from
--- the first gives
+-- the machines, versions and unsent commands of each run are those that replay of its held events
+-- from the first gives
 abbrev pub AllReplayed : {S : Type 0} → Program S → List Entry → Type 0
 AllReplayed program [] = Unit {0}
 AllReplayed program (r ∷ rs) = IsReplayed program r.1 × AllReplayed program rs
@@ -46,8 +46,8 @@ AllReplayed program (r ∷ rs) = IsReplayed program r.1 × AllReplayed program r
 abbrev pub Fits : ℕ → ℕ → List Entry → Type 0
 Fits capacity bound runs = (length runs ≤ capacity) × (bound ≢ 0 → held_by runs ≤ bound)
 
--- both bounds hold, no two runs have one key, and each run is what replay of its held events from the
--- first gives
+-- both bounds hold, no two runs have one key, and each run is what replay of its held events from
+-- the first gives
 pub record IsSound {S : Type 0} (program : Program S) (c : CacheView) : Type 0 where
   pub fits : Fits c.capacity c.bound c.runs
   pub distinct : IsDistinct same_key (keys_of c.runs)

@@ -52,7 +52,7 @@ none_below events (event ∷ rest) first number less own =
     passed_over (is_some (opened_thing (role_of event.body))) event.number number (status_of events event.number) (machines_among events rest) (λ same. omega (arith, here, same))
     ∙ none_below events rest (suc first) number (omega arith) (numbered_rest first event rest own)
 
--- the status of the thing that an event of the number opened, if there is one and it opened something
+-- the status of the thing that an event of the number opened, if there is one and it opened any
 abbrev status_from : List Event → ℕ → Option Event → Option Status
 status_from events number event = cond (is_some (opened_thing (role_in event))) (Some (status_of events number)) None
 

@@ -41,8 +41,8 @@ abbrev pub answer_to : {S : Type 0} → Program S → List Event → Answer
 answer_to program events = answered (run_of program events)
 
 module _ {S : Type 0} (program : Program S) where
-  -- without a fault a run of the key holds the events, with what their replay gives, and the meter rises by the
-  -- steps; a fault answers the events
+  -- without a fault a run of the key holds the events, with what their replay gives, and the meter
+  -- rises by the steps; a fault answers the events
   abbrev pub Replays : RunKey → List Event → ℕ → Option Held → Option Fault → ℕ → ℕ → Type 0
   Replays key events steps (Some run) None before after =
       Holds program key events run × (after ≡ risen before steps)
