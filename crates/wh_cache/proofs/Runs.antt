@@ -10,9 +10,8 @@ use Rattle.std.specs.Option.{option_map_or}
 use Rattle.lru.specs.LruCache.{LruCache, put_entries}
 use Rattle.wh_events.specs.declared.key.RunKey.{RunKey}
 use Rattle.wh_events.specs.Keys.{same_key, same_key-true}
-use Rattle.wh_events.specs.declared.event.Event.{Event}
 use Rattle.wh_workflow.specs.Law.{Program}
-use Rattle.wh_replay.specs.Runs.{Held}
+use Rattle.wh_replay.specs.Runs.{HistoryView, Held}
 use Rattle.wh_cache.specs.Cache.{Entry, cache_view, entry_of, held_by, AllReplayed, IsSound, with_first}
 
 module _ (t : RunKey → Bool) where
@@ -23,10 +22,10 @@ module _ (t : RunKey → Bool) where
     | false ↦ λ h. rw h (ap (λ l. x ∷ l) (remove_entry-none es (rw h at e)))
   ]) refl
 
-  pub held_by-remove : (es : List Entry) (e : Entry) → lookup_entry t es ≡ Some e → held_by (remove_entry t es) + length e.1 ≡ held_by es
+  pub held_by-remove : (es : List Entry) (e : Entry) → lookup_entry t es ≡ Some e → held_by (remove_entry t es) + length e.1.events ≡ held_by es
   held_by-remove [] e h = cc
-  held_by-remove (x ∷ es) e h = (elim (t x.0) as (λ b. t x.0 ≡ b → held_by (remove_entry t (x ∷ es)) + length e.1 ≡ held_by (x ∷ es)) [
-    | true ↦ λ at. let a = rw at at h in let same : x ≡ e = cc in rw at (let n = ap (λ (r : Entry). length r.1) same in omega (arith, n))
+  held_by-remove (x ∷ es) e h = (elim (t x.0) as (λ b. t x.0 ≡ b → held_by (remove_entry t (x ∷ es)) + length e.1.events ≡ held_by (x ∷ es)) [
+    | true ↦ λ at. let a = rw at at h in let same : x ≡ e = cc in rw at (let n = ap (λ (r : Entry). length r.1.events) same in omega (arith, n))
     | false ↦ λ at. rw at (let rest = held_by-remove es e (rw at at h) in omega (arith, rest))
   ]) refl
 
@@ -80,10 +79,10 @@ module _ (t : RunKey → Bool) where
     | false ↦ λ at. rw at (lookup-none es (rw at at h))
   ]) refl
 
-  pub lookup-some : (es : List Entry) (held : List Event) → lookup t es ≡ Some held → (k : RunKey) × (lookup_entry t es ≡ Some (k, held)) × (t k ≡ true)
+  pub lookup-some : (es : List Entry) (held : HistoryView) → lookup t es ≡ Some held → (k : RunKey) × (lookup_entry t es ≡ Some (k, held)) × (t k ≡ true)
   lookup-some [] held h = cc
   lookup-some (x ∷ es) held h = (elim (t x.0) as (λ b. t x.0 ≡ b → (k : RunKey) × (lookup_entry t (x ∷ es) ≡ Some (k, held)) × (t k ≡ true)) [
-    | true ↦ λ at. let a = rw at at h in let same : x.1 ≡ held = cc in (x.0, rw at (ap (λ (l : List Event). Some (x.0, l)) same), at)
+    | true ↦ λ at. let a = rw at at h in let same : x.1 ≡ held = cc in (x.0, rw at (ap (λ (l : HistoryView). Some (x.0, l)) same), at)
     | false ↦ λ at. rw at (lookup-some es held (rw at at h))
   ]) refl
 
@@ -135,7 +134,7 @@ last_parts (x ∷ y ∷ es) e h =
     subst (λ n. take n (x ∷ y ∷ es) ++ e ∷ [] ≡ x ∷ y ∷ es) (sym more)
     (ap (λ l. x ∷ l) (last_parts (y ∷ es) e (subst (λ n. slice_get (x ∷ y ∷ es) n ≡ Some e) more h)))
 
-pub held_by-last : (es : List Entry) (e : Entry) → slice_get es (length es - 1) ≡ Some e → held_by (take (length es - 1) es) + length e.1 ≡ held_by es
+pub held_by-last : (es : List Entry) (e : Entry) → slice_get es (length es - 1) ≡ Some e → held_by (take (length es - 1) es) + length e.1.events ≡ held_by es
 held_by-last es e h =
     let parts = ap held_by (last_parts es e h) in
     let sum = held_by-append (take (length es - 1) es) (e ∷ []) in omega (arith, parts, sum)
@@ -152,13 +151,13 @@ one_more_gone es gone run all h parts =
     ∙ parts
 
 -- a cache with room for one more puts the run in front, in place of the one of its key
-pub put_entries-first : (c : LruCache RunKey (List Event)) (run : Entry) → length c.entries < c.cap → put_entries same_key c run.0 run.1 ≡ with_first run c.entries
+pub put_entries-first : (c : LruCache RunKey (HistoryView)) (run : Entry) → length c.entries < c.cap → put_entries same_key c run.0 run.1 ≡ with_first run c.entries
 put_entries-first c run room = (elim (lookup_entry (same_key run.0) c.entries) as (λ (o : Option Entry). lookup_entry (same_key run.0) c.entries ≡ o
     → option_map_or (λ (e : Entry). (e.0, run.1) ∷ remove_entry (same_key run.0) c.entries) o (run ∷ take (c.cap - 1) c.entries) ≡ with_first run c.entries) [
       | Some e ↦ λ at. let found = lookup-entry (same_key run.0) c.entries e at in ap (λ (k : RunKey). (k, run.1) ∷ remove_entry (same_key run.0) c.entries) (sym (same_key-true run.0 e.0 found.1))
       | None ↦ λ at. ap (λ (l : List Entry). run ∷ l) (take_all (c.cap - 1) c.entries (omega arith) ∙ sym (remove_entry-none (same_key run.0) c.entries at))
     ]) refl
 
-pub none_alike : IsDistinct same_key (keys_of {X = List Event} [])
+pub none_alike : IsDistinct same_key (keys_of {X = HistoryView} [])
 unfolding IsDistinct
 none_alike = tt

@@ -2,25 +2,24 @@
 use Rattle.std.specs.Prelude.{◌≡◌, ◌≢◌, ◌⊎◌, ℕ, ◌+◌, ◌-◌, ◌<◌, ◌≤◌, ◌==◌, ◌||◌, nat_lt, cond, List, [], ◌∷◌, ◌++◌, length, map, take, reverse, None, Some}
 use Rattle.std.specs.List.{IsDistinct}
 use Rattle.std.specs.Map.{keys_of, lookup, remove_entry}
-use Rattle.wh_events.specs.declared.event.Event.{Event}
 use Rattle.wh_events.specs.declared.key.RunKey.{RunKey}
 use Rattle.wh_events.specs.Keys.{same_key}
 use Rattle.wh_workflow.specs.Law.{Program}
-use Rattle.wh_replay.specs.Runs.{Held, IsReplayed}
+use Rattle.wh_replay.specs.Runs.{HistoryView, Held, history_of, run_under, IsReplayed}
 use Rattle.wh_cache.specs.declared.Put.{Put}
 use Rattle.wh_cache.specs.declared.Put.TheVariants.{Kept, PushedOut, Off, Shorter, TooLarge, NoMemory}
 
--- a cached run: its key and its held events
+-- a cached run: its key and its replayed history
 abbrev pub Entry : Type 0
-Entry = RunKey × List Event
+Entry = RunKey × HistoryView
 
 -- a run as the cache keeps it
 abbrev pub entry_of : Held → Entry
-entry_of run = (run.key, run.events)
+entry_of run = (run.key, history_of run)
 
 -- a cached run as it is handed out
 abbrev pub held_of : Entry → Held
-held_of entry = record { key = entry.0; events = entry.1 }
+held_of entry = run_under entry.0 entry.1
 
 -- the runs, the most recently used first, and the bounds on their number and, unless it is 0, on
 -- their held events together
@@ -35,9 +34,10 @@ cache_view runs capacity bound = record { runs = runs; capacity = capacity; boun
 -- how many events the runs hold together
 abbrev pub held_by : List Entry → ℕ
 held_by [] = 0
-held_by (r ∷ rs) = length r.1 + held_by rs
+held_by (r ∷ rs) = length r.1.events + held_by rs
 
--- each run is what replay of its held events gives
+-- the machines, versions and unsent commands of each run are those that replay of its held events
+-- from the first gives
 abbrev pub AllReplayed : {S : Type 0} → Program S → List Entry → Type 0
 AllReplayed program [] = Unit {0}
 AllReplayed program (r ∷ rs) = IsReplayed program r.1 × AllReplayed program rs
@@ -46,7 +46,8 @@ AllReplayed program (r ∷ rs) = IsReplayed program r.1 × AllReplayed program r
 abbrev pub Fits : ℕ → ℕ → List Entry → Type 0
 Fits capacity bound runs = (length runs ≤ capacity) × (bound ≢ 0 → held_by runs ≤ bound)
 
--- both bounds hold, no two runs have one key, and each run is what replay of its held events gives
+-- both bounds hold, no two runs have one key, and each run is what replay of its held events from
+-- the first gives
 pub record IsSound {S : Type 0} (program : Program S) (c : CacheView) : Type 0 where
   pub fits : Fits c.capacity c.bound c.runs
   pub distinct : IsDistinct same_key (keys_of c.runs)
@@ -63,7 +64,7 @@ with_first run runs = run ∷ remove_entry (same_key run.0) runs
 abbrev pub fitting : ℕ → ℕ → List Entry → ℕ
 fitting room left [] = 0
 fitting room left (r ∷ rs) =
-    cond (room == 0 || nat_lt left (length r.1)) 0 (fitting (room - 1) (left - length r.1) rs + 1)
+    cond (room == 0 || nat_lt left (length r.1.events)) 0 (fitting (room - 1) (left - length r.1.events) rs + 1)
 
 -- the first n runs fit, and no longer beginning does
 pub record FitMost (c : CacheView) (runs : List Entry) (n : ℕ) : Type 0 where
@@ -79,7 +80,9 @@ pub record KeepsMost (c : CacheView) (all kept gone : List Entry) : Type 0 where
 -- the cached run of the key holds at least as many events
 abbrev pub IsShorter : CacheView → Held → Type 0
 IsShorter c run =
-    (held : List Event) × (lookup (same_key run.key) c.runs ≡ Some held) × (length run.events ≤ length held)
+    (held : HistoryView)
+    × (lookup (same_key run.key) c.runs ≡ Some held)
+    × (length run.events ≤ length held.events)
 
 -- there is a bound on held events, and the run alone holds more
 abbrev pub IsTooLarge : CacheView → Held → Type 0

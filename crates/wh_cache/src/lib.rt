@@ -8,7 +8,7 @@ ghost use Rattle.std.specs.Prelude.{is_some, option_map, vec_capacity};
 ghost use Rattle.std.specs.Map.{keys_of, lookup, lookup_entry, remove_entry};
 ghost use Rattle.std.specs.List.{IsDistinct};
 ghost use Rattle.wh_events.specs.Keys.{same_key};
-ghost use Rattle.wh_replay.specs.Runs.{IsReplayed};
+ghost use Rattle.wh_replay.specs.Runs.{history_of, IsReplayed};
 ghost use Rattle.wh_cache.specs.Cache.{cache_view, entry_of, held_of, held_by, IsSound, IsShorter};
 ghost use Rattle.wh_cache.specs.Cache.{IsTooLarge, MayEnter, Enters, NeedsMemory, FitMost};
 ghost use Rattle.wh_cache.specs.Cache.{with_first, fitting, put_reply_of, Puts};
@@ -113,7 +113,7 @@ impl<W: Workflow> Sticky<W> {
 
     /// How many events the run of the key holds, if there is one. The order of use stays.
     pub fn peek_len(&self, key: &RunKey) -> Option<usize>
-        ensures { result ≡ option_map length (lookup (same_key key.now) self.now.runs) }
+        ensures { result ≡ option_map (λ history. length history.events) (lookup (same_key key.now) self.now.runs) }
     {
         let history = self.runs.peek(key)?;
         Some(history.len())
@@ -201,14 +201,16 @@ impl<W: Workflow> Sticky<W> {
     }
 
     /// How many runs have to go, the last first, once this one is in front. It is what replay of
-    /// its events gives.
+    /// its held events gives.
     fn going(&self, run: &Run<W>) -> usize
         requires { MayEnter self.now run.now }
         ensures count { result < length (with_first (entry_of run.now) self.now.runs) }
         ensures most { FitMost self.now (with_first (entry_of run.now) self.now.runs)
             (length (with_first (entry_of run.now) self.now.runs) - result) }
-        ensures replayed { IsReplayed W.program run.now.events }
+        ensures replayed { IsReplayed W.program (history_of run.now) }
     {
+        // Made for the proof: its contract says that the run is replayed.
+        run.attest();
         let left = room_beside(self.bound, run.held_len() as u64);
         let count = self.others(run.key());
         let held = self.held - replaced_len(&self.runs, run.key());

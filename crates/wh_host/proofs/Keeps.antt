@@ -18,7 +18,7 @@ use Rattle.wh_slots.proofs.Steps.{count_by-set_at}
 use Rattle.wh_events.specs.declared.key.RunKey.{RunKey}
 use Rattle.wh_events.specs.Keys.{same_key}
 use Rattle.wh_workflow.specs.Law.{Program}
-use Rattle.wh_replay.specs.Runs.{Held as HeldRun, IsReplayed}
+use Rattle.wh_replay.specs.Runs.{Held as HeldRun, history_of, IsReplayed}
 use Rattle.wh_cache.specs.Cache.{CacheView, IsSound}
 use Rattle.wh_cache.proofs.Runs.{IsSound-remove, none_alike}
 use Rattle.wh_cache.proofs.Fitting.{Puts-keeps}
@@ -279,7 +279,7 @@ module _ {S : Type 0} (program : Program S) (old : HostView) (h : IsHost program
         cached = IsSound-remove (same_key key) program old.cache.runs old.cache.capacity old.cache.bound h.cached;
       }
 
-  give_run : (held : Claim) (run : HeldRun) (answer : GiveReply) (new : HostView) → IsReplayed program run.events → give_step old held run answer new → IsHost program new
+  give_run : (held : Claim) (run : HeldRun) (answer : GiveReply) (new : HostView) → IsReplayed program (history_of run) → give_step old held run answer new → IsHost program new
   give_run held run (IsNotHeld back) new replayed s = subst (IsHost program) (sym s.2) h
   give_run held run (IsMarked back) new replayed s = subst (IsHost program) (sym s.2) h
   give_run held run (IsPut reply) new replayed s = subst (IsHost program) (sym s.2) (with_cache new.cache (Puts-keeps program old.cache run new.cache reply h.cached replayed s.1))

@@ -14,7 +14,7 @@ use Rattle.wh_slots.specs.Table.{Table, table, IsTable, Reserves, Uses, Releases
 use Rattle.wh_events.specs.declared.key.RunKey.{RunKey}
 use Rattle.wh_events.specs.Keys.{same_key}
 use Rattle.wh_workflow.specs.Law.{Program}
-use Rattle.wh_replay.specs.Runs.{Held as HeldRun, IsReplayed}
+use Rattle.wh_replay.specs.Runs.{Held as HeldRun, history_of, IsReplayed}
 use Rattle.wh_cache.specs.Cache.{CacheView, cache_view, held_of, held_by, IsSound, Puts, PutReply, put_reply_of}
 use Rattle.wh_ledger.specs.declared.Shares.{Shares}
 use Rattle.wh_ledger.specs.Shares.{no_shares}
@@ -99,8 +99,8 @@ pub record IsHost {S : Type 0} (program : Program S) (v : HostView) : Type 0 whe
   -- each number given out was used at most once, and not while it is reserved
   pub numbered :
       v.books.taken + reserved_count v.workflow + reserved_count v.activity + 2 ≤ v.workflow.next + v.activity.next
-  -- both bounds of the cache hold, no two runs have one key, and each is what replay of its held
-  -- events gives
+  -- both bounds of the cache hold, no two runs have one key, and the machines, versions and unsent
+  -- commands of each are those that replay of its held events from the first gives
   pub cached : IsSound program v.cache
 
 -- the places of a kind
@@ -304,9 +304,9 @@ abbrev pub Steps : HostView → List Call → HostView → Type 0
 Steps old [] new = new ≡ old
 Steps old (e ∷ es) new = (next : HostView) × step old e next × Steps next es new
 
--- a run that is given back is what replay of its events gives
+-- a run that is given back is what replay of its held events from the first gives
 abbrev pub GivesReplayed : {S : Type 0} → Program S → Call → Type 0
-GivesReplayed program (GiveRun held run reply) = IsReplayed program run.events
+GivesReplayed program (GiveRun held run reply) = IsReplayed program (history_of run)
 GivesReplayed program _ = Unit {0}
 
 -- so is each run that the calls give back

@@ -54,10 +54,10 @@ impl<W: Workflow, T: Ledger, C: Ledger, F: Ledger> Host<W, T, C, F> {
     }
 
     /// Waits for the lock, and lends the state. Whatever was reserved, used, given back, finished
-    /// and evicted before, by whichever threads: each cached run's state, machines and unsent
-    /// commands are those that replay of its held events from the first gives; each slot is free,
-    /// reserved for one poll, or held by one named task; and what was taken is what was completed,
-    /// what failed and what is in hand.
+    /// and evicted before, by whichever threads: each cached run's machines, versions and unsent
+    /// commands are those that replay of its held events from the first gives, and so is its state,
+    /// as `Run::state` says of every run; each slot is free, reserved for one poll, or held by one
+    /// named task; and what was taken is what was completed, what failed and what is in hand.
     pub fn lock<R: Wait>(&self, rt: &R) -> MutexGuard<'_, HostState<W, T, C, F>>
         ensures { IsHost W.program (mutex_guard_value result) }
     {

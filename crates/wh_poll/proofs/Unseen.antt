@@ -1,6 +1,6 @@
 -- The cache cannot be seen in the answers.
 use Rattle.std.proofs.Common.{◌≡◌, ℕ, suc, ◌+◌, ◌<◌, Bool, true, false, cond, List, [], ◌∷◌, ◌++◌, length, take, drop, reverse, Option, Some, None, refl, sym, ap, ◌∙◌, subst, arith, length-append, append_assoc, length-drop, ◌-◌}
-use Rattle.std.specs.Prelude.{Result, Ok, Err, if◌then◌else◌, slice_get, option_map, map}
+use Rattle.std.specs.Prelude.{Result, Ok, Err, IsOkAnd, if◌then◌else◌, slice_get, option_map, map}
 use Rattle.std.specs.Map.{lookup_entry, remove_entry}
 use Rattle.std.proofs.Math.Seq.{take-append_seam}
 use Rattle.std.proofs.lemmas.List.{take-append-drop, length-take-le}
@@ -9,12 +9,14 @@ use Rattle.wh_events.specs.declared.event.Event.{Event}
 use Rattle.wh_replay.specs.declared.fault.Fault.{Fault}
 use Rattle.wh_events.specs.declared.key.RunKey.{RunKey}
 use Rattle.wh_replay.specs.declared.run.Answer.{Answer}
-use Rattle.wh_replay.specs.Replays.{ends_in_task}
+use Rattle.wh_replay.specs.declared.run.Answer.TheVariants.{Complete}
+use Rattle.wh_replay.specs.Replays.{Replayed, ends_in_task}
 use Rattle.wh_tasks.specs.Numbers.{number_or_zero, last_number}
 use Rattle.wh_events.specs.Keys.{same_key, same_key-true}
 use Rattle.wh_workflow.specs.Law.{Program}
 use Rattle.wh_tasks.specs.Tasks.{answer_to}
-use Rattle.wh_replay.specs.Runs.{Held, follows, steps, advance_steps}
+use Rattle.wh_replay.specs.Runs.{HistoryView, Held, history_of, Shows, run_of, follows, steps, advance_steps}
+use Rattle.wh_replay.specs.Advances.{answered}
 use Rattle.wh_tasks.specs.Tasks.{Own, Nothing, Joined, Told, later_basis, Replays, ReplaysTold, StepsFrom, Steps, IsAnswer}
 use Rattle.wh_slots.specs.declared.SlotKind.{SlotKind}
 use Rattle.wh_slots.specs.declared.SlotKind.TheVariants.{Workflow, Activity}
@@ -56,20 +58,29 @@ length-zero (x ∷ xs) h = absurd (omega (arith, h))
 -- what a delivery gives is right: its answer is that of the history, and a run that it gives holds the history
 abbrev pub IsRunOf : RunKey → List Event → Option Held → Type 0
 IsRunOf key history None = Unit {0}
-IsRunOf key history (Some run) = run ≡ record { key = key; events = history }
+IsRunOf key history (Some run) = (run.key ≡ key) × (run.events ≡ history)
 
 abbrev pub IsCached : Table → RunKey → Option Held → Type 0
 IsCached table key None = Unit {0}
 IsCached table key (Some run) = (key ≡ run.key) × HoldsBeginning table (entry_of run)
 
 pub record IsRight {S : Type 0} (program : Program S) (key : RunKey) (history : List Event) (stepped : Option Held) (fault : Option Fault) : Type 0 where
-  pub answer : (answer : Answer) → IsAnswer program stepped fault answer → answer ≡ answer_to program history
+  pub answer : (answer : Answer) → IsAnswer stepped fault answer → answer ≡ answer_to program history
   pub run : IsRunOf key history stepped
+
+-- what a replayed history shows as unsent is what its replay is answered by
+shown_answer : {S : Type 0} (result : Result (Replayed S) Fault) (history : HistoryView) → IsOkAnd result (Shows history) → Complete history.unsent ≡ answered result
+shown_answer (Ok replayed) history shows = ap Complete shows.unsent
+shown_answer (Err fault) history shows = absurd shows
 
 module _ {S : Type 0} (program : Program S) (key : RunKey) where
   Replays-right : (history : List Event) (steps : ℕ) (stepped : Option Held) (fault : Option Fault) (before after : ℕ) → Replays program key history steps stepped fault before after → IsRight program key history stepped fault
   Replays-right history steps (Some run) None before after r =
-      record { answer = λ answer a. a ∙ ap (λ (x : Held). answer_to program x.events) r.0; run = r.0 }
+      let holds = r.0 in
+      record {
+        answer = λ answer a. a ∙ shown_answer (run_of program run.events) (history_of run) holds.2.replays ∙ ap (answer_to program) holds.1;
+        run = (holds.0, holds.1);
+      }
   Replays-right history steps None (Some fault) before after r = record { answer = λ answer a. a ∙ sym r; run = tt }
   Replays-right history steps (Some run) (Some fault) before after r = absurd r
   Replays-right history steps None None before after r = absurd r
@@ -211,7 +222,7 @@ module _ (table : Table) where
 
   gained : (key : RunKey) (history rest : List Event) (stepped : Option Held) (runs : List Entry) → table key ≡ history ++ rest → IsRunOf key history stepped → AllHoldBeginnings table runs → AllHoldBeginnings table (with_run stepped runs)
   gained key history rest None runs is right all = all
-  gained key history rest (Some run) runs is right all = (subst (λ (r : Held). HoldsBeginning table (entry_of r)) (sym right) (rest, is), all)
+  gained key history rest (Some run) runs is right all = ((rest, ap table right.0 ∙ is ∙ ap (λ (l : List Event). l ++ rest) (sym right.1)), all)
 
   module _ {S : Type 0} (program : Program S) (numbered : IsTable table) where
     some-right : (key : RunKey) (front events rest : List Event) → table key ≡ front ++ (events ++ rest) → 0 < length events → ends_in_task (front ++ events) ≡ true

@@ -9,7 +9,7 @@ use Rattle.wh_events.specs.declared.key.RunKey.{RunKey}
 use Rattle.wh_replay.specs.declared.run.Answer.{Answer}
 use Rattle.wh_replay.specs.declared.run.Answer.TheVariants.{Complete, Fail}
 use Rattle.wh_workflow.specs.Law.{Program}
-use Rattle.wh_replay.specs.Runs.{Held, IsReplayed}
+use Rattle.wh_replay.specs.Runs.{Held, history_of, IsReplayed}
 use Rattle.wh_ledger.specs.declared.Shares.{Shares}
 use Rattle.wh_host.specs.declared.reply.Outcome.{Outcome}
 use Rattle.wh_host.specs.declared.reply.Outcome.TheVariants.{Completed, Failed}
@@ -48,11 +48,11 @@ ended (Err fault) = Failed
 pub record IsReply {S : Type 0} (program : Program S) (tells : Tells) (run : Option Held) (key : RunKey)
     (events : List Event) (hit : Bool) (steps : ℕ) (outcome : Outcome) (answer : Answer) : Type 0 where
   pub own : IfSome run (λ r. r.key ≡ key)
-  pub real : IfSome run (λ r. IsReplayed program r.events)
+  pub real : IfSome run (λ r. IsReplayed program (history_of r))
   pub stepped : Option Held
   pub fault : Option Fault
   pub replayed : Steps program tells run key events stepped fault hit 0 steps
-  pub answered : IsAnswer program stepped fault answer
+  pub answered : IsAnswer stepped fault answer
   pub ends : outcome_of answer ≡ outcome
 
 -- exactly one answer was sent, under the name of a delivered workflow task: that of its replay
@@ -165,14 +165,13 @@ Sends program tells run task old new (Ok reply) =
 Sends program tells run task old new (Err fault) = new ≡ old
 
 -- the one answer to a task that was replayed, or none
-abbrev pub SendsAnswer : {S : Type 0} → Program S → Option Held → Option Fault → TaskName → Answers → Answers
-    → Result Outcome StepFault → Type 0
-SendsAnswer program stepped fault name old new (Ok outcome) =
+abbrev pub SendsAnswer : Option Held → Option Fault → TaskName → Answers → Answers → Result Outcome StepFault → Type 0
+SendsAnswer stepped fault name old new (Ok outcome) =
     (answer : Answer)
-    × IsAnswer program stepped fault answer
+    × IsAnswer stepped fault answer
     × (outcome_of answer ≡ outcome)
     × (new ≡ old ++ (name, OfWorkflow answer) ∷ [])
-SendsAnswer program stepped fault name old new (Err unsent) = new ≡ old
+SendsAnswer stepped fault name old new (Err unsent) = new ≡ old
 
 -- the one answer to an activity task, which the handler may give, or none
 abbrev pub SendsActivity : Answerable → ActivityTask → Answers → Answers → Result Outcome StepFault → Type 0

@@ -80,7 +80,7 @@ pub record IsUse {S : Type 0} (program : Program S) (table : Table)
   pub before : ℕ
   pub meter : ℕ
   pub replayed : Steps program (told_by table) u.cached u.key (task_of table u) u.stepped u.fault u.hit before meter
-  pub answered : IsAnswer program u.stepped u.fault u.answer
+  pub answered : IsAnswer u.stepped u.fault u.answer
   pub in_hand : new.in_hand ≡ with_run u.stepped old.in_hand
 
 -- the call brings no run in
@@ -116,7 +116,7 @@ AllAnswered program table (m ∷ ms) = IsAnswered program table m × AllAnswered
 
 -- the run holds a beginning of its history
 abbrev pub HoldsBeginning : Table → Entry → Type 0
-HoldsBeginning table run = (rest : List Event) × (table run.0 ≡ run.1 ++ rest)
+HoldsBeginning table run = (rest : List Event) × (table run.0 ≡ run.1.events ++ rest)
 
 -- so does each of the runs
 abbrev pub AllHoldBeginnings : Table → List Entry → Type 0

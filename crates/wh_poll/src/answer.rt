@@ -46,8 +46,8 @@ pub fn answer_by_replay<W: Workflow, S: TaskSource>(
     ensures origin { KeepsOrigin S.comes_from source.old source.new }
 {
     if let Some(run) = &run {
-        // Its contract says that the held events are replayed.
-        run.held_len();
+        // Made for the proof: its contract says that the run is replayed.
+        run.attest();
     }
     let WorkflowTask {
         name,
@@ -91,7 +91,7 @@ fn send_answer<W: Workflow, S: TaskSource>(
     source: &mut S,
 ) -> Result<Outcome, StepFault>
     requires { HasAnswer run.now fault }
-    ensures sends { SendsAnswer W.program run.now fault name (S.answers source.old) (S.answers source.new) result }
+    ensures sends { SendsAnswer run.now fault name (S.answers source.old) (S.answers source.new) result }
     ensures failures { FailsOnlySource result (S.failures source.old) (S.failures source.new) }
     ensures same { SameTasks (S.delivers source.old) (S.tells source.old) (S.delivers source.new) (S.tells source.new) }
     ensures origin { KeepsOrigin S.comes_from source.old source.new }
@@ -110,7 +110,7 @@ fn answer_of<W: Workflow>(
     fault: Option<Fault>,
 ) -> Result<Answer, OutOfMemory>
     requires { HasAnswer run.now fault }
-    ensures { IfOk result (IsAnswer W.program run.now fault) }
+    ensures { IfOk result (IsAnswer run.now fault) }
 {
     if let Some(fault) = fault {
         return Ok(Answer::Fail(fault));

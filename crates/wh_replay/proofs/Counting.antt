@@ -1,6 +1,7 @@
 -- The steps that a replay counts are those of its cuts' scripts.
 use Rattle.std.proofs.Common.{◌≡◌, ℕ, ◌+◌, ◌≤◌, List, [], ◌∷◌, ◌++◌, length, Option, Some, None, Ok, sym, ap, ◌∙◌, arith, min}
 use Rattle.wh_events.specs.declared.event.Event.{Event}
+use Rattle.wh_events.specs.Machines.{machines_of}
 use Rattle.wh_events.specs.Cuts.{is_cut}
 use Rattle.wh_workflow.specs.declared.fault.WorkflowFault.{WorkflowFault}
 use Rattle.wh_workflow.specs.declared.fault.Mismatch.{Mismatch}
@@ -14,7 +15,7 @@ use Rattle.wh_workflow.specs.ActivationScripts.{Step, fault_in, ok_unless, outco
 use Rattle.wh_workflow.proofs.Following.{whole_meets}
 use Rattle.wh_workflow.proofs.Scripting.{longest_in_words}
 use Rattle.wh_workflow.proofs.Plain.{jobs_plain}
-use Rattle.wh_replay.specs.Replays.{Replayed, standpoint_at, begin_at, reached, close_task, task, replay_after, start, workflow_of, unless_mismatch}
+use Rattle.wh_replay.specs.Replays.{Upshot, standpoint_at, begin_at, reached, close_task, task, replay_after, start, workflow_of, unless_mismatch, with_machines, replay_tasks}
 use Rattle.wh_replay.specs.Runs.{counted, going_on}
 use Rattle.wh_replay.specs.Laws.{step_count, HasScripts, ended, passed, ran, StepsAreScripted, NewStepsAreScripted}
 use Rattle.wh_replay.proofs.Settling.{and_then_ok, ok_same}
@@ -37,24 +38,24 @@ faultless None x out e = ok_same x out e
 faultless (Some fault) x out e = cc
 
 module _ {S : Type 0} where
-  matched : (at : ℕ) (difference : Option Mismatch) (x out : Replayed S) → unless_mismatch at difference x ≡ Ok out → x ≡ out
+  matched : (at : ℕ) (difference : Option Mismatch) (x out : Upshot S) → unless_mismatch at difference x ≡ Ok out → x ≡ out
   matched at None x out e = ok_same x out e
   matched at (Some difference) x out e = cc
 
-  close_meter : (history : List Event) (standpoint : Standpoint) (at : ℕ) (recorded : Option (List Event)) (progress : Progress S) (out : Replayed S) → close_task history standpoint at recorded progress ≡ Ok out → out.meter ≡ progress.meter
-  close_meter history standpoint at None progress out e = sym (ap (λ (r : Replayed S). r.meter) (ok_same (reached progress (reduced standpoint progress.script.issued)) out e))
-  close_meter history standpoint at (Some events) progress out e = sym (ap (λ (r : Replayed S). r.meter) (matched at (mismatch history (reduced standpoint progress.script.issued) events) (reached progress []) out e))
+  close_meter : (history : List Event) (standpoint : Standpoint) (at : ℕ) (recorded : Option (List Event)) (progress : Progress S) (out : Upshot S) → close_task history standpoint at recorded progress ≡ Ok out → out.meter ≡ progress.meter
+  close_meter history standpoint at None progress out e = sym (ap (λ (r : Upshot S). r.meter) (ok_same (reached progress (reduced standpoint progress.script.issued)) out e))
+  close_meter history standpoint at (Some events) progress out e = sym (ap (λ (r : Upshot S). r.meter) (matched at (mismatch history (reduced standpoint progress.script.issued) events) (reached progress []) out e))
 
   outcome_meter : (program : Program S) (standpoint : Standpoint) (state : S) (settled : Settled) (meter : ℕ) (steps : List Step) (out : Progress S) → outcome program standpoint state settled meter steps ≡ Ok out → out.meter ≡ risen meter (length steps)
   outcome_meter program standpoint state settled meter steps out e = sym (ap (λ (p : Progress S). p.meter) (faultless (fault_in standpoint settled [] steps) _ out e))
 
   -- the scripts of the rest of a history, and how far they raise the meter
-  Counts : Program S → List Event → List Event → List Event → Replayed S → Replayed S → Type 0
+  Counts : Program S → List Event → List Event → List Event → Upshot S → Upshot S → Type 0
   Counts program before between rest current left = (scripts : List (List Step)) × HasScripts program before between rest current scripts × (left.meter ≡ risen current.meter (step_count scripts))
 
-  counts : (program : Program S) → IsLawful program → (before between rest : List Event) (current left : Replayed S) → current.meter ≤ top → replay_after program before between rest current ≡ Ok left → Counts program before between rest current left
+  counts : (program : Program S) → IsLawful program → (before between rest : List Event) (current left : Upshot S) → current.meter ≤ top → replay_after program before between rest current ≡ Ok left → Counts program before between rest current left
   unfolding Counts
-  counts program lawful before between [] current left below e = ([], ended before between current, sym (ap (λ (r : Replayed S). r.meter) (ok_same current left e)) ∙ sym (risen_zero current.meter below))
+  counts program lawful before between [] current left below e = ([], ended before between current, sym (ap (λ (r : Upshot S). r.meter) (ok_same current left e)) ∙ sym (risen_zero current.meter below))
   counts program lawful before between (event ∷ rest) current left below e =
       let seen = before ++ event ∷ [] in
       let here = and_then (task program before between event rest current) (replay_after program seen [] rest) in
@@ -80,8 +81,9 @@ module _ {S : Type 0} where
   pub steps_are_scripted : (program : Program S) → IsLawful program → StepsAreScripted program
   unfolding Counts
   steps_are_scripted program lawful events left e =
-      let all = counts program lawful [] [] events (start program (workflow_of events) 0) left (omega arith) (replay_parts program events 0 left e).2 in
-      (all.0, all.1, ap counted e ∙ all.2)
+      let tasks = and_then_ok (replay_tasks program events 0) (λ left. Ok (with_machines (machines_of events) left)) left e in
+      let all = counts program lawful [] [] events (start program (workflow_of events) 0) tasks.0 (omega arith) (replay_parts program events 0 tasks.0 tasks.1).2 in
+      (all.0, all.1, ap counted tasks.1 ∙ all.2)
 
   pub new_steps_are_scripted : (program : Program S) → IsLawful program → NewStepsAreScripted program
   unfolding Counts

@@ -2,18 +2,21 @@
 use Rattle.std.proofs.Common.{◌≡◌, ℕ, suc, ◌-◌, ◌≤◌, Bool, true, false, List, [], ◌∷◌, ◌++◌, length, take, drop, slice_get, Option, Some, None, Result, Ok, Err, cond, refl, sym, ap, ◌∙◌, subst}
 use Rattle.std.proofs.Math.Numerals.{sub-one}
 use Rattle.std.proofs.Math.Seq.{take-append_seam, drop-append_seam}
-use Rattle.std.specs.Result.{is_ok, IsOk, IsOkAnd}
+use Rattle.std.specs.Result.{IsOkAnd}
 use Rattle.wh_events.specs.declared.event.Event.{Event}
 use Rattle.wh_events.specs.declared.kind.EventKind.{EventKind}
 use Rattle.wh_events.specs.declared.kind.EventKind.TheVariants.{WorkflowTaskStarted}
+use Rattle.wh_events.specs.Machines.{Machine, machines_of}
 use Rattle.wh_events.specs.Cuts.{is_task_started_kind, is_task_started}
 use Rattle.wh_workflow.specs.declared.command.Command.{Command}
 use Rattle.wh_workflow.specs.Law.{Program, IsLawful}
 use Rattle.wh_workflow.specs.Scripts.{Settled}
+use Rattle.wh_workflow.specs.Activations.{and_then}
 use Rattle.wh_replay.specs.declared.fault.Fault.{Fault}
 use Rattle.wh_replay.specs.declared.fault.Fault.TheVariants.{NotATask}
-use Rattle.wh_replay.specs.Replays.{Replayed, replay, ends_in_task}
-use Rattle.wh_replay.specs.Runs.{Gives, IsRun, IsReplayed, run_of, advance_steps, advanced}
+use Rattle.wh_replay.specs.Replays.{Upshot, Replayed, with_machines, replay, replay_tasks, ends_in_task}
+use Rattle.wh_replay.specs.Runs.{HistoryView, Gives, IsRun, Shows, IsReplayed, run_of, advance_steps, advanced}
+use Rattle.wh_replay.specs.Views.{view_of}
 use Rattle.wh_replay.proofs.Raising.{top}
 use Rattle.wh_replay.specs.declared.fault.RunFault.{RunFault}
 use Rattle.wh_replay.specs.declared.fault.RunFault.TheVariants.{Fault as Faulty, OutOfMemory}
@@ -54,51 +57,49 @@ pub back_is : {A : Type 0} (xs ys whole : List A) (n : ℕ) → whole ≡ xs ++ 
 back_is xs ys whole n e h = rw (e, h) (drop-append_seam xs ys)
 
 module _ {S : Type 0} where
-  gives_ok : (result : Result (Replayed S) Fault) (state : S) (settled : Settled) (unsent : List Command) → Gives result state settled unsent → IsOk result
-  gives_ok (Ok replayed) state settled unsent h = refl
-  gives_ok (Err fault) state settled unsent h = absurd h
-
   replay_of_run : (ends : Bool) (result : Result (Replayed S) Fault) → ends ≡ true → cond ends result (Err NotATask) ≡ result
   replay_of_run true result e = refl
   replay_of_run false result e = cc
 
-  -- a run's history is replayed to its end
-  pub run_ok : (program : Program S) (events : List Event) (state : S) (settled : Settled) (unsent : List Command) → IsRun program events state settled unsent → IsOk (run_of program events)
-  run_ok program events state settled unsent run =
-      ap is_ok (replay_of_run (ends_in_task events) (replay program events 0) run.ends) ∙ gives_ok (replay program events 0) state settled unsent run.gives
-
-  -- a fault of the replay is one of the run
-  pub run_fault : (program : Program S) (events : List Event) (fault : Fault) → ends_in_task events ≡ true → replay program events 0 ≡ Err fault → run_of program events ≡ Err fault
-  run_fault program events fault e h = replay_of_run (ends_in_task events) (replay program events 0) e ∙ h
+  -- a fault of the tasks is one of the run
+  pub run_fault : (program : Program S) (events : List Event) (fault : Fault) → ends_in_task events ≡ true → replay_tasks program events 0 ≡ Err fault → run_of program events ≡ Err fault
+  run_fault program events fault e h =
+      replay_of_run (ends_in_task events) (replay program events 0) e ∙ ap (λ r. and_then r (λ left. Ok (with_machines (machines_of events) left))) h
 
   -- what a replay on a meter gives makes a run
-  pub replayed_run : (program : Program S) (events : List Event) (meter : ℕ) (value : Replayed S) → ends_in_task events ≡ true → meter ≤ top → replay program events meter ≡ Ok value → IsRun program events value.state value.settled value.unsent
+  pub replayed_run : (program : Program S) (events : List Event) (meter : ℕ) (value : Upshot S) → ends_in_task events ≡ true → meter ≤ top → replay_tasks program events meter ≡ Ok value → IsRun program events value.state value.settled value.unsent
   replayed_run program events meter value ends below e = record { ends = ends; gives = replayed_gives program events meter value below e }
 
   -- the fault of a replay on a meter is what the history begins with
-  pub begins_err : {A : Type 0} (program : Program S) (events : List Event) (meter : ℕ) (fault : RunFault) (defined : Result (Replayed S) Fault) (seen : A → Replayed S) → replay program events meter ≡ defined → meter ≤ top → ends_in_task events ≡ true
+  pub begins_err : {A : Type 0} (program : Program S) (events : List Event) (meter : ℕ) (fault : RunFault) (defined : Result (Upshot S) Fault) (seen : A → Upshot S) → replay_tasks program events meter ≡ defined → meter ≤ top → ends_in_task events ≡ true
       → Answers (Err fault) defined seen → GivesHistory program events (Err fault)
   begins_err program events meter (Faulty fault) defined seen is below ends answers = run_fault program events fault ends (replayed_fault program events meter fault below (is ∙ answers))
   begins_err program events meter OutOfMemory defined seen is below ends answers = ends
 
-  -- a run is replayed, and not too long
-  pub is_replayed : (program : Program S) (events : List Event) (state : S) (settled : Settled) (unsent : List Command) → IsRun program events state settled unsent → IsReplayed program events
-  is_replayed program events state settled unsent run = record {
-    replays = run_ok program events state settled unsent run;
-    most = let kept = run_replay program events state settled unsent (replay program events 0) refl run.gives in ((no_fault_where_in_place events).0 (replay_parts program events 0 kept.0 kept.1).0).1;
-  }
-
   -- what holds of what the replay gives
-  gives_that : (result : Result (Replayed S) Fault) (state : S) (settled : Settled) (unsent : List Command) (P : Replayed S → Type 0) → Gives result state settled unsent
-      → ((left : Replayed S) → left.state ≡ state → left.settled ≡ settled → left.unsent ≡ unsent → P left) → IsOkAnd result P
-  gives_that (Ok left) state settled unsent P gives h = h left gives.0 gives.1 gives.2
-  gives_that (Err fault) state settled unsent P gives h = absurd gives
+  gives_that : (machines : List Machine) (result : Result (Upshot S) Fault) (state : S) (settled : Settled) (unsent : List Command) (P : Replayed S → Type 0) → Gives result state settled unsent
+      → ((left : Upshot S) → left.state ≡ state → left.settled ≡ settled → left.unsent ≡ unsent → P (with_machines machines left)) → IsOkAnd (and_then result (λ left. Ok (with_machines machines left))) P
+  gives_that machines (Ok left) state settled unsent P gives h = h left gives.0 gives.1 gives.2
+  gives_that machines (Err fault) state settled unsent P gives h = absurd gives
 
   pub run_that : (program : Program S) (events : List Event) (state : S) (settled : Settled) (unsent : List Command) (P : Replayed S → Type 0) → IsRun program events state settled unsent
-      → ((left : Replayed S) → left.state ≡ state → left.settled ≡ settled → left.unsent ≡ unsent → P left) → IsOkAnd (run_of program events) P
+      → ((left : Upshot S) → left.state ≡ state → left.settled ≡ settled → left.unsent ≡ unsent → P (with_machines (machines_of events) left)) → IsOkAnd (run_of program events) P
   run_that program events state settled unsent P run h =
       let Q : Result (Replayed S) Fault → Type 0 = λ r. IsOkAnd r P in
-      subst Q (sym (replay_of_run (ends_in_task events) (replay program events 0) run.ends)) (gives_that (replay program events 0) state settled unsent P run.gives h)
+      subst Q (sym (replay_of_run (ends_in_task events) (replay program events 0) run.ends)) (gives_that (machines_of events) (replay_tasks program events 0) state settled unsent P run.gives h)
+
+  -- the state of a run is what replay gives
+  pub run_state : (program : Program S) (events : List Event) (state : S) (settled : Settled) (unsent : List Command) → IsRun program events state settled unsent → IsOkAnd (run_of program events) (λ replayed. state ≡ replayed.state)
+  run_state program events state settled unsent run = run_that program events state settled unsent (λ replayed. state ≡ replayed.state) run (λ left same _ _. sym same)
+
+  -- so is what it shows, and it is not too long
+  pub is_replayed : (program : Program S) (events : List Event) (state : S) (settled : Settled) (unsent : List Command) → IsRun program events state settled unsent → IsReplayed program (view_of events settled unsent)
+  is_replayed program events state settled unsent run =
+      let history = view_of events settled unsent in
+      record {
+        replays = run_that program events state settled unsent (Shows history) run (λ left _ versions commands. record { machines = refl; settled = sym versions; unsent = sym commands });
+        most = let kept = run_replay program events state settled unsent (replay_tasks program events 0) refl run.gives in ((no_fault_where_in_place events).0 (replay_parts program events 0 kept.0 kept.1).0).1;
+      }
 
   -- new events, which end in a started task, are joined to those of a run on a meter: a list of which that many first events are held
   pub record IsLonger (program : Program S) (before new joined : List Event) (held meter : ℕ) (state : S) (settled : Settled) (unsent : List Command) : Type 0 where
@@ -119,7 +120,7 @@ module _ {S : Type 0} where
       ∙ ap (λ l. advanced program (take held joined) l meter) (sym (back_is before new joined held h.joins h.count))
 
   -- a run that is advanced is a run
-  pub longer_run : (program : Program S) → IsLawful program → (before new joined : List Event) (held meter : ℕ) (state : S) (settled : Settled) (unsent : List Command) (value : Replayed S) → IsLonger program before new joined held meter state settled unsent
+  pub longer_run : (program : Program S) → IsLawful program → (before new joined : List Event) (held meter : ℕ) (state : S) (settled : Settled) (unsent : List Command) (value : Upshot S) → IsLonger program before new joined held meter state settled unsent
       → advanced program (take held joined) (drop held joined) meter ≡ Ok value → IsRun program (before ++ new) value.state value.settled value.unsent
   longer_run program lawful before new joined held meter state settled unsent value h e = record {
     ends = ends_joined before new h.ends;
@@ -127,13 +128,13 @@ module _ {S : Type 0} where
   }
 
   -- its meter rises by the steps that were taken
-  pub longer_counts : (program : Program S) → IsLawful program → (before new joined : List Event) (held meter : ℕ) (state : S) (settled : Settled) (unsent : List Command) (value : Replayed S) → IsLonger program before new joined held meter state settled unsent
+  pub longer_counts : (program : Program S) → IsLawful program → (before new joined : List Event) (held meter : ℕ) (state : S) (settled : Settled) (unsent : List Command) (value : Upshot S) → IsLonger program before new joined held meter state settled unsent
       → advanced program (take held joined) (drop held joined) meter ≡ Ok value → value.meter ≡ risen meter (advance_steps program before new)
   longer_counts program lawful before new joined held meter state settled unsent value h e =
       advanced_counts program lawful before new meter state settled unsent value h.run h.below (parted program before new joined held meter state settled unsent h ∙ e)
 
   -- and its fault is that of the joined history
-  pub longer_err : {A : Type 0} (program : Program S) → IsLawful program → (before new joined : List Event) (held meter : ℕ) (state : S) (settled : Settled) (unsent : List Command) (fault : RunFault) (defined : Result (Replayed S) Fault) (seen : A → Replayed S)
+  pub longer_err : {A : Type 0} (program : Program S) → IsLawful program → (before new joined : List Event) (held meter : ℕ) (state : S) (settled : Settled) (unsent : List Command) (fault : RunFault) (defined : Result (Upshot S) Fault) (seen : A → Upshot S)
       → IsLonger program before new joined held meter state settled unsent → advanced program (take held joined) (drop held joined) meter ≡ defined → Answers (Err fault) defined seen → GivesHistory program (before ++ new) (Err fault)
   longer_err program lawful before new joined held meter state settled unsent (Faulty fault) defined seen h is answers =
       run_fault program (before ++ new) fault (ends_joined before new h.ends)

@@ -1,5 +1,5 @@
 -- What the calls that make a run answer.
-use Rattle.std.specs.Prelude.{◌≡◌, ℕ, true, false, List, length, ◌++◌, Result, Ok, Err, IsOk}
+use Rattle.std.specs.Prelude.{◌≡◌, ℕ, true, false, List, length, ◌++◌, Result, Ok, Err}
 use Rattle.wh_events.specs.declared.event.Event.{Event}
 use Rattle.wh_events.specs.declared.key.RunKey.{RunKey}
 use Rattle.wh_workflow.specs.Counting.{risen}
@@ -12,7 +12,7 @@ use Rattle.wh_replay.specs.declared.run.AdvanceFault.TheVariants.{NotATask as No
 use Rattle.wh_replay.specs.declared.run.Answer.{Answer}
 use Rattle.wh_replay.specs.declared.run.Answer.TheVariants.{Complete, Fail}
 use Rattle.wh_replay.specs.Replays.{Replayed, ends_in_task}
-use Rattle.wh_replay.specs.Runs.{Held, follows, run_of, advance_steps}
+use Rattle.wh_replay.specs.Runs.{HistoryView, Held, history_of, IsReplayed, follows, run_of, advance_steps}
 
 -- the new events are joined to the held ones: they end in a started task and begin behind them
 pub record IsJoined (held new : List Event) : Type 0 where
@@ -20,15 +20,21 @@ pub record IsJoined (held new : List Event) : Type 0 where
   pub begins : follows (length held) new ≡ true
 
 module _ {S : Type 0} where
-  -- these events, which end in a started task and whose replay has no fault, or the fault; want of memory only where they end in a started task
-  abbrev pub GivesHistory : Program S → List Event → Result (List Event) RunFault → Type 0
-  GivesHistory program events (Ok history) = (history ≡ events) × IsOk (run_of program events)
+  -- a history of these events with what their replay gives, or the fault; want of memory only where
+  -- they end in a started task
+  abbrev pub GivesHistory : Program S → List Event → Result HistoryView RunFault → Type 0
+  GivesHistory program events (Ok history) = (history.events ≡ events) × IsReplayed program history
   GivesHistory program events (Err (Faulty fault)) = run_of program events ≡ Err fault
   GivesHistory program events (Err OutOfMemory) = ends_in_task events ≡ true
 
-  -- a run of the key and the history, or the fault of its replay; want of memory only where the history ends in a started task
+  -- the run has the key, holds the events, and shows what their replay gives
+  abbrev pub Holds : Program S → RunKey → List Event → Held → Type 0
+  Holds program key events run = (run.key ≡ key) × (run.events ≡ events) × IsReplayed program (history_of run)
+
+  -- a run of the key that holds the events, or the fault of their replay; want of memory only where
+  -- they end in a started task
   abbrev pub Begins : Program S → RunKey → List Event → Result Held RunFault → Type 0
-  Begins program key events (Ok run) = (run ≡ record { key = key; events = events }) × IsOk (run_of program events)
+  Begins program key events (Ok run) = Holds program key events run
   Begins program key events (Err (Faulty fault)) = run_of program events ≡ Err fault
   Begins program key events (Err OutOfMemory) = ends_in_task events ≡ true
 

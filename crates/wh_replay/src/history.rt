@@ -1,10 +1,9 @@
 //! A replayed history that ends in a started task.
 ghost use Rattle.std.specs.Prelude.{◌≡◌, ◌++◌, ◌≤◌, length, true, OnOk, IsOkAnd};
-ghost use Rattle.wh_events.specs.Machines.{status_at};
 ghost use Rattle.wh_workflow.specs.Counting.{risen};
 ghost use Rattle.wh_workflow.specs.Scripts.{lookup_version};
 ghost use Rattle.wh_replay.specs.Replays.{ends_in_task};
-ghost use Rattle.wh_replay.specs.Runs.{IsReplayed, run_of, steps, advance_steps};
+ghost use Rattle.wh_replay.specs.Runs.{IsReplayed, run_of, steps, advance_steps, status_in};
 ghost use Rattle.wh_replay.specs.Advances.{GivesHistory};
 
 use crate::checking::{Outcome, replay};
@@ -17,8 +16,9 @@ use wh_events::{Event, EventNo, MOST_EVENTS, Status};
 use wh_machines::Track;
 use wh_workflow::{Command, Meter, Workflow};
 
-/// A history that ends in a started workflow task, with what its replay left. Contracts see the
-/// events.
+/// A history that ends in a started workflow task, with what its replay gives. Contracts see the
+/// events, the machines (each event that opened something with its status), the settled versions
+/// and the unsent commands.
 #[derive(Drop)]
 pub struct ReplayedHistory<W: Workflow> {
     track: Track,
@@ -26,13 +26,12 @@ pub struct ReplayedHistory<W: Workflow> {
 }
 
 impl<W: Workflow> Model for ReplayedHistory<W> {
-    ghost use Rattle.std.specs.Prelude.{List};
-    ghost use Rattle.wh_events.specs.declared.event.Event.{Event};
-    ghost use Rattle.wh_replay.specs.Views.{IsRunOf};
+    ghost use Rattle.wh_replay.specs.Runs.{HistoryView};
+    ghost use Rattle.wh_replay.specs.Views.{IsRunOf, view_of};
 
-    ghost Value = { List Event };
+    ghost Value = { HistoryView };
 
-    ghost view = { λ history. history.track };
+    ghost view = { λ history. view_of history.track history.outcome.versions history.outcome.unsent.items };
 
     ghost invariant = { λ history. IsRunOf W.program history.track history.outcome };
 }
@@ -68,8 +67,8 @@ impl<W: Workflow> ReplayedHistory<W> {
         meter: &mut Meter,
     ) -> Result<Self, RunFault>
         requires ends { ends_in_task events.items ≡ true }
-        ensures history { GivesHistory W.program (self ++ events.items) result }
-        ensures meter { OnOk result (meter.new ≡ risen meter.old (advance_steps W.program self events.items)) }
+        ensures history { GivesHistory W.program (self.events ++ events.items) result }
+        ensures meter { OnOk result (meter.new ≡ risen meter.old (advance_steps W.program self.events events.items)) }
         ensures never_lowered { meter.old ≤ meter.new }
     {
         let ReplayedHistory { mut track, outcome } = self;
@@ -84,46 +83,52 @@ impl<W: Workflow> ReplayedHistory<W> {
         })
     }
 
-    /// The number of events. Its contract says what holds of every replayed history.
+    /// Does nothing. Its contract tells a caller what holds of every replayed history.
+    pub(crate) fn attest(&self)
+        ensures { IsReplayed W.program self.now }
+    {
+        let _track = &self.track;
+    }
+
+    /// The number of events.
     pub fn len(&self) -> usize
-        ensures len { result ≡ length self.now }
+        ensures len { result ≡ length self.now.events }
         ensures most { result ≤ MOST_EVENTS }
-        ensures replayed { IsReplayed W.program self.now }
     {
         self.track.len()
     }
 
     /// The events.
     pub(crate) fn events(&self) -> &[Event]
-        ensures { result.now ≡ self.now }
+        ensures { result.now ≡ self.now.events }
     {
         self.track.events()
     }
 
     /// Where the thing stands that the event of a number opened, if it opened one.
     pub(crate) fn status(&self, number: EventNo) -> Option<Status>
-        ensures { result ≡ status_at self.now number }
+        ensures { result ≡ status_in self.now.machines number }
     {
         self.track.status(number)
     }
 
     /// The state of the workflow.
     pub(crate) fn state(&self) -> &W::State
-        ensures { IsOkAnd (run_of W.program self.now) (λ replayed. result.now ≡ replayed.state) }
+        ensures { IsOkAnd (run_of W.program self.now.events) (λ replayed. result.now ≡ replayed.state) }
     {
         &self.outcome.state
     }
 
     /// The commands that are not sent yet.
     pub(crate) fn commands(&self) -> &[Command]
-        ensures { IsOkAnd (run_of W.program self.now) (λ replayed. result.now ≡ replayed.unsent) }
+        ensures { result.now ≡ self.now.unsent }
     {
         self.outcome.unsent.as_slice()
     }
 
     /// The settled version of a change.
     pub(crate) fn version(&self, change_id: &str) -> Option<i32>
-        ensures { IsOkAnd (run_of W.program self.now) (λ replayed. result ≡ lookup_version change_id.now replayed.settled) }
+        ensures { result ≡ lookup_version change_id.now self.now.settled }
     {
         self.outcome.versions.get(change_id)
     }

@@ -1,9 +1,9 @@
 //! A run: its key, and a history that ends in a started task.
 ghost use Rattle.std.specs.Prelude.{◌≡◌, ◌-◌, ◌≤◌, length, slice_get, option_map, IfOk, IsOkAnd, OnOk};
 ghost use Rattle.wh_workflow.specs.Scripts.{lookup_version};
-ghost use Rattle.wh_events.specs.Machines.{status_at};
-ghost use Rattle.wh_replay.specs.Runs.{IsReplayed, run_of, steps};
-ghost use Rattle.wh_replay.specs.Advances.{Begins, Advances, Counts, answered};
+ghost use Rattle.wh_replay.specs.Runs.{history_of, run_under, status_in, IsReplayed, run_of, steps};
+ghost use Rattle.wh_replay.specs.Advances.{Begins, Advances, Counts};
+ghost use Rattle.wh_replay.specs.declared.run.Answer.TheVariants.{Complete};
 ghost use Rattle.wh_workflow.specs.Counting.{risen};
 
 use crate::continuing::{ends_in_task, follows};
@@ -15,9 +15,10 @@ use wh_events::{Event, EventNo, Items, MOST_EVENTS, OutOfMemory, RunKey, Status}
 use wh_workflow::{Command, Meter, Workflow};
 
 /// A run of a workflow, as far as its history was replayed: a key, a history that ends in a started
-/// workflow task, and the state, versions and unsent commands that its replay leaves. Contracts see
-/// the key and the held events; the machines of a run are those of its held events, each event that
-/// opened something with its status.
+/// workflow task, and the state, machines, versions and unsent commands that its replay gives.
+/// Contracts see the key, the held events, the machines (each event that opened something with its
+/// status), the settled versions and the unsent commands. `attest` tells that replay of the held
+/// events from the first gives them, and `state` that it gives the state.
 #[derive(Drop)]
 pub struct Run<W: Workflow> {
     key: RunKey,
@@ -25,11 +26,11 @@ pub struct Run<W: Workflow> {
 }
 
 impl<W: Workflow> Model for Run<W> {
-    ghost use Rattle.wh_replay.specs.Runs.{Held};
+    ghost use Rattle.wh_replay.specs.Runs.{Held, run_under};
 
     ghost Value = { Held };
 
-    ghost view = { λ run. record { key = run.key; events = run.history } };
+    ghost view = { λ run. run_under run.key run.history };
 }
 
 /// Why a run does not advance. The first two hand it back unchanged, the others spend it.
@@ -127,7 +128,7 @@ impl<W: Workflow> Run<W> {
 
     /// A run of the key and a replayed history.
     pub fn from_parts(key: RunKey, history: ReplayedHistory<W>) -> Self
-        ensures { result ≡ record { key = key; events = history } }
+        ensures { result ≡ run_under key history }
     {
         Run { key, history }
     }
@@ -135,7 +136,7 @@ impl<W: Workflow> Run<W> {
     /// The key, and the replayed history.
     pub fn into_parts(self) -> (RunKey, ReplayedHistory<W>)
         ensures key { result.0 ≡ self.key }
-        ensures history { result.1 ≡ self.events }
+        ensures history { result.1 ≡ history_of self }
     {
         (self.key, self.history)
     }
@@ -147,11 +148,18 @@ impl<W: Workflow> Run<W> {
         &self.key
     }
 
-    /// The number of held events. Its contract says what holds of every run.
+    /// Does nothing. Its contract tells a caller what holds of every run: replay of its held events
+    /// from the first gives its machines, versions and unsent commands.
+    pub fn attest(&self)
+        ensures { IsReplayed W.program (history_of self.now) }
+    {
+        self.history.attest();
+    }
+
+    /// The number of held events.
     pub fn held_len(&self) -> usize
         ensures len { result ≡ length self.now.events }
         ensures most { result ≤ MOST_EVENTS }
-        ensures replayed { IsReplayed W.program self.now.events }
     {
         self.history.len()
     }
@@ -165,7 +173,7 @@ impl<W: Workflow> Run<W> {
 
     /// Where the thing stands that the held event of a number opened, if it opened one.
     pub fn status(&self, number: EventNo) -> Option<Status>
-        ensures { result ≡ status_at self.now.events number }
+        ensures { result ≡ status_in self.now.machines number }
     {
         self.history.status(number)
     }
@@ -179,14 +187,14 @@ impl<W: Workflow> Run<W> {
 
     /// The commands of the last task, which are not sent yet.
     pub fn commands(&self) -> &[Command]
-        ensures { IsOkAnd (run_of W.program self.now.events) (λ replayed. result.now ≡ replayed.unsent) }
+        ensures { result.now ≡ self.now.unsent }
     {
         self.history.commands()
     }
 
     /// The settled version of a change, if there is one.
     pub fn version(&self, change_id: &str) -> Option<i32>
-        ensures { IsOkAnd (run_of W.program self.now.events) (λ replayed. result ≡ lookup_version change_id.now replayed.settled) }
+        ensures { result ≡ lookup_version change_id.now self.now.settled }
     {
         self.history.version(change_id)
     }
@@ -194,7 +202,7 @@ impl<W: Workflow> Run<W> {
     /// The answer to the last task: a copy of its commands. `OutOfMemory` where an allocation was
     /// refused.
     pub fn answer(&self, alloc: Global) -> Result<Answer, OutOfMemory>
-        ensures { IfOk result (λ answer. answer ≡ answered (run_of W.program self.now.events)) }
+        ensures { IfOk result (λ answer. answer ≡ Complete self.now.unsent) }
     {
         let copies = copy_commands(alloc, self.history.commands())?;
         Ok(Answer::Complete(Items::new(copies)))

@@ -1,18 +1,18 @@
 -- What replay of a task gives, and from which events.
-use Rattle.std.specs.Prelude.{◌≡◌, ℕ, ◌++◌, ◌<◌, ◌≤◌, Bool, true, false, List, [], ◌∷◌, length, Option, Some, None, is_some, Result, Ok, Err, IsOk, if◌then◌else◌}
+use Rattle.std.specs.Prelude.{◌≡◌, ℕ, ◌++◌, ◌<◌, ◌≤◌, Bool, true, false, List, [], ◌∷◌, length, Option, Some, None, is_some, Result, Ok, Err, if◌then◌else◌}
 use Rattle.wh_events.specs.declared.event.Event.{Event}
 use Rattle.wh_replay.specs.declared.fault.Fault.{Fault}
 use Rattle.wh_replay.specs.declared.fault.Fault.TheVariants.{NotATask}
 use Rattle.wh_events.specs.declared.key.RunKey.{RunKey}
 use Rattle.wh_replay.specs.declared.run.Answer.{Answer}
-use Rattle.wh_replay.specs.declared.run.Answer.TheVariants.{Fail}
+use Rattle.wh_replay.specs.declared.run.Answer.TheVariants.{Complete, Fail}
 use Rattle.wh_replay.specs.Replays.{ends_in_task}
 use Rattle.wh_tasks.specs.Numbers.{last_number}
 use Rattle.wh_tasks.specs.Source.{Tells}
 use Rattle.wh_workflow.specs.Law.{Program}
 use Rattle.wh_workflow.specs.Counting.{risen}
 use Rattle.wh_replay.specs.Runs.{Held, follows, run_of, steps, advance_steps}
-use Rattle.wh_replay.specs.Advances.{answered}
+use Rattle.wh_replay.specs.Advances.{answered, Holds}
 use Rattle.wh_tasks.specs.declared.source.SourceFault.TheVariants.{Source as Failed, OutOfMemory as Unfed}
 use Rattle.wh_tasks.specs.declared.task.StepFault.{StepFault}
 use Rattle.wh_tasks.specs.declared.task.StepFault.TheVariants.{Source, OutOfMemory}
@@ -41,10 +41,11 @@ abbrev pub answer_to : {S : Type 0} → Program S → List Event → Answer
 answer_to program events = answered (run_of program events)
 
 module _ {S : Type 0} (program : Program S) where
-  -- without a fault a run of the key holds the events, and the meter rises by the steps; a fault answers the events
+  -- without a fault a run of the key holds the events, with what their replay gives, and the meter
+  -- rises by the steps; a fault answers the events
   abbrev pub Replays : RunKey → List Event → ℕ → Option Held → Option Fault → ℕ → ℕ → Type 0
   Replays key events steps (Some run) None before after =
-      (run ≡ record { key = key; events = events }) × IsOk (run_of program events) × (after ≡ risen before steps)
+      Holds program key events run × (after ≡ risen before steps)
   Replays key events steps None (Some fault) before after = answer_to program events ≡ Fail fault
   Replays key events steps (Some run) (Some fault) before after = ⊥
   Replays key events steps None None before after = ⊥
@@ -74,11 +75,11 @@ module _ {S : Type 0} (program : Program S) where
   Steps tells run key events stepped fault hit before after =
       StepsFrom (basis_of run events) tells run key events stepped fault hit before after
 
-  -- the answer that is sent: `Fail` of the fault, else the commands of the run
-  abbrev pub IsAnswer : Option Held → Option Fault → Answer → Type 0
-  IsAnswer stepped (Some fault) answer = answer ≡ Fail fault
-  IsAnswer (Some run) None answer = answer ≡ answer_to program run.events
-  IsAnswer None None answer = ⊥
+-- the answer that is sent: `Fail` of the fault, else the unsent commands of the run
+abbrev pub IsAnswer : Option Held → Option Fault → Answer → Type 0
+IsAnswer stepped (Some fault) answer = answer ≡ Fail fault
+IsAnswer (Some run) None answer = answer ≡ Complete run.unsent
+IsAnswer None None answer = ⊥
 
 -- there is a run or a fault
 abbrev pub HasAnswer : Option Held → Option Fault → Type 0

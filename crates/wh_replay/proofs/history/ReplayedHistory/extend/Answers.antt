@@ -1,14 +1,13 @@
 use Rattle.std.proofs.Common.{ℕ, ◌∙◌, refl, sym, ap, subst, arith, List, ◌++◌, Err, rules}
-use Rattle.std.specs.Result.{is_ok}
 use Rattle.std.proofs.lemmas.Result.{err_from_is_err_and}
 use Rattle.wh_events.specs.declared.event.Event.{Event}
 use Rattle.wh_events.specs.Places.{fault_after}
 use Rattle.wh_workflow.specs.Counting.{risen}
-use Rattle.wh_replay.specs.Runs.{IsRun, run_of, advance_steps}
+use Rattle.wh_replay.specs.Runs.{HistoryView, IsRun, IsReplayed, advance_steps}
 use Rattle.wh_replay.specs.Advances.{GivesHistory}
-use Rattle.wh_replay.specs.Views.{replayed_of}
+use Rattle.wh_replay.specs.Views.{upshot_of, view_of}
 use Rattle.wh_replay.proofs.Resuming.{taken_parts}
-use Rattle.wh_replay.proofs.Ending.{run_ok, refused_err, IsLonger, kept_run, longer_run, longer_counts, longer_err}
+use Rattle.wh_replay.proofs.Ending.{is_replayed, refused_err, IsLonger, kept_run, longer_run, longer_counts, longer_err}
 use Rattle.wh_replay.proofs.history.ReplayedHistory.extend.Goals as goal
 
 pub returns-in_err-push_all-clause-history : goal.returns-in_err-push_all-clause-history
@@ -20,7 +19,7 @@ returns-in_err-push_all-clause-history g c =
     let p = err_from_is_err_and c.from_residual.result c.from_residual.ensures.1 in
     let fault = c.in_err-push_all.field-0.0 in
     let P : List Event → Type 0 = λ l. GivesHistory program (l ++ new) (Err fault) in
-    rw (p.1, p.2) (subst P c.self.view_is (refused_err program before new kept.state kept.versions kept.unsent.items fault _ c.self.invariant c.requires.ends c.in_err-push_all.ensures))
+    rw (p.1, p.2) (subst P (ap (λ (h : HistoryView). h.events) c.self.view_is) (refused_err program before new kept.state kept.versions kept.unsent.items fault _ c.self.invariant c.requires.ends c.in_err-push_all.ensures))
 
 pub replay_joined-requires-clause-kept : goal.replay_joined-requires-clause-kept
 replay_joined-requires-clause-kept g c =
@@ -63,7 +62,7 @@ returns-in_err-walk-clause-history g c =
     let p = err_from_is_err_and c.from_residual-in_err-walk.result c.from_residual-in_err-walk.ensures.1 in
     let fault = c.in_err-walk.field-0.0 in
     let P : List Event → Type 0 = λ l. GivesHistory program (l ++ new) (Err fault) in
-    rw (p.1, p.2) (subst P c.self.view_is (longer_err program lawful before new joined held meter kept.state kept.versions kept.unsent.items fault _ _ longer refl c.in_err-walk.ensures.advanced))
+    rw (p.1, p.2) (subst P (ap (λ (h : HistoryView). h.events) c.self.view_is) (longer_err program lawful before new joined held meter kept.state kept.versions kept.unsent.items fault _ _ longer refl c.in_err-walk.ensures.advanced))
 
 pub invariant_of-result : goal.invariant_of-result
 invariant_of-result g c =
@@ -76,7 +75,7 @@ invariant_of-result g c =
     let held : ℕ = c.len-held.result in
     let taken = taken_parts (fault_after before new) (before ++ new) joined c.in_ok-push_all.ensures in
     let meter : ℕ = c.args.meter.now in
-    let value = replayed_of c.in_ok-walk.walk.outcome c.replay_joined.new.meter in
+    let value = upshot_of c.in_ok-walk.walk.outcome c.replay_joined.new.meter in
     let longer : IsLonger program before new joined held meter kept.state kept.versions kept.unsent.items
     = record {
       run = c.self.invariant;
@@ -99,7 +98,7 @@ returns-clause-history g c =
     let held : ℕ = c.len-held.result in
     let taken = taken_parts (fault_after before new) (before ++ new) joined c.in_ok-push_all.ensures in
     let meter : ℕ = c.args.meter.now in
-    let value = replayed_of c.in_ok-walk.walk.outcome c.replay_joined.new.meter in
+    let value = upshot_of c.in_ok-walk.walk.outcome c.replay_joined.new.meter in
     let longer : IsLonger program before new joined held meter kept.state kept.versions kept.unsent.items
     = record {
       run = c.self.invariant;
@@ -109,8 +108,8 @@ returns-clause-history g c =
       below = omega (arith, c.count-proof_fits.ensures, c.count-proof_fits.type_inv);
     } in
     let run = longer_run program lawful before new joined held meter kept.state kept.versions kept.unsent.items value longer c.in_ok-walk.ensures.advanced in (
-      sym taken.1 ∙ ap (λ l. l ++ new) c.self.view_is,
-      ap (λ l. is_ok (run_of program (l ++ new))) (sym c.self.view_is) ∙ run_ok program (before ++ new) value.state value.settled value.unsent run,
+      sym taken.1 ∙ ap (λ (h : HistoryView). h.events ++ new) c.self.view_is,
+      subst (λ (l : List Event). IsReplayed program (view_of l value.settled value.unsent)) taken.1 (is_replayed program (before ++ new) value.state value.settled value.unsent run),
     )
 
 pub returns-clause-meter : goal.returns-clause-meter
@@ -124,7 +123,7 @@ returns-clause-meter g c =
     let held : ℕ = c.len-held.result in
     let taken = taken_parts (fault_after before new) (before ++ new) joined c.in_ok-push_all.ensures in
     let meter : ℕ = c.args.meter.now in
-    let value = replayed_of c.in_ok-walk.walk.outcome c.replay_joined.new.meter in
+    let value = upshot_of c.in_ok-walk.walk.outcome c.replay_joined.new.meter in
     let longer : IsLonger program before new joined held meter kept.state kept.versions kept.unsent.items
     = record {
       run = c.self.invariant;
@@ -134,4 +133,4 @@ returns-clause-meter g c =
       below = omega (arith, c.count-proof_fits.ensures, c.count-proof_fits.type_inv);
     } in
     longer_counts program lawful before new joined held meter kept.state kept.versions kept.unsent.items value longer c.in_ok-walk.ensures.advanced
-    ∙ ap (λ l. risen meter (advance_steps program l new)) c.self.view_is
+    ∙ ap (λ (h : HistoryView). risen meter (advance_steps program h.events new)) c.self.view_is

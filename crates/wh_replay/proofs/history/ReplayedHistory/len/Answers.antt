@@ -8,8 +8,3 @@ returns-clause-most g c =
     let most = (is_replayed g.W.Workflow.program inside.track inside.outcome.state inside.outcome.versions inside.outcome.unsent.items c.self.invariant).most in
     let is : c.len.result ≡ length inside.track = search rules in
     omega (arith, most, is)
-
-pub returns-clause-replayed : goal.returns-clause-replayed
-returns-clause-replayed g c =
-    let inside = c.self.inside in
-    rw (← c.self.view_is) (is_replayed g.W.Workflow.program inside.track inside.outcome.state inside.outcome.versions inside.outcome.unsent.items c.self.invariant)
