@@ -13,6 +13,7 @@ mod pushing;
 mod run;
 
 pub use checking::check;
+pub use continuing::ends_in_task;
 pub use fault::{Checked, Fault, RunFault};
 pub use history::ReplayedHistory;
 pub use run::{AdvanceFault, Answer, Run};

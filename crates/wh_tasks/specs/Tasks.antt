@@ -36,6 +36,13 @@ later_basis (Some run) events =
 abbrev pub basis_of : Option Held → List Event → Basis
 basis_of run events = if follows 0 events then Own else later_basis run events
 
+-- where memory is needed: to replay events that end in a started task, or that the source is asked for
+abbrev pub NeedsMemory : Basis → List Event → Type 0
+NeedsMemory Own events = ends_in_task events ≡ true
+NeedsMemory Nothing events = ⊥
+NeedsMemory (Joined held) events = Unit {0}
+NeedsMemory Told events = Unit {0}
+
 -- the answer to a list of events: the fault of its replay, else the commands that it leaves unsent
 abbrev pub answer_to : {S : Type 0} → Program S → List Event → Answer
 answer_to program events = answered (run_of program events)

@@ -1,14 +1,16 @@
 //! Replay of one workflow task.
-ghost use Rattle.std.specs.Prelude.{◌≡◌, ◌≤◌, false, Some, None, IfOk, IfSome};
+ghost use Rattle.std.specs.Prelude.{◌≡◌, ◌≤◌, false, true, Some, None, Err, IfOk, IfSome, OnErr};
+ghost use Rattle.wh_replay.specs.Replays.{ends_in_task};
 ghost use Rattle.wh_tasks.specs.Source.{KeepsOrigin, SameTasks};
 ghost use Rattle.wh_replay.specs.Runs.{follows, steps};
 ghost use Rattle.wh_tasks.specs.Numbers.{last_number};
-ghost use Rattle.wh_tasks.specs.Tasks.{later_basis, StepsFrom, Steps, Replays, ReplaysTold, HasAnswer, FailsOnlySource};
+ghost use Rattle.wh_tasks.specs.Tasks.{basis_of, later_basis, NeedsMemory, StepsFrom, Steps};
+ghost use Rattle.wh_tasks.specs.Tasks.{Replays, ReplaysTold, HasAnswer, FailsOnlySource};
 
 use crate::source::{SourceFault, TaskSource};
 use std::alloc::Global;
 use wh_events::{Event, OutOfMemory, RunKey};
-use wh_replay::{AdvanceFault, Fault, Run, RunFault};
+use wh_replay::{AdvanceFault, Fault, Run, RunFault, ends_in_task};
 use wh_workflow::{Meter, Workflow};
 
 /// What replay of a workflow task gave: a run or a fault. The answer is `Fail` of the fault, else
@@ -60,7 +62,8 @@ impl From<OutOfMemory> for StepFault {
 ///
 /// The meter rises by the steps of replay, in the third case by those of the new tasks alone where
 /// the events confirm the run. `Source` where the source fails when it is asked, `OutOfMemory`
-/// where no room was found; then the run is dropped and nothing is left to send. (Temporal
+/// where no room was found; then the run is dropped and nothing is left to send. A task that ends in
+/// no started task needs no memory, unless the source has to be asked. (Temporal
 /// documentation, "Sticky Execution": a Worker that has no cached run asks for the full history.)
 pub fn replay_task<W: Workflow, S: TaskSource>(
     alloc: Global,
@@ -78,6 +81,7 @@ pub fn replay_task<W: Workflow, S: TaskSource>(
     ensures never_lowered { meter.old ≤ meter.new }
     ensures answers { S.answers source.new ≡ S.answers source.old }
     ensures failures { FailsOnlySource result (S.failures source.old) (S.failures source.new) }
+    ensures memory { result ≡ Err StepFault.OutOfMemory → NeedsMemory (basis_of run events.items) events.items }
     ensures same { SameTasks (S.delivers source.old) (S.tells source.old) (S.delivers source.new) (S.tells source.new) }
     ensures origin { KeepsOrigin S.comes_from source.old source.new }
 {
@@ -111,6 +115,8 @@ fn replay_held<W: Workflow, S: TaskSource>(
     ensures failures { FailsOnlySource result (S.failures source.old) (S.failures source.new) }
     ensures same { SameTasks (S.delivers source.old) (S.tells source.old) (S.delivers source.new) (S.tells source.new) }
     ensures origin { KeepsOrigin S.comes_from source.old source.new }
+    ensures memory { result ≡ Err StepFault.OutOfMemory →
+        NeedsMemory (later_basis (Some run) events.items) events.items }
 {
     let up_to = last_number(events.as_slice());
     match run.advance(alloc, events, meter) {
@@ -152,6 +158,7 @@ fn replay_unheld<W: Workflow, S: TaskSource>(
     ensures failures { FailsOnlySource result (S.failures source.old) (S.failures source.new) }
     ensures same { SameTasks (S.delivers source.old) (S.tells source.old) (S.delivers source.new) (S.tells source.new) }
     ensures origin { KeepsOrigin S.comes_from source.old source.new }
+    ensures memory { result ≡ Err StepFault.OutOfMemory → NeedsMemory (later_basis None events.now) events.now }
 {
     if events.is_empty() {
         return Ok(Stepped {
@@ -174,7 +181,15 @@ fn replay_first<W: Workflow>(
         stepped.run stepped.fault meter.old meter.new) }
     ensures miss { IfOk result (λ stepped. stepped.hit ≡ false) }
     ensures never_lowered { meter.old ≤ meter.new }
+    ensures memory { OnErr result (ends_in_task events.items ≡ true) }
 {
+    if !ends_in_task(events.as_slice()) {
+        return Ok(Stepped {
+            run: None,
+            fault: Some(Fault::NotATask),
+            hit: false,
+        });
+    }
     let key = key.try_copy()?;
     match Run::from_first(alloc, key, events, meter) {
         Ok(run) => Ok(Stepped {
