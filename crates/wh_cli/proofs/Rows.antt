@@ -1,14 +1,12 @@
 -- Rows of files, one by one.
-use Rattle.std.proofs.Common.{◌≡◌, ◌∙◌, ℕ, zero, suc, ◌+◌, ◌<◌, List, [], ◌∷◌, ◌++◌, length, map, refl, sym, ap, arith}
+use Rattle.std.proofs.Common.{◌≡◌, ◌∙◌, ℕ, suc, ◌+◌, ◌<◌, List, [], ◌∷◌, ◌++◌, length, map, refl, sym, ap, arith}
 use Rattle.std.specs.Prelude.{◌%◌, get_or}
-use Rattle.std.proofs.lemmas.List.{get_or-map, length-map, append-nil, append_assoc}
+use Rattle.std.proofs.lemmas.List.{get_or-map, length-map}
 use Rattle.std.proofs.Math.Nat.{mod-lt}
 use Rattle.wh_recorded.specs.Rounds.{Stage}
 use Rattle.wh_cli.specs.declared.dealing.Dealt.{Dealt}
 use Rattle.wh_cli.specs.declared.service_report.Row.{Row}
-use Rattle.wh_cli.specs.Services.{File, history_of, hand_from, hand_of, no_source, source_at, row_from, rows_from}
-use Rattle.wh_recorded.specs.Rounds.{Scripted}
-use Rattle.std.specs.Prelude.{if◌then◌else◌, eqb, true, false}
+use Rattle.wh_cli.specs.Services.{no_source, source_at, row_from, rows_from}
 
 rows_length : (sources : List Stage) (before : ℕ) (files : List Dealt) → length (rows_from sources before files) ≡ length files
 rows_length sources before [] = refl
@@ -32,15 +30,3 @@ rows_push source workers files file rows row worker is some at given =
     let own : source_at all (0 + length files) ≡ source worker =
     ap (λ n. get_or all n no_source) place ∙ get_or-map source workers (length rows % length workers) worker no_source (mod-lt (length rows) some) ∙ ap source (sym at) in
     ap (λ l. l ++ (row ∷ [])) is ∙ ap (λ r. rows_from all 0 files ++ (r ∷ [])) (given ∙ ap (λ s. row_from s file) (sym own)) ∙ sym (more_rows all 0 files file)
-
--- what a worker is dealt of one more file
-pub more_dealt : (count worker before : ℕ) (files : List File) (file : File)
-    → hand_from count worker before (files ++ (file ∷ [])) ≡ hand_from count worker before files ++ (if eqb ((before + length files) % count) worker then history_of (before + length files) file else [])
-more_dealt count worker before [] file =
-    let none : before ≡ before + 0 = omega arith in
-    append-nil (if eqb (before % count) worker then history_of before file else []) ∙ ap (λ n. if eqb (n % count) worker then history_of n file else []) none
-more_dealt count worker before (f ∷ fs) file =
-    let one : before + 1 + length fs ≡ before + length (f ∷ fs) = omega arith in
-    let own : List Scripted = if eqb (before % count) worker then history_of before f else [] in
-    ap (λ l. own ++ l) (more_dealt count worker (before + 1) fs file ∙ ap (λ n. hand_from count worker (before + 1) fs ++ (if eqb (n % count) worker then history_of n file else [])) one)
-    ∙ sym (append_assoc own (hand_from count worker (before + 1) fs) (if eqb ((before + length (f ∷ fs)) % count) worker then history_of (before + length (f ∷ fs)) file else []))

@@ -73,25 +73,25 @@ service_is seat source fault workers files count sources seats rows totals fault
       left = left;
       workers = long;
       own = λ worker below.
-        let opening = opening_stage (hand_of count worker files) in
-        let itself : ComesFrom opening opening = record { histories = refl; more = []; answers = refl } in
-        let within : worker < length sources = omega (arith, below, given) in
-        let within_left : worker < length left = omega (arith, below, long) in
-        let kept = AllZip-get_or (KeepsOrigin ComesFrom) sources (map source workers) worker no_source no_source origins within in
-        let here : get_or (map source workers) worker no_source ≡ (get_or left worker none_left).source =
+          let opening = opening_stage (hand_of count worker files) in
+          let itself : ComesFrom opening opening = record { histories = refl; more = []; answers = refl } in
+          let within : worker < length sources = omega (arith, below, given) in
+          let within_left : worker < length left = omega (arith, below, long) in
+          let kept = AllZip-get_or (KeepsOrigin ComesFrom) sources (map source workers) worker no_source no_source origins within in
+          let here : get_or (map source workers) worker no_source ≡ (get_or left worker none_left).source =
           ap (λ l. get_or l worker no_source) (sym (map-twice leave (λ l. l.source) workers)) ∙ get_or-map (λ l. l.source) left worker none_left no_source within_left in
-        subst (λ s. ComesFrom s opening) here (kept opening (subst (λ s. ComesFrom s opening) (sym (dealt worker below)) itself));
+          subst (λ s. ComesFrom s opening) here (kept opening (subst (λ s. ComesFrom s opening) (sym (dealt worker below)) itself));
       answered = λ worker below.
-        let within : worker < length sources = omega (arith, below, given) in
-        let within_left : worker < length left = omega (arith, below, long) in
-        let within_seats : worker < length (map seat workers) = omega (arith, below, counted, map-length seat workers) in
-        let at = answered_at (map (λ s. length s.answers) sources) seats (map (λ w. length (source w).answers) workers) (map seat workers) worker answered within_seats in
-        let sent : get_or (map (λ s. length s.answers) sources) worker 0 ≡ 0 = get_or-map (λ s. length s.answers) sources worker no_source 0 within ∙ ap (λ s. length s.answers) (dealt worker below) in
-        let old : (get_or seats worker no_shares).taken ≡ 0 = ap (λ l. (get_or l worker no_shares).taken) fresh ∙ ap (λ s. s.taken) (get_or-replicate count worker no_shares no_shares below) in
-        let more : get_or (map (λ w. length (source w).answers) workers) worker 0 ≡ length (get_or left worker none_left).source.answers =
+          let within : worker < length sources = omega (arith, below, given) in
+          let within_left : worker < length left = omega (arith, below, long) in
+          let within_seats : worker < length (map seat workers) = omega (arith, below, counted, map-length seat workers) in
+          let at = answered_at (map (λ s. length s.answers) sources) seats (map (λ w. length (source w).answers) workers) (map seat workers) worker answered within_seats in
+          let sent : get_or (map (λ s. length s.answers) sources) worker 0 ≡ 0 = get_or-map (λ s. length s.answers) sources worker no_source 0 within ∙ ap (λ s. length s.answers) (dealt worker below) in
+          let old : (get_or seats worker no_shares).taken ≡ 0 = ap (λ l. (get_or l worker no_shares).taken) fresh ∙ ap (λ s. s.taken) (get_or-replicate count worker no_shares no_shares below) in
+          let more : get_or (map (λ w. length (source w).answers) workers) worker 0 ≡ length (get_or left worker none_left).source.answers =
           ap (λ l. get_or l worker 0) (sym (map-twice leave (λ l. length l.source.answers) workers)) ∙ get_or-map (λ l. length l.source.answers) left worker none_left 0 within_left in
-        let new : (get_or (map seat workers) worker no_shares).taken ≡ (get_or left worker none_left).counted.taken =
+          let new : (get_or (map seat workers) worker no_shares).taken ≡ (get_or left worker none_left).counted.taken =
           ap (λ s. s.taken) (ap (λ l. get_or l worker no_shares) (sym (map-twice leave (λ l. l.counted) workers)) ∙ get_or-map (λ l. l.counted) left worker none_left no_shares within_left) in
-        omega (arith, at, sent, old, more, new);
+          omega (arith, at, sent, old, more, new);
       gathered = gathered;
     }
