@@ -54,8 +54,13 @@ answered_at : (sents : List ℕ) (olds : List Shares) (mores : List ℕ) (news :
     → get_or mores i 0 + (get_or olds i no_shares).taken ≤ get_or sents i 0 + (get_or news i no_shares).taken
 answered_at (s ∷ ss) (o ∷ os) (m ∷ ms) (n ∷ ns) zero w below = w.0
 answered_at (s ∷ ss) (o ∷ os) (m ∷ ms) (n ∷ ns) (suc i) w below = answered_at ss os ms ns i w.1 (omega (arith, below))
-answered_at _ _ _ [] i w below = absurd (omega (arith, below))
-answered_at _ _ _ _ i w below = absurd w
+answered_at [] [] [] [] i w below = absurd (omega (arith, below))
+answered_at [] [] [] (n ∷ ns) i w below = absurd w
+answered_at [] [] (m ∷ ms) news i w below = absurd w
+answered_at [] (o ∷ os) mores news i w below = absurd w
+answered_at (s ∷ ss) [] mores news i w below = absurd w
+answered_at (s ∷ ss) (o ∷ os) [] news i w below = absurd w
+answered_at (s ∷ ss) (o ∷ os) (m ∷ ms) [] i w below = absurd w
 
 -- workers that began with sources over what they were dealt did the service
 pub service_is : {W : Type 0} (seat : W → Shares) (source : W → Stage) (fault : W → Option SourceFault) (workers : List W) (files : List File) (count : ℕ) (sources : List Stage) (seats : List Shares) (rows : List Row) (totals : Totals) (faultless : Bool)
