@@ -15,7 +15,7 @@ use Rattle.wh_workflow.specs.Activations.{and_then}
 use Rattle.wh_replay.specs.declared.fault.Fault.{Fault}
 use Rattle.wh_replay.specs.declared.fault.Fault.TheVariants.{NotATask}
 use Rattle.wh_replay.specs.Replays.{Upshot, Replayed, with_machines, replay, replay_tasks, ends_in_task}
-use Rattle.wh_replay.specs.Runs.{HistoryView, Gives, IsRun, Shows, IsReplayed, run_of, advance_steps, advanced}
+use Rattle.wh_replay.specs.Runs.{Gives, IsRun, Shows, IsReplayed, run_of, advance_steps, advanced}
 use Rattle.wh_replay.specs.Views.{view_of}
 use Rattle.wh_replay.proofs.Raising.{top}
 use Rattle.wh_replay.specs.declared.fault.RunFault.{RunFault}

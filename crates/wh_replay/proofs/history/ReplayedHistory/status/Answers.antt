@@ -1,4 +1,4 @@
-use Rattle.std.proofs.Common.{sym, ap, ◌∙◌, arith, rules}
+use Rattle.std.proofs.Common.{sym, ap, ◌∙◌, rules}
 use Rattle.wh_replay.specs.Runs.{HistoryView, status_in}
 use Rattle.wh_replay.proofs.Showing.{status_found}
 use Rattle.wh_replay.proofs.history.ReplayedHistory.status.Goals as goal
