@@ -1,5 +1,6 @@
-use Rattle.std.proofs.Common.{◌≡◌, length, map, subst, rules}
+use Rattle.std.proofs.Common.{◌≡◌, ◌∙◌, ap, length, map, subst, rules}
 use Rattle.std.specs.Prelude.{replicate}
+use Rattle.std.proofs.lemmas.List.{length-replicate}
 use Rattle.std.proofs.lemmas.Result.{IfOk-weaker}
 use Rattle.wh_ledger.specs.Shares.{no_shares}
 use Rattle.wh_cli.specs.Services.{left_of, dealt_of, IsGathered}
@@ -14,7 +15,8 @@ returns g c =
     let files = c.args.files.items in
     let count = c.args.config.seats in
     let fresh : c.in-Ok.opened.1.items ≡ replicate count no_shares = search rules in
-    let counted : length workers ≡ count = search rules in
+    let seats : length c.in-Ok.opened.1.items ≡ count = ap length fresh ∙ length-replicate count no_shares in
+    let counted : length workers ≡ count = search (rules, seats) in
     let given : length sources ≡ count = search rules in
     IfOk-weaker c.gather.result _ _
     (λ service gathered.
