@@ -20,7 +20,7 @@ returns g c =
     let given : length sources ≡ count = search rules in
     IfOk-weaker c.gather.result _ _
     (λ service gathered.
-      service_is (λ worker. worker.seat) (λ worker. worker.source) (λ worker. worker.fault) workers files count sources c.in-Ok.opened.1.items service.rows.items service.totals service.faultless
-      counted given fresh c.in_ok-dealt.ensures.histories c.in_ok-workers.ensures.origins c.in_ok-workers.ensures.answered
-      (subst (λ dealt. IsGathered (map (λ worker. left_of worker.seat worker.source worker.fault) workers) dealt service.rows.items service.totals service.faultless) c.in_ok-dealt.ensures.dealt gathered))
+    service_is (λ worker. worker.seat) (λ worker. worker.source) (λ worker. worker.fault) workers files count sources c.in-Ok.opened.1.items service.rows.items service.totals service.faultless
+    counted given fresh c.in_ok-dealt.ensures.histories c.in_ok-workers.ensures.origins c.in_ok-workers.ensures.answered
+    (subst (λ dealt. IsGathered (map (λ worker. left_of worker.seat worker.source worker.fault) workers) dealt service.rows.items service.totals service.faultless) c.in_ok-dealt.ensures.dealt gathered))
     c.gather.ensures

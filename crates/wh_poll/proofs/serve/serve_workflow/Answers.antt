@@ -14,6 +14,6 @@ returns-clause-serves g c =
     let same : SameTelling (tells c.args.source.now) (tells c.poll_workflow.new.self) = c.poll_workflow.ensures.same.tells in
     let sends : Sends g.W.Workflow.program (tells c.poll_workflow.new.self) c.in-Some.cached c.in-Ok-Task.task (answers c.poll_workflow.new.self) (answers c.answer_held-sent.new.source) c.answer_held-sent.result = search rules in
     let served = serves_sent g.W.Workflow.program (tells c.args.source.now) (tells c.poll_workflow.new.self) (g.S.TaskSource.delivers c.args.source.now)
-      (answers c.args.source.now) (answers c.poll_workflow.new.self) (answers c.answer_held-sent.new.source) c.in-Ok-Task.task c.in-Some.cached c.answer_held-sent.result
-      delivered kept same sends in
+    (answers c.args.source.now) (answers c.poll_workflow.new.self) (answers c.answer_held-sent.new.source) c.in-Ok-Task.task c.in-Some.cached c.answer_held-sent.result
+    delivered kept same sends in
     search (rules, served)
