@@ -98,7 +98,7 @@ fn line_named(lines: &'static str, name: &str) -> Option<&'static str> {
 /// A word, and the number behind a sign in it, if there is one.
 fn counted(
     word: &'static str,
-    sign: char,
+    sign: &str,
     otherwise: usize,
 ) -> Result<(&'static str, usize), HistoryFault> {
     let Some((word, count)) = word.split_once(sign) else {
@@ -120,14 +120,14 @@ fn push_word(words: &mut Vec<&'static str>, word: &'static str) -> Result<(), Hi
 /// Adds the events that a word stands for: those of a history with that name, as many as it says
 /// behind `/`, or one event as many times as it says behind `*`.
 fn push_events(words: &mut Vec<&'static str>, word: &'static str) -> Result<(), HistoryFault> {
-    let (name, count) = counted(word, '/', usize::MAX)?;
+    let (name, count) = counted(word, "/", usize::MAX)?;
     if let Some(history) = line_named(HISTORIES, name) {
         for event in history.split_whitespace().take(count) {
             push_word(words, event)?;
         }
         return Ok(());
     }
-    let (event, times) = counted(word, '*', 1)?;
+    let (event, times) = counted(word, "*", 1)?;
     for _ in 0..times {
         push_word(words, event)?;
     }
@@ -209,6 +209,21 @@ pub fn events(alloc: Global, history: &'static str) -> Result<Vec<Event>, Histor
         Ok(events) => Ok(events),
         Err(_) => Err(HistoryFault::Unreadable),
     }
+}
+
+/// The events of a history behind so many, or behind as many as the history says itself: those of
+/// `nap/8 behind 3` are events 4 to 8 of `nap`.
+pub fn events_behind(
+    alloc: Global,
+    history: &'static str,
+    otherwise: usize,
+) -> Result<Vec<Event>, HistoryFault> {
+    let (history, behind) = counted(history, " behind ", otherwise)?;
+    let mut all = events(alloc, history)?;
+    if all.len() < behind {
+        return Err(HistoryFault::BadWord);
+    }
+    Ok(all.split_off(behind)?)
 }
 
 /// A key of a run, by the id of its workflow.

@@ -1,9 +1,10 @@
 //! What a task may command, and whether it is what was recorded.
 
-use crate::tests::notation::replays;
+use crate::tests::rows::replays;
 use wh_samples::{All, Asker, Flood};
 
-/// Commands that match their record or do not, versions of a change, and commands that cannot stand.
+/// Commands that match their record or do not, versions of a change, and commands that cannot
+/// stand.
 const ACTIVATIONS: &str = "\
 greet => x.json: ok, 2 tasks
 branch => x.json: ok, 2 tasks

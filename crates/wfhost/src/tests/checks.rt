@@ -1,11 +1,8 @@
 //! How many tasks a history has, or its fault in full.
 
-use crate::tests::notation::{events, plain, row};
-use std::alloc::Global;
-use std::process::Abort;
+use crate::tests::rows::{recorded, row, shown, wants};
 use wh_replay::check;
 use wh_samples::All;
-use wh_workflow::Workflow;
 
 /// Histories that end anywhere.
 const CHECKED: &str = "\
@@ -27,18 +24,12 @@ nap/5 timer_fired:3 => Err(Fault(Place at: 6, fault: WrongKindRef))
 start:Nap timer:nap S T => Err(Fault(Workflow at: 4, fault: IdInUse))
 ";
 
-/// What a history has, or its fault.
-fn checked_text<W: Workflow>(rt: &impl Abort, alloc: Global, history: &'static str) -> String {
-    let checked = check::<W>(alloc, events(rt, alloc, history));
-    let text = format!(in alloc; "{checked:?}").expect(rt, "memory");
-    plain(rt, alloc, text)
-}
-
 #[test]
 fn checks_histories(rt: HostRuntime) {
+    let alloc = rt.alloc();
     for line in CHECKED.lines() {
         let (history, wanted) = row(&rt, line);
-        let text = checked_text::<All>(&rt, rt.alloc(), history);
-        assert_eq!(rt; text.as_str(), wanted, "{history}");
+        let checked = check::<All>(alloc, recorded(&rt, alloc, history, 0));
+        wants(&rt, history, shown(&rt, alloc, &checked), wanted);
     }
 }

@@ -1,6 +1,6 @@
 //! Command lines.
 
-use crate::tests::notation::{owned, row};
+use crate::tests::rows::row;
 use std::alloc::Global;
 use std::process::Abort;
 use wh_cli::{Plan, Refusal, parse};
@@ -39,6 +39,19 @@ nope d => bad line
 replay --help => help
 ";
 
+/// Words that the text of a refused line has, of an option with a bad number: its name and its
+/// limits. A number that is none is not within them.
+const BAD_NUMBERS: &str = "\
+serve d --workers 65 => workers 1 64
+serve d --workers 0 => workers 1 64
+serve d --workers zz => workers
+serve d --cache 10001 => cache 0 10000
+serve d --cache x => cache
+serve d --cache-events 512000001 => cache-events 0 512000000
+serve d --slots 0 => slots 1 1000
+serve d --slots 1001 => slots 1 1000
+";
+
 /// A plan in words.
 fn plan_text(rt: &impl Abort, alloc: Global, plan: &Plan) -> String {
     let text = match plan {
@@ -58,43 +71,52 @@ fn plan_text(rt: &impl Abort, alloc: Global, plan: &Plan) -> String {
     text.expect(rt, "memory")
 }
 
-/// A refusal in words.
-fn refusal_text(refusal: &Refusal) -> &'static str {
-    match refusal {
-        Refusal::BadLine { .. } => "bad line",
-        Refusal::FewSlots => "too few slots",
-        Refusal::OutOfMemory => "out of memory",
-    }
+/// A refusal in words, and in further lines the text of a bad line.
+fn refusal_text(rt: &impl Abort, alloc: Global, refusal: &Refusal) -> String {
+    let text = match refusal {
+        Refusal::BadLine { text } => format!(in alloc; "bad line\n{}", text.get()),
+        Refusal::FewSlots => String::from_str(alloc, "too few slots"),
+        Refusal::OutOfMemory => String::from_str(alloc, "out of memory"),
+    };
+    text.expect(rt, "memory")
 }
 
-/// The program's name and the words of a line behind it.
-fn words(rt: &impl Abort, alloc: Global, line: &str) -> Vec<String> {
-    let mut words = Vec::new(alloc);
-    push(rt, &mut words, owned(rt, alloc, "wfhost"));
-    for word in line.split_whitespace() {
-        push(rt, &mut words, owned(rt, alloc, word));
-    }
-    words
-}
-
-fn push(rt: &impl Abort, words: &mut Vec<String>, word: String) {
+fn push(rt: &impl Abort, alloc: Global, words: &mut Vec<String>, word: &str) {
+    let word = String::from_str(alloc, word).expect(rt, "memory");
     assert!(rt; words.push(word).is_ok());
 }
 
-/// What a line asks for, in words.
-fn line_text(rt: &impl Abort, alloc: Global, line: &str) -> String {
-    let words = words(rt, alloc, line);
-    match parse(alloc, words.as_slice()) {
-        Ok(plan) => plan_text(rt, alloc, &plan),
-        Err(refusal) => owned(rt, alloc, refusal_text(&refusal)),
+/// The answer to the words of a line behind the program's name has this first line, and these words
+/// in the others.
+fn answers(rt: &impl Abort, alloc: Global, line: &str, first: &str, others: &str) {
+    let mut words = Vec::new(alloc);
+    push(rt, alloc, &mut words, "wfhost");
+    for word in line.split_whitespace() {
+        push(rt, alloc, &mut words, word);
     }
+    let text = match parse(alloc, words.as_slice()) {
+        Ok(plan) => plan_text(rt, alloc, &plan),
+        Err(refusal) => refusal_text(rt, alloc, &refusal),
+    };
+    let (word, text) = text
+        .as_str()
+        .split_once('\n')
+        .unwrap_or((text.as_str(), ""));
+    assert_eq!(rt; word, first, "{line}");
+    for other in others.split_whitespace() {
+        assert!(rt; text.contains(other), "{line}: {text}");
+    }
+    assert!(rt; text.is_empty() || text.ends_with('\n'), "{line}: {text}");
 }
 
 #[test]
 fn reads_command_lines(rt: HostRuntime) {
     for line in LINES.lines() {
         let (words, wanted) = row(&rt, line);
-        let text = line_text(&rt, rt.alloc(), words);
-        assert_eq!(rt; text.as_str(), wanted, "{words}");
+        answers(&rt, rt.alloc(), words, wanted, "");
+    }
+    for line in BAD_NUMBERS.lines() {
+        let (words, wanted) = row(&rt, line);
+        answers(&rt, rt.alloc(), words, "bad line", wanted);
     }
 }

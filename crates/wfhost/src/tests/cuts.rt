@@ -1,6 +1,6 @@
 //! Which tasks are cuts, what their records are, and which jobs they have.
 
-use crate::tests::notation::replays;
+use crate::tests::rows::replays;
 use wh_samples::All;
 
 /// Tasks that ended in one way or another; records, which go on to the next completion, whichever

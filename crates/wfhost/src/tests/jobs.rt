@@ -1,7 +1,7 @@
 //! Which jobs a task has, and in which order.
 
 use crate::tests::echo::Echo;
-use crate::tests::notation::{row, without};
+use crate::tests::rows::{row, wants, without};
 use crate::tests::runs::{begins, begun_text};
 use std::alloc::Global;
 use std::process::Abort;
@@ -46,19 +46,15 @@ greet/3 => 2 steps, [1714557603000000000 time, Greet start]
 start:nap S T => 2 steps, [1714557603000000000 time, nap start]
 ";
 
-/// What the workflow of a history was told, in short.
-fn jobs_text<W: Workflow>(rt: &impl Abort, alloc: Global, history: &'static str) -> String {
-    let text = begun_text::<W>(rt, alloc, history);
-    let marks = ["SignalExternal workflow_id: ", ", signal:", ", input: []"];
-    without(rt, alloc, text, &marks)
-}
+/// What stands in the commands of `Echo` round a job.
+const MARKS: [&str; 3] = ["SignalExternal workflow_id: ", ", signal:", ", input: []"];
 
-/// Compares what the workflow of each history was told.
+/// Compares what the workflow of each history was told, in short.
 fn tells<W: Workflow>(rt: &impl Abort, alloc: Global, table: &'static str) {
     for line in table.lines() {
         let (history, wanted) = row(rt, line);
-        let text = jobs_text::<W>(rt, alloc, history);
-        assert_eq!(rt; text.as_str(), wanted, "{history}");
+        let text = begun_text::<W>(rt, alloc, history);
+        wants(rt, history, without(rt, alloc, text, &MARKS), wanted);
     }
 }
 
@@ -67,10 +63,6 @@ fn tells_jobs_in_order(rt: HostRuntime) {
     for table in [JOBS, LATER_JOBS] {
         tells::<Echo>(&rt, rt.alloc(), table);
     }
-}
-
-#[test]
-fn takes_the_first_part(rt: HostRuntime) {
     begins::<Pair<Nap, Echo>>(&rt, rt.alloc(), FIRST_PART);
     tells::<Pair<Nap, Echo>>(&rt, rt.alloc(), SECOND_PART);
     tells::<Pair<Echo, Nap>>(&rt, rt.alloc(), JOBS);

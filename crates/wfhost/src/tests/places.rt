@@ -1,6 +1,6 @@
 //! Which events are in place.
 
-use crate::tests::notation::replays;
+use crate::tests::rows::replays;
 use wh_samples::All;
 
 /// Events that are not in place, and then events that are, with what the task makes of them.
@@ -83,10 +83,7 @@ fn judges_places(rt: HostRuntime) {
 
 #[test]
 fn bounds_histories(rt: HostRuntime) {
-    replays::<All, _>(&rt, rt.alloc(), LONG);
-}
-
-#[test]
-fn takes_the_longest_history(rt: HostRuntime) {
-    replays::<All, _>(&rt, rt.alloc(), LONGEST);
+    for table in [LONG, LONGEST] {
+        replays::<All, _>(&rt, rt.alloc(), table);
+    }
 }

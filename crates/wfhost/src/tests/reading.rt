@@ -1,9 +1,8 @@
 //! What the reader takes, and what it refuses.
 
-use crate::tests::notation::{json, line_of, replays, row};
+use crate::tests::rows::{bytes_of, reads, replays, row};
 use std::alloc::Global;
 use std::process::Abort;
-use std::thread::Threads;
 use wh_samples::All;
 
 /// Forms that are read.
@@ -170,72 +169,68 @@ const FILES: &str = "\
 ";
 
 #[test]
-fn reads_events(rt: HostRuntime) {
+fn events_are_read_or_refused(rt: HostRuntime) {
     for table in [READ, REFUSED, REFUSED_FIRST] {
         replays::<All, _>(&rt, rt.alloc(), table);
     }
 }
 
-/// The line of a file is this one.
-fn is_line<R: Threads + Sync + Abort>(rt: &R, alloc: Global, bytes: Vec<u8>, wanted: &str) {
-    let line = line_of::<All, R>(rt, alloc, bytes);
-    assert_eq!(rt; line.as_str(), wanted);
+/// A file of one byte many times and then another many times, and its line.
+struct Filling {
+    first: u8,
+    firsts: usize,
+    second: u8,
+    seconds: usize,
+    line: &'static str,
 }
 
-/// The line of a file with these bytes is this one.
-fn reads<R: Threads + Sync + Abort>(rt: &R, alloc: Global, bytes: &[u8], wanted: &str) {
-    let bytes = Vec::from_slice(alloc, bytes).expect(rt, "memory");
-    is_line(rt, alloc, bytes, wanted);
-}
+#[rattlefmt::skip]
+static FILLINGS: [Filling; 5] = [
+    Filling { first: b' ', firsts: 33_554_432, second: b' ', seconds: 33_554_432, line: "x.json: unreadable, not JSON" },
+    Filling { first: b' ', firsts: 33_554_432, second: b' ', seconds: 33_554_433, line: "x.json: unreadable, file too long" },
+    Filling { first: b' ', firsts: 33_554_433, second: b' ', seconds: 33_554_433, line: "x.json: unreadable, file too long" },
+    Filling { first: b'[', firsts: 1_000, second: b']', seconds: 1_000, line: "x.json: unreadable, not JSON" },
+    Filling { first: b'[', firsts: 100, second: b']', seconds: 100, line: "x.json: unreadable, event 1 has a bad number" },
+];
 
-#[test]
-fn refuses_files(rt: HostRuntime) {
-    for line in FILES.lines() {
-        let (text, wanted) = row(&rt, line);
-        reads(&rt, rt.alloc(), text.as_bytes(), wanted);
-    }
-}
-
-/// A byte many times, and then another as many times.
-fn many(rt: &impl Abort, alloc: Global, first: u8, second: u8, count: usize) -> Vec<u8> {
+/// The bytes of such a file.
+fn filled(rt: &impl Abort, alloc: Global, file: &Filling) -> Vec<u8> {
     let mut bytes = Vec::new(alloc);
-    assert!(rt; bytes.resize(count, first).is_ok());
-    assert!(rt; bytes.resize(count.saturating_mul(2), second).is_ok());
+    assert!(rt; bytes.resize(file.firsts, file.first).is_ok());
+    let length = file.firsts.saturating_add(file.seconds);
+    assert!(rt; bytes.resize(length, file.second).is_ok());
     bytes
 }
 
 #[test]
-fn bounds_files(rt: HostRuntime) {
-    for (first, second, count, wanted) in [
-        (b' ', b' ', 33_554_432, "x.json: unreadable, not JSON"),
-        (b' ', b' ', 33_554_433, "x.json: unreadable, file too long"),
-        (b'[', b']', 1_000, "x.json: unreadable, not JSON"),
-        (
-            b'[',
-            b']',
-            100,
-            "x.json: unreadable, event 1 has a bad number",
-        ),
-    ] {
-        let bytes = many(&rt, rt.alloc(), first, second, count);
-        is_line(&rt, rt.alloc(), bytes, wanted);
+fn whole_files_are_refused(rt: HostRuntime) {
+    let alloc = rt.alloc();
+    for line in FILES.lines() {
+        let (text, wanted) = row(&rt, line);
+        reads::<All, _>(&rt, alloc, text, text.as_bytes(), wanted);
     }
 }
 
 #[test]
-fn refuses_cut_files(rt: HostRuntime) {
-    let text = json(&rt, rt.alloc(), "nap | [{ -> {'events':[{ | }] -> }]}");
-    for count in 0..text.len() {
-        let bytes = &text.as_bytes()[..count];
-        reads(&rt, rt.alloc(), bytes, "x.json: unreadable, not JSON");
+fn long_and_deep_files_are_refused(rt: HostRuntime) {
+    let alloc = rt.alloc();
+    for file in &FILLINGS {
+        let bytes = filled(&rt, alloc, file);
+        reads::<All, _>(&rt, alloc, "filled", bytes.as_slice(), file.line);
     }
 }
 
 #[test]
-fn refuses_bytes_that_are_no_text(rt: HostRuntime) {
-    let mut bytes = json(&rt, rt.alloc(), "nap").into_bytes();
+fn damaged_files_are_refused(rt: HostRuntime) {
+    let alloc = rt.alloc();
+    let wanted = "x.json: unreadable, not JSON";
+    let bytes = bytes_of(&rt, alloc, "nap | [{ -> {'events':[{ | }] -> }]}");
+    for count in 0..bytes.len() {
+        reads::<All, _>(&rt, alloc, "cut", &bytes.as_slice()[..count], wanted);
+    }
+    let mut bytes = bytes_of(&rt, alloc, "nap");
     if let Some(byte) = bytes.get_mut(3) {
         *byte = 255;
     }
-    is_line(&rt, rt.alloc(), bytes, "x.json: unreadable, not JSON");
+    reads::<All, _>(&rt, alloc, "no text", bytes.as_slice(), wanted);
 }

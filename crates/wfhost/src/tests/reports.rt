@@ -1,6 +1,6 @@
 //! Reports of several files.
 
-use crate::tests::notation::{json, owned, push, push_file, replaced, report_of, row};
+use crate::tests::rows::{bytes_of, push_file, replayed, row, wants};
 use std::alloc::Global;
 use std::io;
 use std::io::Write;
@@ -21,13 +21,6 @@ b.json: nap; a.json: greet/2 C; c: S => b.json: ok, 2 tasks, a.json: ok, 0 tasks
  => 0 files, 0 ok, status 0
 ";
 
-fn file_bytes(rt: &impl Abort, alloc: Global, history: &'static str) -> Vec<u8> {
-    if history.is_empty() {
-        return Vec::new(alloc);
-    }
-    json(rt, alloc, history).into_bytes()
-}
-
 /// Files by their names and histories. That of an empty history is empty.
 pub(super) fn named_files(
     rt: &impl Abort,
@@ -37,73 +30,54 @@ pub(super) fn named_files(
     let mut files = Vec::new(alloc);
     for file in list.split("; ") {
         if let Some((name, history)) = file.split_once(": ") {
-            let bytes = file_bytes(rt, alloc, history);
-            push_file(rt, &mut files, owned(rt, alloc, name), bytes);
+            let bytes = bytes_of(rt, alloc, history);
+            push_file(rt, alloc, &mut files, name, bytes.as_slice());
         }
     }
     files
 }
 
 #[test]
-fn reports_files(rt: HostRuntime) {
+fn files_are_reported(rt: HostRuntime) {
     let alloc = rt.alloc();
     for line in REPORTS.lines() {
         let (list, wanted) = row(&rt, line);
-        let files = named_files(&rt, alloc, list);
-        let (status, report) = report_of::<All, _>(&rt, alloc, files);
-        let lines = replaced(&rt, alloc, report.as_str(), "\n", ", ");
-        let text = format!(in alloc; "{lines}status {status}").expect(&rt, "memory");
-        assert_eq!(rt; text.as_str(), wanted);
+        let report = replayed::<All, _>(&rt, alloc, named_files(&rt, alloc, list));
+        let report = report.as_str().replace(alloc, "\n", ", ");
+        wants(&rt, list, report.expect(&rt, "memory"), wanted);
     }
 }
 
 #[test]
-fn checks_files_in_their_order(rt: HostRuntime) {
+fn files_are_checked_in_their_order(rt: HostRuntime) {
     let alloc = rt.alloc();
     let list = "b.json: nap; a.json: greet | 'name':'greet' -> 'name':'greets'";
     let files = named_files(&rt, alloc, list);
     let lines = check_all::<All>(&rt, alloc, files).expect(&rt, "memory");
     let mut names = String::new(alloc);
     for line in lines.iter() {
-        push(&rt, &mut names, line.name.get());
+        assert!(rt; names.push_str(line.name.get()).is_ok());
     }
     assert_eq!(rt; names.as_str(), "b.jsona.json");
     assert!(rt; !all_good(lines.as_slice()));
-}
-
-#[test]
-fn judges_a_file(rt: HostRuntime) {
-    let text = json(&rt, rt.alloc(), "nap");
-    let verdict = verdict::<All>(rt.alloc(), text.as_bytes());
+    let bytes = bytes_of(&rt, alloc, "nap");
+    let verdict = verdict::<All>(alloc, bytes.as_slice());
     assert!(rt; matches!(&verdict, Verdict::Good(checked) if checked.tasks == 2 && !checked.live));
 }
 
-/// As many files of one history.
-fn equal_files(
-    rt: &impl Abort,
-    alloc: Global,
-    history: &'static str,
-    count: usize,
-) -> Vec<(String, Vec<u8>)> {
-    let mut files = Vec::new(alloc);
-    let text = json(rt, alloc, history);
-    for _ in 0..count {
-        let bytes = owned(rt, alloc, text.as_str()).into_bytes();
-        push_file(rt, &mut files, owned(rt, alloc, "nap.json"), bytes);
-    }
-    files
-}
-
 #[test]
-fn replays_many_files(rt: HostRuntime) {
+fn many_files_are_replayed(rt: HostRuntime) {
     let alloc = rt.alloc();
-    let files = equal_files(&rt, alloc, "nap", 3_000);
-    let (status, report) = report_of::<All, _>(&rt, alloc, files);
+    let mut files = Vec::new(alloc);
+    let bytes = bytes_of(&rt, alloc, "nap");
+    for _file in 0..3_000 {
+        push_file(&rt, alloc, &mut files, "nap.json", bytes.as_slice());
+    }
     let line = "nap.json: ok, 2 tasks\n";
     let mut wanted = line.repeat(alloc, 3_000).expect(&rt, "memory");
-    push(&rt, &mut wanted, "3000 files, 3000 ok\n");
-    assert_eq!(rt; status, 0);
-    assert!(rt; report.as_str() == wanted.as_str());
+    assert!(rt; wanted.push_str("3000 files, 3000 ok\nstatus 0").is_ok());
+    let report = replayed::<All, _>(&rt, alloc, files);
+    wants(&rt, "3000 files", report, wanted.as_str());
 }
 
 /// A writer without room.
@@ -121,7 +95,7 @@ impl Write for Full {
 }
 
 #[test]
-fn refuses_failed_output(rt: HostRuntime) {
+fn failed_output_is_told(rt: HostRuntime) {
     let files = Vec::new(rt.alloc());
     let answer = replay_command::<All, _, _>(&rt, rt.alloc(), files, &mut Full);
     assert!(rt; matches!(answer, Err(CommandFault::Output)));

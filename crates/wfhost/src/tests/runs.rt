@@ -1,9 +1,10 @@
 //! Runs, from their first event and as they go on.
 
-use crate::tests::notation::{events, key, numbered, owned, plain, push, row};
+use crate::tests::rows::{recorded, row, shown, wants};
 use std::alloc::Global;
 use std::process::Abort;
-use wh_events::{Event, EventNo};
+use wh_events::EventNo;
+use wh_histories::key;
 use wh_replay::{AdvanceFault, Answer, Run, RunFault};
 use wh_samples::{All, Flood};
 use wh_workflow::{Meter, Workflow};
@@ -93,31 +94,40 @@ caller/5 S T at 5 => Some(Open)
 caller/8 at 5 => Some(Closed by: 6)
 ";
 
-/// The unsent commands of a run, and the version of the change `chg`.
-fn run_text<W: Workflow>(rt: &impl Abort, alloc: Global, run: &Run<W>) -> String {
-    let commands = run.commands();
-    let text = format!(in alloc; "{commands:?}").expect(rt, "memory");
-    let mut text = plain(rt, alloc, text);
-    if let Some(version) = run.version("chg") {
-        let version = format!(in alloc; ", chg is {version}").expect(rt, "memory");
-        push(rt, &mut text, version.as_str());
-    }
-    text
+/// What came of a run that was advanced, how many steps that took, and how many events it then
+/// holds: 0 where the run is gone.
+#[derive(Drop)]
+pub(super) struct Advanced {
+    pub(super) text: String,
+    pub(super) steps: u64,
+    pub(super) held: usize,
 }
 
-/// The steps that were taken, and the run that they gave.
+/// The unsent commands of a run behind a word, and the version of the change `chg`.
+fn run_text<W: Workflow>(rt: &impl Abort, alloc: Global, word: &str, run: &Run<W>) -> String {
+    let commands = shown(rt, alloc, &run.commands());
+    let text = match run.version("chg") {
+        Some(version) => format!(in alloc; "{word}, {commands}, chg is {version}"),
+        None => format!(in alloc; "{word}, {commands}"),
+    };
+    text.expect(rt, "memory")
+}
+
+/// The run of a history behind the steps that it took.
 fn stepped_text<W: Workflow>(rt: &impl Abort, alloc: Global, steps: u64, run: &Run<W>) -> String {
-    let run = run_text(rt, alloc, run);
-    format!(in alloc; "{steps} steps, {run}").expect(rt, "memory")
+    let steps = format!(in alloc; "{steps} steps").expect(rt, "memory");
+    run_text(rt, alloc, steps.as_str(), run)
 }
 
-/// The run of a history.
-fn begun<W: Workflow>(rt: &impl Abort, alloc: Global, history: &'static str) -> Run<W> {
-    let events = events(rt, alloc, history);
-    match Run::from_first(alloc, key(rt, alloc, "nap"), events, &mut Meter::new()) {
-        Ok(run) => run,
-        Err(fault) => panic!(rt; "{history}: {fault:?}"),
-    }
+/// The run of a history from its first event.
+fn begun<W: Workflow>(
+    rt: &impl Abort,
+    alloc: Global,
+    history: &'static str,
+    meter: &mut Meter,
+) -> Result<Run<W>, RunFault> {
+    let key = key(alloc, "nap").expect(rt, "memory");
+    Run::from_first(alloc, key, recorded(rt, alloc, history, 0), meter)
 }
 
 /// What comes of a history from its first event.
@@ -127,94 +137,41 @@ pub(super) fn begun_text<W: Workflow>(
     history: &'static str,
 ) -> String {
     let mut meter = Meter::new();
-    let events = events(rt, alloc, history);
-    match Run::<W>::from_first(alloc, key(rt, alloc, "nap"), events, &mut meter) {
+    match begun::<W>(rt, alloc, history, &mut meter) {
         Ok(run) => stepped_text(rt, alloc, meter.count(), &run),
-        Err(fault) => fault_text(rt, alloc, &fault),
+        Err(fault) => shown(rt, alloc, &fault),
     }
 }
 
-/// A fault with nothing around its names and numbers.
-fn fault_text(rt: &impl Abort, alloc: Global, fault: &RunFault) -> String {
-    let text = format!(in alloc; "{fault:?}").expect(rt, "memory");
-    plain(rt, alloc, text)
-}
-
-/// A run that was handed back, behind the reason.
-fn returned_text<W: Workflow>(
-    rt: &impl Abort,
-    alloc: Global,
-    reason: &str,
-    run: &Run<W>,
-) -> String {
-    let run = run_text(rt, alloc, run);
-    format!(in alloc; "{reason}, {run}").expect(rt, "memory")
-}
-
-/// Why a run did not advance.
-fn refusal_text<W: Workflow>(rt: &impl Abort, alloc: Global, fault: &AdvanceFault<W>) -> String {
-    match fault {
-        AdvanceFault::NotATask(run) => returned_text(rt, alloc, "NotATask", run),
-        AdvanceFault::Gap(run) => returned_text(rt, alloc, "Gap", run),
-        AdvanceFault::Fault(fault) => {
-            let text = format!(in alloc; "Fault({fault:?})").expect(rt, "memory");
-            plain(rt, alloc, text)
-        }
-        AdvanceFault::OutOfMemory => owned(rt, alloc, "out of memory"),
+/// The run of a history that has no fault.
+fn good<W: Workflow>(rt: &impl Abort, alloc: Global, history: &'static str) -> Run<W> {
+    match begun(rt, alloc, history, &mut Meter::new()) {
+        Ok(run) => run,
+        Err(fault) => panic!(rt; "{history}: {fault:?}"),
     }
-}
-
-/// The events of a history behind so many, or behind the place that the history names.
-pub(super) fn new_events(
-    rt: &impl Abort,
-    alloc: Global,
-    history: &'static str,
-    held: usize,
-) -> Vec<Event> {
-    let (history, place) = numbered(rt, history, " behind ", held);
-    let mut all = events(rt, alloc, history);
-    assert!(rt; place <= all.len(), "{history}");
-    all.split_off(place).expect(rt, "memory")
 }
 
 /// What comes of a run that is advanced by the events of a history behind those that it holds, or
 /// behind the place that the history names.
-fn advanced_text<W: Workflow>(
+pub(super) fn advance<W: Workflow>(
     rt: &impl Abort,
     alloc: Global,
     run: Run<W>,
     history: &'static str,
-) -> String {
+) -> Advanced {
     let mut meter = Meter::new();
-    let new = new_events(rt, alloc, history, run.held_len());
-    match run.advance(alloc, new, &mut meter) {
-        Ok(run) => stepped_text(rt, alloc, meter.count(), &run),
-        Err(fault) => refusal_text(rt, alloc, &fault),
-    }
-}
-
-/// Replays the history of each row as a run, and compares what came of it.
-pub(super) fn begins<W: Workflow>(rt: &impl Abort, alloc: Global, table: &'static str) {
-    for line in table.lines() {
-        let (history, wanted) = row(rt, line);
-        let text = begun_text::<W>(rt, alloc, history);
-        assert_eq!(rt; text.as_str(), wanted, "{history}");
-    }
-}
-
-#[test]
-fn begins_runs(rt: HostRuntime) {
-    begins::<All>(&rt, rt.alloc(), BEGUN);
-}
-
-#[test]
-fn advances_runs(rt: HostRuntime) {
-    for line in ADVANCED.lines() {
-        let (both, wanted) = row(&rt, line);
-        let (before, after) = both.split_once(" then ").expect(&rt, "then");
-        let run = begun::<All>(&rt, rt.alloc(), before);
-        let text = advanced_text(&rt, rt.alloc(), run, after);
-        assert_eq!(rt; text.as_str(), wanted, "{both}");
+    let new = recorded(rt, alloc, history, run.held_len());
+    let (text, held) = match run.advance(alloc, new, &mut meter) {
+        Ok(run) => (stepped_text(rt, alloc, meter.count(), &run), run.held_len()),
+        Err(AdvanceFault::NotATask(run)) => (run_text(rt, alloc, "NotATask", &run), run.held_len()),
+        Err(AdvanceFault::Gap(run)) => (run_text(rt, alloc, "Gap", &run), run.held_len()),
+        Err(AdvanceFault::Fault(fault)) => (shown(rt, alloc, &RunFault::Fault(fault)), 0),
+        Err(AdvanceFault::OutOfMemory) => (shown(rt, alloc, &RunFault::OutOfMemory), 0),
+    };
+    Advanced {
+        text,
+        steps: meter.count(),
+        held,
     }
 }
 
@@ -223,36 +180,57 @@ fn status_text<W: Workflow>(
     rt: &impl Abort,
     alloc: Global,
     history: &'static str,
-    number: usize,
+    number: &str,
 ) -> String {
-    let run = begun::<W>(rt, alloc, history);
-    let number = EventNo::new(number as u64).expect(rt, "a number");
-    let status = run.status(number);
-    let text = format!(in alloc; "{status:?}").expect(rt, "memory");
-    plain(rt, alloc, text)
+    let number = number.parse::<u64>().expect(rt, number);
+    let number = EventNo::new(number).expect(rt, "a number");
+    let run = good::<W>(rt, alloc, history);
+    shown(rt, alloc, &run.status(number))
 }
 
-#[test]
-fn shows_statuses(rt: HostRuntime) {
-    for line in STATUSES.lines() {
-        let (place, wanted) = row(&rt, line);
-        let (history, number) = numbered(&rt, place, " at ", 0);
-        let text = status_text::<All>(&rt, rt.alloc(), history, number);
-        assert_eq!(rt; text.as_str(), wanted, "{place}");
+/// What comes of what a row gives: the run of a history, a run that goes on behind ` then `, or
+/// what the event of the number behind ` at ` opened.
+fn given_text<W: Workflow>(rt: &impl Abort, alloc: Global, given: &'static str) -> String {
+    if let Some((before, after)) = given.split_once(" then ") {
+        let run = good::<W>(rt, alloc, before);
+        return advance(rt, alloc, run, after).text;
+    }
+    match given.split_once(" at ") {
+        Some((history, number)) => status_text::<W>(rt, alloc, history, number),
+        None => begun_text::<W>(rt, alloc, given),
     }
 }
 
-/// How many commands complete the last task of a run.
-fn answered<W: Workflow>(rt: &impl Abort, alloc: Global, run: &Run<W>) -> usize {
+/// Compares what comes of what each row gives.
+pub(super) fn begins<W: Workflow>(rt: &impl Abort, alloc: Global, table: &'static str) {
+    for line in table.lines() {
+        let (given, wanted) = row(rt, line);
+        wants(rt, given, given_text::<W>(rt, alloc, given), wanted);
+    }
+}
+
+#[test]
+fn runs_begin_and_go_on(rt: HostRuntime) {
+    for table in [BEGUN, ADVANCED, STATUSES] {
+        begins::<All>(&rt, rt.alloc(), table);
+    }
+}
+
+/// How many commands a run has, and how many complete its last task.
+fn command_counts<W: Workflow>(
+    rt: &impl Abort,
+    alloc: Global,
+    history: &'static str,
+) -> (usize, usize) {
+    let run = good::<W>(rt, alloc, history);
     match run.answer(alloc) {
-        Ok(Answer::Complete(commands)) => commands.get().len(),
+        Ok(Answer::Complete(commands)) => (run.commands().len(), commands.get().len()),
         _ => panic!(rt; "no commands"),
     }
 }
 
 #[test]
-fn keeps_many_commands(rt: HostRuntime) {
-    let run = begun::<Flood>(&rt, rt.alloc(), "start:Flood signal:s*63 S T");
-    assert_eq!(rt; run.commands().len(), 4_096);
-    assert_eq!(rt; answered(&rt, rt.alloc(), &run), 4_096);
+fn many_commands_are_kept(rt: HostRuntime) {
+    let counts = command_counts::<Flood>(&rt, rt.alloc(), "start:Flood signal:s*63 S T");
+    assert_eq!(rt; counts, (4_096, 4_096));
 }

@@ -1,6 +1,6 @@
 //! What one task may command, and what of it is sent.
 
-use crate::tests::notation::replays;
+use crate::tests::rows::replays;
 use crate::tests::runs::begins;
 use crate::tests::scripted::Scripted;
 

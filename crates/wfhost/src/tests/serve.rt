@@ -1,7 +1,7 @@
 //! Folders of recorded histories, served.
 
-use crate::tests::notation::text_of;
 use crate::tests::reports::named_files;
+use crate::tests::rows::{wants, with_status};
 use std::alloc::Global;
 use std::io::Write;
 use std::process::Abort;
@@ -18,7 +18,8 @@ const SAMPLES: &str =
 const FIVE: &str =
     "branch.json: branch; family.json: family; greet.json: greet; nap.json: nap; racer.json: racer";
 
-/// A history that ends behind its last task in an event that is passed over, and one that ends in an event that is not in place.
+/// A history that ends behind its last task in an event that is passed over, and one that ends in
+/// an event that is not in place.
 const ENDINGS: &str = "inert.json: nap/3 attributes_upserted; late.json: nap/8 C timer_fired:99";
 
 /// A file that is no JSON, between others.
@@ -28,14 +29,116 @@ const BROKEN: &str = "branch.json: branch; hole.json: ; nap.json: nap";
 const STRANGE: &str =
     "gr\u{fc}\u{df}.json: greet | 'name':'greet' -> 'name':'greets'; nap.json: nap";
 
-/// Serves the files by so many workers, with so many cached runs and cached events.
+/// A history that ends in its only task.
+const LIVE: &str = "nap.json: nap/3";
+
+/// Histories that end in their last task, between others.
+const LIVE_BETWEEN: &str = "a.json: nap; b.json: nap/8; c.json: nap/3; d.json: greet";
+
+/// What is reported of all samples.
+const SAMPLES_SERVED: &str = "\
+branch.json: 2 tasks, 2 completed, 0 failed
+caller.json: 2 tasks, 2 completed, 0 failed
+family.json: 3 tasks, 3 completed, 0 failed
+greet.json: 2 tasks, 2 completed, 0 failed
+nap.json: 2 tasks, 2 completed, 0 failed
+racer.json: 4 tasks, 4 completed, 0 failed
+taken 15, completed 15, failed 0, in hand 0
+status 0";
+
+/// What is reported of five samples.
+const FIVE_SERVED: &str = "\
+branch.json: 2 tasks, 2 completed, 0 failed
+family.json: 3 tasks, 3 completed, 0 failed
+greet.json: 2 tasks, 2 completed, 0 failed
+nap.json: 2 tasks, 2 completed, 0 failed
+racer.json: 4 tasks, 4 completed, 0 failed
+taken 13, completed 13, failed 0, in hand 0
+status 0";
+
+/// What is reported where only what stands behind the last task is odd.
+const ENDINGS_SERVED: &str = "\
+inert.json: 1 tasks, 1 completed, 0 failed
+late.json: 2 tasks, 2 completed, 0 failed
+taken 3, completed 3, failed 0, in hand 0
+status 0";
+
+/// What is reported of a file that is no JSON.
+const HOLE: &str = "\
+branch.json: 2 tasks, 2 completed, 0 failed
+hole.json: unreadable, not JSON
+nap.json: 2 tasks, 2 completed, 0 failed
+taken 4, completed 4, failed 0, in hand 0
+status 1";
+
+/// What is reported of a task that failed.
+const FAILED: &str = "\
+gr??.json: 2 tasks, 1 completed, 1 failed
+nap.json: 2 tasks, 2 completed, 0 failed
+taken 4, completed 3, failed 1, in hand 0
+status 1";
+
+/// What is reported of a history that ends in its only task.
+const LIVE_SERVED: &str = "\
+nap.json: 1 tasks, 1 completed, 0 failed
+taken 1, completed 1, failed 0, in hand 0
+status 0";
+
+/// What is reported where some histories end in their last task.
+const LIVE_BETWEEN_SERVED: &str = "\
+a.json: 2 tasks, 2 completed, 0 failed
+b.json: 2 tasks, 2 completed, 0 failed
+c.json: 1 tasks, 1 completed, 0 failed
+d.json: 2 tasks, 2 completed, 0 failed
+taken 7, completed 7, failed 0, in hand 0
+status 0";
+
+/// What is reported of no files.
+const NOTHING: &str = "\
+taken 0, completed 0, failed 0, in hand 0
+status 0";
+
+/// How many workers serve, and how many runs and events the cache holds.
+#[derive(Clone, Copy)]
+struct Sizes {
+    workers: u64,
+    cache: u64,
+    cache_events: u64,
+}
+
+/// Files, how many workers serve them, and the report with the status behind it.
+struct Service {
+    files: &'static str,
+    workers: u64,
+    report: &'static str,
+}
+
+#[rattlefmt::skip]
+static SERVICES: [Service; 9] = [
+    Service { files: "", workers: 4, report: NOTHING },
+    Service { files: FIVE, workers: 4, report: FIVE_SERVED },
+    Service { files: ENDINGS, workers: 1, report: ENDINGS_SERVED },
+    Service { files: BROKEN, workers: 2, report: HOLE },
+    Service { files: STRANGE, workers: 1, report: FAILED },
+    Service { files: LIVE, workers: 1, report: LIVE_SERVED },
+    Service { files: LIVE, workers: 4, report: LIVE_SERVED },
+    Service { files: LIVE_BETWEEN, workers: 1, report: LIVE_BETWEEN_SERVED },
+    Service { files: LIVE_BETWEEN, workers: 4, report: LIVE_BETWEEN_SERVED },
+];
+
+/// Serves the files.
 fn serve<R: Threads + Wait + Abort + Sync, O: Write>(
     rt: &R,
     alloc: Global,
     list: &'static str,
-    (workers, cache, cache_events): (u64, u64, u64),
+    sizes: Sizes,
     writer: &mut O,
 ) -> Result<u8, CommandFault> {
+    let Sizes {
+        workers,
+        cache,
+        cache_events,
+    } = sizes;
     assert!(rt; 1 <= workers && workers <= 4);
     assert!(rt; cache <= 100 && cache_events <= 100);
     let files = named_files(rt, alloc, list);
@@ -51,108 +154,59 @@ fn serve<R: Threads + Wait + Abort + Sync, O: Write>(
     )
 }
 
-/// The status and the report.
-fn served<R: Threads + Wait + Abort + Sync>(
+/// The report of the files, with its status behind it, is this one.
+fn serves<R: Threads + Wait + Abort + Sync>(
     rt: &R,
     alloc: Global,
     list: &'static str,
-    sizes: (u64, u64, u64),
-) -> (u8, String) {
+    sizes: Sizes,
+    wanted: &str,
+) {
     let mut out = Vec::new(alloc);
     match serve(rt, alloc, list, sizes, &mut out) {
-        Ok(status) => (status, text_of(rt, out)),
+        Ok(status) => wants(rt, list, with_status(rt, alloc, out, status), wanted),
         Err(_) => panic!(rt; "refused"),
     }
 }
 
 #[test]
-fn serves_whatever_the_sizes(rt: HostRuntime) {
-    let wanted = "\
-branch.json: 2 tasks, 2 completed, 0 failed
-caller.json: 2 tasks, 2 completed, 0 failed
-family.json: 3 tasks, 3 completed, 0 failed
-greet.json: 2 tasks, 2 completed, 0 failed
-nap.json: 2 tasks, 2 completed, 0 failed
-racer.json: 4 tasks, 4 completed, 0 failed
-taken 15, completed 15, failed 0, in hand 0
-";
+fn samples_are_served_whatever_the_sizes(rt: HostRuntime) {
     for workers in [1, 4] {
         for cache in [0, 1, 2, 100] {
             for cache_events in [0, 3] {
-                let sizes = (workers, cache, cache_events);
-                let (status, report) = served(&rt, rt.alloc(), SAMPLES, sizes);
-                assert_eq!(rt;
-                    report.as_str(),
-                    wanted,
-                    "{workers} workers, {cache} runs, {cache_events} events"
-                );
-                assert_eq!(rt; status, 0);
+                let sizes = Sizes {
+                    workers,
+                    cache,
+                    cache_events,
+                };
+                serves(&rt, rt.alloc(), SAMPLES, sizes, SAMPLES_SERVED);
             }
         }
     }
 }
 
-/// Serving the files gives this status and this report.
-fn reports<R: Threads + Wait + Abort + Sync>(
-    rt: &R,
-    alloc: Global,
-    list: &'static str,
-    workers: u64,
-    wanted_status: u8,
-    wanted: &str,
-) {
-    let (status, report) = served(rt, alloc, list, (workers, 1, 0));
-    assert_eq!(rt; report.as_str(), wanted);
-    assert_eq!(rt; status, wanted_status);
-}
-
-/// What is reported of five samples.
-const FIVE_SERVED: &str = "\
-branch.json: 2 tasks, 2 completed, 0 failed
-family.json: 3 tasks, 3 completed, 0 failed
-greet.json: 2 tasks, 2 completed, 0 failed
-nap.json: 2 tasks, 2 completed, 0 failed
-racer.json: 4 tasks, 4 completed, 0 failed
-taken 13, completed 13, failed 0, in hand 0
-";
-
-/// What is reported where only what stands behind the last task is odd.
-const ENDINGS_SERVED: &str = "\
-inert.json: 1 tasks, 1 completed, 0 failed
-late.json: 2 tasks, 2 completed, 0 failed
-taken 3, completed 3, failed 0, in hand 0
-";
-
-/// What is reported of a file that is no JSON.
-const HOLE: &str = "\
-branch.json: 2 tasks, 2 completed, 0 failed
-hole.json: unreadable, not JSON
-nap.json: 2 tasks, 2 completed, 0 failed
-taken 4, completed 4, failed 0, in hand 0
-";
-
-/// What is reported of a task that failed.
-const FAILED: &str = "\
-gr??.json: 2 tasks, 1 completed, 1 failed
-nap.json: 2 tasks, 2 completed, 0 failed
-taken 4, completed 3, failed 1, in hand 0
-";
-
 #[test]
-fn reports_what_fails_or_cannot_be_read(rt: HostRuntime) {
-    let nothing = "taken 0, completed 0, failed 0, in hand 0\n";
-    reports(&rt, rt.alloc(), "", 4, 0, nothing);
-    reports(&rt, rt.alloc(), FIVE, 4, 0, FIVE_SERVED);
-    reports(&rt, rt.alloc(), ENDINGS, 1, 0, ENDINGS_SERVED);
-    reports(&rt, rt.alloc(), BROKEN, 2, 1, HOLE);
-    reports(&rt, rt.alloc(), STRANGE, 1, 1, FAILED);
+fn services_are_reported(rt: HostRuntime) {
+    for service in &SERVICES {
+        let sizes = Sizes {
+            workers: service.workers,
+            cache: 1,
+            cache_events: 0,
+        };
+        serves(&rt, rt.alloc(), service.files, sizes, service.report);
+    }
 }
 
 #[test]
-fn tells_a_writer_that_fails(rt: HostRuntime) {
+fn a_writer_that_fails_is_told(rt: HostRuntime) {
     let mut room = [0; 50];
     let mut writer = room.as_mut_slice();
     let list = "nap.json: nap; greet.json: greet";
-    let answer = serve(&rt, rt.alloc(), list, (1, 100, 0), &mut writer);
+    let sizes = Sizes {
+        workers: 1,
+        cache: 100,
+        cache_events: 0,
+    };
+    let answer = serve(&rt, rt.alloc(), list, sizes, &mut writer);
     assert!(rt; matches!(answer, Err(CommandFault::Output)));
 }
