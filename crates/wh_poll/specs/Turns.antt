@@ -55,6 +55,7 @@ pub record IsLedBy {P S A O : Type 0} (program : Program P) (tells : S → Tells
 pub record AreLeft {P S A O : Type 0} (program : Program P) (tells : S → Tells) (delivers : S → Delivers)
     (answers : S → Answers) (failures : S → ℕ) (comes_from : S → S → Type 0) (may : A → Answerable) (hears : Hears O)
     (posts : List (Post S A O)) (lefts : List (Left S A O)) (totals : Totals) : Type 0 where
+  pub count : length lefts ≡ length posts
   pub turns : AllZip (λ post left. left.counted.taken ≤ post.turns) posts lefts
   pub faults : AllZip (λ post left. RoseIfFailed left.fault (failures post.source) (failures left.source)) posts lefts
   pub origins : AllZip (λ post left. KeepsOrigin comes_from post.source left.source) posts lefts

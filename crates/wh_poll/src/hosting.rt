@@ -54,6 +54,7 @@ pub fn run_host<
     gate: &G,
 ) -> Result<HostEnd<S, A, O>, OpenFault>
     ensures bad { (result ≡ Err OpenFault.BadConfig) ↔ (¬ (IsConfig config × (config.seats ≡ vec_len posts))) }
+    ensures count { IfOk result (λ end. vec_len end.workers ≡ vec_len posts) }
     ensures turns { IfOk result (λ end.
         AllZip (λ post left. left.counted.taken ≤ post.turns) posts.items end.workers.items) }
     ensures faults { IfOk result (λ end.

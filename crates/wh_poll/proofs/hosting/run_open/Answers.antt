@@ -4,6 +4,7 @@ use Rattle.wh_ledger.specs.Shares.{no_shares, sums_of}
 use Rattle.wh_host.specs.Machine.{totals_of}
 use Rattle.wh_tasks.specs.Source.{KeepsOrigin, RoseIfFailed}
 use Rattle.std.proofs.lemmas.Result.{IfOk-weaker}
+use Rattle.std.proofs.lemmas.List.{length-map}
 use Rattle.wh_poll.specs.Turns.{IsLedBy}
 use Rattle.wh_poll.specs.Stations.{left_at}
 use Rattle.wh_poll.proofs.Jobs.{posts_paired, seat_at_first, map-map}
@@ -24,6 +25,7 @@ returns g c =
     let posts = c.in_ok-jobs.ensures.posts in
     IfOk-weaker c.close.result _ _
     (λ end ended. record {
+      count = ap length ended.0 ∙ length-map stations left_at ∙ same ∙ (sym (length-map jobs (λ job. job.post)) ∙ ap length posts);
       turns = posts_paired (λ post left. left.counted.taken ≤ post.turns) (λ job. job.post) left_at c.args.posts.items _ jobs stations posts ended.0 same
           (λ i j w below. omega (arith, c.in_ok-stations.ensures.turns i j w (own i below), zero i j below));
       faults = posts_paired (λ post left. RoseIfFailed left.fault (g.S.TaskSource.failures post.source) (g.S.TaskSource.failures left.source)) (λ job. job.post) left_at c.args.posts.items _ jobs stations posts ended.0 same
