@@ -18,6 +18,7 @@ use Rattle.wh_replay.specs.Views.{progress}
 use Rattle.wh_replay.specs.Laws.{live_standpoint, recorded_standpoint, ScriptsEqual}
 use Rattle.wh_replay.proofs.Settling.{ok_same}
 use Rattle.wh_replay.proofs.Confirming.{Known, Covers, activate_same}
+use Rattle.wh_replay.proofs.Faulty.{faulty_equal}
 use Rattle.std.proofs.lemmas.List.{append-nil}
 
 settled_last : (settled : Settled) (xs : List Step) (x : Step) → settled_after settled (xs ++ x ∷ []) ≡ settled_from (settled_after settled xs) x.job
@@ -150,8 +151,11 @@ module _ {S : Type 0} where
       } in
       (out, meets.3 ∙ ap (λ o. ok_unless o out) free)
 
-  pub scripts_equal : (program : Program S) → IsLawful program → ScriptsEqual program
-  scripts_equal program lawful seen between events cut state settled live recorded p r none covers =
+  -- where the live script has no fault
+  faultless_equal : (program : Program S) → IsLawful program → (seen between events : List Event) (cut : Event) (state : S) (settled : Settled) (live recorded : List Step)
+      → IsLongest program (live_standpoint seen between) (jobs_of seen between cut) state settled live → IsLongest program (recorded_standpoint seen between events) (jobs_of seen between cut) state settled recorded
+      → fault_in (live_standpoint seen between) settled [] live ≡ None → Covers (issued_in (live_standpoint seen between) settled live) events → live ≡ recorded
+  faultless_equal program lawful seen between events cut state settled live recorded p r none covers =
       let jobs = jobs_of seen between cut in
       let begin : Progress (Logged S) = progress (begun state []) settled [] 0 in
       let ends = ends_well program lawful seen between cut None state settled live p none in
@@ -159,8 +163,29 @@ module _ {S : Type 0} where
       let same_live : live ≡ first.steps = one_is_longest program (live_standpoint seen between) jobs state settled live first.steps p first.longest in
       let issued : ends.0.script.issued ≡ issued_in (live_standpoint seen between) settled live = first.issued ∙ ap (issued_in (live_standpoint seen between) settled) (sym same_live) in
       let P : List Command → Type 0 = λ l. Covers l events in
-      let covered : Covers ends.0.script.issued events = subst P (sym issued) (record { covered = covers }) in
+      let covered : Covers ends.0.script.issued events = subst P (sym issued) covers in
       let known : Known begin.script = record { known = λ change_id h. refl } in
       let again = activate_same (logging program) (lawful_log program lawful) seen between events jobs begin ends.0 known covered ends.1 in
       let second = left_of program lawful seen between cut (Some events) state settled ends.0 again.0 in
       same_live ∙ (sym first.log ∙ (second.log ∙ one_is_longest program (recorded_standpoint seen between events) jobs state settled second.steps recorded second.longest r))
+
+  -- a longest script, as the proofs follow it
+  followed : (program : Program S) → IsLawful program → (standpoint : Standpoint) (cut : Event) (state : S) (settled : Settled) (steps : List Step)
+      → IsLongest program standpoint (jobs_of standpoint.seen standpoint.between cut) state settled steps → IsLongestBy program standpoint (jobs_of standpoint.seen standpoint.between cut) state settled steps
+  followed program lawful standpoint cut state settled steps p =
+      let jobs = jobs_of standpoint.seen standpoint.between cut in
+      let meets = whole_meets program lawful standpoint jobs state settled 0 (jobs_plain standpoint.seen standpoint.between cut) (omega arith) in
+      let same = one_is_longest program standpoint jobs state settled steps meets.0 p (longest_in_words program standpoint jobs state settled meets.0 meets.1) in
+      subst (IsLongestBy program standpoint jobs state settled) (sym same) meets.1
+
+  pub scripts_equal : (program : Program S) → IsLawful program → ScriptsEqual program
+  scripts_equal program lawful seen between events cut state settled live recorded p r covers = by (fault_in (live_standpoint seen between) settled [] live) refl
+    where
+      by : (fault : Option WorkflowFault) → fault_in (live_standpoint seen between) settled [] live ≡ fault → live ≡ recorded
+      by None none =
+          faultless_equal program lawful seen between events cut state settled live recorded p r none
+          (record { covered = λ change_id version e. covers live [] change_id version (sym (append-nil live)) none e })
+      by (Some fault) some =
+          let one = followed program lawful (live_standpoint seen between) cut state settled live p in
+          let other = followed program lawful (recorded_standpoint seen between events) cut state settled recorded r in
+          faulty_equal seen between events program lawful (jobs_of seen between cut) state settled live one.script covers recorded fault other some
