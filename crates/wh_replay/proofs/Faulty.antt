@@ -1,7 +1,7 @@
 -- A live script that ends in a fault is the recorded one too: only the version that an ask gets
 -- depends on the record, and live no ask is at fault for the version that it gets unsettled.
 use Rattle.std.proofs.Common.{◌≡◌, ◌⊎◌, ℕ, Bool, true, false, ◌||◌, cond, List, [], ◌∷◌, ◌++◌, Option, Some, None, is_some, ℤ, pos, negsuc, refl, sym, ap, subst, ◌∙◌, inl, inr, arith, append_assoc, append-nil, IsTrue}
-use Rattle.std.specs.Prelude.{int_lt}
+use Rattle.std.specs.Prelude.{int_lt, leb, length}
 use Rattle.std.proofs.lemmas.Int.{ints}
 use Rattle.wh_events.specs.declared.event.Event.{Event}
 use Rattle.wh_events.specs.Machines.{or_else}
@@ -12,15 +12,14 @@ use Rattle.wh_workflow.specs.declared.job.Job.TheVariants.{Version}
 use Rattle.wh_workflow.specs.declared.fault.WorkflowFault.{WorkflowFault}
 use Rattle.wh_workflow.specs.declared.fault.WorkflowFault.TheVariants.{AfterClosing, TooManyCommands, BadRange, VersionOutOfRange}
 use Rattle.wh_workflow.specs.Law.{Program, IsLawful, is_ask, asks_last}
-use Rattle.wh_workflow.specs.Scripts.{Settled, Choice, Act, act_of, act_fault, opening_fault, cancel_fault, ask_fault, command_fault, fault_if, some_act, act_closes, given, most_commands, choice_by, choice_of, with_version, lookup_version}
+use Rattle.wh_workflow.specs.Scripts.{Standpoint, Settled, Choice, Act, act_of, act_fault, opening_fault, cancel_fault, ask_fault, command_fault, fault_if, some_act, act_closes, given, most_commands, choice_by, choice_of, lookup_version}
 use Rattle.wh_workflow.specs.Scripts.Act.{Opening, Cancelling, Closing, Asking, Other}
 use Rattle.wh_workflow.specs.Activations.{Question, question_of, marker_if}
 use Rattle.wh_workflow.specs.ActivationScripts.{Step, commands_in, settled_from, settled_after, first_fault, Answers, markers_at, issued_in, fault_in, state_after}
-use Rattle.wh_workflow.proofs.Judging.{up_to_fault, neither, all_stand, same_fault}
+use Rattle.wh_workflow.proofs.Judging.{up_to_fault, all_stand, same_fault}
 use Rattle.wh_workflow.proofs.Following.{issued_last, fault_last, IsScriptBy, IsLongestBy}
 use Rattle.wh_replay.specs.Laws.{live_standpoint, recorded_standpoint, issued_marker, HasMarkers}
 use Rattle.wh_replay.proofs.Confirming.{and_parts, not_true, true_false, asking, question_skip, choice_same, ask_same, fault_same, issued_marker-append, unmarked, no_markers, either, neither_version, lookup-append, same_bytes}
-use Rattle.std.specs.Prelude.{leb, length}
 
 settled_last : (settled : Settled) (xs : List Step) (x : Step) → settled_after settled (xs ++ x ∷ []) ≡ settled_from (settled_after settled xs) x.job
 settled_last settled [] x = refl
@@ -77,6 +76,29 @@ last_of (y ∷ ys) =
       | inl none ↦ inr ([], y, ap (λ (l : List Step). y ∷ l) none)
       | inr more ↦ inr (y ∷ more.0, more.1, ap (λ (l : List Step). y ∷ l) more.2)
     ]
+
+-- the steps of a script before another one have no fault
+module _ {S : Type 0} (program : Program S) (standpoint : Standpoint) (jobs : List Job) (state : S) (settled : Settled) (steps : List Step) (p : IsScriptBy program standpoint jobs state settled steps) where
+  abbrev fault_by : List Step → Step → Option WorkflowFault
+  fault_by before step = first_fault standpoint (settled_after settled (before ++ step ∷ [])) (commands_in before) step.commands
+
+  faultless_at : (front : List Step) (y : Step) (mid : List Step) (x : Step) (after : List Step) → steps ≡ front ++ y ∷ (mid ++ x ∷ after) → fault_by front y ≡ None
+  faultless_at front y [] x after e = p.faultless front after y x e
+  faultless_at front y (z ∷ mid) x after e = p.faultless front (mid ++ x ∷ after) y z e
+
+  -- the fault of steps without one and one more
+  with_last : (front : List Step) (y : Step) → fault_in standpoint settled [] front ≡ None → fault_in standpoint settled [] (front ++ y ∷ []) ≡ fault_by front y
+  with_last front y clean = fault_last standpoint settled [] front y ∙ ap (λ o. or_else o (fault_by front y)) clean
+
+  clean_to : (front mid : List Step) (x : Step) (after : List Step) → steps ≡ front ++ (mid ++ x ∷ after) → fault_in standpoint settled [] front ≡ None → fault_in standpoint settled [] (front ++ mid) ≡ None
+  clean_to front [] x after e clean = ap (fault_in standpoint settled []) (append-nil front) ∙ clean
+  clean_to front (y ∷ mid) x after e clean =
+      ap (fault_in standpoint settled []) (sym (append_assoc front (y ∷ []) mid))
+      ∙ clean_to (front ++ y ∷ []) mid x after (e ∙ sym (append_assoc front (y ∷ []) (mid ++ x ∷ after))) (with_last front y clean ∙ faultless_at front y mid x after e)
+
+  -- the fault of a script is that of its last step
+  last_fault : (front : List Step) (x : Step) → steps ≡ front ++ x ∷ [] → fault_in standpoint settled [] steps ≡ fault_by front x
+  last_fault front x e = ap (fault_in standpoint settled []) e ∙ with_last front x (clean_to [] front x [] e refl)
 
 module _ (seen between events : List Event) where
   other_same : (settled : Settled) (earlier : List Command) (command : Command) → is_ask command ≡ false
@@ -216,20 +238,6 @@ module _ (seen between events : List Event) where
         = sym (same_fault here (now before step) (commands_in before) (gives before step)) ∙ (ap (first_fault here (now before step) (commands_in before)) (sym stands) ∙ none) in
         stands ∙ all_stand here (now before step) (commands_in before) (gives before step) free
 
-    faultless_at : (front : List Step) (y : Step) (mid : List Step) (x : Step) (after : List Step) → live ≡ front ++ y ∷ (mid ++ x ∷ after) → fault_of front y ≡ None
-    faultless_at front y [] x after e = p.faultless front after y x e
-    faultless_at front y (z ∷ mid) x after e = p.faultless front (mid ++ x ∷ after) y z e
-
-    one_more : (front : List Step) (y : Step) → fault_in (live_standpoint seen between) settled [] front ≡ None → fault_of front y ≡ None → fault_in (live_standpoint seen between) settled [] (front ++ y ∷ []) ≡ None
-    one_more front y a b = fault_last (live_standpoint seen between) settled [] front y ∙ (ap (λ o. or_else o (fault_of front y)) a ∙ b)
-
-    -- the steps before another one have no fault
-    clean_to : (front mid : List Step) (x : Step) (after : List Step) → live ≡ front ++ (mid ++ x ∷ after) → fault_in (live_standpoint seen between) settled [] front ≡ None → fault_in (live_standpoint seen between) settled [] (front ++ mid) ≡ None
-    clean_to front [] x after e clean = ap (fault_in (live_standpoint seen between) settled []) (append-nil front) ∙ clean
-    clean_to front (y ∷ mid) x after e clean =
-        ap (fault_in (live_standpoint seen between) settled []) (sym (append_assoc front (y ∷ []) mid))
-        ∙ clean_to (front ++ y ∷ []) mid x after (e ∙ sym (append_assoc front (y ∷ []) (mid ++ x ∷ after))) (one_more front y clean (faultless_at front y mid x after e))
-
     -- a change that a step finds unsettled has no marker before it
     abbrev Unmarked : List Step → Type 0
     Unmarked front = (x : Step) (after : List Step) (change_id : List ℕ) → live ≡ front ++ x ∷ after → lookup_version change_id (now front x) ≡ None → issued_marker change_id (issued_in (live_standpoint seen between) settled front) ≡ None
@@ -265,13 +273,13 @@ module _ (seen between events : List Event) where
         let mark : issued_marker q.0 (Marker q.0 q.1 ∷ []) ≡ Some q.1 = ap (λ test. or_else (cond test (Some q.1) None) None) (same_bytes q.0) in
         let marks : issued_marker q.0 (markers_at here (now before step) (question_of step.commands)) ≡ Some q.1
         = ap (λ question. issued_marker q.0 (markers_at here (now before step) question)) asked ∙ (ap (issued_marker q.0) (unsettled_marker (now before step) q unsettled) ∙ mark) in
-        covers (before ++ step ∷ []) after q.0 q.1 (e ∙ sym (append_assoc before (step ∷ []) after)) (one_more before step clean none)
+        covers (before ++ step ∷ []) after q.0 q.1 (e ∙ sym (append_assoc before (step ∷ []) after)) (with_last program (live_standpoint seen between) jobs state settled live p before step clean ∙ none)
         (ap (issued_marker q.0) (issued_last here settled before step)
         ∙ marked_last q.0 q.1 (issued_in here settled before) step.commands (markers_at here (now before step) (question_of step.commands)) (unmarked_at before step after q.0 e unsettled) commands marks))
 
     choice_at : (before after : List Step) (step next : Step) (q : Question) → live ≡ before ++ step ∷ next ∷ after → question_of step.commands ≡ Some q
         → choice_of (live_standpoint seen between) (now before step) q.0 q.1 ≡ choice_of (recorded_standpoint seen between events) (now before step) q.0 q.1
-    choice_at before after step next q e asked = choice_here before (next ∷ after) step q e (clean_to [] before step (next ∷ after) e refl) (p.faultless before after step next e) asked
+    choice_at before after step next q e asked = choice_here before (next ∷ after) step q e (clean_to program (live_standpoint seen between) jobs state settled live p [] before step (next ∷ after) e refl) (p.faultless before after step next e) asked
 
     -- the live script is a script of the recorded activation
     recorded_script : IsScriptBy program (recorded_standpoint seen between events) jobs state settled live
@@ -312,9 +320,26 @@ module _ (seen between events : List Event) where
         elim (last_of live) [
           | inl empty ↦ absurd (let none : fault_in (live_standpoint seen between) settled [] live ≡ None = ap (fault_in (live_standpoint seen between) settled []) empty in cc)
           | inr last ↦
-              (let clean = clean_to [] last.0 last.1 [] last.2 refl in
-              let here : fault_of last.0 last.1 ≡ Some fault
-              = sym (ap (λ o. or_else o (fault_of last.0 last.1)) clean) ∙ (sym (fault_last (live_standpoint seen between) settled [] last.0 last.1) ∙ (ap (fault_in (live_standpoint seen between) settled []) (sym last.2) ∙ some)) in
+              (let here : fault_of last.0 last.1 ≡ Some fault = sym (last_fault program (live_standpoint seen between) jobs state settled live p last.0 last.1 last.2) ∙ some in
               let longer = r.longest live recorded_script in
               nothing_more recorded longer.0 last.0 last.1 fault r.script longer.1 last.2 here)
+        ]
+
+    -- the fault of the last step is the same
+    last_same : (before : List Step) (x : Step) (fault : Option WorkflowFault) → live ≡ before ++ x ∷ [] → fault_of before x ≡ fault → first_fault (recorded_standpoint seen between events) (now before x) (commands_in before) x.commands ≡ fault
+    last_same before x (Some fault) e is = fault_there before x fault e is
+    last_same before x None e is =
+        let asks : IsTrue (asks_last x.commands) = ap asks_last (all_given before [] x e is) ∙ (lawful (state_after program state before) x.job).asks in
+        let clean = clean_to program (live_standpoint seen between) jobs state settled live p [] before x [] e refl in
+        sym (first_same (now before x) x.commands (commands_in before) asks (λ q asked. choice_here before [] x q e clean is asked)) ∙ is
+
+    -- the recorded activation finds the same fault in the live script
+    pub script_fault_same : fault_in (live_standpoint seen between) settled [] live ≡ fault_in (recorded_standpoint seen between events) settled [] live
+    script_fault_same =
+        elim (last_of live) [
+          | inl empty ↦ ap (fault_in (live_standpoint seen between) settled []) empty ∙ sym (ap (fault_in (recorded_standpoint seen between events) settled []) empty)
+          | inr last ↦
+              (let here = last_fault program (live_standpoint seen between) jobs state settled live p last.0 last.1 last.2 in
+              let there = last_fault program (recorded_standpoint seen between events) jobs state settled live recorded_script last.0 last.1 last.2 in
+              here ∙ (sym (last_same last.0 last.1 (fault_of last.0 last.1) last.2 refl) ∙ sym there))
         ]
