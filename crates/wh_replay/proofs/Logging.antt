@@ -1,5 +1,5 @@
 -- A live and a recorded activation have one longest script: a workflow that also logs its steps leaves one log in both.
-use Rattle.std.proofs.Common.{◌≡◌, List, [], ◌∷◌, ◌++◌, length, Option, Some, None, Ok, refl, sym, ap, subst, ◌∙◌, append_assoc, arith}
+use Rattle.std.proofs.Common.{◌≡◌, List, [], ◌∷◌, ◌++◌, length, ℕ, ◌≤◌, Option, Some, None, Ok, Err, refl, sym, ap, subst, ◌∙◌, append_assoc, arith}
 use Rattle.wh_events.specs.declared.event.Event.{Event}
 use Rattle.wh_workflow.specs.declared.command.Command.{Command}
 use Rattle.wh_workflow.specs.declared.job.Job.{Job}
@@ -15,9 +15,10 @@ use Rattle.wh_workflow.proofs.Following.{state_last, IsScriptBy, IsLongestBy, wh
 use Rattle.wh_workflow.proofs.Scripting.{longest_in_words, one_is_longest}
 use Rattle.wh_workflow.proofs.Plain.{jobs_plain}
 use Rattle.wh_replay.specs.Views.{progress}
-use Rattle.wh_replay.specs.Laws.{live_standpoint, recorded_standpoint, ScriptsEqual}
+use Rattle.wh_replay.specs.Laws.{live_standpoint, recorded_standpoint, ScriptsEqual, ActivationsAgree}
 use Rattle.wh_replay.proofs.Settling.{ok_same}
 use Rattle.wh_replay.proofs.Confirming.{Known, Covers, activate_same}
+use Rattle.wh_replay.proofs.Faulty.{faulty_equal, script_fault_same}
 use Rattle.std.proofs.lemmas.List.{append-nil}
 
 settled_last : (settled : Settled) (xs : List Step) (x : Step) → settled_after settled (xs ++ x ∷ []) ≡ settled_from (settled_after settled xs) x.job
@@ -150,8 +151,11 @@ module _ {S : Type 0} where
       } in
       (out, meets.3 ∙ ap (λ o. ok_unless o out) free)
 
-  pub scripts_equal : (program : Program S) → IsLawful program → ScriptsEqual program
-  scripts_equal program lawful seen between events cut state settled live recorded p r none covers =
+  -- where the live script has no fault
+  faultless_equal : (program : Program S) → IsLawful program → (seen between events : List Event) (cut : Event) (state : S) (settled : Settled) (live recorded : List Step)
+      → IsLongest program (live_standpoint seen between) (jobs_of seen between cut) state settled live → IsLongest program (recorded_standpoint seen between events) (jobs_of seen between cut) state settled recorded
+      → fault_in (live_standpoint seen between) settled [] live ≡ None → Covers (issued_in (live_standpoint seen between) settled live) events → live ≡ recorded
+  faultless_equal program lawful seen between events cut state settled live recorded p r none covers =
       let jobs = jobs_of seen between cut in
       let begin : Progress (Logged S) = progress (begun state []) settled [] 0 in
       let ends = ends_well program lawful seen between cut None state settled live p none in
@@ -159,8 +163,99 @@ module _ {S : Type 0} where
       let same_live : live ≡ first.steps = one_is_longest program (live_standpoint seen between) jobs state settled live first.steps p first.longest in
       let issued : ends.0.script.issued ≡ issued_in (live_standpoint seen between) settled live = first.issued ∙ ap (issued_in (live_standpoint seen between) settled) (sym same_live) in
       let P : List Command → Type 0 = λ l. Covers l events in
-      let covered : Covers ends.0.script.issued events = subst P (sym issued) (record { covered = covers }) in
+      let covered : Covers ends.0.script.issued events = subst P (sym issued) covers in
       let known : Known begin.script = record { known = λ change_id h. refl } in
       let again = activate_same (logging program) (lawful_log program lawful) seen between events jobs begin ends.0 known covered ends.1 in
       let second = left_of program lawful seen between cut (Some events) state settled ends.0 again.0 in
       same_live ∙ (sym first.log ∙ (second.log ∙ one_is_longest program (recorded_standpoint seen between events) jobs state settled second.steps recorded second.longest r))
+
+  -- a longest script, as the proofs follow it
+  followed : (program : Program S) → IsLawful program → (standpoint : Standpoint) (cut : Event) (state : S) (settled : Settled) (steps : List Step)
+      → IsLongest program standpoint (jobs_of standpoint.seen standpoint.between cut) state settled steps → IsLongestBy program standpoint (jobs_of standpoint.seen standpoint.between cut) state settled steps
+  followed program lawful standpoint cut state settled steps p =
+      let jobs = jobs_of standpoint.seen standpoint.between cut in
+      let meets = whole_meets program lawful standpoint jobs state settled 0 (jobs_plain standpoint.seen standpoint.between cut) (omega arith) in
+      let same = one_is_longest program standpoint jobs state settled steps meets.0 p (longest_in_words program standpoint jobs state settled meets.0 meets.1) in
+      subst (IsLongestBy program standpoint jobs state settled) (sym same) meets.1
+
+  pub scripts_equal : (program : Program S) → IsLawful program → ScriptsEqual program
+  scripts_equal program lawful seen between events cut state settled live recorded p r covers = (same, fault ∙ ap (fault_in there settled []) same)
+    where
+      there : Standpoint
+      there = recorded_standpoint seen between events
+
+      one : IsLongestBy program (live_standpoint seen between) (jobs_of seen between cut) state settled live
+      one = followed program lawful (live_standpoint seen between) cut state settled live p
+
+      by : (fault : Option WorkflowFault) → fault_in (live_standpoint seen between) settled [] live ≡ fault → live ≡ recorded
+      by None none =
+          faultless_equal program lawful seen between events cut state settled live recorded p r none
+          (record { covered = λ change_id version e. covers live [] change_id version (sym (append-nil live)) none e })
+      by (Some fault) some =
+          let other = followed program lawful (recorded_standpoint seen between events) cut state settled recorded r in
+          faulty_equal seen between events program lawful (jobs_of seen between cut) state settled live one.script covers recorded fault other some
+
+      same : live ≡ recorded
+      same = by (fault_in (live_standpoint seen between) settled [] live) refl
+
+      fault : fault_in (live_standpoint seen between) settled [] live ≡ fault_in (recorded_standpoint seen between events) settled [] live
+      fault = script_fault_same seen between events program lawful (jobs_of seen between cut) state settled live one.script covers
+
+  -- a longest script with a fault is what the activation fails by
+  fails_by : (program : Program S) → IsLawful program → (standpoint : Standpoint) (cut : Event) (state : S) (settled : Settled) (meter : ℕ) (steps : List Step) (fault : WorkflowFault) → meter ≤ 0xffff_ffff_ffff_ffff
+      → IsLongest program standpoint (jobs_of standpoint.seen standpoint.between cut) state settled steps → fault_in standpoint settled [] steps ≡ Some fault
+      → activate program standpoint (jobs_of standpoint.seen standpoint.between cut) (progress state settled [] meter) ≡ Err fault
+  fails_by program lawful standpoint cut state settled meter steps fault below p some =
+      let jobs = jobs_of standpoint.seen standpoint.between cut in
+      let meets = whole_meets program lawful standpoint jobs state settled meter (jobs_plain standpoint.seen standpoint.between cut) below in
+      let same = one_is_longest program standpoint jobs state settled steps meets.0 p (longest_in_words program standpoint jobs state settled meets.0 meets.1) in
+      let out : Progress S = record {
+        state = state_after program state meets.0;
+        script = record { settled = settled_after settled meets.0; issued = issued_in standpoint settled meets.0 };
+        meter = risen meter (length meets.0);
+      } in
+      meets.3 ∙ ap (λ o. ok_unless o out) (ap (fault_in standpoint settled []) (sym same) ∙ some)
+
+  -- a longest script without a fault is what the activation gives
+  gives_by : (program : Program S) → IsLawful program → (standpoint : Standpoint) (cut : Event) (state : S) (settled : Settled) (meter : ℕ) (steps : List Step) → meter ≤ 0xffff_ffff_ffff_ffff
+      → IsLongest program standpoint (jobs_of standpoint.seen standpoint.between cut) state settled steps → fault_in standpoint settled [] steps ≡ None
+      → (out : Progress S) × (activate program standpoint (jobs_of standpoint.seen standpoint.between cut) (progress state settled [] meter) ≡ Ok out) × (out.script.issued ≡ issued_in standpoint settled steps)
+  gives_by program lawful standpoint cut state settled meter steps below p none =
+      let jobs = jobs_of standpoint.seen standpoint.between cut in
+      let meets = whole_meets program lawful standpoint jobs state settled meter (jobs_plain standpoint.seen standpoint.between cut) below in
+      let same = one_is_longest program standpoint jobs state settled steps meets.0 p (longest_in_words program standpoint jobs state settled meets.0 meets.1) in
+      let out : Progress S = record {
+        state = state_after program state meets.0;
+        script = record { settled = settled_after settled meets.0; issued = issued_in standpoint settled meets.0 };
+        meter = risen meter (length meets.0);
+      } in
+      (out, meets.3 ∙ ap (λ o. ok_unless o out) (ap (fault_in standpoint settled []) (sym same) ∙ none), ap (issued_in standpoint settled) (sym same))
+
+  pub activations_agree : (program : Program S) → IsLawful program → ActivationsAgree program
+  activations_agree program lawful seen between events cut state settled meter live below p covers = by (fault_in here settled [] live) refl
+    where
+      here : Standpoint
+      here = live_standpoint seen between
+
+      there : Standpoint
+      there = recorded_standpoint seen between events
+
+      jobs : List Job
+      jobs = jobs_of seen between cut
+
+      begin : Progress S
+      begin = progress state settled [] meter
+
+      by : (fault : Option WorkflowFault) → fault_in here settled [] live ≡ fault → activate program there jobs begin ≡ activate program here jobs begin
+      by None none =
+          let gives = gives_by program lawful here cut state settled meter live below p none in
+          let covered : Covers (issued_in here settled live) events = record { covered = λ change_id version e. covers live [] change_id version (sym (append-nil live)) none e } in
+          let known : Known begin.script = record { known = λ change_id h. refl } in
+          let P : List Command → Type 0 = λ l. Covers l events in
+          (activate_same program lawful seen between events jobs begin gives.0 known (subst P (sym gives.2) covered) gives.1).0 ∙ sym gives.1
+      by (Some fault) some =
+          let meets = whole_meets program lawful there jobs state settled meter (jobs_plain seen between cut) below in
+          let recorded = longest_in_words program there jobs state settled meets.0 meets.1 in
+          let equal = scripts_equal program lawful seen between events cut state settled live meets.0 p recorded covers in
+          fails_by program lawful there cut state settled meter meets.0 fault below recorded (sym equal.1 ∙ some)
+          ∙ sym (fails_by program lawful here cut state settled meter live fault below p some)

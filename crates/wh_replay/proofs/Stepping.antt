@@ -22,7 +22,7 @@ use Rattle.wh_replay.specs.Views.{standpoint_of, standpoint_after, task_of}
 use Rattle.wh_replay.specs.Checks.{ends_live}
 
 -- none of the first events is a cut, where the history goes on with the rest
-abbrev Passed : List Event → List Event → Type 0
+abbrev pub Passed : List Event → List Event → Type 0
 Passed [] rest = Unit {0}
 Passed (event ∷ events) rest = (is_cut event (events ++ rest) ≡ false) × Passed events rest
 
@@ -199,7 +199,7 @@ lives_span events last number live n seen span record_there is none e = ap (λ b
     by None false false e = refl
 
 module _ {S : Type 0} (program : Program S) where
-  pass : (before between front : List Event) (cut : Event) (more : List Event) (current : Upshot S) → Passed front (cut ∷ more)
+  pub pass : (before between front : List Event) (cut : Event) (more : List Event) (current : Upshot S) → Passed front (cut ∷ more)
       → replay_after program before between (front ++ cut ∷ more) current ≡ replay_after program (before ++ front) (between ++ front) (cut ∷ more) current
   pass before between [] cut more current h = ap (λ l. replay_after program l between (cut ∷ more) current) (sym (append-nil before)) ∙ ap (λ l. replay_after program (before ++ []) l (cut ∷ more) current) (sym (append-nil between))
   pass before between (event ∷ front) cut more current h =

@@ -6,3 +6,4 @@ pub mod Activating
 pub mod Tracking
 pub mod Advances
 pub mod Laws
+pub mod Wholes
