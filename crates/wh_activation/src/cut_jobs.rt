@@ -1,6 +1,7 @@
 //! The jobs of a cut, made from the events since the cut before.
-ghost use Rattle.std.specs.Prelude.{◌≡◌, ◌++◌, ◌<◌, ◌≤◌, length, Some, OnOk, IfOk};
+ghost use Rattle.std.specs.Prelude.{◌≡◌, ◌++◌, ◌+◌, ◌≤◌, length, Some, OnOk, IfOk};
 ghost use Rattle.wh_activation.specs.Cutting.{listed, jobs_at};
+ghost use Rattle.wh_machines.specs.Lookups.{events_between};
 ghost use Rattle.wh_workflow.specs.Jobs.{id_at, signal_at, start_job, signal_job, outside_job, jobs_of};
 ghost use Rattle.wh_workflow.specs.declared.job.Job.TheVariants.{Activity, Child, SignalSent, SignalFailed};
 
@@ -232,6 +233,18 @@ fn jobs_of(
     Ok(jobs)
 }
 
+/// The events strictly between two numbers, of which the second is at most one more than the last:
+/// none where the first is not below it.
+#[tactic(auto, using(std::proofs::lemmas::List::drop_min))]
+fn between(events: &[Event], from: u64, to: EventNo) -> &[Event]
+    requires { to ≤ length events.now + 1 }
+    ensures { result.now ≡ events_between events.now from to }
+{
+    let before = &events[..(to.get() - 1) as usize];
+    let first = (from as usize).min(before.len());
+    &before[first..]
+}
+
 /// What a workflow is told at the cut `to`, the WorkflowTaskStarted of a workflow task, where
 /// `from` is the cut before, or 0 for the first: the time of the cut, the start where the run
 /// starts since the cut before, the signals since then in the order of the history, and then the
@@ -239,17 +252,17 @@ fn jobs_of(
 /// documentation, workflow tasks: <https://docs.temporal.io/tasks#workflow-task>; events:
 /// <https://docs.temporal.io/references/events>.)
 ///
-/// `from` is below `to`, and the track holds the event `to`; it is not looked at whether either is
-/// a cut, and later events change nothing. `OutOfMemory` where the allocator refused a growth;
-/// nothing was kept, and the track is as it was.
+/// It is not looked at whether either is a cut, and later events change nothing. Where `from` is
+/// not below `to`, no event stands between them, and only the time is told; where the track holds
+/// no event `to`, nothing is told. `OutOfMemory` where the allocator refused a growth; nothing was
+/// kept, and the track is as it was.
 pub fn jobs(alloc: Global, track: &Track, from: u64, to: EventNo) -> Result<Vec<Job>, OutOfMemory>
-    requires rising { from < to }
-    requires within { to ≤ length track.now }
     ensures { IfOk result (λ jobs. jobs.items ≡ jobs_at track.now from to) }
 {
     let Some(cut) = track.event(to) else {
         return Ok(Vec::new(alloc));
     };
-    let seen = &track.events()[..to.get() as usize];
-    jobs_of(alloc, seen, track.between(from, to.get()), cut)
+    let events = track.events();
+    let seen = &events[..to.get() as usize];
+    jobs_of(alloc, seen, between(events, from, to), cut)
 }

@@ -1,5 +1,5 @@
 -- An outside event between two places, looked up by its number.
-use Rattle.std.proofs.Common.{◌≡◌, ℕ, zero, suc, ◌+◌, ◌-◌, ◌<◌, ◌≤◌, Bool, true, false, ◌&&◌, ◌||◌, eqb, List, [], ◌∷◌, length, take, drop, Some, None, slice_get, refl, ap, ◌∙◌, arith}
+use Rattle.std.proofs.Common.{◌≡◌, ℕ, zero, suc, ◌+◌, ◌-◌, ◌<◌, ◌≤◌, Bool, true, false, ◌&&◌, ◌||◌, eqb, List, [], ◌∷◌, take, drop, Some, None, slice_get, refl, ap, ◌∙◌, arith}
 use Rattle.std.proofs.lemmas.Bool.{eqb-true, eqb-false, ne_eqb}
 use Rattle.wh_events.specs.declared.event.Event.{Event}
 use Rattle.wh_events.specs.Cuts.{is_outside}
@@ -16,6 +16,11 @@ not_alone false = refl
 both_first : (a b : Bool) → b ≡ false → ((a && true) || b) ≡ a
 both_first true b h = refl
 both_first false b h = h
+
+-- without events there is none at any place
+none_held : (i : ℕ) → false ≡ is_outside_in (slice_get [] i)
+none_held zero = refl
+none_held (suc i) = refl
 
 module _ (by : ℕ) where
   none_among : (k m : ℕ) → has_outside (Some by) (drop k (take m [])) ≡ false
@@ -53,10 +58,10 @@ module _ (by : ℕ) where
       let next : suc (by - 1 - (n + 1)) ≡ by - 1 - n = omega arith in
       ap (λ i. is_outside_in (slice_get (event ∷ rest) i)) next
 
-  among : (n k m : ℕ) (events : List Event) → NumberedFrom n events → n + k < by → by ≤ n + m → by ≤ n + length events → has_outside (Some by) (drop k (take m events)) ≡ is_outside_in (slice_get events (by - 1 - n))
-  among n k m [] numbered low high within = absurd (omega arith)
-  among n k zero (event ∷ rest) numbered low high within = absurd (omega arith)
-  among n zero (suc m) (event ∷ rest) numbered low high within = at (eqb by event.number) refl (λ far. among (n + 1) zero m rest numbered.1 (omega arith) (omega arith) (omega arith))
+  among : (n k m : ℕ) (events : List Event) → NumberedFrom n events → n + k < by → by ≤ n + m → has_outside (Some by) (drop k (take m events)) ≡ is_outside_in (slice_get events (by - 1 - n))
+  among n k m [] numbered low high = none_among k m ∙ none_held (by - 1 - n)
+  among n k zero (event ∷ rest) numbered low high = absurd (omega arith)
+  among n zero (suc m) (event ∷ rest) numbered low high = at (eqb by event.number) refl (λ far. among (n + 1) zero m rest numbered.1 (omega arith) (omega arith))
     where
       at : (b : Bool) → eqb by event.number ≡ b → (n + 1 < by → has_outside (Some by) (take m rest) ≡ is_outside_in (slice_get rest (by - 1 - (n + 1))))
           → ((is_outside event && eqb by event.number) || has_outside (Some by) (take m rest)) ≡ is_outside_in (slice_get (event ∷ rest) (by - 1 - n))
@@ -72,8 +77,8 @@ module _ (by : ℕ) where
           let other = eqb-false by event.number e in
           let far : n + 1 < by = omega arith in
           passed event (take m rest) e ∙ later far ∙ shifted n event rest far
-  among n (suc k) (suc m) (event ∷ rest) numbered low high within =
-      among (n + 1) k m rest numbered.1 (omega arith) (omega arith) (omega arith) ∙ shifted n event rest (omega arith)
+  among n (suc k) (suc m) (event ∷ rest) numbered low high =
+      among (n + 1) k m rest numbered.1 (omega arith) (omega arith) ∙ shifted n event rest (omega arith)
 
 module _ (events : List Event) (previous cut by : ℕ) (placed : fault_after [] events ≡ None) where
   numbers : NumberedFrom 0 events
@@ -83,11 +88,11 @@ module _ (events : List Event) (previous cut by : ℕ) (placed : fault_after [] 
   pub none_before : by ≤ previous → has_outside (Some by) (events_between events previous cut) ≡ false
   none_before h = before_all by 0 previous (cut - 1) events numbers (omega arith)
 
-  pub none_behind : 0 < cut → cut ≤ by → has_outside (Some by) (events_between events previous cut) ≡ false
+  pub none_behind : 0 < by → cut ≤ by → has_outside (Some by) (events_between events previous cut) ≡ false
   none_behind positive h = behind_all by 0 previous (cut - 1) events numbers (omega arith)
 
-  -- and a number between is that of the event at its place
-  pub found_between : previous < by → by < cut → cut ≤ length events → has_outside (Some by) (events_between events previous cut) ≡ is_outside_in (slice_get events (by - 1))
-  found_between low high within =
+  -- and a number between is that of the event at its place, if there is one
+  pub found_between : previous < by → by < cut → has_outside (Some by) (events_between events previous cut) ≡ is_outside_in (slice_get events (by - 1))
+  found_between low high =
       let index : by - 1 - 0 ≡ by - 1 = omega arith in
-      among by 0 previous (cut - 1) events numbers (omega arith) (omega arith) (omega arith) ∙ ap (λ i. is_outside_in (slice_get events i)) index
+      among by 0 previous (cut - 1) events numbers (omega arith) (omega arith) ∙ ap (λ i. is_outside_in (slice_get events i)) index

@@ -1,6 +1,6 @@
 //! The commands of an activation, as they are issued.
-ghost use Rattle.std.specs.Prelude.{◌≡◌, ◌+◌, ◌<◌, ◌≤◌, ◌++◌, ◌∷◌, [], List, Bool, Option, None};
-ghost use Rattle.std.specs.Prelude.{false, length, vec_len, IfOk, OnOk, OnErr, option_map};
+ghost use Rattle.std.specs.Prelude.{◌≡◌, ◌+◌, ◌≤◌, ◌++◌, ◌∷◌, [], List, Bool, Option, None};
+ghost use Rattle.std.specs.Prelude.{false, vec_len, IfOk, OnOk, OnErr, option_map};
 ghost use Rattle.wh_workflow.specs.Activations.{marker_if};
 ghost use Rattle.wh_events.specs.Cuts.{commanded};
 ghost use Rattle.wh_workflow.specs.declared.command.Command.{Command};
@@ -84,13 +84,12 @@ impl Script {
 
     /// Takes the next command, which is neither an ask nor a marker, and judges it by how things
     /// stood at the cut and by the commands before it; later events of the track change nothing.
-    /// The cut before is below the cut, and the track holds the cut.
+    /// Where the cut before is not below the cut, no event stands between them; where the track
+    /// does not hold the cut, all its events are seen, and those behind the cut before are between.
     ///
     /// `Workflow` where the command can't stand, with the least fault that it has; this comes
     /// before `OutOfMemory`. After either the script is as it was.
     pub fn issue(&mut self, track: &Track, command: Command) -> Result<(), ScriptFault>
-        requires rising { self.old.previous < self.old.cut }
-        requires within { self.old.cut ≤ length track.now }
         requires not_ask { is_ask command ≡ false }
         requires not_marker { is_marker command ≡ false }
         ensures fault { (recorded : Option (List Event)) (settled : Settled) →
@@ -245,8 +244,6 @@ impl Script {
 
     /// How the things of a kind under an id stand at the cut.
     fn standing(&self, track: &Track, kind: OpenKind, id: &str) -> Standing
-        requires rising { self.now.previous < self.now.cut }
-        requires within { self.now.cut ≤ length track.now }
         ensures { result ≡ standing_of (standpoint_in track.now self.now None) (thing_of kind) id.now }
     {
         standing_at(track, self.previous, self.cut, kind, id)
@@ -255,8 +252,6 @@ impl Script {
     /// Judges what the command does: whether it is a late cancel, or the fault that lies in it.
     #[tactic(auto, unfolding(wh_workflow::specs::Scripts::opening_fault, wh_workflow::specs::Scripts::cancel_fault))]
     fn judge_act(&self, track: &Track, command: &Command) -> Result<bool, WorkflowFault>
-        requires rising { self.now.previous < self.now.cut }
-        requires within { self.now.cut ≤ length track.now }
         requires not_ask { is_ask command.now ≡ false }
         ensures fault { let standpoint = standpoint_in track.now self.now None in
             result_err result ≡ act_fault standpoint [] self.now.issued (act_of command.now) }
@@ -281,8 +276,6 @@ impl Script {
     /// Judges the command after those so far: whether it is a late cancel, or the least fault that
     /// it has.
     fn judge(&self, track: &Track, command: &Command) -> Result<bool, WorkflowFault>
-        requires rising { self.now.previous < self.now.cut }
-        requires within { self.now.cut ≤ length track.now }
         requires not_ask { is_ask command.now ≡ false }
         ensures fault { (recorded : Option (List Event)) (settled : Settled) →
             let standpoint = standpoint_in track.now self.now recorded in

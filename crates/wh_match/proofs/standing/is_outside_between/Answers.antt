@@ -7,9 +7,9 @@ returns-then-number-previous c = sym (none_before c.args.events.now c.args.previ
 
 pub returns-then-cut-number : goal.returns-then-cut-number
 returns-then-cut-number c =
-    let rising = c.requires.rising in
+    let above = c.if-number-previous.false in
     sym (none_behind c.args.events.now c.args.previous c.args.cut c.args.number c.requires.placed (omega arith) c.if-cut-number.true)
 
 pub returns-else-cut-number : goal.returns-else-cut-number
 returns-else-cut-number c =
-    c.is_outside_at.ensures ∙ sym (found_between c.args.events.now c.args.previous c.args.cut c.args.number c.requires.placed c.if-number-previous.false c.if-cut-number.false c.requires.within)
+    c.is_outside_at.ensures ∙ sym (found_between c.args.events.now c.args.previous c.args.cut c.args.number c.requires.placed c.if-number-previous.false c.if-cut-number.false)
