@@ -1,5 +1,5 @@
 //! A source that gives the tasks of recorded histories.
-ghost use Rattle.std.specs.Prelude.{◌≡◌, ◌<◌, ◌-◌, ◌++◌, ◌∷◌, [], get_or, length, map, take, drop};
+ghost use Rattle.std.specs.Prelude.{◌≡◌, ◌<◌, ◌+◌, ◌-◌, ◌++◌, ◌∷◌, [], get_or, length, map, take, drop};
 ghost use Rattle.std.specs.Prelude.{option_map, IfOk, IfErr, IfSome, OnOk, OnErr};
 ghost use Rattle.wh_recorded.specs.Rounds.{scripted, opening_stage, with_answer, ends_of, tasks_in};
 ghost use Rattle.wh_recorded.specs.Rounds.{begin_at, task_of, key_of, events_up_to, first_named};
@@ -176,6 +176,22 @@ fn find_task(histories: &[ScriptedHistory], from: usize, n: usize) -> Option<usi
     None
 }
 
+/// The round after round `n`, counted from 0, and the place of the first history that has a task of
+/// it.
+fn find_later(histories: &[ScriptedHistory], n: usize) -> Option<(usize, usize)>
+    ensures exact { result ≡ option_map (λ place. (n + 1, place)) (first_with 0 (n + 1) histories.now) }
+    ensures within { IfSome result (λ found. found.1 < length histories.now) }
+    ensures has { IfSome result (λ found. (other : _) →
+        found.0 < tasks_in (get_or histories.now found.1 other)) }
+{
+    for place in 0..histories.len() {
+        if n < histories[place].tasks().saturating_sub(1) {
+            return Some((n + 1, place));
+        }
+    }
+    None
+}
+
 /// How many answers without a fault were sent to tasks of the file.
 fn count_completed(answers: &[(TaskName, Sent)], index: u64) -> u64
     ensures { result ≡ completed_of index answers.now }
@@ -307,9 +323,7 @@ impl ScriptSource {
         if let Some(place) = find_task(histories, self.next, self.round) {
             return Some((self.round, place));
         }
-        let round = self.round.saturating_add(1);
-        let place = find_task(histories, 0, round)?;
-        Some((round, place))
+        find_later(histories, self.round)
     }
 }
 
