@@ -1,1 +1,6 @@
+pub mod Left
+pub mod Listing
+pub mod Naming
 pub mod Parting
+pub mod Reading
+pub mod Standing

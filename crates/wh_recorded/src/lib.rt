@@ -1,6 +1,7 @@
 //! Recorded histories as a source of tasks.
 #![tactic(auto)]
 
+pub mod laws;
 mod script_source;
 
 pub use script_source::ScriptSource;
