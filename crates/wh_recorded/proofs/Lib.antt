@@ -1,3 +1,4 @@
+pub mod Ends
 pub mod Left
 pub mod Listing
 pub mod Naming

@@ -1,6 +1,7 @@
 -- A source over scripted histories: which tasks it gives, what it tells, and how its tasks were
 -- answered.
-use Rattle.std.specs.Prelude.{◌≡◌, ℕ, ◌+◌, ◌-◌, ◌*◌, ◌/◌, ◌<◌, min, Bool, false, List, [], ◌∷◌, ◌++◌, length, drop, take, get_or, slice_get, Option, Some, None, if◌then◌else◌, eqb, leb, ltb, bytes_eq, codes, String, string_bytes, Vec, sum_by, count_by}
+use Rattle.std.specs.Prelude.{◌≡◌, ℕ, zero, suc, ◌+◌, ◌-◌, ◌*◌, ◌<◌, ◌&&◌, min, Bool, true, false, List, [], ◌∷◌, ◌++◌, length, drop, take, get_or, slice_get, Option, Some, None, if◌then◌else◌, eqb, leb, ltb, bytes_eq, codes, String, string_bytes, Vec, sum_by, count_by}
+use Rattle.std.specs.List.{list_any}
 use Rattle.std.specs.declared.alloc.Global.{Global}
 use Rattle.wh_events.specs.declared.event.Event.{Event}
 use Rattle.wh_events.specs.declared.key.RunKey.{RunKey}
@@ -169,25 +170,38 @@ Recounts histories key up_to history = history ≡ told histories key up_to
 abbrev pub polled_at : Stage → ℕ → Scripted → ℕ
 polled_at stage place history = min (if ltb place stage.next then stage.round + 1 else stage.round) (tasks_in history)
 
--- an answer without a fault to a workflow task of the file
-abbrev pub completes : ℕ → TaskName → Sent → Bool
-completes index name (OfWorkflow (Complete commands)) = eqb (name.0 / 0x1_0000_0000_0000_0000) index
-completes index name _ = false
+-- an answer without a fault to a workflow task
+abbrev pub is_complete : Sent → Bool
+is_complete (OfWorkflow (Complete commands)) = true
+is_complete _ = false
 
--- how many answers without a fault were sent to tasks of the file
-abbrev pub completed_of : ℕ → List (TaskName × Sent) → ℕ
-completed_of index answers = count_by (λ sent. completes index sent.0 sent.1) answers
+-- what was sent under a name completes the task of this name
+abbrev pub completes : TaskName → TaskName × Sent → Bool
+completes name sent = is_complete sent.1 && eqb sent.0.0 name.0
 
--- the same, by the history and its place
+-- one of the answers completes the task of this name
+abbrev pub is_completed : List (TaskName × Sent) → TaskName → Bool
+is_completed answers name = list_any (completes name) answers
+
+-- the first so many tasks of a history
+abbrev pub first_tasks : Scripted → ℕ → List WorkflowTask
+first_tasks history zero = []
+first_tasks history (suc n) = first_tasks history n ++ task_of history n ∷ []
+
+-- how many of the tasks are completed by one of the answers
+abbrev pub completed_of : List (TaskName × Sent) → List WorkflowTask → ℕ
+completed_of answers tasks = count_by (λ task. is_completed answers task.name) tasks
+
+-- the tally of the first history of a name, by the history and its place
 abbrev pub tally_by : Stage → Option (ℕ × Scripted) → Option (ℕ × ℕ × ℕ)
 tally_by stage None = None
 tally_by stage (Some found) =
     let polled = polled_at stage found.0 found.1 in
-    let completed = completed_of found.1.index stage.answers in
+    let completed = completed_of stage.answers (first_tasks found.1 polled) in
     Some (polled, completed, polled - completed)
 
--- how many tasks of the first history of the name were polled, how many were completed, and the
--- others of them
+-- how many tasks of the first history of the name were polled, how many of these are completed, and
+-- how many are not
 abbrev pub tally_of : Stage → List ℕ → Option (ℕ × ℕ × ℕ)
 tally_of stage name = tally_by stage (first_named 0 name stage.histories)
 

@@ -3,5 +3,6 @@
 
 pub mod laws;
 mod script_source;
+mod sent_answers;
 
 pub use script_source::ScriptSource;
