@@ -20,7 +20,7 @@ enough_polls_give_all histories calls last made enough =
     polls_go_in_rounds histories calls last made ∙ take_all (polls_in calls) (in_rounds histories) enough
 
 -- all tasks are those given and those left
-parted : (histories : List Scripted) (calls : List Call) (last : Stage) → Makes histories calls last → in_rounds histories ≡ tasks_given calls ++ left last
+pub parted : (histories : List Scripted) (calls : List Call) (last : Stage) → Makes histories calls last → in_rounds histories ≡ tasks_given calls ++ left last
 parted histories calls last made = all_left histories ∙ given_and_left (opening_stage histories) last calls made
 
 parted_at_task : (histories : List Scripted) (calls : List Call) (last after : Stage) (task : WorkflowTask) → Makes histories calls last → Polls last (Task task) after → in_rounds histories ≡ tasks_given calls ++ (task ∷ left after)

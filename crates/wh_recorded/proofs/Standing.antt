@@ -12,13 +12,13 @@ use Rattle.wh_recorded.proofs.Reading.{slice_get-left, slice_get-right}
 -- ---- one round
 
 -- how many of the histories have an n-th task
-abbrev having : ℕ → List Scripted → ℕ
+abbrev pub having : ℕ → List Scripted → ℕ
 having n histories = count_by (has_task n) histories
 
-having-cons : (n : ℕ) (x : Scripted) (rest : List Scripted) → having n (x ∷ rest) ≡ cond (ltb n (tasks_in x)) 1 0 + having n rest
+pub having-cons : (n : ℕ) (x : Scripted) (rest : List Scripted) → having n (x ∷ rest) ≡ cond (ltb n (tasks_in x)) 1 0 + having n rest
 having-cons n x rest = sum_by-cons (λ history. cond (has_task n history) 1 0) x rest
 
-round_length : (n : ℕ) (histories : List Scripted) → length (round_of n histories) ≡ having n histories
+pub round_length : (n : ℕ) (histories : List Scripted) → length (round_of n histories) ≡ having n histories
 round_length n [] = refl
 round_length n (x ∷ rest) =
     let more = round_length n rest in
@@ -28,7 +28,7 @@ round_length n (x ∷ rest) =
     ]) ∙ sym (having-cons n x rest)
 
 -- the n-th task of a history stands behind those of the histories before it
-in_round : (n : ℕ) (histories : List Scripted) (place : ℕ) (history : Scripted) → slice_get histories place ≡ Some history → n < tasks_in history → slice_get (round_of n histories) (having n (take place histories)) ≡ Some (task_of history n)
+pub in_round : (n : ℕ) (histories : List Scripted) (place : ℕ) (history : Scripted) → slice_get histories place ≡ Some history → n < tasks_in history → slice_get (round_of n histories) (having n (take place histories)) ≡ Some (task_of history n)
 in_round n [] place history at has = absurd (none-some history at)
 in_round n (x ∷ rest) zero history at has =
     let same : x ≡ history = same_Some x history at in
@@ -76,7 +76,7 @@ from_round n (x ∷ rest) k task e =
 -- ---- the rounds
 
 -- how many tasks stand before the n-th round
-abbrev before : ℕ → List Scripted → ℕ
+abbrev pub before : ℕ → List Scripted → ℕ
 before n histories = sum_by (λ history. min n (tasks_in history)) histories
 
 before-cons : (n : ℕ) (x : Scripted) (rest : List Scripted) → before n (x ∷ rest) ≡ min n (tasks_in x) + before n rest
@@ -86,7 +86,7 @@ before_first : (histories : List Scripted) → before 0 histories ≡ 0
 before_first [] = refl
 before_first (x ∷ rest) = let one = before-cons 0 x rest in let none = before_first rest in omega (arith, one, none)
 
-before_next : (n : ℕ) (histories : List Scripted) → before (n + 1) histories ≡ before n histories + length (round_of n histories)
+pub before_next : (n : ℕ) (histories : List Scripted) → before (n + 1) histories ≡ before n histories + length (round_of n histories)
 before_next n histories = by_having histories ∙ ap (λ k. before n histories + k) (sym (round_length n histories))
   where
     one_more : (t : ℕ) → min (n + 1) t ≡ min n t + cond (ltb n t) 1 0
@@ -105,7 +105,7 @@ before_next n histories = by_having histories ∙ ap (λ k. before n histories +
         let others = by_having rest in
         omega (arith, more, less, have, one, others)
 
-before_rises : (n m : ℕ) (histories : List Scripted) → n ≤ m → before n histories ≤ before m histories
+pub before_rises : (n m : ℕ) (histories : List Scripted) → n ≤ m → before n histories ≤ before m histories
 before_rises n m [] low = omega arith
 before_rises n m (x ∷ rest) low =
     let less = before-cons n x rest in
@@ -113,7 +113,7 @@ before_rises n m (x ∷ rest) low =
     let others = before_rises n m rest low in
     omega (arith, low, less, more, others)
 
-before_all : (n : ℕ) (histories : List Scripted) → rounds_in histories ≤ n → before n histories ≡ sum_by tasks_in histories
+pub before_all : (n : ℕ) (histories : List Scripted) → rounds_in histories ≤ n → before n histories ≡ sum_by tasks_in histories
 before_all n [] most = refl
 before_all n (x ∷ rest) most =
     let all = before-cons n x rest in
@@ -165,7 +165,7 @@ from_rounds n (suc more) histories i task e =
         let next = before_next n histories in
         record { round = r.round; k = r.k; at = r.at; rank = omega (arith, rank, next, behind) }
 
-rounds_length : (n more : ℕ) (histories : List Scripted) → length (rounds_from n more histories) + before n histories ≡ before (n + more) histories
+pub rounds_length : (n more : ℕ) (histories : List Scripted) → length (rounds_from n more histories) + before n histories ≡ before (n + more) histories
 rounds_length n zero histories = let none : n ≡ n + 0 = omega arith in omega arith ∙ ap (λ k. before k histories) none
 rounds_length n (suc more) histories =
     let both = length-append (round_of n histories) (rounds_from (n + 1) more histories) in

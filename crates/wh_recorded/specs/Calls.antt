@@ -1,12 +1,12 @@
 -- Lists of calls of a source, and what its polls give over each of them.
-use Rattle.std.specs.Prelude.{◌≡◌, ◌↔◌, ℕ, ◌+◌, ◌≤◌, List, [], ◌∷◌, length, take, slice_get, Option, Some, None}
+use Rattle.std.specs.Prelude.{◌≡◌, ◌↔◌, ℕ, ◌+◌, ◌<◌, ◌≤◌, List, [], ◌∷◌, length, take, slice_get, Option, Some, None}
 use Rattle.wh_slots.specs.declared.TaskName.{TaskName}
 use Rattle.wh_tasks.specs.declared.source.Sent.{Sent}
 use Rattle.wh_tasks.specs.declared.source.WorkflowTask.{WorkflowTask}
 use Rattle.wh_tasks.specs.declared.source.Polled.{Polled}
 use Rattle.wh_tasks.specs.declared.source.Polled.TheVariants.{Task, Nothing, Closed}
-use Rattle.wh_recorded.specs.Rounds.{Scripted, Stage, opening_stage, with_answer, Polls}
-use Rattle.wh_recorded.specs.Order.{in_rounds, HaveOwnNumbers, HaveOwnNames}
+use Rattle.wh_recorded.specs.Rounds.{Scripted, Stage, opening_stage, with_answer, tasks_in, task_of, polled_at, Polls}
+use Rattle.wh_recorded.specs.Order.{in_rounds, rank_of, HaveOwnNumbers, HaveOwnNames}
 
 -- a call of a source: a poll of workflow tasks with what it gave, an answer that was taken, or one
 -- that changes nothing, as a call that failed, a poll of activity tasks and one that only tells
@@ -77,6 +77,14 @@ ClosedWhereAllGiven =
     (histories : List Scripted) (calls : List Call) (last after : Stage) (polled : Polled WorkflowTask)
     → Makes histories calls last → Polls last polled after
     → (polled ≡ Closed) ↔ (tasks_given calls ≡ in_rounds histories)
+
+-- those tasks of a history count as polled that were given, each at its rank
+abbrev pub PolledAreGiven : Type 0
+PolledAreGiven =
+    (histories : List Scripted) (calls : List Call) (last : Stage) (place n : ℕ) (history : Scripted)
+    → Makes histories calls last → slice_get histories place ≡ Some history → n < tasks_in history
+    → (n < polled_at last place history)
+    ↔ (slice_get (tasks_given calls) (rank_of histories place n) ≡ Some (task_of history n))
 
 -- where numbers tell histories and their events apart, no two tasks that are given have one name
 abbrev pub GivenNamesAreOwn : Type 0

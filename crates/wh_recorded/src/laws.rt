@@ -2,7 +2,7 @@
 //! function that does nothing.
 ghost use Rattle.wh_recorded.specs.Order.{EachStandsAtItsRank, NothingElseStands, AsManyAsTasks, NamesAreOwn};
 ghost use Rattle.wh_recorded.specs.Calls.{PollsGoInRounds, EnoughPollsGiveAll, PollGivesNext};
-ghost use Rattle.wh_recorded.specs.Calls.{ClosedWhereAllGiven, GivenNamesAreOwn};
+ghost use Rattle.wh_recorded.specs.Calls.{ClosedWhereAllGiven, PolledAreGiven, GivenNamesAreOwn};
 
 /// In the order of the rounds the n-th task of a history stands behind the first n of each, and
 /// behind the n-th of the histories before it. Nothing else stands there, so each task stands there
@@ -14,12 +14,14 @@ pub fn rounds_are_said()
 {}
 
 /// Over every list of calls of a new source its polls give the tasks in the order of the rounds,
-/// each once, and are closed exactly where all have been given.
+/// each once, and are closed exactly where all have been given. What counts as polled in a tally was
+/// given.
 pub fn polls_go_in_rounds()
     ensures order { PollsGoInRounds }
     ensures all { EnoughPollsGiveAll }
     ensures next { PollGivesNext }
     ensures closed { ClosedWhereAllGiven }
+    ensures polled { PolledAreGiven }
 {}
 
 /// Where numbers tell histories and their events apart, names tell tasks apart: no name is given
