@@ -14,8 +14,8 @@ pub fn rounds_are_said()
 {}
 
 /// Over every list of calls of a new source its polls give the tasks in the order of the rounds,
-/// each once, and are closed exactly where all have been given. What counts as polled in a tally was
-/// given.
+/// each once, and are closed exactly where all have been given. The tasks that a tally counts as
+/// polled are those given.
 pub fn polls_go_in_rounds()
     ensures order { PollsGoInRounds }
     ensures all { EnoughPollsGiveAll }
