@@ -1,1 +1,8 @@
+pub mod Ends
+pub mod Given
+pub mod Left
+pub mod Listing
+pub mod Naming
 pub mod Parting
+pub mod Reading
+pub mod Standing

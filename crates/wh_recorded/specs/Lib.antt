@@ -1,1 +1,3 @@
+pub mod Calls
+pub mod Order
 pub mod Rounds

@@ -1,5 +1,7 @@
--- A source over scripted histories: which tasks it gives, what it tells, and how its tasks were answered.
-use Rattle.std.specs.Prelude.{◌≡◌, ℕ, ◌+◌, ◌-◌, ◌*◌, ◌/◌, ◌<◌, min, Bool, false, List, [], ◌∷◌, ◌++◌, length, drop, take, get_or, slice_get, Option, Some, None, if◌then◌else◌, eqb, leb, ltb, bytes_eq, codes, String, string_bytes, Vec, sum_by, count_by}
+-- A source over scripted histories: which tasks it gives, what it tells, and how its tasks were
+-- answered.
+use Rattle.std.specs.Prelude.{◌≡◌, ℕ, zero, suc, ◌+◌, ◌-◌, ◌*◌, ◌<◌, ◌&&◌, min, Bool, true, false, List, [], ◌∷◌, ◌++◌, length, drop, take, get_or, slice_get, Option, Some, None, if◌then◌else◌, eqb, leb, ltb, bytes_eq, codes, String, string_bytes, Vec, sum_by, count_by}
+use Rattle.std.specs.List.{list_any}
 use Rattle.std.specs.declared.alloc.Global.{Global}
 use Rattle.wh_events.specs.declared.event.Event.{Event}
 use Rattle.wh_events.specs.declared.key.RunKey.{RunKey}
@@ -20,8 +22,8 @@ pub record Scripted : Type 0 where
   pub name : List ℕ
   pub events : List Event
 
--- a source as contracts see it: its histories, the round of its next task and the place of the history that comes
--- next in it, both counted from 0, and the answers that it was sent
+-- a source as contracts see it: its histories, the round of its next task and the place of the
+-- history that comes next in it, both counted from 0, and the answers that it was sent
 pub record Stage : Type 0 where
   pub histories : List Scripted
   pub round : ℕ
@@ -40,8 +42,8 @@ with_answer stage name sent = record stage { answers = stage.answers ++ (name, s
 abbrev pub scripted : (ℕ × String Global × Vec Event Global) → Scripted
 scripted given = record { index = given.0; name = string_bytes given.1; events = given.2.items }
 
--- the ends of the tasks of a list of events, where so many events stand before it: how many events stand before
--- and up to each event that starts a task
+-- the ends of the tasks of a list of events, where so many events stand before it: how many events
+-- stand before and up to each event that starts a task
 abbrev pub ends_after : ℕ → List Event → List ℕ
 ends_after before [] = []
 ends_after before (event ∷ rest) =
@@ -55,16 +57,19 @@ ends_of events = ends_after 0 events
 abbrev pub tasks_in : Scripted → ℕ
 tasks_in history = length (ends_of history.events)
 
--- how many events stand before the n-th task, counted from 0: as many as up to the end of the task before it
+-- how many events stand before the n-th task, counted from 0: as many as up to the end of the task
+-- before it
 abbrev pub begin_at : List ℕ → ℕ → ℕ
 begin_at ends n = if eqb n 0 then 0 else get_or ends (n - 1) 0
 
--- the events of the n-th task, counted from 0: those up to its end, without those of the tasks before it
+-- the events of the n-th task, counted from 0: those up to its end, without those of the tasks
+-- before it
 abbrev pub events_of : List Event → ℕ → List Event
 events_of events n =
     take (get_or (ends_of events) n 0 - begin_at (ends_of events) n) (drop (begin_at (ends_of events) n) events)
 
--- the token of a task: the file's index times 2^64 plus the number of the event that starts the task
+-- the token of a task: the file's index times 2^64 plus the number of the event that starts the
+-- task
 abbrev pub token : ℕ → ℕ → TaskName
 token index number = record { 0 = index * 0x1_0000_0000_0000_0000 + number }
 
@@ -89,21 +94,17 @@ IsTaskOf histories task =
     × (n < tasks_in history)
     × (task ≡ task_of history n)
 
--- the place of the first history that has an n-th task, counted from 0, where so many histories stand before it,
--- if there is one
+-- the place of the first history that has an n-th task, counted from 0, where so many histories
+-- stand before it, if there is one
 abbrev pub first_with : ℕ → ℕ → List Scripted → Option ℕ
 first_with before n [] = None
 first_with before n (history ∷ rest) = if ltb n (tasks_in history) then Some before else first_with (before + 1) n rest
 
--- the round after, at most 2^64 - 1
-abbrev pub round_after : ℕ → ℕ
-round_after round = min (round + 1) 0xffff_ffff_ffff_ffff
-
--- the round and the history of the next task, by the first history that is left in this round and the first of the
--- next round
+-- the round and the history of the next task, by the first history that is left in this round and
+-- the first of the next round
 abbrev pub upcoming_by : ℕ → Option ℕ → Option ℕ → Option (ℕ × ℕ)
 upcoming_by round (Some place) later = Some (round, place)
-upcoming_by round None (Some place) = Some (round_after round, place)
+upcoming_by round None (Some place) = Some (round + 1, place)
 upcoming_by round None None = None
 
 -- the round of the next task and the place of its history, if a task is left
@@ -111,9 +112,10 @@ abbrev pub upcoming : Stage → Option (ℕ × ℕ)
 upcoming stage =
     upcoming_by stage.round
     (first_with stage.next stage.round (drop stage.next stage.histories))
-    (first_with 0 (round_after stage.round) stage.histories)
+    (first_with 0 (stage.round + 1) stage.histories)
 
--- a poll gives the next task and goes on behind it, and where no task is left the source is closed and stays as it is
+-- a poll gives the next task and goes on behind it, and where no task is left the source is closed
+-- and stays as it is
 abbrev pub Polls : Stage → Polled WorkflowTask → Stage → Type 0
 Polls old (Task task) new =
     (round place : ℕ)
@@ -125,7 +127,8 @@ Polls old (Task task) new =
 Polls old Nothing new = ⊥
 Polls old Closed new = (upcoming old ≡ None) × (new ≡ old)
 
--- a source comes from another one: it has the same histories, and first the answers that the other one was sent
+-- a source comes from another one: it has the same histories, and first the answers that the other
+-- one was sent
 pub record ComesFrom (later first : Stage) : Type 0 where
   pub histories : later.histories ≡ first.histories
   pub more : List (TaskName × Sent)
@@ -141,7 +144,8 @@ abbrev pub events_up_to : ℕ → List Event → List Event
 events_up_to number [] = []
 events_up_to number (event ∷ rest) = if leb event.number number then event ∷ events_up_to number rest else []
 
--- the first history of the name with its place, where so many histories stand before it, if there is one
+-- the first history of the name with its place, where so many histories stand before it, if there
+-- is one
 abbrev pub first_named : ℕ → List ℕ → List Scripted → Option (ℕ × Scripted)
 first_named before name [] = None
 first_named before name (history ∷ rest) =
@@ -152,8 +156,8 @@ abbrev pub events_in : ℕ → Option (ℕ × Scripted) → List Event
 events_in up_to None = []
 events_in up_to (Some found) = events_up_to up_to found.1.events
 
--- what the source tells of a key: the events of the first history of its name up to the number, none where the run
--- is not `recorded`
+-- what the source tells of a key: the events of the first history of its name up to the number,
+-- none where the run is not `recorded`
 abbrev pub told : List Scripted → RunKey → ℕ → List Event
 told histories key up_to =
     if bytes_eq key.run_id (codes "recorded") then events_in up_to (first_named 0 key.workflow_id histories) else []
@@ -166,24 +170,38 @@ Recounts histories key up_to history = history ≡ told histories key up_to
 abbrev pub polled_at : Stage → ℕ → Scripted → ℕ
 polled_at stage place history = min (if ltb place stage.next then stage.round + 1 else stage.round) (tasks_in history)
 
--- an answer without a fault to a workflow task of the file
-abbrev pub completes : ℕ → TaskName → Sent → Bool
-completes index name (OfWorkflow (Complete commands)) = eqb (name.0 / 0x1_0000_0000_0000_0000) index
-completes index name _ = false
+-- an answer without a fault to a workflow task
+abbrev pub is_complete : Sent → Bool
+is_complete (OfWorkflow (Complete commands)) = true
+is_complete _ = false
 
--- how many answers without a fault were sent to tasks of the file
-abbrev pub completed_of : ℕ → List (TaskName × Sent) → ℕ
-completed_of index answers = count_by (λ sent. completes index sent.0 sent.1) answers
+-- what was sent under a name completes the task of this name
+abbrev pub completes : TaskName → TaskName × Sent → Bool
+completes name sent = is_complete sent.1 && eqb sent.0.0 name.0
 
--- the same, by the history and its place
+-- one of the answers completes the task of this name
+abbrev pub is_completed : List (TaskName × Sent) → TaskName → Bool
+is_completed answers name = list_any (completes name) answers
+
+-- the first so many tasks of a history
+abbrev pub first_tasks : Scripted → ℕ → List WorkflowTask
+first_tasks history zero = []
+first_tasks history (suc n) = first_tasks history n ++ task_of history n ∷ []
+
+-- how many of the tasks are completed by one of the answers
+abbrev pub completed_of : List (TaskName × Sent) → List WorkflowTask → ℕ
+completed_of answers tasks = count_by (λ task. is_completed answers task.name) tasks
+
+-- the tally of the first history of a name, by the history and its place
 abbrev pub tally_by : Stage → Option (ℕ × Scripted) → Option (ℕ × ℕ × ℕ)
 tally_by stage None = None
 tally_by stage (Some found) =
     let polled = polled_at stage found.0 found.1 in
-    let completed = completed_of found.1.index stage.answers in
+    let completed = completed_of stage.answers (first_tasks found.1 polled) in
     Some (polled, completed, polled - completed)
 
--- how many tasks of the first history of the name were polled, how many were completed, and the others of them
+-- how many tasks of the first history of the name were polled, how many of these are completed, and
+-- how many are not
 abbrev pub tally_of : Stage → List ℕ → Option (ℕ × ℕ × ℕ)
 tally_of stage name = tally_by stage (first_named 0 name stage.histories)
 

@@ -1,15 +1,17 @@
 //! A source that gives the tasks of recorded histories.
-ghost use Rattle.std.specs.Prelude.{◌≡◌, ◌<◌, ◌-◌, ◌++◌, ◌∷◌, [], get_or, length, map, take, drop};
+ghost use Rattle.std.specs.Prelude.{◌≡◌, ◌<◌, ◌≤◌, ◌+◌, ◌-◌, get_or, length, map, take, drop};
 ghost use Rattle.std.specs.Prelude.{option_map, IfOk, IfErr, IfSome, OnOk, OnErr};
 ghost use Rattle.wh_recorded.specs.Rounds.{scripted, opening_stage, with_answer, ends_of, tasks_in};
 ghost use Rattle.wh_recorded.specs.Rounds.{begin_at, task_of, key_of, events_up_to, first_named};
-ghost use Rattle.wh_recorded.specs.Rounds.{completed_of, tally_of, deliveries_of, first_with};
+ghost use Rattle.wh_recorded.specs.Rounds.{first_tasks, completed_of, tally_of, deliveries_of, first_with};
 ghost use Rattle.wh_recorded.specs.Rounds.{upcoming, told, ComesFrom, Gives, Recounts, Polls};
+ghost use Rattle.wh_tasks.specs.Numbers.{last_number};
 ghost use Rattle.wh_tasks.specs.Source.{Delivery, FailsOnly, IfTask, KeepsOrigin, SameTasks};
 ghost use Rattle.wh_tasks.specs.declared.source.Polled.{Polled};
 ghost use Rattle.wh_tasks.specs.declared.source.Sent.{Sent};
 ghost use Rattle.wh_tasks.specs.declared.source.SourceFault.{SourceFault};
 
+use crate::sent_answers::SentAnswers;
 use std::alloc::Global;
 use std::marker::Model;
 use wh_events::{Event, EventKind, Items, OutOfMemory, RunKey, Text};
@@ -75,6 +77,15 @@ fn copy_between(
     Ok(copies)
 }
 
+/// The number of the last of the events behind the first `begin` of them, up to `end`.
+fn last_between(events: &[Event], begin: usize, end: usize) -> u64
+    requires begins { begin ≤ end }
+    requires ends { end ≤ length events.now }
+    ensures { result ≡ last_number (take (end - begin) (drop begin events.now)) }
+{
+    last_number(&events[begin..end])
+}
+
 /// Copies of the events up to a number.
 fn copy_up_to(alloc: Global, events: &[Event], up_to: u64) -> Result<Vec<Event>, OutOfMemory>
     ensures { IfOk result (λ copies. copies.items ≡ events_up_to up_to events.now) }
@@ -132,18 +143,40 @@ impl ScriptedHistory {
         if n == 0 { 0 } else { self.ends[n - 1] }
     }
 
+    /// The name of a task, counted from 0.
+    fn name_of(&self, n: usize) -> TaskName
+        requires { n < tasks_in self.now }
+        ensures { result ≡ (task_of self.now n).name }
+    {
+        let number = last_between(self.events.as_slice(), self.begin(n), self.ends[n]);
+        TaskName(u128::from(self.index) * TOKENS + u128::from(number))
+    }
+
     /// A task, counted from 0.
     fn task(&self, alloc: Global, n: usize) -> Result<WorkflowTask, OutOfMemory>
         requires { n < tasks_in self.now }
         ensures { IfOk result (λ task. task ≡ task_of self.now n) }
     {
         let events = copy_between(alloc, self.events.as_slice(), self.begin(n), self.ends[n])?;
-        let number = last_number(events.as_slice());
         Ok(WorkflowTask {
-            name: TaskName(u128::from(self.index) * TOKENS + u128::from(number)),
+            name: self.name_of(n),
             run: key_of(alloc, self.name.as_str())?,
             events: Items::new(events),
         })
+    }
+
+    /// How many of its first `n` tasks one of the answers completes.
+    fn count_completed(&self, n: usize, answers: &SentAnswers) -> u64
+        requires { n ≤ tasks_in self.now }
+        ensures { result ≡ completed_of answers.now (first_tasks self.now n) }
+    {
+        let mut completed = 0;
+        for task in 0..n {
+            if answers.is_completed(self.name_of(task)) {
+                completed += 1;
+            }
+        }
+        completed
     }
 }
 
@@ -176,31 +209,20 @@ fn find_task(histories: &[ScriptedHistory], from: usize, n: usize) -> Option<usi
     None
 }
 
-/// How many answers without a fault were sent to tasks of the file.
-fn count_completed(answers: &[(TaskName, Sent)], index: u64) -> u64
-    ensures { result ≡ completed_of index answers.now }
+/// The round after round `n`, counted from 0, and the place of the first history that has a task of
+/// it.
+fn find_later(histories: &[ScriptedHistory], n: usize) -> Option<(usize, usize)>
+    ensures exact { result ≡ option_map (λ place. (n + 1, place)) (first_with 0 (n + 1) histories.now) }
+    ensures within { IfSome result (λ found. found.1 < length histories.now) }
+    ensures has { IfSome result (λ found. (other : _) →
+        found.0 < tasks_in (get_or histories.now found.1 other)) }
 {
-    let mut completed = 0;
-    for (name, sent) in answers {
-        if let Sent::Workflow(Answer::Complete(_)) = sent
-            && name.0 / TOKENS == u128::from(index)
-        {
-            completed += 1;
+    for place in 0..histories.len() {
+        if n < histories[place].tasks().saturating_sub(1) {
+            return Some((n + 1, place));
         }
     }
-    completed
-}
-
-/// Appends an answer to the list.
-fn store(answers: &mut Vec<(TaskName, Sent)>, name: TaskName, sent: Sent) -> Result<(), SourceFault>
-    ensures sent { OnOk result (answers.new.items ≡ answers.old.items ++ (name, sent) ∷ []) }
-    ensures unsent { OnErr result (answers.new.items ≡ answers.old.items) }
-    ensures failures { FailsOnly result 0 0 }
-{
-    match answers.push((name, sent)) {
-        Ok(()) => Ok(()),
-        Err(_) => Err(SourceFault::OutOfMemory),
-    }
+    None
 }
 
 /// A source over recorded histories, which gives their workflow tasks round by round and stores the
@@ -221,7 +243,7 @@ pub struct ScriptSource {
     histories: Vec<ScriptedHistory>,
     round: usize,
     next: usize,
-    answers: Vec<(TaskName, Sent)>,
+    answers: SentAnswers,
 }
 
 impl Model for ScriptSource {
@@ -233,7 +255,7 @@ impl Model for ScriptSource {
       histories = s.histories.items;
       round = s.round;
       next = s.next;
-      answers = s.answers.items;
+      answers = s.answers;
     } };
 }
 
@@ -256,7 +278,7 @@ impl ScriptSource {
             histories: scripted,
             round: 0,
             next: 0,
-            answers: Vec::new(alloc),
+            answers: SentAnswers::new(alloc),
         })
     }
 
@@ -271,9 +293,8 @@ impl ScriptSource {
         deliveries
     }
 
-    /// For the first history of the name: how many of its tasks were polled, how many answers
-    /// without a fault were sent to tasks of its file, and by how many the tasks are more than
-    /// those. `None` where no history has the name.
+    /// For the first history of the name: how many of its tasks were polled, how many of these one
+    /// of the answers completes, and how many none does. `None` where no history has the name.
     pub fn tally(&self, name: &str) -> Option<(u64, u64, u64)>
         ensures { result ≡ tally_of self.now name.now }
     {
@@ -283,9 +304,13 @@ impl ScriptSource {
         } else {
             self.round
         };
-        let tasks = rounds.min(history.tasks()) as u64;
-        let completed = count_completed(self.answers.as_slice(), history.index);
-        Some((tasks, completed, tasks.saturating_sub(completed)))
+        let tasks = rounds.min(history.tasks());
+        let completed = history.count_completed(tasks, &self.answers);
+        Some((
+            tasks as u64,
+            completed,
+            (tasks as u64).saturating_sub(completed),
+        ))
     }
 
     /// The answers that it was sent, each with the name of its task, in the order in which they
@@ -307,9 +332,7 @@ impl ScriptSource {
         if let Some(place) = find_task(histories, self.next, self.round) {
             return Some((self.round, place));
         }
-        let round = self.round.saturating_add(1);
-        let place = find_task(histories, 0, round)?;
-        Some((round, place))
+        find_later(histories, self.round)
     }
 }
 
@@ -382,7 +405,7 @@ impl TaskSource for ScriptSource {
         let Ok(copy) = answer.try_copy(self.alloc) else {
             return Err(SourceFault::OutOfMemory);
         };
-        store(&mut self.answers, name, Sent::Workflow(copy))
+        self.answers.store(name, Sent::Workflow(copy))
     }
 
     fn answer_activity(
@@ -397,6 +420,6 @@ impl TaskSource for ScriptSource {
         let Ok(copy) = answer.try_copy() else {
             return Err(SourceFault::OutOfMemory);
         };
-        store(&mut self.answers, name, Sent::Activity(copy))
+        self.answers.store(name, Sent::Activity(copy))
     }
 }
