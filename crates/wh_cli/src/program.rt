@@ -16,6 +16,7 @@ use thiserror::Error;
 use wh_command_line::{Plan, Refusal, parse};
 use wh_events::Text;
 use wh_files::{FolderFault, read_files};
+use wh_tester::Shown;
 use wh_workflow::Workflow;
 
 /// The status of a run that ends without a full report.
@@ -33,9 +34,9 @@ enum Failure {
     /// There are fewer slots than workers.
     #[error("slots must be at least workers")]
     FewSlots,
-    /// The folder, or a file of it, cannot be read.
+    /// The folder, or the file of it that is named, cannot be read.
     #[error("cannot read {dir}", dir = .dir.get())]
-    Unreadable { dir: Text },
+    Unreadable { dir: Text, entry: Option<String> },
     /// The report cannot be written.
     #[error("cannot write")]
     Output,
@@ -74,16 +75,27 @@ fn plan(alloc: Global, words: &[String]) -> Result<Plan, Failure>
     }
 }
 
-/// The files of a folder.
+/// The files of a folder. Where there is none, the standard error says so.
 fn files_of<R: Runtime + AllocGlobal>(
     rt: &R,
     dir: Text,
 ) -> Result<Vec<(String, Vec<u8>)>, Failure> {
-    match read_files(rt, dir.get()) {
-        Ok(files) => Ok(files),
-        Err(FolderFault::Unreadable) => Err(Failure::Unreadable { dir }),
-        Err(FolderFault::OutOfMemory) => Err(Failure::OutOfMemory),
+    let files = match read_files(rt, dir.get()) {
+        Ok(files) => files,
+        Err(FolderFault::Unreadable) => return Err(Failure::Unreadable { dir, entry: None }),
+        Err(FolderFault::UnreadableEntry { name }) => {
+            return Err(Failure::Unreadable {
+                dir,
+                entry: Some(name),
+            });
+        }
+        Err(FolderFault::OutOfMemory) => return Err(Failure::OutOfMemory),
+    };
+    if files.is_empty() {
+        let dir = dir.get();
+        let _ = eprintln!(rt; "wfhost: no .json file in {dir}");
     }
+    Ok(files)
 }
 
 /// The status of a command, once all that it wrote is out.
@@ -170,6 +182,14 @@ fn tell<R: Runtime>(rt: &R, failure: Failure) {
         Failure::BadLine { text } => {
             let text = text.get();
             eprint!(rt; "{text}")
+        }
+        Failure::Unreadable {
+            dir,
+            entry: Some(name),
+        } => {
+            let dir = dir.get();
+            let name = Shown(name.as_str());
+            eprintln!(rt; "wfhost: cannot read {dir}\nwfhost: cannot read {dir}/{name}")
         }
         failure => eprintln!(rt; "wfhost: {failure}"),
     };

@@ -4,7 +4,7 @@ ghost use Rattle.std.specs.Prelude.{◌≡◌, ◌≢◌, ◌↔◌, ◌<◌, fa
 ghost use Rattle.std.specs.Prelude.{string_bytes};
 ghost use Rattle.clap.specs.Words.{app_of, new_app, found_of, rows_of, rule_of};
 ghost use Rattle.clap.specs.declared.builder.Command.TheViews.{out-Command as fields_of};
-ghost use Rattle.wh_command_line.specs.Lines.{program, replay, serve, folder, number};
+ghost use Rattle.wh_command_line.specs.Lines.{program, replay, serve, folder, number, with_version};
 ghost use Rattle.wh_command_line.specs.Plans.{IsWithinLimits, IsHelp, IsServe, IsGiven, IsAskedBy};
 ghost use Rattle.wh_command_line.specs.Plans.{GivesFolder, GivesFewSlots, AsksFewSlots, HasFewSlots};
 
@@ -13,6 +13,25 @@ use clap::error::ErrorKind;
 use clap::{Arg, ArgAction, ArgMatches, Command, Error};
 use std::alloc::{AllocError, Global};
 use wh_events::Text;
+
+/// What `--version` prints behind the program's name.
+const VERSION: &str = "0.1.0 (rattle-kit-13b logic dac8208d650f15bf)";
+
+/// What the help says of the statuses.
+const STATUSES: &str = "\
+Status:
+  0  each file was read, and no task of it has a fault
+  1  the report names a file or a task that has one
+  2  there is no report; standard error says why";
+
+/// What a line without a command is told.
+const NO_COMMAND: &str = "\
+error: a command is needed
+
+Usage: wfhost [COMMAND]
+
+For more information, try '--help'.
+";
 
 /// What the program is to do.
 #[derive(Debug, Drop)]
@@ -82,7 +101,7 @@ pub(crate) fn bad_line(text: Result<String, AllocError>) -> Refusal
     }
 }
 
-/// What clap refused, or the help that was asked for.
+/// What clap refused, or the help or the version that was asked for.
 fn refused(alloc: Global, error: &Error) -> Result<Plan, Refusal>
     ensures help { IfOk result IsHelp }
     ensures slots { result ≢ Err Refusal.FewSlots }
@@ -90,7 +109,7 @@ fn refused(alloc: Global, error: &Error) -> Result<Plan, Refusal>
     let text = Text::new(error.to_string(alloc)?);
     match error.kind() {
         ErrorKind::OutOfMemory => Err(Refusal::OutOfMemory),
-        ErrorKind::DisplayHelp => Ok(Plan::Help { text }),
+        ErrorKind::DisplayHelp | ErrorKind::DisplayVersion => Ok(Plan::Help { text }),
         _ => Err(Refusal::BadLine { text }),
     }
 }
@@ -156,11 +175,20 @@ fn serve<'a>(alloc: Global, helps: &'a Helps) -> Result<Command<'a>, AllocError>
     .arg(number_argument(alloc, &SLOTS, helps.slots.as_str()))
 }
 
+/// The program with nothing yet but its version and what its help ends with.
+fn program_alone<'a>(alloc: Global) -> Command<'a>
+    ensures { app_of result ≡ with_version (new_app (codes "wfhost")) }
+{
+    Command::new(alloc, "wfhost")
+        .version(VERSION)
+        .after_help(STATUSES)
+}
+
 /// The program, with its subcommands.
 fn command<'a>(alloc: Global, helps: &'a Helps) -> Result<Command<'a>, AllocError>
     ensures { IfOk result (λ c. app_of c ≡ program) }
 {
-    Command::new(alloc, "wfhost")
+    program_alone(alloc)
         .subcommand(replay(alloc)?)?
         .subcommand(serve(alloc, helps)?)
 }
@@ -209,7 +237,7 @@ fn asked(alloc: Global, name: &str, given: &ArgMatches<'_>) -> Result<Plan, Refu
     match name {
         "replay" => Ok(Plan::Replay { dir }),
         "serve" => serve_plan(dir, ServeOptions::given(alloc, given)?),
-        _ => Err(bad_line(String::from_str(alloc, "error: a command is needed\n"))),
+        _ => Err(bad_line(String::from_str(alloc, NO_COMMAND))),
     }
 }
 
@@ -229,7 +257,7 @@ pub fn parse<'a>(alloc: Global, words: &'a [String]) -> Result<Plan, Refusal>
         Err(error) => return refused(alloc, &error),
     };
     let Some((name, given)) = matches.subcommand() else {
-        return Err(bad_line(String::from_str(alloc, "error: a command is needed\n")));
+        return Err(bad_line(String::from_str(alloc, NO_COMMAND)));
     };
     asked(alloc, name, given)
 }

@@ -12,10 +12,15 @@ use std::{fs, io};
 const READ_LIMIT: u64 = 67_108_865;
 
 /// Why the files of a folder are not there.
-#[derive(Clone, Copy, Debug, PartialEq, Eq)]
+#[derive(Debug, Drop)]
 pub enum FolderFault {
-    /// The folder, or one of its files, cannot be read.
+    /// The folder cannot be read.
     Unreadable,
+    /// The folder can be read, and its entry of this name cannot.
+    UnreadableEntry {
+        /// The name of the entry, without the folder.
+        name: String,
+    },
     /// There is no memory for a name or for the bytes of a file.
     OutOfMemory,
 }
@@ -81,7 +86,7 @@ fn bytes_of<R: Files + AllocGlobal>(rt: &R, path: &str) -> Result<Vec<u8>, Folde
 }
 
 /// The files of a folder whose names end in `.json`, by name and bytes, in the order of the bytes
-/// of their names. Nothing is kept where one of them cannot be read.
+/// of their names. Nothing is kept where one of them cannot be read, which the fault names.
 pub fn read_files<R: Files + AllocGlobal + Clone + Drop>(
     rt: &R,
     dir: &str,
@@ -89,7 +94,11 @@ pub fn read_files<R: Files + AllocGlobal + Clone + Drop>(
     let mut files = Vec::new(rt.alloc());
     for name in names_in(rt, dir)? {
         let path = format!(in rt.alloc(); "{dir}/{name}")?;
-        let bytes = bytes_of(rt, path.as_str())?;
+        let bytes = match bytes_of(rt, path.as_str()) {
+            Ok(bytes) => bytes,
+            Err(FolderFault::Unreadable) => return Err(FolderFault::UnreadableEntry { name }),
+            Err(fault) => return Err(fault),
+        };
         let Ok(()) = files.push((name, bytes)) else {
             return Err(FolderFault::OutOfMemory);
         };

@@ -36,6 +36,8 @@ nope d => bad line
 -- => bad line
 --nope => bad line
 --help => help
+--version => help
+-V => help
 replay --help => help
 ";
 
