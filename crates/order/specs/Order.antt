@@ -1,7 +1,6 @@
 -- The workflow Order.
 use Rattle.std.specs.Prelude.{ℕ, ℤ, pos, negsuc, List, [], ◌∷◌, codes, bytes_eq, refl, if◌then◌else◌}
 use Rattle.std.specs.Ordering.{int_eq}
-use Rattle.std.proofs.Common.{lit≤}
 use Rattle.wh_workflow.specs.declared.command.Command.{Command}
 use Rattle.wh_workflow.specs.declared.command.Command.TheVariants.{StartActivity, StartTimer, CancelTimer, StartChild, Ask, Complete, Fail}
 use Rattle.wh_workflow.specs.declared.job.ActivityEnd.TheVariants.{Completed}
@@ -9,7 +8,7 @@ use Rattle.wh_workflow.specs.declared.job.ChildEnd.TheVariants.{Completed as Chi
 use Rattle.wh_workflow.specs.declared.job.Job.{Job}
 use Rattle.wh_workflow.specs.declared.job.Job.TheVariants.{Start, Signal, Activity, TimerFired, Child, Version}
 use Rattle.wh_workflow.specs.Law.{Program, IsAnswer, IsLawful}
-use Rattle.order.specs.Answering.{none_is_answer, one_is_answer, either_is_answer}
+use Rattle.wh_workflow.specs.Answering.{none_is_answer, one_is_answer, two_are_answer, either_is_answer}
 use Rattle.order.specs.declared.OrderState.{OrderState}
 use Rattle.order.specs.declared.OrderState.TheVariants.{Charging, Held, Shipping, Closed}
 
@@ -94,7 +93,7 @@ charging_answers _ = none_is_answer
 
 held_answers : (job : Job) → IsAnswer (held_gives job)
 held_answers (Signal name _) =
-    either_is_answer (bytes_eq name (codes "cancel")) _ _ (record { few = lit≤ tt; asks = refl; records = refl }) none_is_answer
+    either_is_answer (bytes_eq name (codes "cancel")) _ _ (two_are_answer _ _ refl refl) none_is_answer
 held_answers (TimerFired id) = either_is_answer (bytes_eq id (codes "hold")) _ _ (one_is_answer _ refl) none_is_answer
 held_answers _ = none_is_answer
 

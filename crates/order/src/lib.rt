@@ -10,12 +10,10 @@ ghost use Rattle.wh_workflow.specs.declared.command.Command.TheVariants.{StartAc
 
 #[cfg(test)]
 mod tests;
-mod values;
 
-use crate::values::{no_payloads, text_of};
 use std::alloc::Global;
 use wh_events::{Items, OutOfMemory, Payload};
-use wh_workflow::{ActivityEnd, ChildEnd, Command, Job, Meter, Workflow};
+use wh_workflow::{ActivityEnd, ChildEnd, Command, Job, Meter, Workflow, no_payloads, text_of};
 
 /// Charges for an order, holds it for a day, in which a signal calls it off, and ships it.
 ///

@@ -1,11 +1,10 @@
 //! Orders, step by step.
 
-use crate::values::{no_payloads, text_of};
 use crate::{Order, OrderState};
 use std::alloc::Global;
 use std::process::Abort;
 use wh_events::Text;
-use wh_workflow::{ActivityEnd, ChildEnd, Command, Job, Meter, Workflow};
+use wh_workflow::{ActivityEnd, ChildEnd, Command, Job, Meter, Workflow, no_payloads, text_of};
 
 fn text(rt: &impl Abort, alloc: Global, content: &str) -> Text {
     text_of(alloc, content).expect(rt, "memory")
