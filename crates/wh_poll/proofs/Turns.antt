@@ -1,6 +1,7 @@
 -- What turns of a worker have done.
 use Rattle.std.proofs.Common.{◌≡◌, ◌≤◌, inl, inr, arith, ℕ, Bool, List, [], ◌∷◌, ◌++◌, Option, Some, None, ap, subst, ◌∙◌, refl}
-use Rattle.std.specs.Prelude.{Result, Ok, Err, IfSome}
+use Rattle.std.specs.Prelude.{Result, Ok, Err, IfSome, ◌+◌, length}
+use Rattle.std.proofs.lemmas.List.{length-append}
 use Rattle.wh_slots.specs.declared.TaskName.{TaskName}
 use Rattle.wh_events.specs.declared.event.Event.{Event}
 use Rattle.wh_replay.specs.declared.fault.Fault.{Fault}
@@ -21,6 +22,7 @@ use Rattle.wh_tasks.specs.Source.{Delivers, Tells, Answers, Workflow, SameTellin
 use Rattle.wh_tasks.specs.Tasks.{Basis, Own, Nothing, Joined, Told, basis_of, StepsFrom, FailsOnlySource}
 use Rattle.wh_poll.specs.Serve.{Sends, ServesWorkflow, Counts, MayCount, with_taken, ended, served_workflow}
 use Rattle.wh_poll.specs.Workers.{first_fault}
+use Rattle.wh_poll.specs.Turns.{Leads}
 
 -- what a task gives stays what it gives where the same is told
 StepsFrom-same : {S : Type 0} (program : Program S) (basis : Basis) (p q : Tells) (run : Option Held) (key : RunKey) (events : List Event) (stepped : Option Held) (fault : Option Fault) (hit : Bool) (before after : ℕ)
@@ -80,3 +82,13 @@ rose_kept (Some Failing) (Err Unfed) first second third rose fails = omega (arit
 rose_kept (Some Unfed) (Ok served) first second third rose fails = omega (arith, rose, fails)
 rose_kept (Some Unfed) (Err Failing) first second third rose fails = omega (arith, rose, fails)
 rose_kept (Some Unfed) (Err Unfed) first second third rose fails = omega (arith, rose, fails)
+
+-- one turn more leads on
+pub leads_on : {X T : Type 0} (step : X → T → X → Type 0) (first last next : X) (turns : List T) (turn : T)
+    → Leads step first turns last → step last turn next → Leads step first (turns ++ turn ∷ []) next
+leads_on step first last next [] turn led went = (next, subst (λ x. step x turn next) led went, refl)
+leads_on step first last next (t ∷ ts) turn led went = (led.0, led.1, leads_on step led.0 last next ts turn led.2 went)
+
+-- one turn more, and how many they are
+pub turn_more : {T : Type 0} (turns : List T) (turn : T) (count : ℕ) → length turns ≡ count → length (turns ++ turn ∷ []) ≡ count + 1
+turn_more turns turn count long = omega (arith, long, length-append turns (turn ∷ []))

@@ -1,12 +1,16 @@
 //! Workers, one thread for each seat.
-ghost use Rattle.std.specs.Prelude.{◌≡◌, ◌≤◌, ◌<◌, ◌+◌, ℕ, None, IfOk, not, length, map, vec_len, slice_index_or};
+ghost use Rattle.std.specs.Prelude.{◌≡◌, ◌≤◌, ◌<◌, ◌+◌, ℕ, [], None, IfOk, not, length, map, vec_len, slice_index_or};
 ghost use Rattle.std.specs.Bool.{OnTrue};
 ghost use denote.Param.Send.{IsSend};
 ghost use Rattle.wh_tasks.specs.Source.{KeepsOrigin, SameTasks, FailsOnly, RoseIfFailed};
 ghost use Rattle.wh_poll.specs.Workers.{first_fault, other, is_last, next_rota};
 ghost use Rattle.wh_poll.specs.Serve.{WithinTurns, AllRoseIfFailed, AllAnsweredWithin};
+ghost use Rattle.wh_poll.specs.Turns.{IsTurn, IsLedBy};
+ghost use Rattle.wh_poll.specs.Stations.{left_at};
 ghost use Rattle.std.specs.List.{AllZip};
 
+use crate::observer::{NoObserver, Observer};
+use crate::post::Post;
 use crate::serve::{Served, serve_one};
 use std::alloc::{AllocError, Global};
 use std::sync::Wait;
@@ -31,25 +35,31 @@ pub struct Worker<T: Ledger, C: Ledger, F: Ledger, S> {
     pub fault: Option<SourceFault>,
 }
 
-impl<T: Ledger, C: Ledger, F: Ledger, S: TaskSource> Worker<T, C, F, S> {
-    /// A worker that has done nothing.
-    fn new(seat: Seat<T, C, F>, source: S) -> Self
-        ensures { result ≡ record { seat = seat; source = source; fault = None } }
-    {
-        Worker {
-            seat,
-            source,
-            fault: None,
-        }
-    }
+/// A worker at its post: its seat, and what it leaves but for the count.
+#[derive(Drop)]
+pub(crate) struct Station<T: Ledger, C: Ledger, F: Ledger, S, A, O> {
+    pub(crate) seat: Seat<T, C, F>,
+    pub(crate) source: S,
+    pub(crate) handler: A,
+    pub(crate) observer: O,
+    pub(crate) fault: Option<SourceFault>,
+}
 
-    /// Serves one task of the kind, and keeps the fault of the source, if it is the first.
-    fn serve<R: Wait, W: Workflow, A: ActivityHandler, G: Gate>(
+impl<T: Ledger, C: Ledger, F: Ledger, S: TaskSource, A: ActivityHandler, O: Observer> Station<
+    T,
+    C,
+    F,
+    S,
+    A,
+    O,
+> {
+    /// Serves one task of the kind, keeps the fault of the source, if it is the first, and tells
+    /// the observer.
+    fn serve<R: Wait, W: Workflow, G: Gate>(
         &mut self,
         rt: &R,
         alloc: Global,
         host: &Host<W, T, C, F>,
-        handler: &mut A,
         gate: &G,
         kind: SlotKind,
     ) -> Result<Served, SourceFault>
@@ -61,10 +71,14 @@ impl<T: Ledger, C: Ledger, F: Ledger, S: TaskSource> Worker<T, C, F, S> {
         ensures origin { KeepsOrigin S.comes_from self.old.source self.new.source }
         ensures answered { length (S.answers self.new.source) + self.old.seat.taken
             ≤ length (S.answers self.old.source) + self.new.seat.taken }
+        ensures turn { IsTurn W.program S.tells S.delivers S.answers A.may O.hears
+            (left_at self.old) result (left_at self.new) }
     {
         let seat = &mut self.seat;
-        let served = serve_one(rt, alloc, host, seat, &mut self.source, handler, gate, kind);
+        let source = &mut self.source;
+        let served = serve_one(rt, alloc, host, seat, source, &mut self.handler, gate, kind);
         self.fault = first_fault(self.fault, served);
+        self.observer.observe(served);
         served
     }
 }
@@ -82,13 +96,11 @@ fn first_fault(
     }
 }
 
-/// What a worker begins with.
+/// A seat with the post of its worker.
 #[derive(Drop)]
-struct Job<T: Ledger, C: Ledger, F: Ledger, S, A> {
-    seat: Seat<T, C, F>,
-    source: S,
-    handler: A,
-    turns: u64,
+pub(crate) struct Job<T: Ledger, C: Ledger, F: Ledger, S, A, O> {
+    pub(crate) seat: Seat<T, C, F>,
+    pub(crate) post: Post<S, A, O>,
 }
 
 /// Which kind a worker serves next, and whether the other one is closed.
@@ -127,12 +139,67 @@ fn other(kind: SlotKind) -> SlotKind
     }
 }
 
+/// Serves tasks for a job, at most one a turn.
+#[tactic(auto, using(crate::proofs::Turns::rose_kept))]
+fn work_job<
+    R: Wait,
+    W: Workflow,
+    T: Ledger,
+    C: Ledger,
+    F: Ledger,
+    S: TaskSource,
+    A: ActivityHandler,
+    O: Observer,
+    G: Gate,
+>(
+    rt: &R,
+    alloc: Global,
+    host: &Host<W, T, C, F>,
+    gate: &G,
+    job: Job<T, C, F, S, A, O>,
+) -> Station<T, C, F, S, A, O>
+    ensures taken { result.seat.taken ≤ job.seat.taken + job.post.turns }
+    ensures fault { RoseIfFailed result.fault (S.failures job.post.source) (S.failures result.source) }
+    ensures same { SameTasks (S.delivers job.post.source) (S.tells job.post.source)
+        (S.delivers result.source) (S.tells result.source) }
+    ensures origin { KeepsOrigin S.comes_from job.post.source result.source }
+    ensures answered { length (S.answers result.source) + job.seat.taken
+        ≤ length (S.answers job.post.source) + result.seat.taken }
+    ensures turns { IsLedBy W.program S.tells S.delivers S.answers A.may O.hears
+        job.seat job.post (left_at result) }
+{
+    let Job { seat, post } = job;
+    let Post {
+        source,
+        handler,
+        observer,
+        turns,
+    } = post;
+    let mut station = Station {
+        seat,
+        source,
+        handler,
+        observer,
+        fault: None,
+    };
+    let mut rota = Rota {
+        kind: SlotKind::Workflow,
+        other_closed: false,
+    };
+    for _turn in 0..turns {
+        let served = station.serve(rt, alloc, host, gate, rota.kind);
+        if !rota.goes_on(served) {
+            break;
+        }
+    }
+    station
+}
+
 /// Serves tasks, at most one a turn: workflow and activity tasks by turns, workflow tasks first. A
 /// kind that is closed is not served again, and each later turn goes to the other. It ends when
 /// both are closed, when the host drains, or after so many turns. The first fault of the source is
 /// kept, and the work goes on. The source that comes back comes from the one that was handed in,
 /// delivers and tells the same, and was sent at most as many answers as the seat took tasks.
-#[tactic(auto, using(crate::proofs::Turns::rose_kept))]
 pub fn work<
     R: Wait,
     W: Workflow,
@@ -148,7 +215,7 @@ pub fn work<
     host: &Host<W, T, C, F>,
     seat: Seat<T, C, F>,
     source: S,
-    mut handler: A,
+    handler: A,
     gate: &G,
     turns: u64,
 ) -> Worker<T, C, F, S>
@@ -158,18 +225,32 @@ pub fn work<
     ensures origin { KeepsOrigin S.comes_from source result.source }
     ensures answered { length (S.answers result.source) + seat.taken ≤ length (S.answers source) + result.seat.taken }
 {
-    let mut worker = Worker::new(seat, source);
-    let mut rota = Rota {
-        kind: SlotKind::Workflow,
-        other_closed: false,
+    let post = Post {
+        source,
+        handler,
+        observer: NoObserver,
+        turns,
     };
-    for _turn in 0..turns {
-        let served = worker.serve(rt, alloc, host, &mut handler, gate, rota.kind);
-        if !rota.goes_on(served) {
-            break;
-        }
+    worker_of(work_job(rt, alloc, host, gate, Job { seat, post }))
+}
+
+/// The worker that comes back from its post.
+fn worker_of<T: Ledger, C: Ledger, F: Ledger, S, A: Drop>(
+    station: Station<T, C, F, S, A, NoObserver>,
+) -> Worker<T, C, F, S>
+    ensures { result ≡ record { seat = station.seat; source = station.source; fault = station.fault } }
+{
+    let Station {
+        seat,
+        source,
+        fault,
+        ..
+    } = station;
+    Worker {
+        seat,
+        source,
+        fault,
     }
-    worker
 }
 
 /// Runs a worker in a thread of its own for each seat, with the source, the handler and the turns
@@ -210,12 +291,34 @@ pub fn run_workers<
         AllAnsweredWithin (map (λ source. length (S.answers source)) sources.items) seats.items
         (map (λ worker. length (S.answers worker.source)) workers.items) (map (λ worker. worker.seat) workers.items)) }
 {
-    let jobs = jobs_of(alloc, seats, sources, handlers, turns)?;
-    Ok(run_jobs(rt, alloc, host, gate, jobs)?)
+    let mut workers = Vec::new(alloc);
+    workers.reserve(seats.len())?;
+    let posts = posts_of(alloc, sources, handlers, turns)?;
+    let jobs = jobs_of(alloc, seats, posts)?;
+    workers_of(run_jobs(rt, alloc, host, gate, jobs)?, workers)
+}
+
+/// The workers that come back from their posts, in a list with room for them.
+fn workers_of<T: Ledger, C: Ledger, F: Ledger, S: Drop, A: Drop>(
+    stations: Vec<Station<T, C, F, S, A, NoObserver>>,
+    mut workers: Vec<Worker<T, C, F, S>>,
+) -> Result<Vec<Worker<T, C, F, S>>, OutOfMemory>
+    requires { workers.items ≡ [] }
+    ensures seats { IfOk result (λ workers.
+        map (λ worker. worker.seat) workers.items ≡ map (λ station. station.seat) stations.items) }
+    ensures sources { IfOk result (λ workers.
+        map (λ worker. worker.source) workers.items ≡ map (λ station. station.source) stations.items) }
+    ensures faults { IfOk result (λ workers.
+        map (λ worker. worker.fault) workers.items ≡ map (λ station. station.fault) stations.items) }
+{
+    for station in stations {
+        workers.push(worker_of(station))?;
+    }
+    Ok(workers)
 }
 
 /// Runs a worker in a thread of its own for each job.
-fn run_jobs<
+pub(crate) fn run_jobs<
     R: Threads + Wait + Sync,
     W: Workflow + Send,
     T: Ledger + Send,
@@ -223,107 +326,98 @@ fn run_jobs<
     F: Ledger + Send,
     S: TaskSource + Send + Drop,
     A: ActivityHandler + Send + Drop,
+    O: Observer + Send + Drop,
     G: Gate + Sync,
 >(
     rt: &R,
     alloc: Global,
     host: &Host<W, T, C, F>,
     gate: &G,
-    jobs: Vec<Job<T, C, F, S, A>>,
-) -> Result<Vec<Worker<T, C, F, S>>, AllocError>
-    ensures count { IfOk result (λ workers. vec_len workers ≡ vec_len jobs) }
-    ensures turns { IfOk result (λ workers. (i : ℕ) (j : _) (w : _) → i < vec_len jobs →
-        (slice_index_or workers.items i w).seat.taken
-        ≤ (slice_index_or jobs.items i j).seat.taken + (slice_index_or jobs.items i j).turns) }
-    ensures faults { IfOk result (λ workers. (i : ℕ) (j : _) (w : _) → i < vec_len jobs →
-        RoseIfFailed (slice_index_or workers.items i w).fault
-        (S.failures (slice_index_or jobs.items i j).source) (S.failures (slice_index_or workers.items i w).source)) }
-    ensures origins { IfOk result (λ workers. (i : ℕ) (j : _) (w : _) → i < vec_len jobs →
-        KeepsOrigin S.comes_from (slice_index_or jobs.items i j).source (slice_index_or workers.items i w).source) }
-    ensures answered { IfOk result (λ workers. (i : ℕ) (j : _) (w : _) → i < vec_len jobs →
-        length (S.answers (slice_index_or workers.items i w).source) + (slice_index_or jobs.items i j).seat.taken
-        ≤ length (S.answers (slice_index_or jobs.items i j).source) + (slice_index_or workers.items i w).seat.taken) }
+    jobs: Vec<Job<T, C, F, S, A, O>>,
+) -> Result<Vec<Station<T, C, F, S, A, O>>, AllocError>
+    ensures count { IfOk result (λ stations. vec_len stations ≡ vec_len jobs) }
+    ensures turns { IfOk result (λ stations. (i : ℕ) (j : _) (w : _) → i < vec_len jobs →
+        (slice_index_or stations.items i w).seat.taken
+        ≤ (slice_index_or jobs.items i j).seat.taken + (slice_index_or jobs.items i j).post.turns) }
+    ensures faults { IfOk result (λ stations. (i : ℕ) (j : _) (w : _) → i < vec_len jobs →
+        RoseIfFailed (slice_index_or stations.items i w).fault
+        (S.failures (slice_index_or jobs.items i j).post.source) (S.failures (slice_index_or stations.items i w).source)) }
+    ensures origins { IfOk result (λ stations. (i : ℕ) (j : _) (w : _) → i < vec_len jobs →
+        KeepsOrigin S.comes_from (slice_index_or jobs.items i j).post.source (slice_index_or stations.items i w).source) }
+    ensures answered { IfOk result (λ stations. (i : ℕ) (j : _) (w : _) → i < vec_len jobs →
+        length (S.answers (slice_index_or stations.items i w).source) + (slice_index_or jobs.items i j).seat.taken
+        ≤ length (S.answers (slice_index_or jobs.items i j).post.source) + (slice_index_or stations.items i w).seat.taken) }
+    ensures told { IfOk result (λ stations. (i : ℕ) (j : _) (w : _) → i < vec_len jobs →
+        IsLedBy W.program S.tells S.delivers S.answers A.may O.hears (slice_index_or jobs.items i j).seat
+        (slice_index_or jobs.items i j).post (left_at (slice_index_or stations.items i w))) }
 {
     thread::map_vec(
         rt,
         jobs,
-        &|job: Job<T, C, F, S, A>| -> Worker<T, C, F, S>
+        &|job: Job<T, C, F, S, A, O>| -> Station<T, C, F, S, A, O>
             requires workflow { IsSend W.row }
             requires state { IsSend W.State.row }
-            ensures turns { result.seat.taken ≤ job.seat.taken + job.turns }
-            ensures fault { RoseIfFailed result.fault (S.failures job.source) (S.failures result.source) }
-            ensures origin { KeepsOrigin S.comes_from job.source result.source }
+            ensures turns { result.seat.taken ≤ job.seat.taken + job.post.turns }
+            ensures fault { RoseIfFailed result.fault (S.failures job.post.source) (S.failures result.source) }
+            ensures origin { KeepsOrigin S.comes_from job.post.source result.source }
             ensures answered { length (S.answers result.source) + job.seat.taken
-                ≤ length (S.answers job.source) + result.seat.taken }
+                ≤ length (S.answers job.post.source) + result.seat.taken }
+            ensures told { IsLedBy W.program S.tells S.delivers S.answers A.may O.hears
+                job.seat job.post (left_at result) }
         { work_job(rt, alloc, host, gate, job) },
     )
 }
 
-/// Serves tasks for a job.
-fn work_job<
-    R: Wait,
-    W: Workflow,
-    T: Ledger,
-    C: Ledger,
-    F: Ledger,
-    S: TaskSource,
-    A: ActivityHandler + Drop,
-    G: Gate,
->(
-    rt: &R,
+/// A post for each source, with the handler and the turns of its place, and no observer.
+fn posts_of<S: Drop, A: Drop>(
     alloc: Global,
-    host: &Host<W, T, C, F>,
-    gate: &G,
-    job: Job<T, C, F, S, A>,
-) -> Worker<T, C, F, S>
-    ensures turns { result.seat.taken ≤ job.seat.taken + job.turns }
-    ensures fault { RoseIfFailed result.fault (S.failures job.source) (S.failures result.source) }
-    ensures origin { KeepsOrigin S.comes_from job.source result.source }
-    ensures answered { length (S.answers result.source) + job.seat.taken
-        ≤ length (S.answers job.source) + result.seat.taken }
-{
-    let Job {
-        seat,
-        source,
-        handler,
-        turns,
-    } = job;
-    work(rt, alloc, host, seat, source, handler, gate, turns)
-}
-
-/// One job for each seat, in their order.
-fn jobs_of<T: Ledger, C: Ledger, F: Ledger, S: Drop, A: Drop>(
-    alloc: Global,
-    mut seats: Vec<Seat<T, C, F>>,
     mut sources: Vec<S>,
     mut handlers: Vec<A>,
     mut turns: Vec<u64>,
-) -> Result<Vec<Job<T, C, F, S, A>>, OutOfMemory>
-    requires sources { vec_len sources ≡ vec_len seats }
-    requires handlers { vec_len handlers ≡ vec_len seats }
-    requires turns { vec_len turns ≡ vec_len seats }
+) -> Result<Vec<Post<S, A, NoObserver>>, OutOfMemory>
+    requires handlers { vec_len handlers ≡ vec_len sources }
+    requires turns { vec_len turns ≡ vec_len sources }
+    ensures count { IfOk result (λ posts. vec_len posts ≡ vec_len sources) }
+    ensures sources { IfOk result (λ posts. map (λ post. post.source) posts.items ≡ sources.items) }
+    ensures turns { IfOk result (λ posts. map (λ post. post.turns) posts.items ≡ turns.items) }
+{
+    let mut posts = Vec::new(alloc);
+    posts.reserve(sources.len())?;
+    while let Some(source) = sources.pop() {
+        let Some(handler) = handlers.pop() else {
+            unreachable!()
+        };
+        let Some(turns) = turns.pop() else {
+            unreachable!()
+        };
+        posts.push_reserved(Post {
+            source,
+            handler,
+            observer: NoObserver,
+            turns,
+        });
+    }
+    posts.reverse();
+    Ok(posts)
+}
+
+/// One job for each seat, in their order.
+pub(crate) fn jobs_of<T: Ledger, C: Ledger, F: Ledger, S: Drop, A: Drop, O: Drop>(
+    alloc: Global,
+    mut seats: Vec<Seat<T, C, F>>,
+    mut posts: Vec<Post<S, A, O>>,
+) -> Result<Vec<Job<T, C, F, S, A, O>>, OutOfMemory>
+    requires { vec_len posts ≡ vec_len seats }
     ensures seats { IfOk result (λ jobs. map (λ job. job.seat) jobs.items ≡ seats.items) }
-    ensures sources { IfOk result (λ jobs. map (λ job. job.source) jobs.items ≡ sources.items) }
-    ensures turns { IfOk result (λ jobs. map (λ job. job.turns) jobs.items ≡ turns.items) }
+    ensures posts { IfOk result (λ jobs. map (λ job. job.post) jobs.items ≡ posts.items) }
 {
     let mut jobs = Vec::new(alloc);
     jobs.reserve(seats.len())?;
     while let Some(seat) = seats.pop() {
-        let Some(source) = sources.pop() else {
+        let Some(post) = posts.pop() else {
             unreachable!()
         };
-        let Some(handler) = handlers.pop() else {
-            unreachable!()
-        };
-        let Some(count) = turns.pop() else {
-            unreachable!()
-        };
-        jobs.push_reserved(Job {
-            seat,
-            source,
-            handler,
-            turns: count,
-        });
+        jobs.push_reserved(Job { seat, post });
     }
     jobs.reverse();
     Ok(jobs)

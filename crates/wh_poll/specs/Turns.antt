@@ -1,0 +1,48 @@
+-- The turns of a worker, one after the other.
+use Rattle.std.specs.Prelude.{◌≡◌, ℕ, ◌≤◌, List, [], ◌∷◌, length, None, Result}
+use Rattle.wh_workflow.specs.Law.{Program}
+use Rattle.wh_ledger.specs.declared.Shares.{Shares}
+use Rattle.wh_tasks.specs.declared.source.SourceFault.{SourceFault}
+use Rattle.wh_tasks.specs.Source.{Answers, Answerable, Delivers, Tells}
+use Rattle.wh_poll.specs.declared.serve.Served.{Served}
+use Rattle.wh_poll.specs.declared.post.Post.{Post}
+use Rattle.wh_poll.specs.declared.post.Left.{Left}
+use Rattle.wh_poll.specs.Serve.{Serves, Counts}
+use Rattle.wh_poll.specs.Workers.{first_fault}
+
+-- what a turn did
+abbrev pub Turn : Type 0
+Turn = Result Served SourceFault
+
+-- what an observer may become of being told of a turn
+abbrev pub Hears : Type 0 → Type 1
+Hears O = O → Turn → O → Type 0
+
+-- one turn of a worker: the answer that it sends, what its seat counts, the fault that it keeps, and what its
+-- observer is told
+pub record IsTurn {P S A O : Type 0} (program : Program P) (tells : S → Tells) (delivers : S → Delivers)
+    (answers : S → Answers) (may : A → Answerable) (hears : Hears O)
+    (old : Left S A O) (turn : Turn) (new : Left S A O) : Type 0 where
+  pub serves : Serves program (tells old.source) (delivers old.source) (may old.handler)
+      (answers old.source) (answers new.source) turn
+  pub counts : Counts old.counted new.counted turn
+  pub kept : new.fault ≡ first_fault old.fault turn
+  pub told : hears old.observer turn new.observer
+
+-- one turn after the other leads from what a worker had to what it has
+abbrev pub Leads : {X T : Type 0} → (X → T → X → Type 0) → X → List T → X → Type 0
+Leads step old [] new = new ≡ old
+Leads step old (turn ∷ rest) new = (next : _) × step old turn next × Leads step next rest new
+
+-- what a worker has at its post before its first turn
+abbrev pub at_first : {S A O : Type 0} → Shares → Post S A O → Left S A O
+at_first counted post =
+    record { counted = counted; source = post.source; handler = post.handler; observer = post.observer; fault = None }
+
+-- at most as many turns as the post has led to what is left, and its observer was told of each, in their order
+pub record IsLedBy {P S A O : Type 0} (program : Program P) (tells : S → Tells) (delivers : S → Delivers)
+    (answers : S → Answers) (may : A → Answerable) (hears : Hears O)
+    (counted : Shares) (post : Post S A O) (left : Left S A O) : Type 0 where
+  pub turns : List Turn
+  pub within : length turns ≤ post.turns
+  pub led : Leads (IsTurn program tells delivers answers may hears) (at_first counted post) turns left

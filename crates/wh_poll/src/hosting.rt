@@ -1,0 +1,189 @@
+//! A host in one call.
+ghost use Rattle.std.specs.Prelude.{◌≡◌, ◌≤◌, ◌+◌, ◌↔◌, [], IfOk, Err, length, map, vec_len};
+ghost use Rattle.std.specs.List.{AllZip};
+ghost use Rattle.wh_ledger.specs.Shares.{no_shares, sums_of};
+ghost use Rattle.wh_host.specs.Machine.{IsConfig, totals_of};
+ghost use Rattle.wh_tasks.specs.Source.{KeepsOrigin, RoseIfFailed};
+ghost use Rattle.wh_poll.specs.Turns.{IsLedBy};
+ghost use Rattle.wh_poll.specs.Stations.{left_at};
+
+use crate::observer::Observer;
+use crate::post::{Left, Post};
+use crate::workers::{Station, jobs_of, run_jobs};
+use std::alloc::Global;
+use std::marker::Brand;
+use std::sync::Wait;
+use std::sync::ledger::{Blank, Ledger};
+use std::thread::Threads;
+use wh_events::OutOfMemory;
+use wh_host::{Config, Host, OpenFault, Totals};
+use wh_ledger::Seat;
+use wh_tasks::{ActivityHandler, Gate, TaskSource};
+use wh_workflow::Workflow;
+
+/// What is left of a host whose workers have ended.
+#[derive(Drop)]
+pub struct HostEnd<S, A, O> {
+    /// What each worker left, in the order of their posts.
+    pub workers: Vec<Left<S, A, O>>,
+    /// What all of them counted.
+    pub totals: Totals,
+}
+
+/// Opens a host of these sizes, runs a worker in a thread of its own for each post, and closes the
+/// host once all have ended. The host has a seat for each post.
+///
+/// Each worker leaves its post as its turns led to it, with its handler and its observer, which was
+/// told of each turn; its source comes from the one of the post, and was sent at most as many
+/// answers as the worker took tasks. The totals are the sums of what the workers counted.
+/// `BadConfig` where a size is not within its range, or the seats are not as many as the posts;
+/// `OutOfMemory` where no room was found. Then the posts are given up. (Temporal documentation,
+/// "Workers": a Worker Process.)
+pub fn run_host<
+    W: Workflow + Send,
+    R: Threads + Wait + Sync,
+    S: TaskSource + Send + Drop,
+    A: ActivityHandler + Send + Drop,
+    O: Observer + Send + Drop,
+    G: Gate + Sync,
+>(
+    rt: &R,
+    alloc: Global,
+    config: Config,
+    posts: Vec<Post<S, A, O>>,
+    gate: &G,
+) -> Result<HostEnd<S, A, O>, OpenFault>
+    ensures bad { (result ≡ Err OpenFault.BadConfig) ↔ (¬ (IsConfig config × (config.seats ≡ vec_len posts))) }
+    ensures turns { IfOk result (λ end.
+        AllZip (λ post left. left.counted.taken ≤ post.turns) posts.items end.workers.items) }
+    ensures faults { IfOk result (λ end.
+        AllZip (λ post left. RoseIfFailed left.fault (S.failures post.source) (S.failures left.source))
+        posts.items end.workers.items) }
+    ensures origins { IfOk result (λ end.
+        AllZip (λ post left. KeepsOrigin S.comes_from post.source left.source) posts.items end.workers.items) }
+    ensures answered { IfOk result (λ end.
+        AllZip (λ post left. length (S.answers left.source) ≤ length (S.answers post.source) + left.counted.taken)
+        posts.items end.workers.items) }
+    ensures told { IfOk result (λ end.
+        AllZip (IsLedBy W.program S.tells S.delivers S.answers A.may O.hears no_shares) posts.items end.workers.items) }
+    ensures gathered { IfOk result (λ end.
+        end.totals ≡ totals_of (sums_of (map (λ left. left.counted) end.workers.items))) }
+    ensures balanced { IfOk result (λ end.
+        end.totals.taken ≡ end.totals.completed + end.totals.failed + end.totals.in_hand) }
+{
+    let seats = config.seats;
+    if seats != posts.len() {
+        return Err(OpenFault::BadConfig);
+    }
+    run_with::<W, R, S, A, O, G, Brand, Brand, Brand>(
+        rt,
+        alloc,
+        config,
+        posts,
+        gate,
+        Blank::new(seats as u64),
+        Blank::new(seats as u64),
+        Blank::new(seats as u64),
+    )
+}
+
+/// Runs a host over these ledgers.
+fn run_with<
+    W: Workflow + Send,
+    R: Threads + Wait + Sync,
+    S: TaskSource + Send + Drop,
+    A: ActivityHandler + Send + Drop,
+    O: Observer + Send + Drop,
+    G: Gate + Sync,
+    T: Ledger + Send,
+    C: Ledger + Send,
+    F: Ledger + Send,
+>(
+    rt: &R,
+    alloc: Global,
+    config: Config,
+    posts: Vec<Post<S, A, O>>,
+    gate: &G,
+    taken: Blank,
+    completed: Blank,
+    failed: Blank,
+) -> Result<HostEnd<S, A, O>, OpenFault>
+    requires seats { config.seats ≡ vec_len posts }
+    requires taken { (taken.name ≡ T.name) × (taken.parts ≡ T.parts) × (taken.parts ≡ config.seats) }
+    requires completed { (completed.name ≡ C.name) × (completed.parts ≡ C.parts)
+        × (completed.parts ≡ config.seats) }
+    requires failed { (failed.name ≡ F.name) × (failed.parts ≡ F.parts) × (failed.parts ≡ config.seats) }
+    ensures bad { (result ≡ Err OpenFault.BadConfig) ↔ (¬ IsConfig config) }
+    ensures turns { IfOk result (λ end.
+        AllZip (λ post left. left.counted.taken ≤ post.turns) posts.items end.workers.items) }
+    ensures faults { IfOk result (λ end.
+        AllZip (λ post left. RoseIfFailed left.fault (S.failures post.source) (S.failures left.source))
+        posts.items end.workers.items) }
+    ensures origins { IfOk result (λ end.
+        AllZip (λ post left. KeepsOrigin S.comes_from post.source left.source) posts.items end.workers.items) }
+    ensures answered { IfOk result (λ end.
+        AllZip (λ post left. length (S.answers left.source) ≤ length (S.answers post.source) + left.counted.taken)
+        posts.items end.workers.items) }
+    ensures told { IfOk result (λ end.
+        AllZip (IsLedBy W.program S.tells S.delivers S.answers A.may O.hears no_shares) posts.items end.workers.items) }
+    ensures gathered { IfOk result (λ end.
+        end.totals ≡ totals_of (sums_of (map (λ left. left.counted) end.workers.items))) }
+    ensures balanced { IfOk result (λ end.
+        end.totals.taken ≡ end.totals.completed + end.totals.failed + end.totals.in_hand) }
+{
+    let (host, seats) = Host::<W, T, C, F>::open(alloc, config, taken, completed, failed)?;
+    let mut back = Vec::new(alloc);
+    back.reserve(seats.len())?;
+    let mut left = Vec::new(alloc);
+    left.reserve(seats.len())?;
+    let jobs = jobs_of(alloc, seats, posts)?;
+    let stations = run_jobs(rt, alloc, &host, gate, jobs)?;
+    let (seats, workers) = leave_all(stations, back, left)?;
+    let Ok(totals) = host.close(seats) else {
+        unreachable!()
+    };
+    Ok(HostEnd { workers, totals })
+}
+
+/// The seats of the workers, and what these leave, in lists with room for them.
+fn leave_all<T: Ledger, C: Ledger, F: Ledger, S: Drop, A: Drop, O: Drop>(
+    stations: Vec<Station<T, C, F, S, A, O>>,
+    mut seats: Vec<Seat<T, C, F>>,
+    mut left: Vec<Left<S, A, O>>,
+) -> Result<(Vec<Seat<T, C, F>>, Vec<Left<S, A, O>>), OutOfMemory>
+    requires seats { seats.items ≡ [] }
+    requires left { left.items ≡ [] }
+    ensures seats { IfOk result (λ all. all.0.items ≡ map (λ station. station.seat) stations.items) }
+    ensures left { IfOk result (λ all. all.1.items ≡ map left_at stations.items) }
+{
+    for station in stations {
+        let (seat, worker) = leave(station);
+        seats.push(seat)?;
+        left.push(worker)?;
+    }
+    Ok((seats, left))
+}
+
+/// The seat of a worker, and what it leaves.
+fn leave<T: Ledger, C: Ledger, F: Ledger, S, A, O>(
+    station: Station<T, C, F, S, A, O>,
+) -> (Seat<T, C, F>, Left<S, A, O>)
+    ensures { result ≡ (station.seat, left_at station) }
+{
+    let counted = station.seat.share();
+    let Station {
+        seat,
+        source,
+        handler,
+        observer,
+        fault,
+    } = station;
+    let left = Left {
+        counted,
+        source,
+        handler,
+        observer,
+        fault,
+    };
+    (seat, left)
+}
