@@ -1,10 +1,10 @@
 //! A host in one call.
-ghost use Rattle.std.specs.Prelude.{◌≡◌, ◌≤◌, ◌+◌, ◌↔◌, [], IfOk, Err, length, map, vec_len};
+ghost use Rattle.std.specs.Prelude.{◌≡◌, ◌≤◌, ◌+◌, ◌↔◌, [], IfOk, Err, length, map, replicate, vec_len};
 ghost use Rattle.std.specs.List.{AllZip};
 ghost use Rattle.wh_ledger.specs.Shares.{no_shares, sums_of};
 ghost use Rattle.wh_host.specs.Machine.{IsConfig, totals_of};
 ghost use Rattle.wh_tasks.specs.Source.{KeepsOrigin, RoseIfFailed};
-ghost use Rattle.wh_poll.specs.Turns.{IsLedBy};
+ghost use Rattle.wh_poll.specs.Turns.{AreLeft, IsLedBy};
 ghost use Rattle.wh_poll.specs.Stations.{left_at};
 
 use crate::observer::Observer;
@@ -114,31 +114,61 @@ fn run_with<
         × (completed.parts ≡ config.seats) }
     requires failed { (failed.name ≡ F.name) × (failed.parts ≡ F.parts) × (failed.parts ≡ config.seats) }
     ensures bad { (result ≡ Err OpenFault.BadConfig) ↔ (¬ IsConfig config) }
-    ensures turns { IfOk result (λ end.
-        AllZip (λ post left. left.counted.taken ≤ post.turns) posts.items end.workers.items) }
-    ensures faults { IfOk result (λ end.
-        AllZip (λ post left. RoseIfFailed left.fault (S.failures post.source) (S.failures left.source))
-        posts.items end.workers.items) }
-    ensures origins { IfOk result (λ end.
-        AllZip (λ post left. KeepsOrigin S.comes_from post.source left.source) posts.items end.workers.items) }
-    ensures answered { IfOk result (λ end.
-        AllZip (λ post left. length (S.answers left.source) ≤ length (S.answers post.source) + left.counted.taken)
-        posts.items end.workers.items) }
-    ensures told { IfOk result (λ end.
-        AllZip (IsLedBy W.program S.tells S.delivers S.answers A.may O.hears no_shares) posts.items end.workers.items) }
-    ensures gathered { IfOk result (λ end.
-        end.totals ≡ totals_of (sums_of (map (λ left. left.counted) end.workers.items))) }
-    ensures balanced { IfOk result (λ end.
-        end.totals.taken ≡ end.totals.completed + end.totals.failed + end.totals.in_hand) }
+    ensures left { IfOk result (λ end. AreLeft W.program S.tells S.delivers S.answers S.failures S.comes_from
+        A.may O.hears posts.items end.workers.items end.totals) }
 {
     let (host, seats) = Host::<W, T, C, F>::open(alloc, config, taken, completed, failed)?;
+    Ok(run_open(rt, alloc, host, seats, posts, gate)?)
+}
+
+/// Runs the workers of a host that has just opened, and closes it.
+fn run_open<
+    W: Workflow + Send,
+    R: Threads + Wait + Sync,
+    S: TaskSource + Send + Drop,
+    A: ActivityHandler + Send + Drop,
+    O: Observer + Send + Drop,
+    G: Gate + Sync,
+    T: Ledger + Send,
+    C: Ledger + Send,
+    F: Ledger + Send,
+>(
+    rt: &R,
+    alloc: Global,
+    host: Host<W, T, C, F>,
+    seats: Vec<Seat<T, C, F>>,
+    posts: Vec<Post<S, A, O>>,
+    gate: &G,
+) -> Result<HostEnd<S, A, O>, OutOfMemory>
+    requires seats { seats.items ≡ replicate (vec_len posts) no_shares }
+    requires parts { T.parts ≡ vec_len posts }
+    ensures { IfOk result (λ end. AreLeft W.program S.tells S.delivers S.answers S.failures S.comes_from
+        A.may O.hears posts.items end.workers.items end.totals) }
+{
     let mut back = Vec::new(alloc);
     back.reserve(seats.len())?;
     let mut left = Vec::new(alloc);
     left.reserve(seats.len())?;
     let jobs = jobs_of(alloc, seats, posts)?;
     let stations = run_jobs(rt, alloc, &host, gate, jobs)?;
-    let (seats, workers) = leave_all(stations, back, left)?;
+    close(host, stations, back, left)
+}
+
+/// Closes a host whose workers have ended, by lists with room for their seats and what they leave.
+fn close<W: Workflow, T: Ledger, C: Ledger, F: Ledger, S: Drop, A: Drop, O: Drop>(
+    host: Host<W, T, C, F>,
+    stations: Vec<Station<T, C, F, S, A, O>>,
+    seats: Vec<Seat<T, C, F>>,
+    left: Vec<Left<S, A, O>>,
+) -> Result<HostEnd<S, A, O>, OutOfMemory>
+    requires seats { seats.items ≡ [] }
+    requires left { left.items ≡ [] }
+    requires all { T.parts ≡ vec_len stations }
+    ensures { IfOk result (λ end. (end.workers.items ≡ map left_at stations.items)
+        × (end.totals ≡ totals_of (sums_of (map (λ station. station.seat) stations.items)))
+        × (end.totals.taken ≡ end.totals.completed + end.totals.failed + end.totals.in_hand)) }
+{
+    let (seats, workers) = leave_all(stations, seats, left)?;
     let Ok(totals) = host.close(seats) else {
         unreachable!()
     };
@@ -153,6 +183,7 @@ fn leave_all<T: Ledger, C: Ledger, F: Ledger, S: Drop, A: Drop, O: Drop>(
 ) -> Result<(Vec<Seat<T, C, F>>, Vec<Left<S, A, O>>), OutOfMemory>
     requires seats { seats.items ≡ [] }
     requires left { left.items ≡ [] }
+    ensures count { IfOk result (λ all. vec_len all.0 ≡ vec_len stations) }
     ensures seats { IfOk result (λ all. all.0.items ≡ map (λ station. station.seat) stations.items) }
     ensures left { IfOk result (λ all. all.1.items ≡ map left_at stations.items) }
 {

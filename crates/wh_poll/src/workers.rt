@@ -408,6 +408,7 @@ pub(crate) fn jobs_of<T: Ledger, C: Ledger, F: Ledger, S: Drop, A: Drop, O: Drop
     mut posts: Vec<Post<S, A, O>>,
 ) -> Result<Vec<Job<T, C, F, S, A, O>>, OutOfMemory>
     requires { vec_len posts ≡ vec_len seats }
+    ensures count { IfOk result (λ jobs. vec_len jobs ≡ vec_len posts) }
     ensures seats { IfOk result (λ jobs. map (λ job. job.seat) jobs.items ≡ seats.items) }
     ensures posts { IfOk result (λ jobs. map (λ job. job.post) jobs.items ≡ posts.items) }
 {
