@@ -84,9 +84,12 @@ fn print<R: Runtime>(rt: &R, end: &OrderEnd) -> io::Result<()> {
 
 /// The status is 0 where the totals could be printed.
 fn main(rt: HostRuntime) -> ExitCode {
-    let Ok(end) = serve(&rt, rt.alloc()) else {
-        let _ = eprintln!(&rt; "order_worker: out of memory");
-        return ExitCode::from(1);
+    let end = match serve(&rt, rt.alloc()) {
+        Ok(end) => end,
+        Err(fault) => {
+            let _ = eprintln!(&rt; "order_worker: {fault:?}");
+            return ExitCode::from(1);
+        }
     };
     match print(&rt, &end) {
         Ok(()) => ExitCode::from(0),
