@@ -1,19 +1,2 @@
--- Short lists of commands that a step may answer.
-use Rattle.std.specs.Prelude.{◌≡◌, Bool, true, false, List, [], ◌∷◌, refl, if◌then◌else◌}
-use Rattle.std.proofs.Common.{lit≤}
-use Rattle.wh_workflow.specs.declared.command.Command.{Command}
-use Rattle.wh_workflow.specs.Law.{IsAnswer, records_none}
-
--- a step may answer nothing
-pub none_is_answer : IsAnswer []
-none_is_answer = record { few = lit≤ tt; asks = refl; records = refl }
-
--- a step may answer one command that is no marker
-pub one_is_answer : (command : Command) → records_none (command ∷ []) ≡ true → IsAnswer (command ∷ [])
-one_is_answer command records = record { few = lit≤ tt; asks = refl; records = records }
-
--- a step may answer by a test
-pub either_is_answer : (test : Bool) (first second : List Command) → IsAnswer first → IsAnswer second
-    → IsAnswer (if test then first else second)
-either_is_answer true first second first_stands second_stands = first_stands
-either_is_answer false first second first_stands second_stands = second_stands
+-- Short lists of commands that a step may answer, passed on.
+pub use Rattle.wh_workflow.specs.Answering.{none_is_answer, one_is_answer, either_is_answer}

@@ -9,7 +9,7 @@ use Rattle.wh_workflow.specs.declared.job.Job.{Job}
 use Rattle.wh_workflow.specs.declared.job.Job.TheVariants.{Start, Activity, Version}
 use Rattle.wh_workflow.specs.Law.{Program, IsAnswer, IsLawful}
 use Rattle.wh_sample_workflows.specs.Endings.{result_or_failure}
-use Rattle.wh_sample_workflows.specs.Answering.{none_is_answer, one_is_answer, either_is_answer}
+use Rattle.wh_workflow.specs.Answering.{none_is_answer, one_is_answer, either_is_answer}
 use Rattle.wh_sample_workflows.specs.declared.stateless.NoState.{NoState}
 
 -- the activity of a version

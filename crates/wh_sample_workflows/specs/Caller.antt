@@ -5,7 +5,7 @@ use Rattle.wh_workflow.specs.declared.command.Command.TheVariants.{SignalExterna
 use Rattle.wh_workflow.specs.declared.job.Job.{Job}
 use Rattle.wh_workflow.specs.declared.job.Job.TheVariants.{Start, SignalSent, SignalFailed}
 use Rattle.wh_workflow.specs.Law.{Program, IsAnswer, IsLawful}
-use Rattle.wh_sample_workflows.specs.Answering.{none_is_answer, one_is_answer}
+use Rattle.wh_workflow.specs.Answering.{none_is_answer, one_is_answer}
 use Rattle.wh_sample_workflows.specs.declared.stateless.NoState.{NoState}
 
 -- what it gives to a job

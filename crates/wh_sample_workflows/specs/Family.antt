@@ -7,7 +7,7 @@ use Rattle.wh_workflow.specs.declared.command.Command.TheVariants.{StartChild, C
 use Rattle.wh_workflow.specs.declared.job.Job.{Job}
 use Rattle.wh_workflow.specs.declared.job.Job.TheVariants.{Start, Signal, Child}
 use Rattle.wh_workflow.specs.Law.{Program, IsAnswer, IsLawful}
-use Rattle.wh_sample_workflows.specs.Answering.{none_is_answer, one_is_answer, either_is_answer}
+use Rattle.wh_workflow.specs.Answering.{none_is_answer, one_is_answer, either_is_answer}
 use Rattle.wh_sample_workflows.specs.declared.family.FamilyState.{FamilyState}
 
 -- how the run ends where its child ends

@@ -6,7 +6,7 @@ use Rattle.wh_workflow.specs.declared.command.Command.TheVariants.{StartTimer}
 use Rattle.wh_workflow.specs.declared.job.Job.{Job}
 use Rattle.wh_workflow.specs.declared.job.Job.TheVariants.{Start, Signal}
 use Rattle.wh_workflow.specs.Law.{Program, IsAnswer, IsLawful, asks_last, records_none}
-use Rattle.wh_sample_workflows.specs.Answering.{none_is_answer}
+use Rattle.wh_workflow.specs.Answering.{none_is_answer}
 use Rattle.wh_sample_workflows.specs.declared.flood.FloodState.{FloodState}
 
 -- the number after; after the last number of 64 bits comes 0

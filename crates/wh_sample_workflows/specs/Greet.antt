@@ -7,7 +7,7 @@ use Rattle.wh_workflow.specs.declared.command.Command.TheVariants.{StartActivity
 use Rattle.wh_workflow.specs.declared.job.Job.{Job}
 use Rattle.wh_workflow.specs.declared.job.Job.TheVariants.{Start, CancelRequested, Activity}
 use Rattle.wh_workflow.specs.Law.{Program, IsAnswer, IsLawful}
-use Rattle.wh_sample_workflows.specs.Answering.{none_is_answer, one_is_answer, either_is_answer}
+use Rattle.wh_workflow.specs.Answering.{none_is_answer, one_is_answer, either_is_answer}
 use Rattle.wh_sample_workflows.specs.declared.greet.GreetState.{GreetState}
 
 -- how the run ends where its activity ends

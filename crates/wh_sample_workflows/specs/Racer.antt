@@ -1,6 +1,5 @@
 -- The sample Racer.
 use Rattle.std.specs.Prelude.{List, [], ◌∷◌, codes, bytes_eq, refl, if◌then◌else◌}
-use Rattle.std.proofs.Common.{lit≤}
 use Rattle.wh_workflow.specs.declared.job.ActivityEnd.{ActivityEnd}
 use Rattle.wh_workflow.specs.declared.job.ActivityEnd.TheVariants.{Completed}
 use Rattle.wh_workflow.specs.declared.command.Command.{Command}
@@ -9,7 +8,7 @@ use Rattle.wh_workflow.specs.declared.job.Job.{Job}
 use Rattle.wh_workflow.specs.declared.job.Job.TheVariants.{Start, Activity, TimerFired}
 use Rattle.wh_workflow.specs.Law.{Program, IsAnswer, IsLawful}
 use Rattle.wh_sample_workflows.specs.Endings.{result_or_failure}
-use Rattle.wh_sample_workflows.specs.Answering.{none_is_answer, one_is_answer, either_is_answer}
+use Rattle.wh_workflow.specs.Answering.{none_is_answer, one_is_answer, two_are_answer, either_is_answer}
 use Rattle.wh_sample_workflows.specs.declared.racer.Phase.{Phase}
 use Rattle.wh_sample_workflows.specs.declared.racer.Phase.TheVariants.{Racing, Late, Done}
 
@@ -50,13 +49,13 @@ racer = record {
 }
 
 endings : (end : ActivityEnd) → IsAnswer (ending end)
-endings (Completed result) = record { few = lit≤ tt; asks = refl; records = refl }
-endings _ = record { few = lit≤ tt; asks = refl; records = refl }
+endings (Completed result) = two_are_answer _ _ refl refl
+endings _ = two_are_answer _ _ refl refl
 
 pub racer_lawful : IsLawful racer
-racer_lawful Racing (Start _ _) = record { few = lit≤ tt; asks = refl; records = refl }
+racer_lawful Racing (Start _ _) = two_are_answer _ _ refl refl
 racer_lawful Racing (TimerFired id) =
-    either_is_answer (bytes_eq id (codes "t")) _ _ (record { few = lit≤ tt; asks = refl; records = refl }) none_is_answer
+    either_is_answer (bytes_eq id (codes "t")) _ _ (two_are_answer _ _ refl refl) none_is_answer
 racer_lawful Racing (Activity id end) =
     either_is_answer (bytes_eq id (codes "1")) _ _ (endings end) none_is_answer
 racer_lawful Late (TimerFired id) = either_is_answer (bytes_eq id (codes "u")) _ _ (one_is_answer _ refl) none_is_answer

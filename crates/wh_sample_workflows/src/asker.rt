@@ -3,10 +3,9 @@ ghost use Rattle.std.specs.Prelude.{◌≡◌};
 ghost use Rattle.wh_sample_workflows.specs.Asker.{asker, asker_lawful};
 
 use crate::stateless::NoState;
-use crate::values::text_of;
 use std::alloc::Global;
 use wh_events::OutOfMemory;
-use wh_workflow::{Command, Job, Meter, Workflow};
+use wh_workflow::{Command, Job, Meter, Workflow, text_of};
 
 /// Asks again and again.
 ///

@@ -5,10 +5,9 @@ ghost use Rattle.wh_workflow.specs.declared.command.Command.TheVariants.{StartAc
 
 use crate::endings::result_or_failure;
 use crate::stateless::NoState;
-use crate::values::{no_payloads, text_of};
 use std::alloc::Global;
 use wh_events::OutOfMemory;
-use wh_workflow::{Command, Job, Meter, Workflow};
+use wh_workflow::{Command, Job, Meter, Workflow, no_payloads, text_of};
 
 /// Runs the old or the new activity, by the version of a change.
 ///

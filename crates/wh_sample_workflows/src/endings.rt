@@ -2,10 +2,9 @@
 ghost use Rattle.std.specs.Prelude.{◌≡◌, IfOk};
 ghost use Rattle.wh_sample_workflows.specs.Endings.{result_or_failure};
 
-use crate::values::text_of;
 use std::alloc::Global;
 use wh_events::OutOfMemory;
-use wh_workflow::{ActivityEnd, Command};
+use wh_workflow::{ActivityEnd, Command, text_of};
 
 /// `Complete` with the result of the activity, and `Fail` with the message where it has none.
 pub(crate) fn result_or_failure(

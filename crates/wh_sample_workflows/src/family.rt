@@ -3,10 +3,9 @@ ghost use Rattle.std.specs.Prelude.{◌≡◌, [], codes, IfOk};
 ghost use Rattle.wh_sample_workflows.specs.Family.{family, family_end, family_lawful};
 ghost use Rattle.wh_workflow.specs.declared.command.Command.TheVariants.{StartChild};
 
-use crate::values::{no_payloads, text_of};
 use std::alloc::Global;
 use wh_events::OutOfMemory;
-use wh_workflow::{ChildEnd, Command, Job, Meter, Workflow};
+use wh_workflow::{ChildEnd, Command, Job, Meter, Workflow, no_payloads, text_of};
 
 /// Runs a child, and cancels it at the signal `stop`.
 ///

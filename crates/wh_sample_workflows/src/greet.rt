@@ -3,10 +3,9 @@ ghost use Rattle.std.specs.Prelude.{◌≡◌, codes, IfOk};
 ghost use Rattle.wh_sample_workflows.specs.Greet.{greet, greet_end, greet_lawful};
 ghost use Rattle.wh_workflow.specs.declared.command.Command.TheVariants.{StartActivity};
 
-use crate::values::text_of;
 use std::alloc::Global;
 use wh_events::{Items, OutOfMemory, Payload};
-use wh_workflow::{ActivityEnd, Command, Job, Meter, Workflow};
+use wh_workflow::{ActivityEnd, Command, Job, Meter, Workflow, text_of};
 
 /// Runs one activity, and passes on a request to cancel it.
 ///

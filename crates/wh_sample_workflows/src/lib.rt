@@ -11,7 +11,6 @@ mod greet;
 mod nap;
 mod racer;
 mod stateless;
-mod values;
 
 pub use asker::Asker;
 pub use branch::Branch;

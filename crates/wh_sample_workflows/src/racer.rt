@@ -5,10 +5,9 @@ ghost use Rattle.wh_workflow.specs.Law.{IsAnswer};
 ghost use Rattle.wh_workflow.specs.declared.command.Command.TheVariants.{StartTimer};
 
 use crate::endings::result_or_failure;
-use crate::values::{no_payloads, text_of};
 use std::alloc::Global;
 use wh_events::OutOfMemory;
-use wh_workflow::{ActivityEnd, Command, Job, Meter, Workflow};
+use wh_workflow::{ActivityEnd, Command, Job, Meter, Workflow, no_payloads, text_of};
 
 /// Runs an activity against a timer.
 ///

@@ -1,5 +1,6 @@
 pub mod Counting
 pub mod Law
+pub mod Answering
 pub mod Pairs
 pub mod Jobs
 pub mod Names

@@ -7,6 +7,7 @@ mod job;
 pub mod laws;
 mod meter;
 mod pair;
+mod values;
 mod workflow;
 
 pub use command::Command;
@@ -14,4 +15,5 @@ pub use fault::{Mismatch, WorkflowFault};
 pub use job::{ActivityEnd, ChildEnd, Job};
 pub use meter::Meter;
 pub use pair::{Either, Pair};
+pub use values::{no_payloads, text_of};
 pub use workflow::Workflow;

@@ -1,0 +1,114 @@
+-- The workflow Order.
+use Rattle.std.specs.Prelude.{ℕ, ℤ, pos, negsuc, List, [], ◌∷◌, codes, bytes_eq, refl, if◌then◌else◌}
+use Rattle.std.specs.Ordering.{int_eq}
+use Rattle.wh_workflow.specs.declared.command.Command.{Command}
+use Rattle.wh_workflow.specs.declared.command.Command.TheVariants.{StartActivity, StartTimer, CancelTimer, StartChild, Ask, Complete, Fail}
+use Rattle.wh_workflow.specs.declared.job.ActivityEnd.TheVariants.{Completed}
+use Rattle.wh_workflow.specs.declared.job.ChildEnd.TheVariants.{Completed as ChildCompleted}
+use Rattle.wh_workflow.specs.declared.job.Job.{Job}
+use Rattle.wh_workflow.specs.declared.job.Job.TheVariants.{Start, Signal, Activity, TimerFired, Child, Version}
+use Rattle.wh_workflow.specs.Law.{Program, IsAnswer, IsLawful}
+use Rattle.wh_workflow.specs.Answering.{none_is_answer, one_is_answer, two_are_answer, either_is_answer}
+use Rattle.order.specs.declared.OrderState.{OrderState}
+use Rattle.order.specs.declared.OrderState.TheVariants.{Charging, Held, Shipping, Closed}
+
+-- what an order that is charged for gives to a job
+abbrev pub charging_gives : Job → List Command
+charging_gives (Start _ input) = StartActivity (codes "charge") (codes "ChargeCard") input ∷ []
+charging_gives (Activity id (Completed _)) =
+    if bytes_eq id (codes "charge") then StartTimer (codes "hold") 86_400 ∷ [] else []
+charging_gives (Activity id _) = if bytes_eq id (codes "charge") then Fail (codes "charge") ∷ [] else []
+charging_gives _ = []
+
+-- and what the job leaves
+abbrev pub charging_after : Job → OrderState
+charging_after (Activity id (Completed _)) = if bytes_eq id (codes "charge") then Held else Charging
+charging_after (Activity id _) = if bytes_eq id (codes "charge") then Closed else Charging
+charging_after _ = Charging
+
+-- the order is called off
+abbrev pub calling_off : List Command
+calling_off = CancelTimer (codes "hold") ∷ Complete [] ∷ []
+
+-- what an order that is held gives to a job
+abbrev pub held_gives : Job → List Command
+held_gives (Signal name _) = if bytes_eq name (codes "cancel") then calling_off else []
+held_gives (TimerFired id) = if bytes_eq id (codes "hold") then Ask (codes "tracked") (negsuc 0) (pos 1) ∷ [] else []
+held_gives _ = []
+
+-- and what the job leaves
+abbrev pub held_after : Job → OrderState
+held_after (Signal name _) = if bytes_eq name (codes "cancel") then Closed else Held
+held_after (TimerFired id) = if bytes_eq id (codes "hold") then Shipping else Held
+held_after _ = Held
+
+-- the workflow that ships a parcel: -1 is the one before the change
+abbrev pub parcel_type : ℤ → List ℕ
+parcel_type version = if int_eq version (negsuc 0) then codes "Ship" else codes "ShipTracked"
+
+-- what an order that is shipped gives to a job
+abbrev pub shipping_gives : Job → List Command
+shipping_gives (Version change_id version) =
+    if bytes_eq change_id (codes "tracked") then StartChild (codes "parcel") (parcel_type version) [] ∷ [] else []
+shipping_gives (Child workflow_id (ChildCompleted result)) =
+    if bytes_eq workflow_id (codes "parcel") then Complete result ∷ [] else []
+shipping_gives (Child workflow_id _) = if bytes_eq workflow_id (codes "parcel") then Fail (codes "parcel") ∷ [] else []
+shipping_gives _ = []
+
+-- and what the job leaves
+abbrev pub shipping_after : Job → OrderState
+shipping_after (Child workflow_id _) = if bytes_eq workflow_id (codes "parcel") then Closed else Shipping
+shipping_after _ = Shipping
+
+-- what an order gives to a job
+abbrev pub order_gives : OrderState → Job → List Command
+order_gives Charging job = charging_gives job
+order_gives Held job = held_gives job
+order_gives Shipping job = shipping_gives job
+order_gives Closed job = []
+
+-- what a job leaves
+abbrev pub order_after : OrderState → Job → OrderState
+order_after Charging job = charging_after job
+order_after Held job = held_after job
+order_after Shipping job = shipping_after job
+order_after Closed job = Closed
+
+-- what it computes
+abbrev pub order : Program OrderState
+order = record {
+  knows = λ kind. bytes_eq kind (codes "Order");
+  initial = λ _. Charging;
+  after = order_after;
+  gives = order_gives;
+}
+
+charging_answers : (job : Job) → IsAnswer (charging_gives job)
+charging_answers (Start _ input) = one_is_answer _ refl
+charging_answers (Activity id (Completed _)) =
+    either_is_answer (bytes_eq id (codes "charge")) _ _ (one_is_answer _ refl) none_is_answer
+charging_answers (Activity id _) =
+    either_is_answer (bytes_eq id (codes "charge")) _ _ (one_is_answer _ refl) none_is_answer
+charging_answers _ = none_is_answer
+
+held_answers : (job : Job) → IsAnswer (held_gives job)
+held_answers (Signal name _) =
+    either_is_answer (bytes_eq name (codes "cancel")) _ _ (two_are_answer _ _ refl refl) none_is_answer
+held_answers (TimerFired id) = either_is_answer (bytes_eq id (codes "hold")) _ _ (one_is_answer _ refl) none_is_answer
+held_answers _ = none_is_answer
+
+shipping_answers : (job : Job) → IsAnswer (shipping_gives job)
+shipping_answers (Version change_id version) =
+    either_is_answer (bytes_eq change_id (codes "tracked")) _ _ (one_is_answer _ refl) none_is_answer
+shipping_answers (Child workflow_id (ChildCompleted result)) =
+    either_is_answer (bytes_eq workflow_id (codes "parcel")) _ _ (one_is_answer _ refl) none_is_answer
+shipping_answers (Child workflow_id _) =
+    either_is_answer (bytes_eq workflow_id (codes "parcel")) _ _ (one_is_answer _ refl) none_is_answer
+shipping_answers _ = none_is_answer
+
+-- each step gives few commands, no marker, and an ask only as the last one
+pub order_lawful : IsLawful order
+order_lawful Charging job = charging_answers job
+order_lawful Held job = held_answers job
+order_lawful Shipping job = shipping_answers job
+order_lawful Closed job = none_is_answer
