@@ -5,7 +5,7 @@ use Rattle.wh_command_line.specs.Lines.{program}
 use Rattle.wh_command_line.specs.Options.{AreWithinLimits, GivesNumbers}
 use Rattle.wh_command_line.specs.declared.command_line.Plan.{Plan}
 use Rattle.wh_command_line.specs.declared.options.ServeOptions.{ServeOptions}
-use Rattle.wh_command_line.specs.declared.command_line.Plan.TheVariants.{Replay, Serve, Help}
+use Rattle.wh_command_line.specs.declared.command_line.Plan.TheVariants.{Replay, Explain, Serve, Help}
 
 -- the numbers of a plan are within their limits, with at least as many slots as workers
 abbrev pub IsWithinLimits : Plan → Type 0
@@ -21,13 +21,22 @@ abbrev pub IsHelp : Plan → Type 0
 IsHelp (Help text) = Unit {0}
 IsHelp _ = ⊥
 
+-- the rows give a path under a name
+abbrev pub GivesPath : Text → List Row → Text → Type 0
+GivesPath name rows path = first_of name rows ≡ Some path
+
 -- the rows give the folder
 abbrev pub GivesFolder : List Row → Text → Type 0
-GivesFolder rows dir = first_of (codes "DIR") rows ≡ Some dir
+GivesFolder rows dir = GivesPath (codes "DIR") rows dir
+
+-- the rows give the file
+abbrev pub GivesFile : List Row → Text → Type 0
+GivesFile rows file = GivesPath (codes "FILE") rows file
 
 -- the plan is what the subcommand of a name asks for by its rows
 abbrev pub IsGiven : Text → List Row → Plan → Type 0
 IsGiven name rows (Replay dir) = (name ≡ codes "replay") × GivesFolder rows dir
+IsGiven name rows (Explain file) = (name ≡ codes "explain") × GivesFile rows file
 IsGiven name rows (Serve dir workers cache cache_events slots) = (name ≡ codes "serve") × GivesFolder rows dir
     × GivesNumbers rows workers cache cache_events slots
 IsGiven name rows (Help text) = ⊥

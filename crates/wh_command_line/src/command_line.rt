@@ -4,9 +4,9 @@ ghost use Rattle.std.specs.Prelude.{◌≡◌, ◌≢◌, ◌↔◌, ◌<◌, fa
 ghost use Rattle.std.specs.Prelude.{string_bytes};
 ghost use Rattle.clap.specs.Words.{app_of, new_app, found_of, rows_of, rule_of};
 ghost use Rattle.clap.specs.declared.builder.Command.TheViews.{out-Command as fields_of};
-ghost use Rattle.wh_command_line.specs.Lines.{program, replay, serve, folder, number, with_version};
+ghost use Rattle.wh_command_line.specs.Lines.{program, replay, explain, serve, needed, folder, number, with_version};
 ghost use Rattle.wh_command_line.specs.Plans.{IsWithinLimits, IsHelp, IsServe, IsGiven, IsAskedBy};
-ghost use Rattle.wh_command_line.specs.Plans.{GivesFolder, GivesFewSlots, AsksFewSlots, HasFewSlots};
+ghost use Rattle.wh_command_line.specs.Plans.{GivesPath, GivesFewSlots, AsksFewSlots, HasFewSlots};
 
 use crate::options::{CACHE, CACHE_EVENTS, Helps, NumberOption, SLOTS, ServeOptions, WORKERS};
 use clap::error::ErrorKind;
@@ -39,6 +39,10 @@ pub enum Plan {
     /// Replay each history in a folder.
     Replay {
         dir: Text,
+    },
+    /// Explain the replay of the history in a file.
+    Explain {
+        file: Text,
     },
     /// Serve the tasks of each history in a folder. Each number is within the limits of a host, and
     /// there are at least as many slots as workers.
@@ -114,15 +118,23 @@ fn refused(alloc: Global, error: &Error) -> Result<Plan, Refusal>
     }
 }
 
-/// The argument of each subcommand: the folder.
+/// An argument that has to be there, with its help.
+fn needed_argument<'a>(alloc: Global, name: &'a str, help: &'a str) -> Arg<'a>
+    ensures rule { rule_of result ≡ needed name.entry.now }
+    ensures local { result.global ≡ false }
+{
+    Arg::new(alloc, name)
+        .required(true)
+        .action(ArgAction::Set)
+        .help(help)
+}
+
+/// The argument that names a folder.
 fn folder_argument<'a>(alloc: Global) -> Arg<'a>
     ensures rule { rule_of result ≡ folder }
     ensures local { result.global ≡ false }
 {
-    Arg::new(alloc, "DIR")
-        .required(true)
-        .action(ArgAction::Set)
-        .help("The folder whose .json files are read")
+    needed_argument(alloc, "DIR", "The folder whose .json files are read")
 }
 
 /// An option of `serve`, with its help.
@@ -158,6 +170,19 @@ fn replay<'a>(alloc: Global) -> Result<Command<'a>, AllocError>
     .arg(folder_argument(alloc))
 }
 
+/// The subcommand `explain`.
+fn explain<'a>(alloc: Global) -> Result<Command<'a>, AllocError>
+    ensures app { IfOk result (λ c. app_of c ≡ explain) }
+    ensures local { IfOk result (λ c. (fields_of c).has_globals ≡ false) }
+{
+    subcommand(
+        alloc,
+        "explain",
+        "Replays a history, and prints what the workflow was told and gave, task by task",
+    )
+    .arg(needed_argument(alloc, "FILE", "The history file that is read"))
+}
+
 /// The subcommand `serve`.
 fn serve<'a>(alloc: Global, helps: &'a Helps) -> Result<Command<'a>, AllocError>
     ensures app { IfOk result (λ c. app_of c ≡ serve) }
@@ -190,6 +215,7 @@ fn command<'a>(alloc: Global, helps: &'a Helps) -> Result<Command<'a>, AllocErro
 {
     program_alone(alloc)
         .subcommand(replay(alloc)?)?
+        .subcommand(explain(alloc)?)?
         .subcommand(serve(alloc, helps)?)
 }
 
@@ -217,11 +243,15 @@ fn serve_plan(dir: Text, options: ServeOptions) -> Result<Plan, Refusal>
     })
 }
 
-/// The folder that a subcommand is given.
-fn folder_given<'a>(given: &ArgMatches<'a>) -> Option<&'a str>
-    ensures { IfSome result (λ dir. GivesFolder (rows_of (found_of given.now)) dir.now) }
+/// The path that a subcommand is given under a name.
+fn path_given(alloc: Global, given: &ArgMatches<'_>, name: &str) -> Result<Text, Refusal>
+    ensures given { IfOk result (λ path. GivesPath name.now (rows_of (found_of given.now)) path) }
+    ensures slots { result ≢ Err Refusal.FewSlots }
 {
-    Some(given.get_str("DIR")?)
+    let Some(path) = given.get_str(name) else {
+        return Err(bad_line(format!(in alloc; "error: {name} is needed\n")));
+    };
+    text_copy(alloc, path)
 }
 
 /// The plan of a subcommand.
@@ -230,13 +260,17 @@ fn asked(alloc: Global, name: &str, given: &ArgMatches<'_>) -> Result<Plan, Refu
     ensures given { IfOk result (IsGiven name.now (rows_of (found_of given.now))) }
     ensures few { result ≡ Err Refusal.FewSlots → AsksFewSlots name.now (rows_of (found_of given.now)) }
 {
-    let Some(dir) = folder_given(given) else {
-        return Err(bad_line(String::from_str(alloc, "error: a folder is needed\n")));
-    };
-    let dir = text_copy(alloc, dir)?;
     match name {
-        "replay" => Ok(Plan::Replay { dir }),
-        "serve" => serve_plan(dir, ServeOptions::given(alloc, given)?),
+        "replay" => Ok(Plan::Replay {
+            dir: path_given(alloc, given, "DIR")?,
+        }),
+        "explain" => Ok(Plan::Explain {
+            file: path_given(alloc, given, "FILE")?,
+        }),
+        "serve" => {
+            let dir = path_given(alloc, given, "DIR")?;
+            serve_plan(dir, ServeOptions::given(alloc, given)?)
+        }
         _ => Err(bad_line(String::from_str(alloc, NO_COMMAND))),
     }
 }

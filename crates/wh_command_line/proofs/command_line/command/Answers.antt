@@ -9,5 +9,7 @@ unfolding program
 returns c =
     let first = c.in_ok-subcommand.ensures.shape c.in_ok-replay.ensures.local
     ∙ ap₂ with_subcommand c.program_alone.ensures (ap (λ (a : App). a.top) c.in_ok-replay.ensures.app) in
-    IfOk-weaker c.subcommand-2.result _ _ (λ r h. h.shape c.in_ok-serve.ensures.local
-    ∙ ap₂ with_subcommand first (ap (λ (a : App). a.top) c.in_ok-serve.ensures.app)) c.subcommand-2.ensures
+    let second = c.in_ok-subcommand-2.ensures.shape c.in_ok-explain.ensures.local
+    ∙ ap₂ with_subcommand first (ap (λ (a : App). a.top) c.in_ok-explain.ensures.app) in
+    IfOk-weaker c.subcommand-3.result _ _ (λ r h. h.shape c.in_ok-serve.ensures.local
+    ∙ ap₂ with_subcommand second (ap (λ (a : App). a.top) c.in_ok-serve.ensures.app)) c.subcommand-3.ensures

@@ -6,7 +6,7 @@ use Rattle.clap.proofs.OnLiterals.{clap_on_literals}
 use Rattle.wh_command_line.specs.Lines.{program}
 use Rattle.wh_command_line.specs.Plans.{Names, IsGiven, IsAskedBy, GivesFewSlots, HasFewSlots}
 use Rattle.wh_command_line.specs.declared.command_line.Plan.{Plan}
-use Rattle.wh_command_line.specs.declared.command_line.Plan.TheVariants.{Replay, Serve, Help}
+use Rattle.wh_command_line.specs.declared.command_line.Plan.TheVariants.{Replay, Explain, Serve, Help}
 use Rattle.wh_command_line.proofs.command_line.parse.Goals as goal
 
 program_is_simple : is_simple program ≡ true
@@ -32,6 +32,7 @@ named_by words name rows (Some p) of_name of_rows is_found =
 -- what a subcommand asks for is what the words ask for
 asked_by : (words : List Text) (name : Text) (rows : List Row) (plan : Plan) → Names words name rows → IsGiven name rows plan → IsAskedBy words plan
 asked_by words name rows (Replay dir) named given = (name, rows, named, given)
+asked_by words name rows (Explain file) named given = (name, rows, named, given)
 asked_by words name rows (Serve dir workers cache cache_events slots) named given = (name, rows, named, given)
 asked_by words name rows (Help text) named given = tt
 
