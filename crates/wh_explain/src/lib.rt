@@ -1,0 +1,10 @@
+//! Explains the replay of one history: what the workflow was told, what it gave, and what the record
+//! has beside it, up to the first difference.
+#![tactic(auto)]
+
+mod explanation;
+mod phrase;
+mod showing;
+
+pub use explanation::{Ending, ExplainedTask, Explanation, Pairing, RecordedEvent, Step};
+pub use showing::write_explanation;
