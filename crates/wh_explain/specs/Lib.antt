@@ -1,2 +1,4 @@
 pub mod Phrases
 pub mod Texts
+pub mod Tracing
+pub mod Walking

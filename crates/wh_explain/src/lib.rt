@@ -2,6 +2,8 @@
 //! has beside it, up to the first difference.
 #![tactic(auto)]
 
+mod activation;
+mod cut;
 mod explanation;
 mod phrase;
 mod showing;
