@@ -2,3 +2,4 @@ pub mod Phrases
 pub mod Texts
 pub mod Tracing
 pub mod Walking
+pub mod Pairings

@@ -5,7 +5,9 @@
 mod activation;
 mod cut;
 mod explanation;
+mod pairing;
 mod phrase;
+mod records;
 mod showing;
 
 pub use explanation::{Ending, ExplainedTask, Explanation, Pairing, RecordedEvent, Step};
