@@ -3,3 +3,4 @@ pub mod Texts
 pub mod Tracing
 pub mod Walking
 pub mod Pairings
+pub mod Explaining

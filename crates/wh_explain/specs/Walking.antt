@@ -3,7 +3,7 @@ use Rattle.std.specs.Prelude.{◌≡◌, ℕ, ◌<◌, ◌≤◌, length, Option
 use Rattle.wh_events.specs.Cuts.{commanded}
 use Rattle.wh_workflow.specs.declared.fault.WorkflowFault.{WorkflowFault}
 use Rattle.wh_workflow.specs.declared.job.Job.{Job}
-use Rattle.wh_workflow.specs.Scripts.{Standpoint}
+use Rattle.wh_workflow.specs.Scripts.{Standpoint, Settled}
 use Rattle.wh_workflow.specs.Activations.{Progress, Turn}
 use Rattle.wh_match.specs.Issuing.{Issuing, standpoint_at, late_marks}
 use Rattle.wh_replay.specs.Views.{progress}
@@ -39,3 +39,8 @@ turn_of activation meter next = record { progress = progress_of activation meter
 abbrev pub comes_to : {A : Type 0} → Turned → (Option Job → A) → Result A WorkflowFault
 comes_to (Next next) seen = Ok (seen next)
 comes_to (Refused fault) seen = Err fault
+
+-- where an activation comes to no fault, it leaves this
+abbrev pub Leaves : {S : Type 0} → Result (Progress S) WorkflowFault → S → Settled → ℕ → Type 0
+Leaves (Ok left) state settled meter = (left.state ≡ state) × (left.script.settled ≡ settled) × (left.meter ≡ meter)
+Leaves (Err fault) state settled meter = Unit {0}

@@ -4,11 +4,14 @@
 
 mod activation;
 mod cut;
+mod explaining;
 mod explanation;
 mod pairing;
 mod phrase;
 mod records;
 mod showing;
+mod tracking;
 
+pub use explaining::explain;
 pub use explanation::{Ending, ExplainedTask, Explanation, Pairing, RecordedEvent, Step};
 pub use showing::write_explanation;
