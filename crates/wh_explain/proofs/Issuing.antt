@@ -1,13 +1,11 @@
 -- The commands of a step, issued one after another.
 use Rattle.std.proofs.Common.{◌≡◌, ℕ, Bool, true, false, cond, List, [], ◌∷◌, ◌++◌, Option, Some, None, is_some, Result, Ok, Err, ℤ, refl, sym, ap, ◌∙◌, append-nil}
-use Rattle.wh_events.specs.declared.event.Event.{Event}
 use Rattle.wh_workflow.specs.declared.command.Command.{Command}
 use Rattle.wh_workflow.specs.declared.command.Command.TheVariants.{Ask, Marker}
 use Rattle.wh_workflow.specs.declared.fault.WorkflowFault.{WorkflowFault}
 use Rattle.wh_workflow.specs.Scripts.{Standpoint, Settled, act_of, choice_of, command_fault, reduced}
-use Rattle.wh_workflow.specs.Activations.{and_then, unless_fault, Script, issue_all, question_in, marker_if, Reply, reply, respond}
-use Rattle.wh_workflow.specs.ActivationScripts.{ok_unless}
-use Rattle.wh_match.specs.Issuing.{Issuing, standpoint_at, standpoint_in, is_late_act, late_marks, with_issued, unmarked_if, with_asked, choice_in, reduced_by}
+use Rattle.wh_workflow.specs.Activations.{unless_fault, Script, issue_all, marker_if}
+use Rattle.wh_match.specs.Issuing.{Issuing, standpoint_at, standpoint_in, is_late_act, late_marks, with_issued, unmarked_if, with_asked, reduced_by}
 use Rattle.wh_match.proofs.Reducing.{late_marks-push, reduced_by-standpoint}
 use Rattle.wh_replay.specs.Views.{script}
 use Rattle.wh_explain.specs.declared.cut.Cut.{Cut}

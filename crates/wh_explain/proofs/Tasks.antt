@@ -1,5 +1,5 @@
 -- The tasks of a history, one after another.
-use Rattle.std.proofs.Common.{◌≡◌, ℕ, Bool, true, false, List, [], ◌∷◌, ◌++◌, drop, Option, Some, None, option_map, Result, Ok, Err, refl, sym, ap, subst, ◌∙◌, append_assoc, append-nil, if◌then◌else◌}
+use Rattle.std.proofs.Common.{◌≡◌, ℕ, true, false, List, [], ◌∷◌, ◌++◌, drop, Option, Some, None, option_map, Result, Ok, Err, refl, sym, ap, subst, ◌∙◌, append_assoc, append-nil, if◌then◌else◌}
 use Rattle.wh_events.specs.declared.event.Event.{Event}
 use Rattle.wh_events.specs.declared.place.PlaceFault.{PlaceFault}
 use Rattle.wh_events.specs.Cuts.{cuts, is_recorded, record_of}
@@ -7,7 +7,6 @@ use Rattle.wh_events.specs.Places.{place_fault, fault_after, history_fault}
 use Rattle.wh_machines.specs.declared.fault.PushFault.TheVariants.{Place}
 use Rattle.wh_split.specs.Splits.{first_of}
 use Rattle.wh_workflow.specs.declared.command.Command.{Command}
-use Rattle.wh_workflow.specs.declared.job.Job.{Job}
 use Rattle.wh_workflow.specs.declared.fault.WorkflowFault.{WorkflowFault}
 use Rattle.wh_workflow.specs.Law.{Program}
 use Rattle.wh_workflow.specs.Scripts.{Settled}
@@ -20,7 +19,7 @@ use Rattle.wh_explain.specs.declared.explanation.Ending.TheVariants.{Live, Recor
 use Rattle.wh_explain.specs.declared.explanation.ExplainedTask.{ExplainedTask}
 use Rattle.wh_explain.specs.declared.explanation.Pairing.{Pairing}
 use Rattle.wh_explain.specs.Pairings.{pairings}
-use Rattle.wh_explain.specs.Explaining.{in_place, ended, stops, ending_of, IsTaskAt, IsTask, begin_behind, AreTasks, all, stopped, passed}
+use Rattle.wh_explain.specs.Explaining.{in_place, ended, stops, IsTaskAt, IsTask, begin_behind, AreTasks, all, stopped, passed}
 use Rattle.wh_explain.specs.Walking.{Leaves}
 
 -- a history of which an event is not in place

@@ -94,8 +94,7 @@ fn ask(
     requires within { IsWithin cut.now }
     requires script { IsOf cut.now script.old }
     requires not_marker { is_marker command ≡ false }
-    ensures issued {
-        let reply = respond (standpoint_of cut.now) (script_of versions.old script.old) (command ∷ []) in
+    ensures issued { let reply = respond (standpoint_of cut.now) (script_of versions.old script.old) (command ∷ []) in
         IfOk result (λ turned. comes_to turned (reply_of versions.new script.new) ≡ reply) }
     ensures script { OnOk result (IsOf cut.now script.new) }
 {
@@ -128,11 +127,9 @@ fn respond(
     requires within { IsWithin cut.now }
     requires script { IsOf cut.now script.old }
     requires answer { IsAnswer commands.items }
-    ensures issued {
-        let reply = respond (standpoint_of cut.now) (script_of versions.old script.old) commands.items in
+    ensures issued { let reply = respond (standpoint_of cut.now) (script_of versions.old script.old) commands.items in
         IfOk result (λ turned. comes_to turned (reply_of versions.new script.new) ≡ reply) }
-    ensures given {
-        let shown = stood (standpoint_of cut.now) versions.old script.old.issued commands.items in
+    ensures given { let shown = stood (standpoint_of cut.now) versions.old script.old.issued commands.items in
         OnOk result (given.new.items ≡ given.old.items ++ shown) }
     ensures script { OnOk result (IsOf cut.now script.new) }
 {
@@ -189,7 +186,7 @@ impl<W: Workflow> Activation<W> {
         requires script { IsOf cut.now self.old.script }
         ensures traced { let before = progress_of self.old meter.old in
             IfOk result (λ ran. IsTraced W.program (standpoint_of cut.now) jobs.items before ran.0.items
-                (ok_unless ran.1 (progress_of self.new meter.new))) }
+            (ok_unless ran.1 (progress_of self.new meter.new))) }
         ensures script { OnOk result (IsOf cut.now self.new.script) }
     {
         let mut steps = Vec::new(alloc);

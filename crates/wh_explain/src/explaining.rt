@@ -75,8 +75,8 @@ fn explain_task<W: Workflow>(
     ensures { let begin = progress before.state before.versions [] meter.old in
         let told = jobs_at cut.now.track.now cut.now.previous cut.now.number in
         IfOk result (λ explained. (left : Result (Progress W.State) WorkflowFault)
-            × IsTaskAt W.program cut.now.track.now (standpoint_of cut.now) told cut.now.number begin explained.0 left
-            × Leaves left explained.1.state explained.1.versions meter.new) }
+        × IsTaskAt W.program cut.now.track.now (standpoint_of cut.now) told cut.now.number begin explained.0 left
+        × Leaves left explained.1.state explained.1.versions meter.new) }
 {
     let jobs = jobs(alloc, cut.track, cut.previous, cut.number)?;
     let mut activation = Activation::<W> {

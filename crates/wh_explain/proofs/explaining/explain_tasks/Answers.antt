@@ -2,7 +2,7 @@ use Rattle.std.proofs.Common.{◌≡◌, ◌∙◌, ℕ, List, [], length, drop,
 use Rattle.wh_events.specs.declared.event.Event.{Event}
 use Rattle.wh_events.specs.Cuts.{commanded, is_recorded, record_of}
 use Rattle.wh_replay.specs.Views.{progress}
-use Rattle.wh_replay.proofs.Stepping.{IsNext, next_seen, none_left}
+use Rattle.wh_replay.proofs.Stepping.{next_seen, none_left}
 use Rattle.wh_explain.proofs.Tasks.{task_here, no_cut_left, stops_here, goes_past, Continues}
 use Rattle.wh_explain.proofs.explaining.explain_tasks.Goals as goal
 
@@ -59,8 +59,8 @@ loop-number-preserved g c =
     record {
       low = omega (arith, within, c.get-last.ensures.kept);
       left = subst P (sym c.get-last.ensures.kept)
-      (goes_past program track start begin at.tasks.items c.push.new.self.items at.last c.in-Some.number c.in_ok-task.task told.0 c.in_ok-task.left.state c.in_ok-task.left.versions c.explain_task.new.meter n.counts at.invariant.left
-      (task_here program track at.last c.in-Some.number there begin c.in_ok-task.task told.0 recorded told.1) told.2 (sym c.stops-stop.ensures ∙ c.if-stop.false) c.in_ok-push.ensures.items);
+          (goes_past program track start begin at.tasks.items c.push.new.self.items at.last c.in-Some.number c.in_ok-task.task told.0 c.in_ok-task.left.state c.in_ok-task.left.versions c.explain_task.new.meter n.counts at.invariant.left
+          (task_here program track at.last c.in-Some.number there begin c.in_ok-task.task told.0 recorded told.1) told.2 (sym c.stops-stop.ensures ∙ c.if-stop.false) c.in_ok-push.ensures.items);
     }
 
 pub returns : goal.returns

@@ -1,4 +1,4 @@
-use Rattle.std.proofs.Common.{◌≡◌, ◌-◌, ◌≤◌, ◌++◌, [], List, length, drop}
+use Rattle.std.proofs.Common.{◌-◌, ◌≤◌, ◌++◌, [], List, length, drop}
 use Rattle.wh_events.specs.Cuts.{cuts}
 use Rattle.wh_replay.specs.Views.{progress}
 use Rattle.wh_explain.specs.declared.explanation.ExplainedTask.{ExplainedTask}

@@ -1,4 +1,4 @@
-use Rattle.std.proofs.Common.{length-append, arith, ◌≡◌, ◌++◌, ◌∷◌, [], Ok, Err, Some, None, sym, ap, subst, ◌∙◌, length}
+use Rattle.std.proofs.Common.{length-append, arith, ◌≡◌, ◌++◌, Some, None, ap, ◌∙◌, length}
 use Rattle.std.specs.Prelude.{option_to_list}
 use Rattle.std.specs.Vec.Iter.{into_iter_items, into_iter_len}
 use Rattle.wh_workflow.specs.Activations.{turn}
