@@ -1,3 +1,4 @@
 pub mod Issuing
 pub mod Tracing
+pub mod Scripted
 pub mod Tasks

@@ -11,15 +11,14 @@ use Rattle.wh_workflow.specs.declared.command.Command.{Command}
 use Rattle.wh_workflow.specs.declared.job.Job.{Job}
 use Rattle.wh_workflow.specs.declared.fault.WorkflowFault.{WorkflowFault}
 use Rattle.wh_workflow.specs.Law.{Program}
-use Rattle.wh_workflow.specs.Scripts.{Standpoint, reduced}
-use Rattle.wh_workflow.specs.Activations.{Progress}
+use Rattle.wh_workflow.specs.Scripts.{Standpoint, Settled, reduced}
+use Rattle.wh_workflow.specs.ActivationScripts.{Step, IsLongest, fault_in, issued_in, settled_after, state_after}
 use Rattle.wh_replay.specs.Replays.{workflow_of}
-use Rattle.wh_replay.specs.Views.{progress, standpoint_after}
+use Rattle.wh_replay.specs.Views.{standpoint_after}
 use Rattle.wh_explain.specs.declared.explanation.Ending.{Ending}
 use Rattle.wh_explain.specs.declared.explanation.Ending.TheVariants.{Refused, Live, Recorded}
 use Rattle.wh_explain.specs.declared.explanation.ExplainedTask.{ExplainedTask}
 use Rattle.wh_explain.specs.Pairings.{pairings, differs}
-use Rattle.wh_explain.specs.Tracing.{IsTraced}
 
 -- the events, if they are in place
 abbrev pub in_place : Option (ℕ × PlaceFault) → List Event → Option (List Event)
@@ -27,9 +26,18 @@ in_place None events = Some events
 in_place (Some fault) events = None
 
 -- how a task ends that sends this: it is not recorded yet, or what is sent stands beside the record
-abbrev pub ended : List Event → List Command → Option (List Event) → Ending
-ended events sent None = Live sent
-ended events sent (Some recorded) = Recorded (pairings events sent recorded)
+abbrev pub sent_ending : List Event → List Command → Option (List Event) → Ending
+sent_ending events sent None = Live sent
+sent_ending events sent (Some recorded) = Recorded (pairings events sent recorded)
+
+-- the ending, unless a command can't stand
+abbrev pub unless_refused : Option WorkflowFault → Ending → Ending
+unless_refused None ending = ending
+unless_refused (Some fault) ending = Refused
+
+-- how a task of these steps ends: the last command can't stand, or what is sent of the commands of the steps is not recorded yet or stands beside the record
+abbrev pub ending_of : List Event → Standpoint → Settled → List Step → Ending
+ending_of events standpoint settled steps = unless_refused (fault_in standpoint settled [] steps) (sent_ending events (reduced standpoint (issued_in standpoint settled steps)) standpoint.recorded)
 
 -- a command is refused, or what is sent differs from what is recorded
 abbrev pub stops : Ending → Bool
@@ -38,36 +46,28 @@ stops (Live _) = false
 stops (Recorded pairings) = list_any differs pairings
 
 module _ {S : Type 0} where
-  -- how a task ends whose activation comes to this: a command is refused, or what is sent of the commands is all but those that are dropped
-  abbrev pub ending_of : List Event → Standpoint → Result (Progress S) WorkflowFault → Ending
-  ending_of events standpoint (Err fault) = Refused
-  ending_of events standpoint (Ok progress) = ended events (reduced standpoint progress.script.issued) standpoint.recorded
-
-  -- what is explained of a task that is told these jobs, and what its activation comes to
-  pub record IsTaskAt (program : Program S) (events : List Event) (standpoint : Standpoint) (jobs : List Job) (at : ℕ) (begin : Progress S) (task : ExplainedTask) (left : Result (Progress S) WorkflowFault) : Type 0 where
+  -- what is explained of a task that is told these jobs: its number, the activation's script, from a state and settled versions, and how that ends
+  pub record IsTaskAt (program : Program S) (events : List Event) (standpoint : Standpoint) (jobs : List Job) (at : ℕ) (state : S) (settled : Settled) (task : ExplainedTask) : Type 0 where
     pub number : task.at ≡ at
-    pub steps : IsTraced program standpoint jobs begin task.steps left
-    pub ending : task.ending ≡ ending_of events standpoint left
+    pub steps : IsLongest program standpoint jobs state settled task.steps
+    pub ending : task.ending ≡ ending_of events standpoint settled task.steps
 
   -- what is explained of the task at the cut of a number of a history, where the cut before has the other number
-  abbrev pub IsTask : Program S → List Event → (last number : ℕ) → Progress S → ExplainedTask → Result (Progress S) WorkflowFault → Type 0
-  IsTask program events last number begin task left = IsTaskAt program events (standpoint_after events last number) (jobs_at events last number) number begin task left
+  abbrev pub IsTask : Program S → List Event → (last number : ℕ) → S → Settled → ExplainedTask → Type 0
+  IsTask program events last number state settled task = IsTaskAt program events (standpoint_after events last number) (jobs_at events last number) number state settled task
 
-  -- what the next task begins with: nothing is issued yet
-  abbrev pub begin_behind : Progress S → Progress S
-  begin_behind left = progress left.state left.script.settled [] left.meter
-
-  -- what is explained of the cuts of these numbers behind the last one: each of them once, in order, up to the first that stops
-  pub data AreTasks (program : Program S) (events : List Event) : ℕ → List ℕ → Progress S → List ExplainedTask → Type 0 where
-    all : (last : ℕ) (begin : Progress S) → AreTasks program events last [] begin []
-    stopped : (last number : ℕ) (rest : List ℕ) (begin : Progress S) (task : ExplainedTask) (left : Result (Progress S) WorkflowFault)
-        → IsTask program events last number begin task left → stops task.ending ≡ true → AreTasks program events last (number ∷ rest) begin (task ∷ [])
-    passed : (last number : ℕ) (rest : List ℕ) (begin left : Progress S) (task : ExplainedTask) (tasks : List ExplainedTask)
-        → IsTask program events last number begin task (Ok left) → stops task.ending ≡ false → AreTasks program events number rest (begin_behind left) tasks → AreTasks program events last (number ∷ rest) begin (task ∷ tasks)
+  -- what is explained of the cuts of these numbers behind the last one: each of them once, in order, in what the steps before it leave, up to the first that stops
+  pub data AreTasks (program : Program S) (events : List Event) : ℕ → List ℕ → S → Settled → List ExplainedTask → Type 0 where
+    all : (last : ℕ) (state : S) (settled : Settled) → AreTasks program events last [] state settled []
+    stopped : (last number : ℕ) (rest : List ℕ) (state : S) (settled : Settled) (task : ExplainedTask)
+        → IsTask program events last number state settled task → stops task.ending ≡ true → AreTasks program events last (number ∷ rest) state settled (task ∷ [])
+    passed : (last number : ℕ) (rest : List ℕ) (state : S) (settled : Settled) (task : ExplainedTask) (tasks : List ExplainedTask)
+        → IsTask program events last number state settled task → stops task.ending ≡ false
+        → AreTasks program events number rest (state_after program state task.steps) (settled_after settled task.steps) tasks → AreTasks program events last (number ∷ rest) state settled (task ∷ tasks)
 
   -- where there is code for the workflow type
   abbrev pub AreTasksIf : Bool → Program S → List Event → List ExplainedTask → Type 0
-  AreTasksIf true program events tasks = AreTasks program events 0 (cuts events) (progress (program.initial (workflow_of events)) [] [] 0) tasks
+  AreTasksIf true program events tasks = AreTasks program events 0 (cuts events) (program.initial (workflow_of events)) [] tasks
   AreTasksIf false program events tasks = tasks ≡ []
 
   -- where the events are in place

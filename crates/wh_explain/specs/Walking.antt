@@ -1,9 +1,11 @@
 -- What the definitions see of the code's values.
-use Rattle.std.specs.Prelude.{◌≡◌, ℕ, ◌<◌, ◌≤◌, length, Option, Result, Ok, Err, option_map}
+use Rattle.std.specs.Prelude.{◌≡◌, ℕ, ◌<◌, ◌≤◌, length, List, Option, Result, Ok, Err, option_map}
 use Rattle.wh_events.specs.Cuts.{commanded}
 use Rattle.wh_workflow.specs.declared.fault.WorkflowFault.{WorkflowFault}
 use Rattle.wh_workflow.specs.declared.job.Job.{Job}
+use Rattle.wh_workflow.specs.Law.{Program}
 use Rattle.wh_workflow.specs.Scripts.{Standpoint, Settled}
+use Rattle.wh_workflow.specs.ActivationScripts.{Step, settled_after, state_after}
 use Rattle.wh_workflow.specs.Activations.{Progress, Turn}
 use Rattle.wh_match.specs.Issuing.{Issuing, standpoint_at, late_marks}
 use Rattle.wh_replay.specs.Views.{progress}
@@ -40,7 +42,6 @@ abbrev pub comes_to : {A : Type 0} → Turned → (Option Job → A) → Result 
 comes_to (Next next) seen = Ok (seen next)
 comes_to (Refused fault) seen = Err fault
 
--- where an activation comes to no fault, it leaves this
-abbrev pub Leaves : {S : Type 0} → Result (Progress S) WorkflowFault → S → Settled → ℕ → Type 0
-Leaves (Ok left) state settled meter = (left.state ≡ state) × (left.script.settled ≡ settled) × (left.meter ≡ meter)
-Leaves (Err fault) state settled meter = Unit {0}
+-- the steps of an activation leave this state and these versions
+abbrev pub Leaves : {S : Type 0} → Program S → S → Settled → List Step → S → Settled → Type 0
+Leaves program state settled steps left versions = (left ≡ state_after program state steps) × (versions ≡ settled_after settled steps)

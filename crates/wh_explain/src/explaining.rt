@@ -1,16 +1,15 @@
 //! The tasks of a history, each with the steps of its activation and with its record.
-ghost use Rattle.std.specs.Prelude.{◌≡◌, [], IfOk, Result, string_bytes};
+ghost use Rattle.std.specs.Prelude.{◌≡◌, [], None, IfOk, string_bytes};
 ghost use Rattle.wh_events.specs.Cuts.{cuts};
 ghost use Rattle.wh_activation.specs.Cutting.{jobs_at};
 ghost use Rattle.wh_json.specs.Events.{history};
-ghost use Rattle.wh_workflow.specs.declared.fault.WorkflowFault.{WorkflowFault};
-ghost use Rattle.wh_workflow.specs.Activations.{Progress};
+ghost use Rattle.wh_workflow.specs.ActivationScripts.{fault_in};
 ghost use Rattle.wh_workflow.specs.Scripts.{reduced};
 ghost use Rattle.wh_replay.specs.Replays.{workflow_of};
-ghost use Rattle.wh_replay.specs.Views.{progress};
 ghost use Rattle.wh_tester.specs.Verdicts.{IsVerdict};
-ghost use Rattle.wh_explain.specs.Explaining.{ended, stops, IsTaskAt, AreTasks, AreTasksOf, AreTasksIn};
-ghost use Rattle.wh_explain.specs.Walking.{IsWithin, IsOf, standpoint_of, Leaves};
+ghost use Rattle.wh_explain.specs.Explaining.{unless_refused, sent_ending, stops, IsTaskAt};
+ghost use Rattle.wh_explain.specs.Explaining.{AreTasks, AreTasksOf, AreTasksIn};
+ghost use Rattle.wh_explain.specs.Walking.{IsWithin, IsOf, Leaves, standpoint_of};
 
 use crate::activation::Activation;
 use crate::cut::Cut;
@@ -26,7 +25,7 @@ use wh_machines::Track;
 use wh_match::{Script, Versions};
 use wh_split::next_cut;
 use wh_tester::{Line, verdict};
-use wh_workflow::{Meter, Workflow};
+use wh_workflow::{Meter, Workflow, WorkflowFault};
 
 /// What the tasks so far leave.
 #[derive(Drop)]
@@ -35,12 +34,21 @@ struct Reached<S> {
     versions: Versions,
 }
 
-/// How a task ends whose commands can stand.
-fn end_task(alloc: Global, cut: &Cut, script: Script) -> Result<Ending, OutOfMemory>
+/// How a task ends, of whose commands the last has the fault, if there is one.
+fn end_task(
+    alloc: Global,
+    cut: &Cut,
+    script: Script,
+    fault: Option<WorkflowFault>,
+) -> Result<Ending, OutOfMemory>
     requires script { IsOf cut.now script }
     ensures { let standpoint = standpoint_of cut.now in
-        IfOk result (λ ending. ending ≡ ended cut.now.track.now (reduced standpoint script.issued) standpoint.recorded) }
+        let sent = sent_ending cut.now.track.now (reduced standpoint script.issued) standpoint.recorded in
+        IfOk result (λ ending. ending ≡ unless_refused fault sent) }
 {
+    if let Some(_fault) = fault {
+        return Ok(Ending::Refused);
+    }
     let sent = script.reduced()?;
     let Some(events) = cut.recorded else {
         return Ok(Ending::Live {
@@ -64,7 +72,8 @@ fn stops(ending: &Ending) -> bool
     }
 }
 
-/// Explains the task of a cut behind what the tasks before it left.
+/// Explains the task of a cut behind what the tasks before it left. What it leaves is known where
+/// its commands can stand.
 fn explain_task<W: Workflow>(
     alloc: Global,
     cut: &Cut,
@@ -72,11 +81,12 @@ fn explain_task<W: Workflow>(
     meter: &mut Meter,
 ) -> Result<(ExplainedTask, Reached<W::State>), OutOfMemory>
     requires within { IsWithin cut.now }
-    ensures { let begin = progress before.state before.versions [] meter.old in
-        let told = jobs_at cut.now.track.now cut.now.previous cut.now.number in
-        IfOk result (λ explained. (left : Result (Progress W.State) WorkflowFault)
-        × IsTaskAt W.program cut.now.track.now (standpoint_of cut.now) told cut.now.number begin explained.0 left
-        × Leaves left explained.1.state explained.1.versions meter.new) }
+    ensures task { let told = jobs_at cut.now.track.now cut.now.previous cut.now.number in
+        IfOk result (λ explained. IsTaskAt W.program cut.now.track.now (standpoint_of cut.now) told cut.now.number
+            before.state before.versions explained.0) }
+    ensures left { let standpoint = standpoint_of cut.now in
+        IfOk result (λ explained. fault_in standpoint before.versions [] explained.0.steps ≡ None
+            → Leaves W.program before.state before.versions explained.0.steps explained.1.state explained.1.versions) }
 {
     let jobs = jobs(alloc, cut.track, cut.previous, cut.number)?;
     let mut activation = Activation::<W> {
@@ -90,14 +100,10 @@ fn explain_task<W: Workflow>(
         versions,
         script,
     } = activation;
-    let ending = match fault {
-        Some(_) => Ending::Refused,
-        None => end_task(alloc, cut, script)?,
-    };
     let task = ExplainedTask {
         at: cut.number,
         steps: Items::new(steps),
-        ending,
+        ending: end_task(alloc, cut, script, fault)?,
     };
     Ok((task, Reached { state, versions }))
 }
@@ -108,8 +114,8 @@ fn explain_tasks<W: Workflow>(
     track: &Track,
     mut reached: Reached<W::State>,
 ) -> Result<Vec<ExplainedTask>, OutOfMemory>
-    ensures { IfOk result (λ tasks. AreTasks W.program track.now 0 (cuts track.now)
-        (progress reached.state reached.versions [] 0) tasks.items) }
+    ensures { IfOk result
+        (λ tasks. AreTasks W.program track.now 0 (cuts track.now) reached.state reached.versions tasks.items) }
 {
     let mut meter = Meter::new();
     let mut tasks = Vec::new(alloc);

@@ -1,9 +1,8 @@
 use Rattle.std.proofs.Common.{◌≡◌, ◌∙◌, ℕ, List, [], length, drop, Option, Some, None, option_map, if◌then◌else◌, sym, ap, subst, arith}
 use Rattle.wh_events.specs.declared.event.Event.{Event}
 use Rattle.wh_events.specs.Cuts.{commanded, is_recorded, record_of}
-use Rattle.wh_replay.specs.Views.{progress}
 use Rattle.wh_replay.proofs.Stepping.{next_seen, none_left}
-use Rattle.wh_explain.proofs.Tasks.{task_here, no_cut_left, stops_here, goes_past, Continues}
+use Rattle.wh_explain.proofs.Tasks.{no_fault, task_here, no_cut_left, stops_here, goes_past, Continues}
 use Rattle.wh_explain.proofs.explaining.explain_tasks.Goals as goal
 
 pub record_behind-requires : goal.record_behind-requires
@@ -31,10 +30,9 @@ returns-then-stop g c =
     let n = next_seen track c.events.result.now at.last c.in-Some.number c.next_cut.result c.events.ensures.events c.events.ensures.in_place at.invariant.low c.next_cut.ensures.behind c.in-Some.is in
     let there = option_map (λ events. commanded events.now) c.record_behind.result in
     let recorded = recorded_there track c.events-in-Some.result.now c.get.result c.in-Some.number there c.events-in-Some.ensures.events c.get.ensures.kept c.record_behind.ensures in
-    let told = c.in_ok-task.ensures in
-    let begin = progress at.reached.state at.reached.versions [] at.meter in
-    stops_here program track (progress c.args.reached.state c.args.reached.versions [] 0) begin at.tasks.items c.push.new.self.items at.last c.in-Some.number c.in_ok-task.task told.0 n.counts at.invariant.left
-    (task_here program track at.last c.in-Some.number there begin c.in_ok-task.task told.0 recorded told.1) (sym c.stops-stop.ensures ∙ c.if-stop.true) c.in_ok-push.ensures.items
+    let here = task_here program track at.last c.in-Some.number there at.reached.state at.reached.versions c.in_ok-task.task recorded c.in_ok-task.ensures.task in
+    stops_here program track c.args.reached.state at.reached.state c.args.reached.versions at.reached.versions at.tasks.items c.push.new.self.items at.last c.in-Some.number c.in_ok-task.task n.counts at.invariant.left here
+    (sym c.stops-stop.ensures ∙ c.if-stop.true) c.in_ok-push.ensures.items
 
 pub loop-number-smaller : goal.loop-number-smaller
 loop-number-smaller g c =
@@ -50,21 +48,21 @@ loop-number-preserved g c =
     let n = next_seen track c.events.result.now at.last c.in-Some.number c.next_cut.result c.events.ensures.events c.events.ensures.in_place at.invariant.low c.next_cut.ensures.behind c.in-Some.is in
     let there = option_map (λ events. commanded events.now) c.record_behind.result in
     let recorded = recorded_there track c.events-in-Some.result.now c.get.result c.in-Some.number there c.events-in-Some.ensures.events c.get.ensures.kept c.record_behind.ensures in
-    let told = c.in_ok-task.ensures in
-    let begin = progress at.reached.state at.reached.versions [] at.meter in
-    let start = progress c.args.reached.state c.args.reached.versions [] 0 in
-    let after = progress c.in_ok-task.left.state c.in_ok-task.left.versions [] c.explain_task.new.meter in
-    let P : ℕ → Type 0 = λ number. Continues program track start c.push.new.self.items number after in
+    let task = c.in_ok-task.ensures.task in
+    let here = task_here program track at.last c.in-Some.number there at.reached.state at.reached.versions c.in_ok-task.task recorded task in
+    let passes = sym c.stops-stop.ensures ∙ c.if-stop.false in
+    let left = c.in_ok-task.ensures.left (no_fault _ c.in_ok-task.task.ending _ task.ending passes) in
+    let P : ℕ → Type 0 = λ number. Continues program track c.args.reached.state c.args.reached.versions c.push.new.self.items number c.in_ok-task.left.state c.in_ok-task.left.versions in
     let within = n.within in
     record {
       low = omega (arith, within, c.get-last.ensures.kept);
       left = subst P (sym c.get-last.ensures.kept)
-          (goes_past program track start begin at.tasks.items c.push.new.self.items at.last c.in-Some.number c.in_ok-task.task told.0 c.in_ok-task.left.state c.in_ok-task.left.versions c.explain_task.new.meter n.counts at.invariant.left
-          (task_here program track at.last c.in-Some.number there begin c.in_ok-task.task told.0 recorded told.1) told.2 (sym c.stops-stop.ensures ∙ c.if-stop.false) c.in_ok-push.ensures.items);
+      (goes_past program track c.args.reached.state at.reached.state c.in_ok-task.left.state c.args.reached.versions at.reached.versions c.in_ok-task.left.versions at.tasks.items c.push.new.self.items at.last c.in-Some.number c.in_ok-task.task n.counts at.invariant.left here
+      left.0 left.1 passes c.in_ok-push.ensures.items);
     }
 
 pub returns : goal.returns
 returns g c =
     let at = c.loop-number in
     let none = none_left c.args.track.now c.events.result.now at.last c.next_cut.result c.events.ensures.events c.next_cut.ensures.behind c.in_default.is in
-    no_cut_left g.W.Workflow.program c.args.track.now (progress c.args.reached.state c.args.reached.versions [] 0) (progress at.reached.state at.reached.versions [] at.meter) at.tasks.items at.last none at.invariant.left
+    no_cut_left g.W.Workflow.program c.args.track.now c.args.reached.state at.reached.state c.args.reached.versions at.reached.versions at.tasks.items at.last none at.invariant.left

@@ -1,6 +1,5 @@
-use Rattle.std.proofs.Common.{◌-◌, ◌≤◌, ◌++◌, [], List, length, drop}
+use Rattle.std.proofs.Common.{◌-◌, ◌≤◌, ◌++◌, List, length, drop}
 use Rattle.wh_events.specs.Cuts.{cuts}
-use Rattle.wh_replay.specs.Views.{progress}
 use Rattle.wh_explain.specs.declared.explanation.ExplainedTask.{ExplainedTask}
 use Rattle.wh_explain.specs.Explaining.{AreTasks}
 use Rattle.wh_explain.proofs.explaining.explain_tasks.Given as goal
@@ -11,8 +10,8 @@ invariant-loop-number g l =
     let program = g.W.Workflow.program in
     record {
       low : l.last ≤ length l.track;
-      left : (more : List ExplainedTask) → AreTasks program l.track l.last (cuts (drop l.last l.track)) (progress l.reached.state l.reached.versions [] l.meter) more
-          → AreTasks program l.track 0 (cuts l.track) (progress l.fn.reached.state l.fn.reached.versions [] 0) (l.tasks.items ++ more);
+      left : (more : List ExplainedTask) → AreTasks program l.track l.last (cuts (drop l.last l.track)) l.reached.state l.reached.versions more
+          → AreTasks program l.track 0 (cuts l.track) l.fn.reached.state l.fn.reached.versions (l.tasks.items ++ more);
     }
 
 abbrev pub decreases-loop-number : goal.decreases-loop-number
