@@ -164,9 +164,11 @@ module _ {S : Type 0} (program : Program S) (standpoint : Standpoint) where
       alone_answers : (x : Step) (before after : List Step) (step next : Step) → x ∷ [] ≡ before ++ step ∷ next ∷ after → Answers standpoint (settled_after now (before ++ step ∷ [])) (question_of step.commands) next.job
       alone_answers x [] after step next e = absurd (cc)
       alone_answers x (y ∷ before) after step next e = absurd (not_empty before (next ∷ after) step (cc))
+
       alone_faultless : (x : Step) (before after : List Step) (step next : Step) → x ∷ [] ≡ before ++ step ∷ next ∷ after → first_fault standpoint (settled_after now (before ++ step ∷ [])) (earlier ++ commands_in before) step.commands ≡ None
       alone_faultless x [] after step next e = absurd (cc)
       alone_faultless x (y ∷ before) after step next e = absurd (not_empty before (next ∷ after) step (cc))
+
       alone_gives : (x : Step) → x.commands ≡ up_to_fault standpoint (settled_from now x.job) (earlier ++ []) (program.gives state x.job) → (before after : List Step) (step : Step) → x ∷ [] ≡ before ++ step ∷ after
           → step.commands ≡ up_to_fault standpoint (settled_after now (before ++ step ∷ [])) (earlier ++ commands_in before) (program.gives (state_after program state before) step.job)
       alone_gives x c [] after step e = let same : x ≡ step = cc in subst (λ (z : Step). z.commands ≡ up_to_fault standpoint (settled_from now z.job) (earlier ++ []) (program.gives state z.job)) same c
@@ -226,12 +228,12 @@ module _ {S : Type 0} (program : Program S) (standpoint : Standpoint) where
           elim t.stops [
             | inl all ↦ inl (h.own ∙ ap (λ (l : List Job). cond (is_version x.job) l (x.job ∷ l)) all.0, all.1)
             | inr last ↦ inr (
-                x ∷ last.0,
-                last.1,
-                last.2,
-                ap (λ l. x ∷ l) last.3,
-                ap (λ l. first_fault standpoint (settled_after (settled_from now x.job) (last.0 ++ last.1 ∷ [])) l last.1.commands) (sym (append_assoc earlier x.commands (commands_in last.0))) ∙ last.4,
-              )
+              x ∷ last.0,
+              last.1,
+              last.2,
+              ap (λ l. x ∷ l) last.3,
+              ap (λ l. first_fault standpoint (settled_after (settled_from now x.job) (last.0 ++ last.1 ∷ [])) l last.1.commands) (sym (append_assoc earlier x.commands (commands_in last.0))) ∙ last.4,
+            )
           ];
     }
 
@@ -333,9 +335,9 @@ module _ {S : Type 0} (program : Program S) (lawful : IsLawful program) (standpo
         c.1 ∙ ap (λ s. state_after program s tail) b.state,
         c.2,
         c.3
-        ∙ (ap (λ l. l ++ issued_in standpoint here tail) b.issued
-        ∙ (ap (λ l. l ++ issued_in standpoint here tail) (append_assoc begin.script.issued commands (markers_at standpoint here (question_of commands)))
-        ∙ append_assoc begin.script.issued (commands ++ markers_at standpoint here (question_of commands)) (issued_in standpoint here tail))),
+            ∙ (ap (λ l. l ++ issued_in standpoint here tail) b.issued
+            ∙ (ap (λ l. l ++ issued_in standpoint here tail) (append_assoc begin.script.issued commands (markers_at standpoint here (question_of commands)))
+            ∙ append_assoc begin.script.issued (commands ++ markers_at standpoint here (question_of commands)) (issued_in standpoint here tail))),
       )
 
   scripted_cons : (rest jobs : List Job) (begin : Progress S) (now : Settled) (earlier : List Command) (due : Option Question) (job : Job) (next : Turn S) (tail : List Step) (result : Result (Progress S) WorkflowFault) → Head standpoint now due rest job jobs

@@ -83,10 +83,10 @@ fn explain_task<W: Workflow>(
     requires within { IsWithin cut.now }
     ensures task { let told = jobs_at cut.now.track.now cut.now.previous cut.now.number in
         IfOk result (λ explained. IsTaskAt W.program cut.now.track.now (standpoint_of cut.now) told cut.now.number
-            before.state before.versions explained.0) }
+        before.state before.versions explained.0) }
     ensures left { let standpoint = standpoint_of cut.now in
         IfOk result (λ explained. fault_in standpoint before.versions [] explained.0.steps ≡ None
-            → Leaves W.program before.state before.versions explained.0.steps explained.1.state explained.1.versions) }
+        → Leaves W.program before.state before.versions explained.0.steps explained.1.state explained.1.versions) }
 {
     let jobs = jobs(alloc, cut.track, cut.previous, cut.number)?;
     let mut activation = Activation::<W> {

@@ -372,7 +372,14 @@ fn explains<W: Workflow>(rt: &impl Abort, alloc: Global, blocks: &'static str) {
         let (history, wanted) = block.split_once("\n").expect(rt, block);
         let bytes = bytes_of(rt, alloc, history);
         let text = explained::<W>(rt, alloc, bytes.as_slice());
-        wants(rt, history, text, format!(in alloc; "{wanted}\n").expect(rt, "memory").as_str());
+        wants(
+            rt,
+            history,
+            text,
+            format!(in alloc; "{wanted}\n")
+                .expect(rt, "memory")
+                .as_str(),
+        );
     }
 }
 

@@ -1,4 +1,4 @@
-use Rattle.std.proofs.Common.{◌≡◌, ◌∙◌, ℕ, List, [], length, drop, Option, Some, None, option_map, if◌then◌else◌, sym, ap, subst, arith}
+use Rattle.std.proofs.Common.{◌≡◌, ◌∙◌, ℕ, List, length, drop, Option, Some, None, option_map, if◌then◌else◌, sym, ap, subst, arith}
 use Rattle.wh_events.specs.declared.event.Event.{Event}
 use Rattle.wh_events.specs.Cuts.{commanded, is_recorded, record_of}
 use Rattle.wh_replay.proofs.Stepping.{next_seen, none_left}
@@ -57,8 +57,8 @@ loop-number-preserved g c =
     record {
       low = omega (arith, within, c.get-last.ensures.kept);
       left = subst P (sym c.get-last.ensures.kept)
-      (goes_past program track c.args.reached.state at.reached.state c.in_ok-task.left.state c.args.reached.versions at.reached.versions c.in_ok-task.left.versions at.tasks.items c.push.new.self.items at.last c.in-Some.number c.in_ok-task.task n.counts at.invariant.left here
-      left.0 left.1 passes c.in_ok-push.ensures.items);
+          (goes_past program track c.args.reached.state at.reached.state c.in_ok-task.left.state c.args.reached.versions at.reached.versions c.in_ok-task.left.versions at.tasks.items c.push.new.self.items at.last c.in-Some.number c.in_ok-task.task n.counts at.invariant.left here
+          left.0 left.1 passes c.in_ok-push.ensures.items);
     }
 
 pub returns : goal.returns
