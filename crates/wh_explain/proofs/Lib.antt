@@ -2,3 +2,4 @@ pub mod Issuing
 pub mod Tracing
 pub mod Scripted
 pub mod Tasks
+pub mod One

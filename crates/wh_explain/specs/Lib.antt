@@ -4,3 +4,4 @@ pub mod Tracing
 pub mod Walking
 pub mod Pairings
 pub mod Explaining
+pub mod Laws

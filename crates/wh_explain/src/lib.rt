@@ -6,6 +6,7 @@ mod activation;
 mod cut;
 mod explaining;
 mod explanation;
+pub mod laws;
 mod pairing;
 mod phrase;
 mod records;

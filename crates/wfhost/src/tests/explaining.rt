@@ -5,7 +5,7 @@ use crate::tests::scripted::Scripted;
 use std::alloc::Global;
 use std::process::Abort;
 use wh_explain::{explain, write_explanation};
-use wh_samples::{All, Asker, Flood};
+use wh_samples::{All, Asker};
 use wh_workflow::Workflow;
 
 /// Histories without a fault, each with its text below it.
@@ -398,23 +398,6 @@ fn explains_bad_histories(rt: HostRuntime) {
 fn explains_what_is_no_history(rt: HostRuntime) {
     let text = explained::<All>(&rt, rt.alloc(), b"");
     wants(&rt, "no bytes", text, "x.json: unreadable, not JSON\n");
-}
-
-/// The refused command is the one after 4,096 others, and each of them is shown.
-#[test]
-fn explains_too_many_commands(rt: HostRuntime) {
-    let alloc = rt.alloc();
-    let bytes = bytes_of(&rt, alloc, "start:Flood signal:s*64 S T");
-    let text = explained::<Flood>(&rt, alloc, bytes.as_slice());
-    let mut given = 0;
-    for line in text.as_str().lines() {
-        if line.starts_with("    gives ") {
-            given += 1;
-        }
-    }
-    assert_eq!(rt; given, 4_097);
-    let end = "\n  refuses StartTimer 4096 (1 s)\nx.json: fault, task at 67: TooManyCommands\n";
-    assert!(rt; text.as_str().ends_with(end));
 }
 
 /// A workflow that asks at each answer asks 4,097 times.
