@@ -3,3 +3,4 @@ pub mod Tracing
 pub mod Scripted
 pub mod Tasks
 pub mod One
+pub mod Agreeing

@@ -7,3 +7,9 @@ use wh_workflow::Workflow;
 pub fn one_explains<W: Workflow>()
     ensures { OneExplains W.program }
 {}
+
+/// The explanation of a history in place, for whose workflow type there is code, ends as its replay
+/// does: at the task of the fault, if there is one, refused or different as the fault says.
+pub fn ends_as_replay<W: Workflow>()
+    ensures { EndsAsReplay W.program }
+{}
