@@ -26,7 +26,7 @@ impl Step {
     ghost use Rattle.std.specs.Prelude.{◌≡◌};
 
     /// The step of a job and the commands given at it.
-    pub fn new(job: Job, commands: Vec<Command>) -> Self
+    pub(crate) fn new(job: Job, commands: Vec<Command>) -> Self
         ensures { result ≡ record { job = job; commands = commands.items } }
     {
         Step { job, commands }
