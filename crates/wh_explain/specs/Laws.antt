@@ -1,0 +1,41 @@
+-- What holds of every explanation.
+use Rattle.std.specs.Prelude.{◌≡◌, ℕ, true, false, List, [], ◌∷◌, ◌++◌, None, Result, Ok, Err}
+use Rattle.std.specs.List.{list_any}
+use Rattle.wh_events.specs.declared.event.Event.{Event}
+use Rattle.wh_events.specs.Places.{history_fault}
+use Rattle.wh_workflow.specs.Law.{Program}
+use Rattle.wh_replay.specs.declared.fault.Fault.{Fault}
+use Rattle.wh_replay.specs.declared.fault.Fault.TheVariants.{NotATask, Place, Workflow, Mismatch}
+use Rattle.wh_replay.specs.Replays.{Upshot, workflow_of, replay_tasks}
+use Rattle.wh_explain.specs.declared.explanation.Ending.TheVariants.{Refused, Recorded}
+use Rattle.wh_explain.specs.declared.explanation.Pairing.{Pairing}
+use Rattle.wh_explain.specs.declared.explanation.ExplainedTask.{ExplainedTask}
+use Rattle.wh_explain.specs.Pairings.{differs}
+use Rattle.wh_explain.specs.Explaining.{stops, AreTasksOf}
+
+-- the last of the tasks is that of the number, and a command of it is refused
+abbrev pub EndsRefused : ℕ → List ExplainedTask → Type 0
+EndsRefused at tasks = (front : List ExplainedTask) × (task : ExplainedTask) × (tasks ≡ front ++ task ∷ []) × (task.at ≡ at) × (task.ending ≡ Refused)
+
+-- the last of the tasks is that of the number, and what it sends differs from what is recorded
+abbrev pub EndsDifferent : ℕ → List ExplainedTask → Type 0
+EndsDifferent at tasks =
+    (front : List ExplainedTask) × (task : ExplainedTask) × (pairings : List Pairing) × (tasks ≡ front ++ task ∷ []) × (task.at ≡ at) × (task.ending ≡ Recorded pairings) × (list_any differs pairings ≡ true)
+
+module _ {S : Type 0} where
+  -- the tasks end as the replay does: none stops where it has no fault, and else the last one at the fault
+  abbrev pub EndAs : Result (Upshot S) Fault → List ExplainedTask → Type 0
+  EndAs (Ok left) tasks = list_any (λ task. stops task.ending) tasks ≡ false
+  EndAs (Err (Workflow at fault)) tasks = EndsRefused at tasks
+  EndAs (Err (Mismatch at mismatch)) tasks = EndsDifferent at tasks
+  EndAs (Err (Place at fault)) tasks = ⊥
+  EndAs (Err NotATask) tasks = ⊥
+
+  -- a history has but one explanation
+  abbrev pub OneExplains : Program S → Type 0
+  OneExplains program = (events : List Event) (tasks other : List ExplainedTask) → AreTasksOf program events tasks → AreTasksOf program events other → tasks ≡ other
+
+  -- the explanation of a history in place, for whose workflow type there is code, ends as its replay does
+  abbrev pub EndsAsReplay : Program S → Type 0
+  EndsAsReplay program =
+      (events : List Event) (tasks : List ExplainedTask) → history_fault events ≡ None → program.knows (workflow_of events) ≡ true → AreTasksOf program events tasks → EndAs (replay_tasks program events 0) tasks

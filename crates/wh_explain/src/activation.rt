@@ -1,0 +1,206 @@
+//! The activation at a cut: its jobs, and the versions that they ask for, stepped one after
+//! another, with what the workflow gives at each.
+ghost use Rattle.std.specs.Prelude.{◌≡◌, ◌++◌, ◌∷◌, [], None, false, IfOk, OnOk};
+ghost use Rattle.wh_workflow.specs.Law.{IsAnswer, is_marker};
+ghost use Rattle.wh_workflow.specs.Scripts.{Settled, command_fault};
+ghost use Rattle.wh_workflow.specs.Activations.{issue_all, respond, turn};
+ghost use Rattle.wh_workflow.specs.ActivationScripts.{ok_unless};
+ghost use Rattle.wh_replay.specs.Views.{script_of, reply_of};
+ghost use Rattle.wh_replay.specs.Activating.{IsPlain};
+ghost use Rattle.wh_explain.specs.Tracing.{stood, step_of, IsTraced};
+ghost use Rattle.wh_explain.specs.Walking.{IsWithin, IsOf, standpoint_of, progress_of, turn_of, comes_to};
+
+use crate::cut::Cut;
+use crate::explanation::Step;
+use std::alloc::Global;
+use wh_events::OutOfMemory;
+use wh_match::{Script, ScriptFault, Versions};
+use wh_workflow::{Command, Job, Meter, Workflow, WorkflowFault};
+
+/// How far the activation at a cut has come. Contracts see it, on a meter, as a `Progress`.
+#[derive(Drop)]
+pub(crate) struct Activation<W: Workflow> {
+    pub(crate) state: W::State,
+    pub(crate) versions: Versions,
+    pub(crate) script: Script,
+}
+
+/// What comes of the commands of a step.
+#[derive(Drop)]
+pub(crate) enum Turned {
+    /// All of them can stand. The version job has to be next, where there is one.
+    Next(Option<Job>),
+    /// The first that can't stand has the fault.
+    Refused(WorkflowFault),
+}
+
+/// Issues a command that does not ask. The answer is its fault, if it can't stand.
+fn issue_one(
+    cut: &Cut,
+    script: &mut Script,
+    command: Command,
+) -> Result<Option<WorkflowFault>, OutOfMemory>
+    requires within { IsWithin cut.now }
+    requires script { IsOf cut.now script.old }
+    requires plain { IsPlain (command ∷ []) }
+    ensures fault { (settled : Settled) → let standpoint = standpoint_of cut.now in
+        IfOk result (λ fault. fault ≡ command_fault standpoint settled script.old.issued command) }
+    ensures issued { IfOk result
+        (λ fault. fault ≡ None → script.new.issued ≡ script.old.issued ++ command ∷ []) }
+    ensures script { OnOk result (IsOf cut.now script.new) }
+{
+    match script.issue(cut.track, command) {
+        Ok(()) => Ok(None),
+        Err(ScriptFault::Workflow(fault)) => Ok(Some(fault)),
+        Err(ScriptFault::OutOfMemory) => Err(OutOfMemory),
+    }
+}
+
+/// Issues commands that don't ask, up to the first that can't stand, and adds copies of them to
+/// those given. The answer is its fault.
+fn issue_all(
+    cut: &Cut,
+    script: &mut Script,
+    commands: Vec<Command>,
+    given: &mut Vec<Command>,
+) -> Result<Option<WorkflowFault>, OutOfMemory>
+    requires within { IsWithin cut.now }
+    requires script { IsOf cut.now script.old }
+    requires plain { IsPlain commands.items }
+    ensures issued { (settled : Settled) →
+        let whole = issue_all (standpoint_of cut.now) (script_of settled script.old) commands.items in
+        IfOk result (λ fault. ok_unless fault (script_of settled script.new) ≡ whole) }
+    ensures given { (settled : Settled) →
+        let shown = stood (standpoint_of cut.now) settled script.old.issued commands.items in
+        OnOk result (given.new.items ≡ given.old.items ++ shown) }
+    ensures script { OnOk result (IsOf cut.now script.new) }
+{
+    for command in commands {
+        given.push(command.try_copy()?)?;
+        if let Some(fault) = issue_one(cut, script, command)? {
+            return Ok(Some(fault));
+        }
+    }
+    Ok(None)
+}
+
+/// Asks for the version of a change. The answer is told by the job that has to be next.
+fn ask(
+    cut: &Cut,
+    script: &mut Script,
+    versions: &mut Versions,
+    command: Command,
+) -> Result<Turned, OutOfMemory>
+    requires within { IsWithin cut.now }
+    requires script { IsOf cut.now script.old }
+    requires not_marker { is_marker command ≡ false }
+    ensures issued { let reply = respond (standpoint_of cut.now) (script_of versions.old script.old) (command ∷ []) in
+        IfOk result (λ turned. comes_to turned (reply_of versions.new script.new) ≡ reply) }
+    ensures script { OnOk result (IsOf cut.now script.new) }
+{
+    match command {
+        Command::Ask {
+            change_id,
+            min,
+            max,
+        } => match script.ask(cut.recorded, versions, change_id.get(), min, max) {
+            Ok(version) => Ok(Turned::Next(Some(Job::Version { change_id, version }))),
+            Err(ScriptFault::Workflow(fault)) => Ok(Turned::Refused(fault)),
+            Err(ScriptFault::OutOfMemory) => Err(OutOfMemory),
+        },
+        command => match issue_one(cut, script, command)? {
+            None => Ok(Turned::Next(None)),
+            Some(fault) => Ok(Turned::Refused(fault)),
+        },
+    }
+}
+
+/// Issues the commands of a step up to the first that can't stand, adds copies of them to those
+/// given, and answers what the last one asks.
+fn respond(
+    cut: &Cut,
+    script: &mut Script,
+    versions: &mut Versions,
+    mut commands: Vec<Command>,
+    given: &mut Vec<Command>,
+) -> Result<Turned, OutOfMemory>
+    requires within { IsWithin cut.now }
+    requires script { IsOf cut.now script.old }
+    requires answer { IsAnswer commands.items }
+    ensures issued { let reply = respond (standpoint_of cut.now) (script_of versions.old script.old) commands.items in
+        IfOk result (λ turned. comes_to turned (reply_of versions.new script.new) ≡ reply) }
+    ensures given { let shown = stood (standpoint_of cut.now) versions.old script.old.issued commands.items in
+        OnOk result (given.new.items ≡ given.old.items ++ shown) }
+    ensures script { OnOk result (IsOf cut.now script.new) }
+{
+    let Some(last) = commands.pop() else {
+        return Ok(Turned::Next(None));
+    };
+    if let Some(fault) = issue_all(cut, script, commands, given)? {
+        return Ok(Turned::Refused(fault));
+    }
+    given.push(last.try_copy()?)?;
+    ask(cut, script, versions, last)
+}
+
+impl<W: Workflow> Activation<W> {
+    /// Steps the workflow by one job.
+    fn turn(
+        &mut self,
+        alloc: Global,
+        cut: &Cut,
+        job: Job,
+        meter: &mut Meter,
+    ) -> Result<(Step, Turned), OutOfMemory>
+        requires within { IsWithin cut.now }
+        requires script { IsOf cut.now self.old.script }
+        ensures step { let before = progress_of self.old meter.old in
+            IfOk result (λ made. made.0 ≡ step_of W.program (standpoint_of cut.now) before job) }
+        ensures turned { let whole = turn W.program (standpoint_of cut.now) job (progress_of self.old meter.old) in
+            IfOk result (λ made. comes_to made.1 (turn_of self.new meter.new) ≡ whole) }
+        ensures script { OnOk result (IsOf cut.now self.new.script) }
+    {
+        let mut commands = Vec::new(alloc);
+        W::step(alloc, &mut self.state, &job, &mut commands, meter)?;
+        let mut given = Vec::new(alloc);
+        let turned = respond(
+            cut,
+            &mut self.script,
+            &mut self.versions,
+            commands,
+            &mut given,
+        )?;
+        Ok((Step::new(job, given), turned))
+    }
+
+    /// Steps the workflow by jobs and by the versions that they lead to, up to the first step with
+    /// a fault. The answer is the steps and the fault.
+    pub(crate) fn run(
+        &mut self,
+        alloc: Global,
+        cut: &Cut,
+        jobs: Vec<Job>,
+        meter: &mut Meter,
+    ) -> Result<(Vec<Step>, Option<WorkflowFault>), OutOfMemory>
+        requires within { IsWithin cut.now }
+        requires script { IsOf cut.now self.old.script }
+        ensures traced { let before = progress_of self.old meter.old in
+            IfOk result (λ ran. IsTraced W.program (standpoint_of cut.now) jobs.items before ran.0.items
+            (ok_unless ran.1 (progress_of self.new meter.new))) }
+        ensures script { OnOk result (IsOf cut.now self.new.script) }
+    {
+        let mut steps = Vec::new(alloc);
+        let mut jobs = jobs.into_iter();
+        let mut next = jobs.next();
+        while let Some(job) = next {
+            let (step, turned) = self.turn(alloc, cut, job, meter)?;
+            steps.push(step)?;
+            next = match turned {
+                Turned::Refused(fault) => return Ok((steps, Some(fault))),
+                Turned::Next(Some(version)) => Some(version),
+                Turned::Next(None) => jobs.next(),
+            };
+        }
+        Ok((steps, None))
+    }
+}

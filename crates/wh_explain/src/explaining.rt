@@ -1,0 +1,215 @@
+//! The tasks of a history, each with the steps of its activation and with its record.
+ghost use Rattle.std.specs.Prelude.{◌≡◌, [], None, IfOk, string_bytes};
+ghost use Rattle.wh_events.specs.Cuts.{cuts};
+ghost use Rattle.wh_activation.specs.Cutting.{jobs_at};
+ghost use Rattle.wh_json.specs.Events.{history};
+ghost use Rattle.wh_workflow.specs.ActivationScripts.{fault_in};
+ghost use Rattle.wh_workflow.specs.Scripts.{reduced};
+ghost use Rattle.wh_replay.specs.Replays.{workflow_of};
+ghost use Rattle.wh_tester.specs.Verdicts.{IsVerdict};
+ghost use Rattle.wh_explain.specs.Explaining.{unless_refused, sent_ending, stops, IsTaskAt};
+ghost use Rattle.wh_explain.specs.Explaining.{AreTasks, AreTasksOf, AreTasksIn};
+ghost use Rattle.wh_explain.specs.Walking.{IsWithin, IsOf, Leaves, standpoint_of};
+
+use crate::activation::Activation;
+use crate::cut::Cut;
+use crate::explanation::{Ending, ExplainedTask, Explanation};
+use crate::pairing::{pair_up, some_differ};
+use crate::records::record_behind;
+use crate::tracking::track_of;
+use std::alloc::Global;
+use wh_activation::jobs;
+use wh_events::{Event, EventKind, Items, OutOfMemory, Text};
+use wh_json::{ReadFault, read_events};
+use wh_machines::Track;
+use wh_match::{Script, Versions};
+use wh_split::next_cut;
+use wh_tester::{Line, verdict};
+use wh_workflow::{Meter, Workflow, WorkflowFault};
+
+/// What the tasks so far leave.
+#[derive(Drop)]
+struct Reached<S> {
+    state: S,
+    versions: Versions,
+}
+
+/// How a task ends, of whose commands the last has the fault, if there is one.
+fn end_task(
+    alloc: Global,
+    cut: &Cut,
+    script: Script,
+    fault: Option<WorkflowFault>,
+) -> Result<Ending, OutOfMemory>
+    requires script { IsOf cut.now script }
+    ensures { let standpoint = standpoint_of cut.now in
+        let sent = sent_ending cut.now.track.now (reduced standpoint script.issued) standpoint.recorded in
+        IfOk result (λ ending. ending ≡ unless_refused fault sent) }
+{
+    if let Some(_fault) = fault {
+        return Ok(Ending::Refused);
+    }
+    let sent = script.reduced()?;
+    let Some(events) = cut.recorded else {
+        return Ok(Ending::Live {
+            sent: Items::new(sent),
+        });
+    };
+    let pairings = pair_up(alloc, cut.track.events(), sent.as_slice(), events)?;
+    Ok(Ending::Recorded {
+        pairings: Items::new(pairings),
+    })
+}
+
+/// Whether no task follows one that ends so.
+fn stops(ending: &Ending) -> bool
+    ensures { result ≡ stops ending.now }
+{
+    match ending {
+        Ending::Refused => true,
+        Ending::Live { sent: _ } => false,
+        Ending::Recorded { pairings } => some_differ(pairings.get()),
+    }
+}
+
+/// Explains the task of a cut behind what the tasks before it left. What it leaves is known where
+/// its commands can stand.
+fn explain_task<W: Workflow>(
+    alloc: Global,
+    cut: &Cut,
+    before: Reached<W::State>,
+    meter: &mut Meter,
+) -> Result<(ExplainedTask, Reached<W::State>), OutOfMemory>
+    requires within { IsWithin cut.now }
+    ensures task { let told = jobs_at cut.now.track.now cut.now.previous cut.now.number in
+        IfOk result (λ explained. IsTaskAt W.program cut.now.track.now (standpoint_of cut.now) told cut.now.number
+        before.state before.versions explained.0) }
+    ensures left { let standpoint = standpoint_of cut.now in
+        IfOk result (λ explained. fault_in standpoint before.versions [] explained.0.steps ≡ None
+        → Leaves W.program before.state before.versions explained.0.steps explained.1.state explained.1.versions) }
+{
+    let jobs = jobs(alloc, cut.track, cut.previous, cut.number)?;
+    let mut activation = Activation::<W> {
+        state: before.state,
+        versions: before.versions,
+        script: Script::new(alloc, cut.previous, cut.number),
+    };
+    let (steps, fault) = activation.run(alloc, cut, jobs, meter)?;
+    let Activation {
+        state,
+        versions,
+        script,
+    } = activation;
+    let task = ExplainedTask {
+        at: cut.number,
+        steps: Items::new(steps),
+        ending: end_task(alloc, cut, script, fault)?,
+    };
+    Ok((task, Reached { state, versions }))
+}
+
+/// Explains the tasks of a history in their order, up to the first that has a fault.
+fn explain_tasks<W: Workflow>(
+    alloc: Global,
+    track: &Track,
+    mut reached: Reached<W::State>,
+) -> Result<Vec<ExplainedTask>, OutOfMemory>
+    ensures { IfOk result
+        (λ tasks. AreTasks W.program track.now 0 (cuts track.now) reached.state reached.versions tasks.items) }
+{
+    let mut meter = Meter::new();
+    let mut tasks = Vec::new(alloc);
+    let mut last = 0;
+    while let Some(number) = next_cut(track.events(), last) {
+        let cut = Cut {
+            track,
+            previous: last,
+            number,
+            recorded: record_behind(track.events(), number.get() as usize),
+        };
+        let (task, left) = explain_task::<W>(alloc, &cut, reached, &mut meter)?;
+        let stop = stops(&task.ending);
+        tasks.push(task)?;
+        if stop {
+            return Ok(tasks);
+        }
+        reached = left;
+        last = number.get();
+    }
+    Ok(tasks)
+}
+
+/// The workflow type of a history.
+fn workflow_of(events: &[Event]) -> &str
+    ensures { result.now ≡ workflow_of events.now }
+{
+    if let Some(event) = events.first()
+        && let EventKind::WorkflowExecutionStarted { workflow, .. } = &event.body
+    {
+        return workflow.get();
+    }
+    ""
+}
+
+/// Explains the tasks of a history; none where its events are not in place, or where there is no
+/// code for its workflow type.
+fn explain_events<W: Workflow>(
+    alloc: Global,
+    events: Vec<Event>,
+) -> Result<Vec<ExplainedTask>, OutOfMemory>
+    ensures { IfOk result (λ tasks. AreTasksOf W.program events.items tasks.items) }
+{
+    let Some(track) = track_of(alloc, events)? else {
+        return Ok(Vec::new(alloc));
+    };
+    let kind = workflow_of(track.events());
+    if !W::handles(kind) {
+        return Ok(Vec::new(alloc));
+    }
+    let reached = Reached {
+        state: W::begin(alloc, kind)?,
+        versions: Versions::new(alloc),
+    };
+    explain_tasks::<W>(alloc, &track, reached)
+}
+
+/// Explains the tasks of a file, of which there are none where it can't be read.
+fn explain_bytes<W: Workflow>(
+    alloc: Global,
+    bytes: &[u8],
+) -> Result<Vec<ExplainedTask>, OutOfMemory>
+    ensures { IfOk result (λ tasks. AreTasksIn W.program (history bytes.now) tasks.items) }
+{
+    match read_events(alloc, bytes) {
+        Ok(events) => explain_events::<W>(alloc, events),
+        Err(ReadFault::OutOfMemory) => Err(OutOfMemory),
+        Err(_) => Ok(Vec::new(alloc)),
+    }
+}
+
+/// Explains the replay of a history file, given by name and bytes, with the code of `W`: its tasks
+/// in their order up to the first that has a fault, each with what the workflow was told, what it
+/// gave, and what the record has beside what is sent. There are no tasks where the file can't be
+/// read, where an event is not in place, and where there is no code for the workflow type.
+///
+/// The line is that of the report of replay: the name and the verdict of `wh_tester::verdict`.
+/// `OutOfMemory` where the allocator refused a growth.
+pub fn explain<W: Workflow>(
+    alloc: Global,
+    name: String,
+    bytes: &[u8],
+) -> Result<Explanation, OutOfMemory>
+    ensures tasks { IfOk result (λ explained. AreTasksIn W.program (history bytes.now) explained.tasks) }
+    ensures name { IfOk result (λ explained. explained.line.name ≡ string_bytes name) }
+    ensures verdict { IfOk result (λ explained. IsVerdict W.program bytes.now explained.line.verdict) }
+{
+    let tasks = explain_bytes::<W>(alloc, bytes)?;
+    let verdict = verdict::<W>(alloc, bytes);
+    Ok(Explanation {
+        tasks: Items::new(tasks),
+        line: Line {
+            name: Text::new(name),
+            verdict,
+        },
+    })
+}

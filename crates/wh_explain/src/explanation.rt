@@ -1,0 +1,125 @@
+//! What an explanation holds.
+
+use std::marker::Model;
+use wh_events::{EventKind, EventNo, Items, Text};
+use wh_tester::Line;
+use wh_workflow::{Command, Job};
+
+/// One step of an activation: a job, and the commands that the workflow gave at it; where one of
+/// them can't stand, those up to and with that one. Contracts see it as a step of the activation's
+/// script.
+#[derive(Drop)]
+pub struct Step {
+    job: Job,
+    commands: Vec<Command>,
+}
+
+impl Model for Step {
+    ghost use Rattle.wh_workflow.specs.ActivationScripts.{Step as ScriptStep};
+
+    ghost Value = { ScriptStep };
+
+    ghost view = { λ s. record { job = s.job; commands = s.commands.items } };
+}
+
+impl Step {
+    ghost use Rattle.std.specs.Prelude.{◌≡◌};
+
+    /// The step of a job and the commands given at it.
+    pub(crate) fn new(job: Job, commands: Vec<Command>) -> Self
+        ensures { result ≡ record { job = job; commands = commands.items } }
+    {
+        Step { job, commands }
+    }
+
+    /// What the workflow was told.
+    pub fn job(&self) -> &Job
+        ensures { result.now ≡ self.now.job }
+    {
+        &self.job
+    }
+
+    /// What it gave.
+    pub fn commands(&self) -> &[Command]
+        ensures { result.now ≡ self.now.commands }
+    {
+        self.commands.as_slice()
+    }
+}
+
+/// An event of the record, with what is shown of it.
+#[derive(Drop)]
+pub struct RecordedEvent {
+    /// Its number.
+    pub number: EventNo,
+    /// What happened.
+    pub kind: EventKind,
+    /// The id of what it refers to by a number; empty where it refers to nothing so.
+    pub id: Text,
+}
+
+/// A command that is sent and the event of the record in its place.
+#[derive(Drop)]
+pub enum Pairing {
+    /// They are named alike.
+    Alike {
+        /// What is sent.
+        command: Command,
+        /// What is recorded.
+        event: RecordedEvent,
+    },
+    /// They are not.
+    Different {
+        /// What is sent.
+        command: Command,
+        /// What is recorded.
+        event: RecordedEvent,
+    },
+    /// No command is left for the event.
+    CommandMissing {
+        /// What is recorded.
+        event: RecordedEvent,
+    },
+    /// No event is left for the command.
+    CommandExtra {
+        /// What is sent.
+        command: Command,
+    },
+}
+
+/// How a task ends.
+#[derive(Drop)]
+pub enum Ending {
+    /// The last command of the last step can't stand.
+    Refused,
+    /// The task is not recorded yet.
+    Live {
+        /// What is sent.
+        sent: Items<Command>,
+    },
+    /// The task is recorded.
+    Recorded {
+        /// What is sent beside what is recorded, up to the first difference.
+        pairings: Items<Pairing>,
+    },
+}
+
+/// What is explained of one task.
+#[derive(Drop)]
+pub struct ExplainedTask {
+    /// The number of its cut.
+    pub at: EventNo,
+    /// The steps of its activation.
+    pub steps: Items<Step>,
+    /// How it ends.
+    pub ending: Ending,
+}
+
+/// What is explained of a file.
+#[derive(Drop)]
+pub struct Explanation {
+    /// Its tasks in their order, up to the first that has a fault.
+    pub tasks: Items<ExplainedTask>,
+    /// The line of the file in the report of replay.
+    pub line: Line,
+}

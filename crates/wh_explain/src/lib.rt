@@ -1,0 +1,18 @@
+//! Explains the replay of one history: what the workflow was told, what it gave, and what the record
+//! has beside it, up to the first difference.
+#![tactic(auto)]
+
+mod activation;
+mod cut;
+mod explaining;
+mod explanation;
+pub mod laws;
+mod pairing;
+mod phrase;
+mod records;
+mod showing;
+mod tracking;
+
+pub use explaining::explain;
+pub use explanation::{Ending, ExplainedTask, Explanation, Pairing, RecordedEvent, Step};
+pub use showing::write_explanation;
