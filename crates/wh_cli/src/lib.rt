@@ -1,14 +1,16 @@
-//! A program that replays a folder of histories, or serves their tasks, for any workflows: its two
-//! commands and their reports, and the program that its command line chooses them by.
+//! A program that replays a folder of histories, serves their tasks, or explains a history, for any
+//! workflows: its commands and their reports, and the program that its command line chooses them by.
 #![tactic(auto)]
 
 mod dealing;
+mod explaining;
 mod gathering;
 mod program;
 mod replaying;
 mod service_report;
 mod serving;
 
+pub use explaining::explain_command;
 pub use program::run;
 pub use replaying::{CommandFault, replay_command};
 pub use serving::serve_command;

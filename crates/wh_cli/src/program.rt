@@ -3,6 +3,7 @@
 ghost use Rattle.std.specs.Prelude.{◌≡◌, ◌≢◌, Err, IfOk, map, string_bytes};
 ghost use Rattle.wh_command_line.specs.Plans.{IsWithinLimits, IsAskedBy, HasFewSlots};
 
+use crate::explaining::explain_command;
 use crate::replaying::{CommandFault, replay_command};
 use crate::serving::serve_command;
 use std::alloc::Global;
@@ -15,7 +16,7 @@ use std::{env, io};
 use thiserror::Error;
 use wh_command_line::{Plan, Refusal, parse};
 use wh_events::Text;
-use wh_files::{FolderFault, read_files};
+use wh_files::{FolderFault, read_file, read_files};
 use wh_tester::Shown;
 use wh_workflow::Workflow;
 
@@ -98,6 +99,29 @@ fn files_of<R: Runtime + AllocGlobal>(
     Ok(files)
 }
 
+/// The bytes of a file.
+fn bytes_of<R: Runtime + AllocGlobal>(rt: &R, file: &Text) -> Result<Vec<u8>, Failure> {
+    match read_file(rt, file.get()) {
+        Ok(bytes) => Ok(bytes),
+        Err(FolderFault::OutOfMemory) => Err(Failure::OutOfMemory),
+        Err(_) => {
+            let Ok(dir) = file.try_copy() else {
+                return Err(Failure::OutOfMemory);
+            };
+            Err(Failure::Unreadable { dir, entry: None })
+        }
+    }
+}
+
+/// The name of a file, without the folders of its path.
+fn name_of(alloc: Global, path: &str) -> Result<String, Failure> {
+    let name = path.split('/').last().unwrap_or(path);
+    match String::from_str(alloc, name) {
+        Ok(name) => Ok(name),
+        Err(_) => Err(Failure::OutOfMemory),
+    }
+}
+
 /// The status of a command, once all that it wrote is out.
 fn flushed<O: Write>(answer: Result<u8, CommandFault>, writer: &mut O) -> Result<u8, Failure> {
     let status = match answer {
@@ -142,6 +166,13 @@ fn obey<W: Workflow + Send, R: Runtime + AllocGlobal + Threads + Wait + Sync>(
             let answer = replay_command::<W, _, _>(rt, alloc, files, &mut writer);
             flushed(answer, &mut writer)
         }
+        Plan::Explain { file } => {
+            let bytes = bytes_of(rt, &file)?;
+            let name = name_of(alloc, file.get())?;
+            let mut writer = output(rt)?;
+            let answer = explain_command::<W, _>(alloc, name, bytes.as_slice(), &mut writer);
+            flushed(answer, &mut writer)
+        }
         Plan::Serve {
             dir,
             workers,
@@ -176,6 +207,18 @@ fn answer<W: Workflow + Send, R: Runtime + AllocGlobal + Threads + Wait + Sync>(
     obey::<W, R>(rt, plan)
 }
 
+/// Says on the standard error what cannot be read: the folder or the file, and in another line the
+/// entry of the folder, where it is one.
+fn tell_unreadable<R: Runtime>(rt: &R, dir: Text, entry: Option<String>) -> io::Result<()> {
+    let dir = dir.get();
+    eprintln!(rt; "wfhost: cannot read {dir}")?;
+    if let Some(name) = entry {
+        let name = Shown(name.as_str());
+        eprintln!(rt; "wfhost: cannot read {dir}/{name}")?;
+    }
+    Ok(())
+}
+
 /// Says on the standard error why a run has no full report.
 fn tell<R: Runtime>(rt: &R, failure: Failure) {
     let _ = match failure {
@@ -183,14 +226,7 @@ fn tell<R: Runtime>(rt: &R, failure: Failure) {
             let text = text.get();
             eprint!(rt; "{text}")
         }
-        Failure::Unreadable {
-            dir,
-            entry: Some(name),
-        } => {
-            let dir = dir.get();
-            let name = Shown(name.as_str());
-            eprintln!(rt; "wfhost: cannot read {dir}\nwfhost: cannot read {dir}/{name}")
-        }
+        Failure::Unreadable { dir, entry } => tell_unreadable(rt, dir, entry),
         failure => eprintln!(rt; "wfhost: {failure}"),
     };
 }

@@ -27,7 +27,7 @@ pub enum CommandFault {
 }
 
 /// The status: 0 where each file is good, and else 1.
-fn status_of(lines: &[Line]) -> u8
+pub(crate) fn status_of(lines: &[Line]) -> u8
     ensures { result ≡ status_of lines.now }
 {
     if all_good(lines) { 0 } else { 1 }

@@ -1,4 +1,4 @@
-//! The files of a folder.
+//! Files, and those of a folder.
 #![tactic(auto)]
 
 use std::alloc::AllocError;
@@ -11,10 +11,10 @@ use std::{fs, io};
 /// is seen to be too long, however long it is.
 const READ_LIMIT: u64 = 67_108_865;
 
-/// Why the files of a folder are not there.
+/// Why a file, or the files of a folder, are not there.
 #[derive(Debug, Drop)]
 pub enum FolderFault {
-    /// The folder cannot be read.
+    /// The file or the folder cannot be read.
     Unreadable,
     /// The folder can be read, and its entry of this name cannot.
     UnreadableEntry {
@@ -74,7 +74,7 @@ fn names_in<R: Files + AllocGlobal + Clone + Drop>(
 
 /// The bytes of a file, up to `READ_LIMIT` of them. What is no file, as a folder or a pipe, cannot
 /// be read.
-fn bytes_of<R: Files + AllocGlobal>(rt: &R, path: &str) -> Result<Vec<u8>, FolderFault> {
+pub fn read_file<R: Files + AllocGlobal>(rt: &R, path: &str) -> Result<Vec<u8>, FolderFault> {
     if !fs::metadata(rt, path)?.is_file() {
         return Err(FolderFault::Unreadable);
     }
@@ -94,7 +94,7 @@ pub fn read_files<R: Files + AllocGlobal + Clone + Drop>(
     let mut files = Vec::new(rt.alloc());
     for name in names_in(rt, dir)? {
         let path = format!(in rt.alloc(); "{dir}/{name}")?;
-        let bytes = match bytes_of(rt, path.as_str()) {
+        let bytes = match read_file(rt, path.as_str()) {
             Ok(bytes) => bytes,
             Err(FolderFault::Unreadable) => return Err(FolderFault::UnreadableEntry { name }),
             Err(fault) => return Err(fault),

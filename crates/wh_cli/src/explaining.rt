@@ -1,0 +1,43 @@
+//! The command `explain`.
+
+ghost use Rattle.std.specs.Prelude.{◌≡◌, ◌∷◌, [], Err, IfOk, string_bytes};
+ghost use Rattle.std.specs.Io.KnownBytes.{Appends};
+ghost use Rattle.wh_json.specs.Events.{history};
+ghost use Rattle.wh_tester.specs.Verdicts.{IsVerdict};
+ghost use Rattle.wh_explain.specs.Explaining.{AreTasksIn};
+ghost use Rattle.wh_explain.specs.Texts.{explanation_text};
+ghost use Rattle.wh_explain.specs.declared.explanation.Explanation.{Explanation};
+ghost use Rattle.wh_cli.specs.Statuses.{status_of};
+
+use crate::replaying::{CommandFault, status_of};
+use std::alloc::Global;
+use std::io::Write;
+use std::slice;
+use wh_explain::{explain, write_explanation};
+use wh_workflow::Workflow;
+
+/// Writes the explanation of a history file, whose last line is that of the file in the report of
+/// replay, and gives the status of that report. Nothing is written where the answer is
+/// `OutOfMemory`.
+pub fn explain_command<W: Workflow, O: Write>(
+    alloc: Global,
+    name: String,
+    bytes: &[u8],
+    writer: &mut O,
+) -> Result<u8, CommandFault>
+    ensures explained { IfOk result (λ status. (explanation : Explanation)
+        × AreTasksIn W.program (history bytes.now) explanation.tasks
+        × (explanation.line.name ≡ string_bytes name)
+        × IsVerdict W.program bytes.now explanation.line.verdict
+        × Appends (O.contents writer.old) (O.contents writer.new) (explanation_text explanation)
+        × (status ≡ status_of (explanation.line ∷ []))) }
+    ensures unwritten { result ≡ Err CommandFault.OutOfMemory → writer.new ≡ writer.old }
+{
+    let Ok(explanation) = explain::<W>(alloc, name, bytes) else {
+        return Err(CommandFault::OutOfMemory);
+    };
+    let Ok(()) = write_explanation(&explanation, writer) else {
+        return Err(CommandFault::Output);
+    };
+    Ok(status_of(slice::from_ref(&explanation.line)))
+}
