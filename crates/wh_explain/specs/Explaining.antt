@@ -1,5 +1,5 @@
 -- What is explained of the tasks of a history.
-use Rattle.std.specs.Prelude.{◌≡◌, ℕ, Bool, true, false, List, [], ◌∷◌, Option, Some, None, Result, Ok, Err}
+use Rattle.std.specs.Prelude.{◌≡◌, ℕ, Bool, true, false, List, [], ◌∷◌, Option, Some, None, Result, Ok, Err, if◌then◌else◌}
 use Rattle.std.specs.List.{list_any}
 use Rattle.wh_events.specs.declared.event.Event.{Event}
 use Rattle.wh_events.specs.declared.place.PlaceFault.{PlaceFault}
@@ -83,3 +83,17 @@ module _ {S : Type 0} where
   abbrev pub AreTasksIn : Program S → Result (List Event) ReadFault → List ExplainedTask → Type 0
   AreTasksIn program (Ok events) tasks = AreTasksOf program events tasks
   AreTasksIn program (Err fault) tasks = tasks ≡ []
+
+  -- the workflow type of events in place, unless there is code for it
+  abbrev pub unknown_placed : Program S → Option (List Event) → Option (List ℕ)
+  unknown_placed program None = None
+  unknown_placed program (Some events) = if program.knows (workflow_of events) then None else Some (workflow_of events)
+
+  -- the workflow type of a history in place, where there is no code for it
+  abbrev pub unknown_of : Program S → List Event → Option (List ℕ)
+  unknown_of program events = unknown_placed program (in_place (history_fault events) events)
+
+  -- that of the history of a file, if it can be read
+  abbrev pub unknown_in : Program S → Result (List Event) ReadFault → Option (List ℕ)
+  unknown_in program (Ok events) = unknown_of program events
+  unknown_in program (Err fault) = None
