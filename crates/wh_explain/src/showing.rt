@@ -156,7 +156,8 @@ fn write_pairing<O: Write>(pairing: &Pairing, writer: &mut O) -> io::Result<()>
 
 /// Writes a line for each command and the event in its place.
 fn write_pairings<O: Write>(pairings: &[Pairing], writer: &mut O) -> io::Result<()>
-    ensures { OnOk result (Appends (O.contents writer.old) (O.contents writer.new) (flat_map pairing_line pairings.now)) }
+    ensures { OnOk result
+        (Appends (O.contents writer.old) (O.contents writer.new) (flat_map pairing_line pairings.now)) }
 {
     for pairing in pairings {
         write_pairing(pairing, writer)?;
@@ -166,7 +167,8 @@ fn write_pairings<O: Write>(pairings: &[Pairing], writer: &mut O) -> io::Result<
 
 /// Writes how a task of these steps ends.
 fn write_ending<O: Write>(steps: &[Step], ending: &Ending, writer: &mut O) -> io::Result<()>
-    ensures { OnOk result (Appends (O.contents writer.old) (O.contents writer.new) (ending_text steps.now ending.now)) }
+    ensures { OnOk result
+        (Appends (O.contents writer.old) (O.contents writer.new) (ending_text steps.now ending.now)) }
 {
     match ending {
         Ending::Refused => write_refused(steps, writer),
