@@ -1,5 +1,5 @@
 -- What is explained of the tasks of a history.
-use Rattle.std.specs.Prelude.{◌≡◌, ℕ, Bool, true, false, List, [], ◌∷◌, Option, Some, None, Result, Ok, Err}
+use Rattle.std.specs.Prelude.{◌≡◌, ℕ, Bool, true, false, List, [], ◌∷◌, Option, Some, None, Result, Ok, Err, if◌then◌else◌}
 use Rattle.std.specs.List.{list_any}
 use Rattle.wh_events.specs.declared.event.Event.{Event}
 use Rattle.wh_events.specs.declared.place.PlaceFault.{PlaceFault}
@@ -35,9 +35,12 @@ abbrev pub unless_refused : Option WorkflowFault → Ending → Ending
 unless_refused None ending = ending
 unless_refused (Some fault) ending = Refused
 
--- how a task of these steps ends: the last command can't stand, or what is sent of the commands of the steps is not recorded yet or stands beside the record
+-- how a task of these steps ends: the last command can't stand, or what is sent of the commands of
+-- the steps is not recorded yet or stands beside the record
 abbrev pub ending_of : List Event → Standpoint → Settled → List Step → Ending
-ending_of events standpoint settled steps = unless_refused (fault_in standpoint settled [] steps) (sent_ending events (reduced standpoint (issued_in standpoint settled steps)) standpoint.recorded)
+ending_of events standpoint settled steps =
+    let sent = reduced standpoint (issued_in standpoint settled steps) in
+    unless_refused (fault_in standpoint settled [] steps) (sent_ending events sent standpoint.recorded)
 
 -- a command is refused, or what is sent differs from what is recorded
 abbrev pub stops : Ending → Bool
@@ -46,28 +49,38 @@ stops (Live _) = false
 stops (Recorded pairings) = list_any differs pairings
 
 module _ {S : Type 0} where
-  -- what is explained of a task that is told these jobs: its number, the activation's script, from a state and settled versions, and how that ends
-  pub record IsTaskAt (program : Program S) (events : List Event) (standpoint : Standpoint) (jobs : List Job) (at : ℕ) (state : S) (settled : Settled) (task : ExplainedTask) : Type 0 where
+  -- what is explained of a task that is told these jobs: its number, the activation's script, from
+  -- a state and settled versions, and how that ends
+  pub record IsTaskAt (program : Program S) (events : List Event) (standpoint : Standpoint) (jobs : List Job) (at : ℕ)
+      (state : S) (settled : Settled) (task : ExplainedTask) : Type 0 where
     pub number : task.at ≡ at
     pub steps : IsLongest program standpoint jobs state settled task.steps
     pub ending : task.ending ≡ ending_of events standpoint settled task.steps
 
-  -- what is explained of the task at the cut of a number of a history, where the cut before has the other number
+  -- what is explained of the task at the cut of a number of a history, where the cut before has the
+  -- other number
   abbrev pub IsTask : Program S → List Event → (last number : ℕ) → S → Settled → ExplainedTask → Type 0
-  IsTask program events last number state settled task = IsTaskAt program events (standpoint_after events last number) (jobs_at events last number) number state settled task
+  IsTask program events last number state settled task =
+      IsTaskAt program events (standpoint_after events last number) (jobs_at events last number) number state settled task
 
-  -- what is explained of the cuts of these numbers behind the last one: each of them once, in order, in what the steps before it leave, up to the first that stops
-  pub data AreTasks (program : Program S) (events : List Event) : ℕ → List ℕ → S → Settled → List ExplainedTask → Type 0 where
+  -- what is explained of the cuts of these numbers behind the last one: each of them once, in
+  -- order, in what the steps before it leave, up to the first that stops
+  pub data AreTasks (program : Program S) (events : List Event) :
+      ℕ → List ℕ → S → Settled → List ExplainedTask → Type 0 where
     all : (last : ℕ) (state : S) (settled : Settled) → AreTasks program events last [] state settled []
     stopped : (last number : ℕ) (rest : List ℕ) (state : S) (settled : Settled) (task : ExplainedTask)
-        → IsTask program events last number state settled task → stops task.ending ≡ true → AreTasks program events last (number ∷ rest) state settled (task ∷ [])
-    passed : (last number : ℕ) (rest : List ℕ) (state : S) (settled : Settled) (task : ExplainedTask) (tasks : List ExplainedTask)
+        → IsTask program events last number state settled task → stops task.ending ≡ true
+        → AreTasks program events last (number ∷ rest) state settled (task ∷ [])
+    passed : (last number : ℕ) (rest : List ℕ) (state : S) (settled : Settled) (task : ExplainedTask)
+        (tasks : List ExplainedTask)
         → IsTask program events last number state settled task → stops task.ending ≡ false
-        → AreTasks program events number rest (state_after program state task.steps) (settled_after settled task.steps) tasks → AreTasks program events last (number ∷ rest) state settled (task ∷ tasks)
+        → AreTasks program events number rest (state_after program state task.steps) (settled_after settled task.steps) tasks
+        → AreTasks program events last (number ∷ rest) state settled (task ∷ tasks)
 
   -- where there is code for the workflow type
   abbrev pub AreTasksIf : Bool → Program S → List Event → List ExplainedTask → Type 0
-  AreTasksIf true program events tasks = AreTasks program events 0 (cuts events) (program.initial (workflow_of events)) [] tasks
+  AreTasksIf true program events tasks =
+      AreTasks program events 0 (cuts events) (program.initial (workflow_of events)) [] tasks
   AreTasksIf false program events tasks = tasks ≡ []
 
   -- where the events are in place
@@ -75,7 +88,8 @@ module _ {S : Type 0} where
   AreTasksPlaced None program tasks = tasks ≡ []
   AreTasksPlaced (Some events) program tasks = AreTasksIf (program.knows (workflow_of events)) program events tasks
 
-  -- what is explained of a history: its tasks, or none where an event is not in place or where there is no code for its workflow type
+  -- what is explained of a history: its tasks, or none where an event is not in place or where
+  -- there is no code for its workflow type
   abbrev pub AreTasksOf : Program S → List Event → List ExplainedTask → Type 0
   AreTasksOf program events tasks = AreTasksPlaced (in_place (history_fault events) events) program tasks
 
@@ -83,3 +97,17 @@ module _ {S : Type 0} where
   abbrev pub AreTasksIn : Program S → Result (List Event) ReadFault → List ExplainedTask → Type 0
   AreTasksIn program (Ok events) tasks = AreTasksOf program events tasks
   AreTasksIn program (Err fault) tasks = tasks ≡ []
+
+  -- the workflow type of events in place, unless there is code for it
+  abbrev pub unknown_placed : Program S → Option (List Event) → Option (List ℕ)
+  unknown_placed program None = None
+  unknown_placed program (Some events) = if program.knows (workflow_of events) then None else Some (workflow_of events)
+
+  -- the workflow type of a history in place, where there is no code for it
+  abbrev pub unknown_of : Program S → List Event → Option (List ℕ)
+  unknown_of program events = unknown_placed program (in_place (history_fault events) events)
+
+  -- that of the history of a file, if it can be read
+  abbrev pub unknown_in : Program S → Result (List Event) ReadFault → Option (List ℕ)
+  unknown_in program (Ok events) = unknown_of program events
+  unknown_in program (Err fault) = None

@@ -15,15 +15,19 @@ use Rattle.wh_explain.specs.Explaining.{stops, AreTasksOf}
 
 -- the last of the tasks is that of the number, and a command of it is refused
 abbrev pub EndsRefused : ℕ → List ExplainedTask → Type 0
-EndsRefused at tasks = (front : List ExplainedTask) × (task : ExplainedTask) × (tasks ≡ front ++ task ∷ []) × (task.at ≡ at) × (task.ending ≡ Refused)
+EndsRefused at tasks =
+    (front : List ExplainedTask) × (task : ExplainedTask) × (tasks ≡ front ++ task ∷ []) × (task.at ≡ at)
+    × (task.ending ≡ Refused)
 
 -- the last of the tasks is that of the number, and what it sends differs from what is recorded
 abbrev pub EndsDifferent : ℕ → List ExplainedTask → Type 0
 EndsDifferent at tasks =
-    (front : List ExplainedTask) × (task : ExplainedTask) × (pairings : List Pairing) × (tasks ≡ front ++ task ∷ []) × (task.at ≡ at) × (task.ending ≡ Recorded pairings) × (list_any differs pairings ≡ true)
+    (front : List ExplainedTask) × (task : ExplainedTask) × (pairings : List Pairing) × (tasks ≡ front ++ task ∷ [])
+    × (task.at ≡ at) × (task.ending ≡ Recorded pairings) × (list_any differs pairings ≡ true)
 
 module _ {S : Type 0} where
-  -- the tasks end as the replay does: none stops where it has no fault, and else the last one at the fault
+  -- the tasks end as the replay does: none stops where it has no fault, and else the last one at
+  -- the fault
   abbrev pub EndAs : Result (Upshot S) Fault → List ExplainedTask → Type 0
   EndAs (Ok left) tasks = list_any (λ task. stops task.ending) tasks ≡ false
   EndAs (Err (Workflow at fault)) tasks = EndsRefused at tasks
@@ -33,9 +37,14 @@ module _ {S : Type 0} where
 
   -- a history has but one explanation
   abbrev pub OneExplains : Program S → Type 0
-  OneExplains program = (events : List Event) (tasks other : List ExplainedTask) → AreTasksOf program events tasks → AreTasksOf program events other → tasks ≡ other
+  OneExplains program =
+      (events : List Event) (tasks other : List ExplainedTask)
+      → AreTasksOf program events tasks → AreTasksOf program events other → tasks ≡ other
 
-  -- the explanation of a history in place, for whose workflow type there is code, ends as its replay does
+  -- the explanation of a history in place, for whose workflow type there is code, ends as its
+  -- replay does
   abbrev pub EndsAsReplay : Program S → Type 0
   EndsAsReplay program =
-      (events : List Event) (tasks : List ExplainedTask) → history_fault events ≡ None → program.knows (workflow_of events) ≡ true → AreTasksOf program events tasks → EndAs (replay_tasks program events 0) tasks
+      (events : List Event) (tasks : List ExplainedTask)
+      → history_fault events ≡ None → program.knows (workflow_of events) ≡ true → AreTasksOf program events tasks
+      → EndAs (replay_tasks program events 0) tasks

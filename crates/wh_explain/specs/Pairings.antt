@@ -24,14 +24,18 @@ recorded_event history event = record { number = event.number; kind = event.body
 
 -- a command and the event in its place
 abbrev pub pairing_of : List Event → Command → Event → Pairing
-pairing_of history command event = if names history command event.body then Alike command (recorded_event history event) else Different command (recorded_event history event)
+pairing_of history command event =
+    let recorded = recorded_event history event in
+    if names history command event.body then Alike command recorded else Different command recorded
 
--- each command beside the event in its place, up to the first that are not named alike, or to the first that is alone
+-- each command beside the event in its place, up to the first that are not named alike, or to the
+-- first that is alone
 abbrev pub pairings : List Event → List Command → List Event → List Pairing
 pairings history [] [] = []
 pairings history [] (event ∷ _) = CommandMissing (recorded_event history event) ∷ []
 pairings history (command ∷ _) [] = CommandExtra command ∷ []
-pairings history (command ∷ commands) (event ∷ events) = pairing_of history command event ∷ (if names history command event.body then pairings history commands events else [])
+pairings history (command ∷ commands) (event ∷ events) =
+    pairing_of history command event ∷ (if names history command event.body then pairings history commands events else [])
 
 -- what is sent differs from what is recorded
 abbrev pub differs : Pairing → Bool

@@ -3,7 +3,7 @@ use Rattle.std.specs.Prelude.{ℕ, List, [], ◌∷◌, ◌++◌, ◌-◌, lengt
 use Rattle.std.specs.List.{flat_map}
 use Rattle.wh_workflow.specs.declared.command.Command.{Command}
 use Rattle.wh_workflow.specs.ActivationScripts.{Step}
-use Rattle.wh_tester.specs.Report.{line_text}
+use Rattle.wh_tester.specs.Report.{shown, line_text}
 use Rattle.wh_explain.specs.declared.explanation.RecordedEvent.{RecordedEvent}
 use Rattle.wh_explain.specs.declared.explanation.Pairing.{Pairing}
 use Rattle.wh_explain.specs.declared.explanation.Pairing.TheVariants.{Alike, Different, CommandMissing, CommandExtra}
@@ -50,7 +50,8 @@ sends_line command = sends_text command ++ 10 ∷ []
 -- what is sent, what is recorded, and that they differ
 unfoldable pub pairing_line : Pairing → List ℕ
 pairing_line (Alike command event) = sends_text command ++ (codes ", recorded " ++ (event_text event ++ 10 ∷ []))
-pairing_line (Different command event) = sends_text command ++ (codes ", recorded " ++ (event_text event ++ codes ", differs\n"))
+pairing_line (Different command event) =
+    sends_text command ++ (codes ", recorded " ++ (event_text event ++ codes ", differs\n"))
 pairing_line (CommandMissing event) = codes "  sends nothing, recorded " ++ (event_text event ++ codes ", differs\n")
 pairing_line (CommandExtra command) = sends_text command ++ codes ", recorded nothing, differs\n"
 
@@ -62,8 +63,17 @@ ending_text steps (Recorded pairings) = flat_map pairing_line pairings
 
 -- a task: its number, its steps, its ending
 abbrev pub task_text : ExplainedTask → List ℕ
-task_text task = (codes "task at " ++ (decimal task.at ++ 10 ∷ [])) ++ (flat_map step_text task.steps ++ ending_text task.steps task.ending)
+task_text task =
+    (codes "task at " ++ (decimal task.at ++ 10 ∷ []))
+    ++ (flat_map step_text task.steps ++ ending_text task.steps task.ending)
 
--- the whole text: the tasks in their order, and the line of the file as in the report of replay
+-- `no code for the workflow type NAME`, where there is none, shown as names in reports are
+abbrev pub unknown_line : Option (List ℕ) → List ℕ
+unknown_line None = []
+unknown_line (Some kind) = codes "no code for the workflow type " ++ (shown kind ++ 10 ∷ [])
+
+-- the whole text: the workflow type, where there is no code for it, the tasks in their order, and
+-- the line of the file as in the report of replay
 unfoldable pub explanation_text : Explanation → List ℕ
-explanation_text explanation = flat_map task_text explanation.tasks ++ line_text explanation.line
+explanation_text explanation =
+    unknown_line explanation.unknown ++ (flat_map task_text explanation.tasks ++ line_text explanation.line)

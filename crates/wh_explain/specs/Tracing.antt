@@ -18,7 +18,8 @@ module _ {S : Type 0} where
   abbrev pub step_of : Program S → Standpoint → Progress S → Job → Step
   step_of program standpoint progress job = record { job = job; commands = stood standpoint progress.script.settled progress.script.issued (program.gives progress.state job) }
 
-  -- the steps of jobs, of which a version job comes first where the step before asks for it, and what they come to: each job has one step, in order, up to the first with a fault
+  -- the steps of jobs, of which a version job comes first where the step before asks for it, and
+  -- what they come to: each job has one step, in order, up to the first with a fault
   pub data IsTraced (program : Program S) (standpoint : Standpoint) : List Job → Progress S → List Step → Result (Progress S) WorkflowFault → Type 0 where
     ended : (progress : Progress S) → IsTraced program standpoint [] progress [] (Ok progress)
     refused : (job : Job) (jobs : List Job) (progress : Progress S) (fault : WorkflowFault) → turn program standpoint job progress ≡ Err fault

@@ -37,7 +37,8 @@ progress_of activation meter = progress activation.state activation.versions act
 abbrev pub turn_of : {W S : Type 0} → Activation W S → ℕ → Option Job → Turn S
 turn_of activation meter next = record { progress = progress_of activation meter; next = next }
 
--- what comes of the commands of a step: what is seen with the version job that has to be next, or the fault
+-- what comes of the commands of a step: what is seen with the version job that has to be next, or
+-- the fault
 abbrev pub comes_to : {A : Type 0} → Turned → (Option Job → A) → Result A WorkflowFault
 comes_to (Next next) seen = Ok (seen next)
 comes_to (Refused fault) seen = Err fault

@@ -1,14 +1,14 @@
 //! The tasks of a history, each with the steps of its activation and with its record.
-ghost use Rattle.std.specs.Prelude.{◌≡◌, [], None, IfOk, string_bytes};
+ghost use Rattle.std.specs.Prelude.{◌≡◌, ◌≤◌, [], None, length, IfOk, IfErr, string_bytes};
 ghost use Rattle.wh_events.specs.Cuts.{cuts};
 ghost use Rattle.wh_activation.specs.Cutting.{jobs_at};
-ghost use Rattle.wh_json.specs.Events.{history};
+ghost use Rattle.wh_json.specs.Events.{history, longest};
 ghost use Rattle.wh_workflow.specs.ActivationScripts.{fault_in};
 ghost use Rattle.wh_workflow.specs.Scripts.{reduced};
 ghost use Rattle.wh_replay.specs.Replays.{workflow_of};
 ghost use Rattle.wh_tester.specs.Verdicts.{IsVerdict};
 ghost use Rattle.wh_explain.specs.Explaining.{unless_refused, sent_ending, stops, IsTaskAt};
-ghost use Rattle.wh_explain.specs.Explaining.{AreTasks, AreTasksOf, AreTasksIn};
+ghost use Rattle.wh_explain.specs.Explaining.{AreTasks, AreTasksOf, AreTasksIn, unknown_of, unknown_in};
 ghost use Rattle.wh_explain.specs.Walking.{IsWithin, IsOf, Leaves, standpoint_of};
 
 use crate::activation::Activation;
@@ -32,6 +32,24 @@ use wh_workflow::{Meter, Workflow, WorkflowFault};
 struct Reached<S> {
     state: S,
     versions: Versions,
+}
+
+/// What is told of a history.
+#[derive(Drop)]
+struct Told {
+    unknown: Option<Text>,
+    tasks: Vec<ExplainedTask>,
+}
+
+/// Nothing is told.
+fn nothing(alloc: Global) -> Told
+    ensures tasks { result.tasks.items ≡ [] }
+    ensures unknown { result.unknown ≡ None }
+{
+    Told {
+        unknown: None,
+        tasks: Vec::new(alloc),
+    }
 }
 
 /// How a task ends, of whose commands the last has the fault, if there is one.
@@ -151,61 +169,69 @@ fn workflow_of(events: &[Event]) -> &str
     ""
 }
 
-/// Explains the tasks of a history; none where its events are not in place, or where there is no
-/// code for its workflow type.
-fn explain_events<W: Workflow>(
-    alloc: Global,
-    events: Vec<Event>,
-) -> Result<Vec<ExplainedTask>, OutOfMemory>
-    ensures { IfOk result (λ tasks. AreTasksOf W.program events.items tasks.items) }
+/// Explains a history: its tasks, of which there are none where its events are not in place, or
+/// where there is no code for its workflow type.
+fn explain_events<W: Workflow>(alloc: Global, events: Vec<Event>) -> Result<Told, OutOfMemory>
+    ensures tasks { IfOk result (λ told. AreTasksOf W.program events.items told.tasks.items) }
+    ensures unknown { IfOk result (λ told. told.unknown ≡ unknown_of W.program events.items) }
 {
     let Some(track) = track_of(alloc, events)? else {
-        return Ok(Vec::new(alloc));
+        return Ok(nothing(alloc));
     };
     let kind = workflow_of(track.events());
     if !W::handles(kind) {
-        return Ok(Vec::new(alloc));
+        return Ok(Told {
+            unknown: Some(Text::new(String::from_str(alloc, kind)?)),
+            tasks: Vec::new(alloc),
+        });
     }
     let reached = Reached {
         state: W::begin(alloc, kind)?,
         versions: Versions::new(alloc),
     };
-    explain_tasks::<W>(alloc, &track, reached)
+    Ok(Told {
+        unknown: None,
+        tasks: explain_tasks::<W>(alloc, &track, reached)?,
+    })
 }
 
-/// Explains the tasks of a file, of which there are none where it can't be read.
-fn explain_bytes<W: Workflow>(
-    alloc: Global,
-    bytes: &[u8],
-) -> Result<Vec<ExplainedTask>, OutOfMemory>
-    ensures { IfOk result (λ tasks. AreTasksIn W.program (history bytes.now) tasks.items) }
+/// Explains the history of a file, of which there is nothing where it can't be read.
+#[tactic(auto, using(wh_tester::proofs::Reading::read_within))]
+fn explain_bytes<W: Workflow>(alloc: Global, bytes: &[u8]) -> Result<Told, OutOfMemory>
+    ensures tasks { IfOk result (λ told. AreTasksIn W.program (history bytes.now) told.tasks.items) }
+    ensures unknown { IfOk result (λ told. told.unknown ≡ unknown_in W.program (history bytes.now)) }
+    ensures memory { IfErr result (λ _. length bytes.now ≤ longest) }
 {
     match read_events(alloc, bytes) {
         Ok(events) => explain_events::<W>(alloc, events),
         Err(ReadFault::OutOfMemory) => Err(OutOfMemory),
-        Err(_) => Ok(Vec::new(alloc)),
+        Err(_) => Ok(nothing(alloc)),
     }
 }
 
 /// Explains the replay of a history file, given by name and bytes, with the code of `W`: its tasks
 /// in their order up to the first that has a fault, each with what the workflow was told, what it
 /// gave, and what the record has beside what is sent. There are no tasks where the file can't be
-/// read, where an event is not in place, and where there is no code for the workflow type.
+/// read, where an event is not in place, and where there is no code for the workflow type, which is
+/// named.
 ///
 /// The line is that of the report of replay: the name and the verdict of `wh_tester::verdict`.
-/// `OutOfMemory` where the allocator refused a growth.
+/// `OutOfMemory` where the allocator refused a growth, never for a file that is too long.
 pub fn explain<W: Workflow>(
     alloc: Global,
     name: String,
     bytes: &[u8],
 ) -> Result<Explanation, OutOfMemory>
     ensures tasks { IfOk result (λ explained. AreTasksIn W.program (history bytes.now) explained.tasks) }
+    ensures unknown { IfOk result (λ explained. explained.unknown ≡ unknown_in W.program (history bytes.now)) }
     ensures name { IfOk result (λ explained. explained.line.name ≡ string_bytes name) }
     ensures verdict { IfOk result (λ explained. IsVerdict W.program bytes.now explained.line.verdict) }
+    ensures memory { IfErr result (λ _. length bytes.now ≤ longest) }
 {
-    let tasks = explain_bytes::<W>(alloc, bytes)?;
+    let Told { unknown, tasks } = explain_bytes::<W>(alloc, bytes)?;
     let verdict = verdict::<W>(alloc, bytes);
     Ok(Explanation {
+        unknown,
         tasks: Items::new(tasks),
         line: Line {
             name: Text::new(name),

@@ -118,6 +118,8 @@ pub struct ExplainedTask {
 /// What is explained of a file.
 #[derive(Drop)]
 pub struct Explanation {
+    /// The workflow type of its history, where there is no code for it.
+    pub unknown: Option<Text>,
     /// Its tasks in their order, up to the first that has a fault.
     pub tasks: Items<ExplainedTask>,
     /// The line of the file in the report of replay.

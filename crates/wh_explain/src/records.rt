@@ -53,7 +53,8 @@ fn until_completed(events: &[Event]) -> &[Event]
 pub(crate) fn record_behind(events: &[Event], number: usize) -> Option<&[Event]>
     requires { number ≤ length events.now }
     ensures { let rest = drop number events.now in
-        option_map (λ there. commanded there.now) result ≡ (if is_recorded rest then Some (record_of rest) else None) }
+        let there = option_map (λ events. commanded events.now) result in
+        there ≡ (if is_recorded rest then Some (record_of rest) else None) }
 {
     let rest = &events[number..];
     if is_recorded(rest) {

@@ -1,16 +1,18 @@
 //! The text of an explanation.
 
-ghost use Rattle.std.specs.Prelude.{◌≡◌, ◌∷◌, ◌++◌, Some, OnOk, codes};
+ghost use Rattle.std.specs.Prelude.{◌≡◌, ◌∷◌, ◌++◌, Some, OnOk, codes, option_map};
 ghost use Rattle.std.specs.List.{flat_map};
 ghost use Rattle.std.specs.Io.KnownBytes.{Appends};
 ghost use Rattle.wh_explain.specs.Texts.{gives_line, step_text, refuses_line, last_command, event_text, sends_text};
-ghost use Rattle.wh_explain.specs.Texts.{sends_line, pairing_line, ending_text, task_text, explanation_text};
+ghost use Rattle.wh_explain.specs.Texts.{sends_line, pairing_line, ending_text, task_text};
+ghost use Rattle.wh_explain.specs.Texts.{unknown_line, explanation_text};
 
 use crate::explanation::{Ending, ExplainedTask, Explanation, Pairing, RecordedEvent, Step};
 use crate::phrase::{command_phrase, event_phrase, job_phrase};
 use std::io::Write;
 use std::{fmt, io};
-use wh_tester::write_line;
+use wh_events::Text;
+use wh_tester::{Shown, write_line};
 use wh_workflow::Command;
 
 /// The number and the phrase of a recorded event.
@@ -38,6 +40,35 @@ impl fmt::Display for SendsText<'_> {
         let phrase = command_phrase(self.0);
         write!(f, "  sends {phrase}")
     }
+}
+
+/// The line of the workflow type that there is no code for, if it is so.
+#[derive(Drop)]
+struct UnknownLine<'a>(Option<&'a str>);
+
+impl fmt::Display for UnknownLine<'_> {
+    ghost output = { λ u. Some (unknown_line (option_map (λ s. s.now) u.0)) };
+
+    fn fmt<W: fmt::Write>(&self, f: &mut fmt::Formatter<W>) -> fmt::Result {
+        match self.0 {
+            Some(kind) => {
+                let kind = Shown(kind);
+                write!(f, "no code for the workflow type {kind}\n")
+            }
+            None => Ok(()),
+        }
+    }
+}
+
+/// Writes the workflow type that there is no code for, if it is so.
+fn write_unknown<O: Write>(unknown: &Option<Text>, writer: &mut O) -> io::Result<()>
+    ensures { OnOk result (Appends (O.contents writer.old) (O.contents writer.new) (unknown_line unknown.now)) }
+{
+    let line = match unknown {
+        Some(kind) => UnknownLine(Some(kind.get())),
+        None => UnknownLine(None),
+    };
+    write!(writer, "{line}")
 }
 
 /// Writes a line for each command that was given at a job.
@@ -125,7 +156,8 @@ fn write_pairing<O: Write>(pairing: &Pairing, writer: &mut O) -> io::Result<()>
 
 /// Writes a line for each command and the event in its place.
 fn write_pairings<O: Write>(pairings: &[Pairing], writer: &mut O) -> io::Result<()>
-    ensures { OnOk result (Appends (O.contents writer.old) (O.contents writer.new) (flat_map pairing_line pairings.now)) }
+    ensures { OnOk result
+        (Appends (O.contents writer.old) (O.contents writer.new) (flat_map pairing_line pairings.now)) }
 {
     for pairing in pairings {
         write_pairing(pairing, writer)?;
@@ -135,7 +167,8 @@ fn write_pairings<O: Write>(pairings: &[Pairing], writer: &mut O) -> io::Result<
 
 /// Writes how a task of these steps ends.
 fn write_ending<O: Write>(steps: &[Step], ending: &Ending, writer: &mut O) -> io::Result<()>
-    ensures { OnOk result (Appends (O.contents writer.old) (O.contents writer.new) (ending_text steps.now ending.now)) }
+    ensures { OnOk result
+        (Appends (O.contents writer.old) (O.contents writer.new) (ending_text steps.now ending.now)) }
 {
     match ending {
         Ending::Refused => write_refused(steps, writer),
@@ -167,14 +200,16 @@ fn write_tasks<O: Write>(tasks: &[ExplainedTask], writer: &mut O) -> io::Result<
     Ok(())
 }
 
-/// Writes an explanation: the lines of its tasks in their order, and then the line of the file as
-/// in the report of replay. Each line ends with one line feed, and each name is shown as in that
-/// report. After an error some of the text may have been written.
+/// Writes an explanation: the workflow type, where there is no code for it, the lines of its tasks
+/// in their order, and then the line of the file as in the report of replay. Each line ends with
+/// one line feed, and each name is shown as in that report. After an error some of the text may
+/// have been written.
 #[tactic(auto, unfolding(crate::specs::Texts::explanation_text))]
 pub fn write_explanation<O: Write>(explanation: &Explanation, writer: &mut O) -> io::Result<()>
     ensures { OnOk result
         (Appends (O.contents writer.old) (O.contents writer.new) (explanation_text explanation.now)) }
 {
+    write_unknown(&explanation.unknown, writer)?;
     write_tasks(explanation.tasks.get(), writer)?;
     write_line(&explanation.line, writer)
 }

@@ -289,6 +289,7 @@ task at 3
 x.json: fault, task at 3: VersionOutOfRange
 
 start:Nope S T C
+no code for the workflow type Nope
 x.json: fault, task at 1: UnknownWorkflow
 
 nap/5 timer_fired:3
