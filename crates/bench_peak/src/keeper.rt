@@ -1,0 +1,51 @@
+//! A workflow whose steps take memory for good.
+
+use std::alloc::Global;
+use std::mem;
+use wh_events::OutOfMemory;
+use wh_workflow::{Command, Job, Meter, Workflow};
+
+/// How many bytes each step takes.
+const BLOCK: usize = 1 << 20;
+
+/// Gives nothing to any job. Each step takes a block of memory, writes all of it and never gives it
+/// back, so the peak of the process's memory tells how many steps were made in it, whatever became
+/// of their states.
+pub struct Keeper;
+
+impl Workflow for Keeper {
+    ghost use Rattle.std.specs.Prelude.{true, [], refl, bytes_eq, codes};
+    ghost use Rattle.std.proofs.Common.{lit≤};
+
+    type State = bool;
+
+    ghost program = { record {
+      knows = λ kind. bytes_eq kind (codes "Keeper");
+      initial = λ kind. true;
+      after = λ state job. state;
+      gives = λ state job. [];
+    } };
+
+    ghost lawful = { λ state job. record { few = lit≤ tt; asks = refl; records = refl } };
+
+    fn handles(kind: &str) -> bool {
+        kind == "Keeper"
+    }
+
+    fn begin(_alloc: Global, _kind: &str) -> Result<bool, OutOfMemory> {
+        Ok(true)
+    }
+
+    fn step(
+        alloc: Global,
+        _state: &mut bool,
+        _job: &Job,
+        _out: &mut Vec<Command>,
+        meter: &mut Meter,
+    ) -> Result<(), OutOfMemory> {
+        meter.tick();
+        let block = vec![in alloc; 1u8; BLOCK]?;
+        mem::forget(block);
+        Ok(())
+    }
+}
