@@ -9,6 +9,7 @@ use wh_cli::{Plan, Refusal, parse};
 const LINES: &str = "\
 replay d => replay d
 replay ./a/b.c => replay ./a/b.c
+explain d/x.json => explain d/x.json
 serve d => serve d, workers 1, cache 100, cache events 0, slots 100
 serve d --workers 64 --cache 0 --cache-events 512000000 --slots 1000 => serve d, workers 64, cache 0, cache events 512000000, slots 1000
 serve d --workers 1 --cache 10000 --slots 1 => serve d, workers 1, cache 10000, cache events 0, slots 1
@@ -32,6 +33,8 @@ serve => bad line
 replay => bad line
 replay d e => bad line
 replay d --workers 2 => bad line
+explain => bad line
+explain a b => bad line
 nope d => bad line
 -- => bad line
 --nope => bad line
@@ -58,6 +61,7 @@ serve d --slots 1001 => slots 1 1000
 fn plan_text(rt: &impl Abort, alloc: Global, plan: &Plan) -> String {
     let text = match plan {
         Plan::Replay { dir } => format!(in alloc; "replay {}", dir.get()),
+        Plan::Explain { file } => format!(in alloc; "explain {}", file.get()),
         Plan::Serve {
             dir,
             workers,
