@@ -21,12 +21,32 @@ UNREAD = "nap.json: unreadable, not JSON\n"
 HELP = """Usage: wfhost [COMMAND]
 
 Commands:
-  replay  Replays each history of a folder, and prints a line for each
-  serve   Serves each history of a folder as workflow tasks, and prints how they ended
-  help    Print this message or the help of the given subcommand(s)
+  replay   Replays each history of a folder, and prints a line for each
+  explain  Replays a history, and prints what the workflow was told and gave, task by task
+  serve    Serves each history of a folder as workflow tasks, and prints how they ended
+  help     Print this message or the help of the given subcommand(s)
 
 Options:
-  -h, --help  Print help
+  -h, --help     Print help
+  -V, --version  Print version
+
+Status:
+  0  each file was read, and no task of it has a fault
+  1  the report names a file or a task that has one
+  2  there is no report; standard error says why
+"""
+VERSION = "wfhost 0.1.0 (rattle-kit-13b logic dac8208d650f15bf)\n"
+EXPLAINED = """task at 3
+  told Time 1714557603000000000 ns
+  told Start Nap
+    gives StartTimer nap (60 s)
+  sends StartTimer nap (60 s), recorded 5 TimerStarted nap
+task at 8
+  told Time 1714557608000000000 ns
+  told TimerFired nap
+    gives Complete
+  sends Complete, recorded 10 WorkflowExecutionCompleted
+nap.json: ok, 2 tasks
 """
 EXAMPLES = """branch.json: ok, 2 tasks
 caller.json: ok, 2 tasks
@@ -47,7 +67,7 @@ racer.json: 4 tasks, 4 completed, 0 failed
 taken 17, completed 17, failed 0, in hand 0
 """
 # Of these the first three are histories, in the order of the bytes of their names.
-NAMES = [".json", "B.json", "a.json", "C.JSON", "d.json.bak", "e.txt"]
+NAMES = [".json", "B.json", "a.json", "C.JSON", "d.json.bak", "e.txt", "xjson"]
 
 
 def folder_with(room, name, files):
@@ -82,11 +102,17 @@ def cases(room):
         (["serve", examples, "--workers", "4"], 0, SERVED_EXAMPLES, "", {}),
         (["serve", examples, "--cache-events", "3"], 0, SERVED_EXAMPLES, "", {}),
         (["--help"], 0, HELP, "", {}),
-        (["replay", empty], 0, "0 files, 0 ok\n", "", {}),
-        (["serve", empty], 0, "taken 0, completed 0, failed 0, in hand 0\n", "", {}),
+        (["--version"], 0, VERSION, "", {}),
+        (["explain", str(Path(well, "nap.json"))], 0, EXPLAINED, "", {}),
+        (["explain", str(Path(bad, "nap.json"))], 1, UNREAD, "", {}),
+        (["replay", empty], 0, "0 files, 0 ok\n", f"wfhost: no .json file in {empty}\n", {}),
+        (["serve", empty], 0, "taken 0, completed 0, failed 0, in hand 0\n", f"wfhost: no .json file in {empty}\n", {}),
         (["replay", bad], 1, UNREAD + "1 files, 0 ok\n", "", {}),
         (["serve", bad], 1, UNREAD + "taken 0, completed 0, failed 0, in hand 0\n", "", {}),
-        ([], 2, "", "error: ", {}),
+        ([], 2, "", "error: a command is needed\n\nUsage: wfhost [COMMAND]\n", {}),
+        (["explain"], 2, "", "error: ", {}),
+        (["explain", missing], 2, "", f"{cannot}{missing}\n", {}),
+        (["explain", well], 2, "", f"{cannot}{well}\n", {}),
         (["replay"], 2, "", "error: ", {}),
         (["replay", well, empty], 2, "", "error: ", {}),
         (["no-such-command"], 2, "", "error: ", {}),
@@ -97,8 +123,8 @@ def cases(room):
         ([b"replay", b"\xff"], 2, "", "wfhost: arguments must be UTF-8 text\n", {}),
         (["replay", missing], 2, "", f"{cannot}{missing}\n", {}),
         (["serve", missing], 2, "", f"{cannot}{missing}\n", {}),
-        (["replay", broken], 2, "", f"{cannot}{broken}\n", {}),
-        (["replay", inner], 2, "", f"{cannot}{inner}\n", {}),
+        (["replay", broken], 2, "", f"{cannot}{broken}\n{cannot}{broken}/gone.json\n", {}),
+        (["replay", inner], 2, "", f"{cannot}{inner}\n{cannot}{inner}/folder.json\n", {}),
         (["replay", well], 2, None, "wfhost: cannot write\n", {"full": True}),
         (["serve", well], 2, None, "wfhost: cannot write\n", {"full": True}),
         (["--help"], 2, None, "wfhost: cannot write\n", {"full": True}),
