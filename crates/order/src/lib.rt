@@ -2,11 +2,11 @@
 #![tactic(auto)]
 
 ghost use Rattle.std.specs.Prelude.{◌≡◌, ◌++◌, [], pos, negsuc, codes, length, take, drop, IfOk, OnOk, OnErr};
-ghost use Rattle.order.specs.Order.{charging_after, charging_gives, held_after, held_gives};
+ghost use Rattle.order.specs.Order.{calling_off, charging_after, charging_gives, held_after, held_gives};
 ghost use Rattle.order.specs.Order.{order, order_lawful, parcel_type, shipping_after, shipping_gives};
-ghost use Rattle.order.specs.Order.{calling_off};
 ghost use Rattle.wh_workflow.specs.Law.{IsAnswer};
-ghost use Rattle.wh_workflow.specs.declared.command.Command.TheVariants.{StartActivity, StartTimer, StartChild, Ask, Fail};
+ghost use Rattle.wh_workflow.specs.declared.command.Command.TheVariants.{StartActivity, StartTimer, StartChild};
+ghost use Rattle.wh_workflow.specs.declared.command.Command.TheVariants.{Ask, Fail};
 
 #[cfg(test)]
 mod tests;
@@ -19,14 +19,14 @@ use wh_workflow::{ActivityEnd, ChildEnd, Command, Job, Meter, Workflow, no_paylo
 ///
 /// | State | Job | Gives | Then |
 /// |---|---|---|---|
-/// | charging | `Start` with an input | `StartActivity{charge, ChargeCard}` with that input | charging |
+/// | charging | `Start` with an input | `StartActivity{charge, ChargeCard}` with it | charging |
 /// | charging | `Activity` `charge`, `Completed` | `StartTimer{hold, 86400}` | held |
 /// | charging | `Activity` `charge`, another end | `Fail{charge}` | closed |
 /// | held | `Signal` `cancel` | `CancelTimer{hold}`, `Complete` without a result | closed |
 /// | held | `TimerFired` of `hold` | `Ask{tracked, -1, 1}` | shipping |
 /// | shipping | `Version` of `tracked`, -1 | `StartChild{parcel, Ship}` | shipping |
 /// | shipping | `Version` of `tracked`, another | `StartChild{parcel, ShipTracked}` | shipping |
-/// | shipping | `Child` `parcel`, `Completed` with a result | `Complete` with that result | closed |
+/// | shipping | `Child` `parcel`, `Completed` with a result | `Complete` with it | closed |
 /// | shipping | `Child` `parcel`, another end | `Fail{parcel}` | closed |
 ///
 /// Other jobs change nothing and give nothing. The child is started without an input.

@@ -6,4 +6,5 @@ use Rattle.wh_tasks.specs.declared.source.ActivityAnswer.TheVariants.{Completed,
 
 -- a charged card gives back what it was charged with; there are no other activities
 abbrev pub receipt : ActivityTask → ActivityAnswer
-receipt task = if bytes_eq task.activity (codes "ChargeCard") then Completed task.input else Failed (codes "no such activity")
+receipt task =
+    if bytes_eq task.activity (codes "ChargeCard") then Completed task.input else Failed (codes "no such activity")

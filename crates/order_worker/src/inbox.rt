@@ -48,8 +48,8 @@ impl Inbox {
         Ok(())
     }
 
-    /// As many turns as a worker needs for its tasks, with one more for each kind, by which it learns
-    /// that there are no more.
+    /// As many turns as a worker needs: one for each task, and one more for each kind, by which it
+    /// learns that there are no more.
     pub fn turns(&self) -> u64 {
         let tasks = self.workflow_tasks.len() as u64 + self.activity_tasks.len() as u64;
         tasks.saturating_add(2)
