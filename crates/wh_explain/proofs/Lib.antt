@@ -2,5 +2,6 @@ pub mod Issuing
 pub mod Tracing
 pub mod Scripted
 pub mod Tasks
+pub mod Printable
 pub mod One
 pub mod Agreeing

@@ -1,12 +1,13 @@
 -- What holds of every explanation.
-use Rattle.std.specs.Prelude.{◌≡◌, ℕ, true, false, List, [], ◌∷◌, ◌++◌, None, Result, Ok, Err}
-use Rattle.std.specs.List.{list_any}
+use Rattle.std.specs.Prelude.{◌≡◌, ℕ, Bool, ◌&&◌, nat_le, true, false, List, [], ◌∷◌, ◌++◌, None, Result, Ok, Err}
+use Rattle.std.specs.List.{list_all, list_any}
 use Rattle.wh_events.specs.declared.event.Event.{Event}
 use Rattle.wh_events.specs.Places.{history_fault}
 use Rattle.wh_workflow.specs.Law.{Program}
 use Rattle.wh_replay.specs.declared.fault.Fault.{Fault}
 use Rattle.wh_replay.specs.declared.fault.Fault.TheVariants.{NotATask, Place, Workflow, Mismatch}
 use Rattle.wh_replay.specs.Replays.{Upshot, workflow_of, replay_tasks}
+use Rattle.wh_tester.specs.Report.{shown}
 use Rattle.wh_explain.specs.declared.explanation.Ending.TheVariants.{Refused, Recorded}
 use Rattle.wh_explain.specs.declared.explanation.Pairing.{Pairing}
 use Rattle.wh_explain.specs.declared.explanation.ExplainedTask.{ExplainedTask}
@@ -24,6 +25,14 @@ abbrev pub EndsDifferent : ℕ → List ExplainedTask → Type 0
 EndsDifferent at tasks =
     (front : List ExplainedTask) × (task : ExplainedTask) × (pairings : List Pairing) × (tasks ≡ front ++ task ∷ [])
     × (task.at ≡ at) × (task.ending ≡ Recorded pairings) × (list_any differs pairings ≡ true)
+
+-- from the space to the tilde
+abbrev pub is_printable : ℕ → Bool
+is_printable c = nat_le 32 c && nat_le c 126
+
+-- a name is shown without control characters, and without any that is not ASCII
+abbrev pub NamesArePrintable : Type 0
+NamesArePrintable = (name : List ℕ) → list_all is_printable (shown name) ≡ true
 
 module _ {S : Type 0} where
   -- the tasks end as the replay does: none stops where it has no fault, and else the last one at

@@ -1,5 +1,5 @@
 //! What holds of every explanation, each law as the contract of a function that does nothing.
-ghost use Rattle.wh_explain.specs.Laws.{OneExplains, EndsAsReplay};
+ghost use Rattle.wh_explain.specs.Laws.{NamesArePrintable, OneExplains, EndsAsReplay};
 
 use wh_workflow::Workflow;
 
@@ -12,4 +12,9 @@ pub fn one_explains<W: Workflow>()
 /// does: at the task of the fault, if there is one, refused or different as the fault says.
 pub fn ends_as_replay<W: Workflow>()
     ensures { EndsAsReplay W.program }
+{}
+
+/// A name is shown without control characters, and without any that is not ASCII.
+pub fn names_are_printable()
+    ensures { NamesArePrintable }
 {}
