@@ -4,7 +4,7 @@ ghost use Rattle.std.specs.Prelude.{◌≡◌, ◌∷◌, [], Err, IfOk, string_
 ghost use Rattle.std.specs.Io.KnownBytes.{Appends};
 ghost use Rattle.wh_json.specs.Events.{history};
 ghost use Rattle.wh_tester.specs.Verdicts.{IsVerdict};
-ghost use Rattle.wh_explain.specs.Explaining.{AreTasksIn};
+ghost use Rattle.wh_explain.specs.Explaining.{AreTasksIn, unknown_in};
 ghost use Rattle.wh_explain.specs.Texts.{explanation_text};
 ghost use Rattle.wh_explain.specs.declared.explanation.Explanation.{Explanation};
 ghost use Rattle.wh_cli.specs.Statuses.{status_of};
@@ -27,6 +27,7 @@ pub fn explain_command<W: Workflow, O: Write>(
 ) -> Result<u8, CommandFault>
     ensures explained { IfOk result (λ status. (explanation : Explanation)
         × AreTasksIn W.program (history bytes.now) explanation.tasks
+        × (explanation.unknown ≡ unknown_in W.program (history bytes.now))
         × (explanation.line.name ≡ string_bytes name)
         × IsVerdict W.program bytes.now explanation.line.verdict
         × Appends (O.contents writer.old) (O.contents writer.new) (explanation_text explanation)
