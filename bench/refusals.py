@@ -1,9 +1,16 @@
 #!/usr/bin/env python3
-"""Refuses each request for memory of the built program in turn: request 1, 2, 3, .. alone, and again with all later ones refused,
-until a run meets no refusal. Each run of `replay` and of `serve` has to end in one of these ways: what it prints with ample memory;
-status 2 with `wfhost: out of memory` and nothing on standard output; or status 1 with a whole report, in which the lines that differ
-say `out of memory` (replay), or the totals balance with nothing in hand (serve). The requests are counted and refused by a few lines of
-C, which this script compiles. It is no part of the gate. It ends with status 1 where a run ends in another way."""
+"""Refuses each request for memory of a built program in turn: request 1, 2, 3, .. alone, and again with all later ones refused,
+until a run meets no refusal. The requests are counted and refused by a few lines of C, which this script compiles.
+
+Each run of `wfhost replay` and `wfhost serve` has to end in one of these ways: what it prints with ample memory; status 2 with
+`wfhost: out of memory` and nothing on standard output; or status 1 with a whole report, in which the lines that differ say
+`out of memory` (replay), or the totals balance with nothing in hand (serve).
+
+Of the calls that bench_calls makes, only the requests of the call itself are refused: those between the line on what stands before it
+and the line with its answer. Each run has to print what it prints with ample memory, or want of memory and what may stand after it,
+which the table CALLS says. A call of the table without want of memory has to answer the same however many requests are refused.
+
+It is no part of the gate. It ends with status 1 where a run ends in another way."""
 
 import os
 import re
@@ -14,6 +21,7 @@ from pathlib import Path
 
 TOP = Path(__file__).resolve().parent.parent
 PROGRAM = TOP / "crates/wfhost/out/wfhost"
+CALLER = TOP / "crates/bench_calls/out/bench_calls"
 EXAMPLES = str(TOP / "examples/histories")
 LIMIT_SECONDS = 60
 LAST = 2**63
@@ -29,6 +37,50 @@ COMMANDS = [
     ),
 ]
 
+NO_MEMORY = r"Err\(OutOfMemory\)"
+UNANSWERED = r"Err\(OutOfMemory\)|Ok\(NoMemory \{ name: TaskName\(3\) \}\)"
+ANSWERED = r"Ok\(Workflow \{ name: TaskName\(3\), hit: false, steps: 2, outcome: Completed \}\)"
+CHECKED = (
+    r"Ok\(\[Line \{ name: Text \{ text: \"nap\" \}, verdict: (OutOfMemory|Good\(Checked \{ tasks: 2, live: false \}\)) \}, "
+    r"Line \{ name: Text \{ text: \"live\" \}, verdict: (OutOfMemory|Good\(Checked \{ tasks: 2, live: true \}\)) \}\]\)"
+)
+NOTHING = r"\(\)"
+SAME = None
+FREE = r"workflow: SlotCount \{ free: 1, reserved: 0, held: 0 \}, activity: SlotCount \{ free: 1, reserved: 0, held: 0 \} \}"
+UNTAKEN = r"Counts \{ taken: 0, completed: 0, failed: 0, in_hand: 0, cached: 0, cached_events: 0, " + FREE
+# The run is given to the cache also where its answer could not be sent.
+FAILED = r"Counts \{ taken: 1, completed: 0, failed: 1, in_hand: 0, cached: (0, cached_events: 0|1, cached_events: 3), " + FREE
+UNCACHED = r"Counts \{ taken: 1, completed: 1, failed: 0, in_hand: 0, cached: 0, cached_events: 0, " + FREE
+# The calls of bench_calls, and the ways in which each may want memory: an answer, and what stands after it (SAME: what stood before).
+CALLS = {
+    "read_events": [(NO_MEMORY, SAME)],
+    "push": [(NO_MEMORY, SAME)],
+    "issue": [(NO_MEMORY, SAME)],
+    "ask": [(NO_MEMORY, SAME)],
+    "reduced": [(NO_MEMORY, NOTHING)],
+    "jobs": [(NO_MEMORY, SAME)],
+    "step": [(NO_MEMORY, SAME)],
+    "from_first": [("OutOfMemory", NOTHING)],
+    "check": [(NO_MEMORY, NOTHING)],
+    "answer": [(NO_MEMORY, SAME)],
+    "advance": [(r"\"OutOfMemory\"", NOTHING)],
+    "advance by a gap": [],
+    "replay_task": [("OutOfMemory", NOTHING)],
+    "replay_task from the first": [("OutOfMemory", NOTHING)],
+    "replay_task as told": [("OutOfMemory", NOTHING), (r"Source\(OutOfMemory\)", NOTHING)],
+    "put": [(r"\(\"NoMemory\", Some\(8\)\)", SAME)],
+    "put of a longer run": [],
+    "give_run": [(r"\(\"NoMemory\", Some\(3\)\)", SAME)],
+    "Books::open": [("OutOfMemory", NOTHING)],
+    "Slots::open": [(NO_MEMORY, NOTHING)],
+    "Sticky::open": [(NO_MEMORY, NOTHING)],
+    "HostState::open": [("OutOfMemory", NOTHING)],
+    "HostState::open without workflow slots": [],
+    "Host::open": [("OutOfMemory", NOTHING)],
+    "serve_one": [(UNANSWERED, UNTAKEN), (UNANSWERED, FAILED), (ANSWERED, UNCACHED)],
+    "check_all": [(NO_MEMORY, NOTHING), (CHECKED, NOTHING)],
+}
+
 
 class Refusals:
     """Runs of the program with some requests refused."""
@@ -39,13 +91,24 @@ class Refusals:
         source = Path(__file__).with_suffix(".c")
         subprocess.run(["cc", "-O1", "-shared", "-fPIC", "-o", self.library, source], check=True)
 
-    def run(self, words, first=0, last=0):
-        """What the program does where the requests from the first to the last are refused, and how many requests there were."""
+    def run(self, program, words, of_call, first=0, last=0):
+        """What a program does where the requests from the first to the last are refused, and how many requests there were; of those of
+        a call alone, if so."""
         refused = {"LD_PRELOAD": str(self.library), "REFUSE_COUNT": str(self.count)}
         refused |= {"REFUSE_FROM": str(first), "REFUSE_TO": str(last)}
-        ran = subprocess.run([PROGRAM, *words], capture_output=True, text=True, timeout=LIMIT_SECONDS, env=os.environ | refused)
+        refused |= {"REFUSE_BEHIND_LINE": "1"} if of_call else {}
+        ran = subprocess.run([program, *words], capture_output=True, text=True, timeout=LIMIT_SECONDS, env=os.environ | refused)
         asked = int.from_bytes(self.count.read_bytes(), sys.byteorder)
         return (ran.returncode, ran.stdout, ran.stderr), asked
+
+    def each(self, program, words, of_call=False):
+        """How each run ends that refuses a request, alone or with all later ones, the last ones of a kind meeting no refusal."""
+        for last in (lambda number: number, lambda number: LAST):
+            number, met = 1, True
+            while met:
+                ran, asked = self.run(program, words, of_call, number, last(number))
+                yield number, ran
+                met, number = number <= asked, number + 1
 
 
 def is_replay_report(out, ample):
@@ -86,32 +149,75 @@ def why_wrong(words, ran, ample):
     return f"status {status}, standard output {out!r}, standard error {error!r}"
 
 
-def refuse_all(refusals, words):
-    """Refuses each request in turn, and returns how many runs there were and what was wrong."""
-    ample, _ = refusals.run(words)
-    runs, wrong = 0, []
-    for last in (lambda number: number, lambda number: LAST):
-        number, met = 1, True
-        while met:
-            ran, asked = refusals.run(words, number, last(number))
-            why = why_wrong(words, ran, ample)
-            wrong += [f"wfhost {' '.join(words)}, request {number}: {why}"] if why else []
-            met, runs, number = number <= asked, runs + 1, number + 1
-    return runs, wrong
+def try_program(refusals, words):
+    """Refuses each request of the program in turn, tells how many runs there were, and returns how many were wrong."""
+    ample, _ = refusals.run(PROGRAM, words, False)
+    runs = list(refusals.each(PROGRAM, words))
+    wrong = [(number, why_wrong(words, ran, ample)) for number, ran in runs]
+    return tell(" ".join(words[:1] + words[2:]), len(runs), [it for it in wrong if it[1]])
+
+
+def parts_of(name, out):
+    """What stands before a call, what it answers and what stands after it, as bench_calls prints them; None where it does not."""
+    heads, lines = [f"{name} {part}: " for part in ("before", "answer", "after")], out.splitlines()
+    if len(lines) != len(heads) or not all(line.startswith(head) for line, head in zip(lines, heads)):
+        return None
+    return [line.removeprefix(head) for line, head in zip(lines, heads)]
+
+
+def wants_memory(name, ran, ample):
+    """Whether a call ended by want of memory in one of its ways, with what may stand after it."""
+    parts, wanted = parts_of(name, ran[1]), parts_of(name, ample[1])
+    if ran[0] != 0 or ran[2] or not parts or parts[0] != wanted[0]:
+        return False
+    before, answer, after = parts
+    return any(
+        re.fullmatch(said, answer) and (after == before if left is SAME else re.fullmatch(left, after)) for said, left in CALLS[name]
+    )
+
+
+def try_call(refusals, name):
+    """Refuses each request of a call in turn, tells how many runs there were, and returns how many were wrong."""
+    ample, asked = refusals.run(CALLER, [name], True)
+    if ample[0] != 0 or not parts_of(name, ample[1]):
+        return tell(name, 1, [(0, f"with ample memory: {ample}")])
+    runs = list(refusals.each(CALLER, [name], True))
+    wrong = [(number, str(ran)) for number, ran in runs if ran != ample and not wants_memory(name, ran, ample)]
+    wants = sum(ran != ample for _, ran in runs)
+    if CALLS[name] and not wants:
+        wrong.append((0, "no run wanted memory"))
+    if name == "serve_one":
+        wrong += after_use(runs)
+    return tell(f"{name}, {asked} requests", len(runs), wrong, f", {wants} by want of memory")
+
+
+def after_use(runs):
+    """What is wrong with the first run of `serve_one` whose task was taken before the refusal, if anything is: it has to fail."""
+    for number, ran in runs:
+        _, answer, after = parts_of("serve_one", ran[1])
+        if "taken: 1" in after:
+            is_right = answer == "Ok(NoMemory { name: TaskName(3) })" and re.fullmatch(FAILED, after)
+            return [] if is_right else [(number, f"the first growth after the use: {ran}")]
+    return [(0, "no run took the task")]
+
+
+def tell(title, runs, wrong, more=""):
+    """Tells how many runs there were and what was wrong with them, and returns how many were wrong."""
+    for number, why in wrong[:8]:
+        print(f"{title}, request {number}: {why}")
+    print(f"{title}: {runs} runs{more}, {len(wrong)} wrong", flush=True)
+    return len(wrong)
 
 
 def main():
     if not PROGRAM.exists():
         sys.exit("the program is not built: start ./wfhost once")
-    bad = 0
+    if not CALLER.exists():
+        sys.exit("the program of the calls is not built: run `rt run` in crates/bench_calls")
     with tempfile.TemporaryDirectory() as room:
         refusals = Refusals(room)
-        for words in COMMANDS:
-            runs, wrong = refuse_all(refusals, words)
-            for line in wrong[:8]:
-                print(line)
-            bad += len(wrong)
-            print(f"{' '.join(words[:1] + words[2:])}: {runs} runs, {len(wrong)} wrong", flush=True)
+        bad = sum(try_call(refusals, name) for name in CALLS)
+        bad += sum(try_program(refusals, words) for words in COMMANDS)
     return 1 if bad else 0
 
 
