@@ -407,10 +407,10 @@ fn explains_endless_questions(rt: HostRuntime) {
     let alloc = rt.alloc();
     let bytes = bytes_of(&rt, alloc, "start:Asker S T");
     let text = explained::<Asker>(&rt, alloc, bytes.as_slice());
-    let mut told = 0;
+    let mut told: u64 = 0;
     for line in text.as_str().lines() {
         if line == "  told Version a (version 1)" {
-            told += 1;
+            told = told.saturating_add(1);
         }
     }
     assert_eq!(rt; told, 4_096);
