@@ -45,13 +45,16 @@ same_key-true a b e =
 
 -- each key is the same as itself
 pub same_key-refl : (a : RunKey) → same_key a a ≡ true
-same_key-refl a = both_hold (same_text a.workflow_id a.workflow_id) (same_text a.run_id a.run_id) (same_text-refl a.workflow_id) (same_text-refl a.run_id)
+same_key-refl a =
+    both_hold (same_text a.workflow_id a.workflow_id) (same_text a.run_id a.run_id) (same_text-refl a.workflow_id)
+        (same_text-refl a.run_id)
 
 -- being the same is an equivalence
 pub same_key-equiv : IsEquivalence same_key
 same_key-equiv =
     record {
       refl = same_key-refl;
-      symm = λ x y i. nat_list_eq_equiv.symm x.workflow_id y.workflow_id i && nat_list_eq_equiv.symm x.run_id y.run_id i;
+      symm = λ x y i. nat_list_eq_equiv.symm x.workflow_id y.workflow_id i
+          && nat_list_eq_equiv.symm x.run_id y.run_id i;
       congr = λ x y z e. ap (λ k. same_key k z) (same_key-true x y e);
     }

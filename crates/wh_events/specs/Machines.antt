@@ -84,7 +84,8 @@ or_else (Some x) other = Some x
 -- the number of the last event that opens a thing of the kind under the id
 abbrev pub last_named : List Event → Thing → List ℕ → Option ℕ
 last_named [] thing id = None
-last_named (event ∷ rest) thing id = or_else (last_named rest thing id) (if opens thing id event then Some event.number else None)
+last_named (event ∷ rest) thing id =
+    or_else (last_named rest thing id) (if opens thing id event then Some event.number else None)
 
 -- there is a number, and it is this one
 abbrev pub is_number : ℕ → Option ℕ → Bool
@@ -135,7 +136,8 @@ role_at events number = role_in (slice_get events (number - 1))
 
 -- the status of what the event of the number opened, if there is such an event and it opened anything
 abbrev pub status_at : List Event → ℕ → Option Status
-status_at events number = if is_some (opened_thing (role_at events number)) then Some (status_of events number) else None
+status_at events number =
+    if is_some (opened_thing (role_at events number)) then Some (status_of events number) else None
 
 -- a thing of a history: the number of the event that opened it, and where it stands
 pub record Machine : Type 0 where

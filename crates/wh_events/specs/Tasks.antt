@@ -23,7 +23,8 @@ pub record IsNextCore (events : List Event) (place next : ℕ) (event : Event) :
 
 -- the first core event after the place completes a workflow task
 abbrev pub CompletesNext : List Event → ℕ → Type 0
-CompletesNext events place = (next : ℕ) × (event : Event) × IsNextCore events place next event × (event.body ≡ WorkflowTaskCompleted)
+CompletesNext events place =
+    (next : ℕ) × (event : Event) × IsNextCore events place next event × (event.body ≡ WorkflowTaskCompleted)
 
 -- a live cut: a task starts there, and no core event follows
 abbrev pub IsLiveCut : List Event → ℕ → Type 0
@@ -66,12 +67,14 @@ LiveCutIsSaid = (events : List Event) (place : ℕ) (event : Event) → IsAt eve
 -- an event is a cut that the events after it record exactly where its place is a recorded cut
 abbrev pub RecordedCutIsSaid : Type 0
 RecordedCutIsSaid = (events : List Event) (place : ℕ) (event : Event) → IsAt events place event
-    → (IsTrue (is_cut event (drop place events)) × IsTrue (is_recorded (drop place events))) ↔ IsRecordedCut events place
+    → (IsTrue (is_cut event (drop place events)) × IsTrue (is_recorded (drop place events)))
+    ↔ IsRecordedCut events place
 
 -- where each event's number is its place, the cuts are the places of the live and the recorded cuts, in order
 abbrev pub CutsAreListed : Type 0
 CutsAreListed = (events : List Event) → ((i : ℕ) (event : Event) → IsAt events i event → event.number ≡ i)
-    → ((place : ℕ) → Contains (cuts events) place ↔ (IsLiveCut events place ⊎ IsRecordedCut events place)) × IsStrictlyIncreasing (cuts events)
+    → ((place : ℕ) → Contains (cuts events) place ↔ (IsLiveCut events place ⊎ IsRecordedCut events place))
+    × IsStrictlyIncreasing (cuts events)
 
 -- the record of a cut is what the events after it say
 abbrev pub RecordIsSaid : Type 0

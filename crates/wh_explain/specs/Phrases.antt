@@ -28,7 +28,9 @@ pub record Phrase : Type 0 where
 
 -- the phrase that the code's is
 abbrev pub phrase_seen : code.Phrase → Phrase
-phrase_seen p = record { kind = p.kind.now; id = option_map (λ s. s.now) p.id; name = option_map (λ s. s.now) p.name; detail = p.detail }
+phrase_seen p =
+    record { kind = p.kind.now; id = option_map (λ s. s.now) p.id; name = option_map (λ s. s.now) p.name;
+        detail = p.detail }
 
 -- a kind alone
 abbrev pub bare : List ℕ → Phrase
@@ -100,9 +102,12 @@ kind_phrase of (events.ActivityTaskScheduled id activity) = typed (codes "Activi
 kind_phrase of (events.ActivityTaskCancelRequested _) = named (codes "ActivityTaskCancelRequested") of
 kind_phrase of (events.TimerStarted id) = named (codes "TimerStarted") id
 kind_phrase of (events.TimerCanceled _) = named (codes "TimerCanceled") of
-kind_phrase of (events.StartChildWorkflowExecutionInitiated workflow_id workflow) = typed (codes "StartChildWorkflowExecutionInitiated") workflow_id workflow
-kind_phrase of (events.RequestCancelExternalWorkflowExecutionInitiated workflow_id) = named (codes "RequestCancelExternalWorkflowExecutionInitiated") workflow_id
-kind_phrase of (events.SignalExternalWorkflowExecutionInitiated workflow_id signal) = typed (codes "SignalExternalWorkflowExecutionInitiated") workflow_id signal
+kind_phrase of (events.StartChildWorkflowExecutionInitiated workflow_id workflow) =
+    typed (codes "StartChildWorkflowExecutionInitiated") workflow_id workflow
+kind_phrase of (events.RequestCancelExternalWorkflowExecutionInitiated workflow_id) =
+    named (codes "RequestCancelExternalWorkflowExecutionInitiated") workflow_id
+kind_phrase of (events.SignalExternalWorkflowExecutionInitiated workflow_id signal) =
+    typed (codes "SignalExternalWorkflowExecutionInitiated") workflow_id signal
 kind_phrase of (events.MarkerRecorded change_id version) = detailed (codes "MarkerRecorded") change_id (Version version)
 kind_phrase of events.WorkflowExecutionCompleted = bare (codes "WorkflowExecutionCompleted")
 kind_phrase of events.WorkflowExecutionFailed = bare (codes "WorkflowExecutionFailed")

@@ -19,7 +19,8 @@ gives_line command = codes "    gives " ++ (phrase_text (command_phrase command)
 
 -- `told JOB`, and a line for each command that was given at it
 abbrev pub step_text : Step → List ℕ
-step_text step = (codes "  told " ++ (phrase_text (job_phrase step.job) ++ 10 ∷ [])) ++ flat_map gives_line step.commands
+step_text step =
+    (codes "  told " ++ (phrase_text (job_phrase step.job) ++ 10 ∷ [])) ++ flat_map gives_line step.commands
 
 -- `refuses COMMAND`
 abbrev pub refuses_line : Option Command → List ℕ

@@ -16,7 +16,8 @@ use Rattle.wh_explain.specs.declared.activation.Turned.TheVariants.{Next, Refuse
 
 -- the standpoint that a cut of the code stands for
 abbrev pub standpoint_of : Cut → Standpoint
-standpoint_of cut = standpoint_at cut.track.now cut.previous cut.number (option_map (λ events. commanded events.now) cut.recorded)
+standpoint_of cut =
+    standpoint_at cut.track.now cut.previous cut.number (option_map (λ events. commanded events.now) cut.recorded)
 
 -- the history has the cut, behind the cut before
 pub record IsWithin (cut : Cut) : Type 0 where
@@ -45,4 +46,5 @@ comes_to (Refused fault) seen = Err fault
 
 -- the steps of an activation leave this state and these versions
 abbrev pub Leaves : {S : Type 0} → Program S → S → Settled → List Step → S → Settled → Type 0
-Leaves program state settled steps left versions = (left ≡ state_after program state steps) × (versions ≡ settled_after settled steps)
+Leaves program state settled steps left versions =
+    (left ≡ state_after program state steps) × (versions ≡ settled_after settled steps)

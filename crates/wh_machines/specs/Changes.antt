@@ -12,7 +12,8 @@ use Rattle.wh_machines.specs.declared.opening.Opening.{Opening}
 
 -- a thing that was just opened
 abbrev pub new_opening : ℕ → Option ℕ → Opening
-new_opening number previous = record { number = number; started = None; cancelling = None; closed = None; previous = previous }
+new_opening number previous =
+    record { number = number; started = None; cancelling = None; closed = None; previous = previous }
 
 -- the thing after a reference by the event of the number. Only the first of each effect is kept
 abbrev pub with_effect : Effect → ℕ → Opening → Opening

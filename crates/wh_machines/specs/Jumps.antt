@@ -14,14 +14,16 @@ target_of (Some jump) = jump.to
 abbrev pub jump_at : List Jump → ℕ → Option ℕ
 jump_at jumps number = target_of (slice_get jumps (number - 1))
 
--- where a walk goes on from a thing past the place: by its jump, if that ends past the place too, else to the thing before
+-- where a walk goes on from a thing past the place: by its jump, if that ends past the place too,
+-- else to the thing before
 abbrev pub back_by : ℕ → Option ℕ → Option ℕ → Option ℕ
 back_by place None previous = previous
 back_by place (Some to) previous = if nat_lt place to then Some to else previous
 
 -- the number is the one given, or two jumps behind it
 abbrev pub IsShort : List Jump → ℕ → ℕ → Type 0
-IsShort jumps from to = (from ≡ to) ⊎ ((middle : ℕ) × (jump_at jumps from ≡ Some middle) × (jump_at jumps middle ≡ Some to))
+IsShort jumps from to =
+    (from ≡ to) ⊎ ((middle : ℕ) × (jump_at jumps from ≡ Some middle) × (jump_at jumps middle ≡ Some to))
 
 -- one of the events, that of the number, does the same
 abbrev pub IsAlike : List Event → Role → ℕ → Type 0
@@ -30,4 +32,5 @@ IsAlike events role number = (0 < number) × (number ≤ length events) × (role
 -- each event has a jump, and it goes to an earlier event that does the same
 pub record JumpsBack (events : List Event) (jumps : List Jump) : Type 0 where
   pub even : length jumps ≡ length events
-  pub alike : (number to : ℕ) → 0 < number → jump_at jumps number ≡ Some to → (to < number) × IsAlike events (role_at events number) to
+  pub alike : (number to : ℕ) → 0 < number → jump_at jumps number ≡ Some to → (to < number)
+      × IsAlike events (role_at events number) to

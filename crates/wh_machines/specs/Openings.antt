@@ -13,7 +13,8 @@ use Rattle.wh_machines.specs.declared.opening.Opening.{Opening}
 -- the number of the first of the events that passes the test, which also reads the events before it
 abbrev pub first_by : (List Event → Event → Bool) → List Event → List Event → Option ℕ
 first_by test before [] = None
-first_by test before (event ∷ rest) = if test before event then Some event.number else first_by test (before ++ event ∷ []) rest
+first_by test before (event ∷ rest) =
+    if test before event then Some event.number else first_by test (before ++ event ∷ []) rest
 
 -- the event closes what the event of the number opened
 abbrev pub closes_test : ℕ → List Event → Event → Bool
@@ -43,7 +44,8 @@ opening_with events number previous = record {
 
 -- the opening by an event of this role, if that opens something
 abbrev pub opened_by : List Event → ℕ → Role → Option Opening
-opened_by events number (Opens thing id) = Some (opening_with events number (named_of (take (number - 1) events) thing id))
+opened_by events number (Opens thing id) =
+    Some (opening_with events number (named_of (take (number - 1) events) thing id))
 opened_by events number (CancelsChild workflow_id) = Some (opening_with events number None)
 opened_by events number _ = None
 
@@ -58,4 +60,6 @@ up_to place (Some number) = if leb number place then Some number else None
 
 -- where the thing stood after the event at the place
 abbrev pub status_up_to : ℕ → Opening → Status
-status_up_to place opening = status_by (up_to place opening.closed) (is_some (up_to place opening.cancelling)) (is_some (up_to place opening.started))
+status_up_to place opening =
+    status_by (up_to place opening.closed) (is_some (up_to place opening.cancelling))
+        (is_some (up_to place opening.started))

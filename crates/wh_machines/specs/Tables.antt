@@ -48,7 +48,8 @@ named_in names Child id = tree.get_by_text names.children id
 named_in names _ id = None
 
 -- the events are in place, and the tables hold what they tell
-pub record IsTracked (events : List Event) (over : Bool) (openings : Openings) (names : Names) (jumps : List Jump) : Type 0 where
+pub record IsTracked (events : List Event) (over : Bool) (openings : Openings) (names : Names)
+        (jumps : List Jump) : Type 0 where
   pub placed : fault_after [] events ≡ None
   pub ended : over ≡ is_over events
   pub sound : IsSound openings

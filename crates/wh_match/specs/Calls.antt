@@ -12,13 +12,15 @@ pub data Call : Type 0 where
 
 -- the script after a call
 abbrev pub after_call : List Event → Option (List Event) → Issuing → Call → Issuing
-after_call events recorded script (issue command) = with_issued script command (is_late_act (standpoint_in events script recorded) script.issued (act_of command))
+after_call events recorded script (issue command) =
+    with_issued script command (is_late_act (standpoint_in events script recorded) script.issued (act_of command))
 after_call events recorded script (ask change_id low high choice) = with_asked script change_id low high choice
 
 -- the script after the calls, one after the other
 abbrev pub after_calls : List Event → Option (List Event) → Issuing → List Call → Issuing
 after_calls events recorded script [] = script
-after_calls events recorded script (call ∷ calls) = after_calls events recorded (after_call events recorded script call) calls
+after_calls events recorded script (call ∷ calls) =
+    after_calls events recorded (after_call events recorded script call) calls
 
 -- the script in which nothing is issued yet
 abbrev pub begun : ℕ → ℕ → Issuing
@@ -30,16 +32,27 @@ IsMarked standpoint script = script.late ≡ late_marks standpoint script.issued
 
 -- what is sent by marks of a standpoint is what is sent there
 abbrev pub MarksReduce : Type 0
-MarksReduce = (standpoint : Standpoint) (issued : List Command) → reduced_by (late_marks standpoint issued) issued ≡ reduced standpoint issued
+MarksReduce =
+    (standpoint : Standpoint) (issued : List Command)
+    → reduced_by (late_marks standpoint issued) issued ≡ reduced standpoint issued
 
 -- no list of calls makes a script's marks others than those of its standpoint
 abbrev pub CallsKeepMarks : Type 0
-CallsKeepMarks = (events : List Event) (recorded : Option (List Event)) (script : Issuing) (calls : List Call) → IsMarked (standpoint_in events script recorded) script → IsMarked (standpoint_in events script recorded) (after_calls events recorded script calls)
+CallsKeepMarks =
+    (events : List Event) (recorded : Option (List Event)) (script : Issuing) (calls : List Call)
+    → IsMarked (standpoint_in events script recorded) script
+    → IsMarked (standpoint_in events script recorded) (after_calls events recorded script calls)
 
 -- what is sent after a list of calls from the beginning
 abbrev pub sent_of : List Event → Option (List Event) → ℕ → ℕ → List Call → List Command
-sent_of events recorded previous cut calls = reduced_by (after_calls events recorded (begun previous cut) calls).late (after_calls events recorded (begun previous cut) calls).issued
+sent_of events recorded previous cut calls =
+    reduced_by (after_calls events recorded (begun previous cut) calls).late
+        (after_calls events recorded (begun previous cut) calls).issued
 
 -- after each list of calls from the beginning, what is sent is what is sent of the issued commands at the standpoint
 abbrev pub CallsReduce : Type 0
-CallsReduce = (events : List Event) (recorded : Option (List Event)) (previous cut : ℕ) (calls : List Call) → sent_of events recorded previous cut calls ≡ reduced (standpoint_at events previous cut recorded) (after_calls events recorded (begun previous cut) calls).issued
+CallsReduce =
+    (events : List Event) (recorded : Option (List Event)) (previous cut : ℕ) (calls : List Call)
+    → sent_of events recorded previous cut calls
+    ≡ reduced (standpoint_at events previous cut recorded)
+        (after_calls events recorded (begun previous cut) calls).issued

@@ -8,7 +8,8 @@ use Rattle.wh_workflow.specs.Scripts.{Standpoint, Settled, Choice, Act, act_of, 
 use Rattle.wh_workflow.specs.Scripts.Act.{Opening, Cancelling, Asking}
 use Rattle.wh_workflow.specs.Activations.{marker_if}
 
--- the commands that the activation at a cut has issued, with the asks and the markers, and of each whether it was a late cancel when it was issued
+-- the commands that the activation at a cut has issued, with the asks and the markers, and of each
+-- whether it was a late cancel when it was issued
 pub record Issuing : Type 0 where
   -- the number of the cut before, or 0
   pub previous : ℕ
@@ -18,7 +19,8 @@ pub record Issuing : Type 0 where
 
 -- what an activation knows at the cut of a number, after the cut before
 abbrev pub standpoint_at : List Event → ℕ → ℕ → Option (List Event) → Standpoint
-standpoint_at events previous cut recorded = record { seen = take cut events; between = events_between events previous cut; recorded = recorded }
+standpoint_at events previous cut recorded =
+    record { seen = take cut events; between = events_between events previous cut; recorded = recorded }
 
 -- what it knows where these commands are issued
 abbrev pub standpoint_in : List Event → Issuing → Option (List Event) → Standpoint
@@ -32,7 +34,8 @@ is_late_act standpoint earlier _ = false
 -- of each of the commands after the earlier ones, whether it is a late cancel
 abbrev pub late_after : Standpoint → List Command → List Command → List Bool
 late_after standpoint earlier [] = []
-late_after standpoint earlier (command ∷ rest) = is_late_act standpoint earlier (act_of command) ∷ late_after standpoint (earlier ++ command ∷ []) rest
+late_after standpoint earlier (command ∷ rest) =
+    is_late_act standpoint earlier (act_of command) ∷ late_after standpoint (earlier ++ command ∷ []) rest
 
 -- of each of the issued commands, whether it is a late cancel
 abbrev pub late_marks : Standpoint → List Command → List Bool
@@ -40,7 +43,9 @@ late_marks standpoint issued = late_after standpoint [] issued
 
 -- with one more command
 abbrev pub with_issued : Issuing → Command → Bool → Issuing
-with_issued script command late = record { previous = script.previous; cut = script.cut; issued = script.issued ++ command ∷ []; late = script.late ++ late ∷ [] }
+with_issued script command late =
+    record { previous = script.previous; cut = script.cut; issued = script.issued ++ command ∷ [];
+        late = script.late ++ late ∷ [] }
 
 -- where a marker is issued, that it is no late cancel
 abbrev pub unmarked_if : Bool → List Bool
@@ -60,7 +65,8 @@ with_asked script change_id low high choice = record {
   late = (script.late ++ false ∷ []) ++ unmarked_if choice.marked;
 }
 
--- what does this between earlier and later commands is sent: no opening that a later command cancels, no cancel of what an earlier one opened, no late cancel and no ask
+-- what does this between earlier and later commands is sent: no opening that a later command
+-- cancels, no cancel of what an earlier one opened, no late cancel and no ask
 abbrev pub is_sent_by : Bool → List Command → List Command → Act → Bool
 is_sent_by late earlier later (Opening thing id) = not (some_act (act_cancels thing id) later)
 is_sent_by late earlier later (Cancelling thing id) = not (left_open thing id earlier) && not late
@@ -69,7 +75,9 @@ is_sent_by _ _ _ _ = true
 
 -- what is sent of commands after the earlier ones, each with its mark
 abbrev pub sent_by : List Command → List Bool → List Command → List Command
-sent_by earlier (late ∷ marks) (command ∷ later) = if is_sent_by late earlier later (act_of command) then command ∷ sent_by (earlier ++ command ∷ []) marks later else sent_by (earlier ++ command ∷ []) marks later
+sent_by earlier (late ∷ marks) (command ∷ later) =
+    if is_sent_by late earlier later (act_of command) then command ∷ sent_by (earlier ++ command ∷ []) marks later
+    else sent_by (earlier ++ command ∷ []) marks later
 sent_by earlier _ _ = []
 
 -- what is sent of the issued commands, each marked whether it came late

@@ -31,7 +31,8 @@ standing_of standpoint thing id = record {
 
 -- how they stand, by the status of the last of them at the cut
 abbrev pub standing_by : List Event → Status → Standing
-standing_by between (Closed by) = record { is_open = false; is_cancelling = false; is_ended = has_outside (Some by) between }
+standing_by between (Closed by) =
+    record { is_open = false; is_cancelling = false; is_ended = has_outside (Some by) between }
 standing_by between CancellingStatus = record { is_open = true; is_cancelling = true; is_ended = false }
 standing_by between Open = record { is_open = true; is_cancelling = false; is_ended = false }
 standing_by between Started = record { is_open = true; is_cancelling = false; is_ended = false }

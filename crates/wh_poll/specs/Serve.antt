@@ -207,7 +207,8 @@ WithinTurns _ _ _ = ⊥
 -- and those of the sources in the end
 abbrev pub AllRoseIfFailed : List ℕ → List (Option SourceFault) → List ℕ → Type 0
 AllRoseIfFailed [] [] [] = Unit {0}
-AllRoseIfFailed (old ∷ olds) (fault ∷ faults) (new ∷ news) = RoseIfFailed fault old new × AllRoseIfFailed olds faults news
+AllRoseIfFailed (old ∷ olds) (fault ∷ faults) (new ∷ news) =
+    RoseIfFailed fault old new × AllRoseIfFailed olds faults news
 AllRoseIfFailed _ _ _ = ⊥
 
 -- each source was sent at most as many answers as its seat took tasks: how many answers the sources had at first and

@@ -42,11 +42,15 @@ module _ {S : Type 0} where
   abbrev pub Advances : {W : Type 0} → Program S → Held → List Event → Result Held (AdvanceFault W S) → Type 0
   Advances program run new (Ok next) = IsJoined run.events new × Begins program run.key (run.events ++ new) (Ok next)
   Advances program run new (Err (NoTaskEnds back)) = (ends_in_task new ≡ false) × (back ≡ run)
-  Advances program run new (Err (Gap back)) = (ends_in_task new ≡ true) × (follows (length run.events) new ≡ false) × (back ≡ run)
-  Advances program run new (Err (AdvanceFaulty fault)) = IsJoined run.events new × Begins program run.key (run.events ++ new) (Err (Faulty fault))
-  Advances program run new (Err NoMemory) = IsJoined run.events new × Begins program run.key (run.events ++ new) (Err OutOfMemory)
+  Advances program run new (Err (Gap back)) =
+      (ends_in_task new ≡ true) × (follows (length run.events) new ≡ false) × (back ≡ run)
+  Advances program run new (Err (AdvanceFaulty fault)) =
+      IsJoined run.events new × Begins program run.key (run.events ++ new) (Err (Faulty fault))
+  Advances program run new (Err NoMemory) =
+      IsJoined run.events new × Begins program run.key (run.events ++ new) (Err OutOfMemory)
 
-  -- the meter rises by the steps of the new cuts alone where the new events confirm the held ones, else by those of all cuts; it stays where the run is handed back
+  -- the meter rises by the steps of the new cuts alone where the new events confirm the held ones,
+  -- else by those of all cuts; it stays where the run is handed back
   abbrev pub Counts : {W : Type 0} → Program S → Held → List Event → ℕ → ℕ → Result Held (AdvanceFault W S) → Type 0
   Counts program run new before after (Ok next) = after ≡ risen before (advance_steps program run.events new)
   Counts program run new before after (Err (NoTaskEnds back)) = after ≡ before

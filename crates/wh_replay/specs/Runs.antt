@@ -1,4 +1,5 @@
--- A run: a history that ends in a started task, with what its replay gives. How a run begins, and how new events advance it.
+-- A run: a history that ends in a started task, with what its replay gives. How a run begins, and
+-- how new events advance it.
 use Rattle.std.specs.Prelude.{◌≡◌, ℕ, ◌+◌, ◌≤◌, Bool, true, false, ◌&&◌, List, [], ◌∷◌, ◌++◌, length, Option, Some, None, Result, Ok, Err, IsOkAnd, if◌then◌else◌, eqb, is_none}
 use Rattle.wh_events.specs.declared.event.Event.{Event}
 use Rattle.wh_events.specs.declared.key.RunKey.{RunKey}
@@ -37,7 +38,9 @@ history_of run = record { events = run.events; machines = run.machines; settled 
 
 -- the run of a key with this history
 abbrev pub run_under : RunKey → HistoryView → Held
-run_under key history = record { key = key; events = history.events; machines = history.machines; settled = history.settled; unsent = history.unsent }
+run_under key history =
+    record { key = key; events = history.events; machines = history.machines; settled = history.settled;
+        unsent = history.unsent }
 
 -- the status of the machine of a number, if there is one
 abbrev pub status_in : List Machine → ℕ → Option Status
@@ -56,7 +59,8 @@ module _ {S : Type 0} where
   Gives (Err fault) state settled unsent = ⊥
 
   -- a history that ends in a started task, and what its tasks leave
-  pub record IsRun (program : Program S) (events : List Event) (state : S) (settled : Settled) (unsent : List Command) : Type 0 where
+  pub record IsRun (program : Program S) (events : List Event) (state : S) (settled : Settled)
+          (unsent : List Command) : Type 0 where
     pub ends : ends_in_task events ≡ true
     pub gives : Gives (replay_tasks program events 0) state settled unsent
 
@@ -104,9 +108,13 @@ module _ {S : Type 0} where
 
   -- the steps by which advancing raises the meter
   abbrev pub advance_steps : Program S → List Event → List Event → ℕ
-  advance_steps program held new = if confirms program held new then new_steps program held new else steps program (held ++ new)
+  advance_steps program held new =
+      if confirms program held new then new_steps program held new else steps program (held ++ new)
 
   -- what advancing gives, on this meter
   abbrev pub advanced : Program S → List Event → List Event → ℕ → Result (Upshot S) Fault
   advanced program held new meter =
-      if confirms program held new then replay_placed (history_fault (held ++ new)) (and_then (replay_tasks program held 0) (going_on program held new meter)) else replay_tasks program (held ++ new) meter
+      if confirms program held new
+          then replay_placed (history_fault (held ++ new))
+              (and_then (replay_tasks program held 0) (going_on program held new meter))
+          else replay_tasks program (held ++ new) meter

@@ -1,4 +1,5 @@
--- Which rows of the table of workflow faults apply to a command, said of the commands before it and of the history up to the cut.
+-- Which rows of the table of workflow faults apply to a command, said of the commands before it and
+-- of the history up to the cut.
 use Rattle.std.specs.Prelude.{◌≡◌, ℕ, ◌≤◌, ◌↔◌, ◌⊎◌, List, [], ◌∷◌, ◌++◌, length, Some, None, IsTrue, pos, negsuc, ◌<ℤ◌}
 use Rattle.wh_events.specs.declared.event.Event.{Event}
 use Rattle.wh_events.specs.declared.place.Status.TheVariants.{Cancelling as CancellingStatus}
@@ -14,40 +15,53 @@ use Rattle.wh_workflow.specs.declared.fault.WorkflowFault.TheVariants.{AfterClos
 use Rattle.wh_workflow.specs.Scripts.{Standpoint, Settled, Act, act_of, choice_of, given, most_commands, command_fault}
 use Rattle.wh_workflow.specs.Scripts.Act.{Opening, Cancelling, Closing, Asking}
 
--- what an activation knows is of a cut, the last event of a history in place: the events between are those right before it
+-- what an activation knows is of a cut, the last event of a history in place: the events between
+-- are those right before it
 pub record IsOfCut (standpoint : Standpoint) : Type 0 where
   pub in_place : InPlace standpoint.seen
   pub ends : (passed : List Event) × (cut : Event) × (standpoint.seen ≡ passed ++ (standpoint.between ++ cut ∷ []))
 
 -- one of the commands does it
 abbrev pub Does : List Command → Act → Type 0
-Does commands act = (before : List Command) × (command : Command) × (after : List Command) × (commands ≡ before ++ command ∷ after) × (act_of command ≡ act)
+Does commands act =
+    (before : List Command) × (command : Command) × (after : List Command) × (commands ≡ before ++ command ∷ after)
+    × (act_of command ≡ act)
 
 -- one of the commands opens it, and no later one cancels it
 abbrev pub IsLeftOpen : Thing → List ℕ → List Command → Type 0
 IsLeftOpen thing id commands =
-    (before : List Command) × (opening : Command) × (after : List Command) × (commands ≡ before ++ opening ∷ after) × (act_of opening ≡ Opening thing id) × ¬ Does after (Cancelling thing id)
+    (before : List Command) × (opening : Command) × (after : List Command) × (commands ≡ before ++ opening ∷ after)
+    × (act_of opening ≡ Opening thing id) × ¬ Does after (Cancelling thing id)
 
 -- one of the commands opens it, and a later one cancels it
 abbrev pub IsWithdrawn : Thing → List ℕ → List Command → Type 0
 IsWithdrawn thing id commands =
-    (before : List Command) × (opening : Command) × (after : List Command) × (commands ≡ before ++ opening ∷ after) × (act_of opening ≡ Opening thing id) × Does after (Cancelling thing id)
+    (before : List Command) × (opening : Command) × (after : List Command) × (commands ≡ before ++ opening ∷ after)
+    × (act_of opening ≡ Opening thing id) × Does after (Cancelling thing id)
 
--- it is open by now: opened in this activation and not cancelled, or open at the cut, and no timer that was cancelled in this activation
+-- it is open by now: opened in this activation and not cancelled, or open at the cut, and no timer
+-- that was cancelled in this activation
 abbrev pub IsStillOpen : Standpoint → List Command → Thing → List ℕ → Type 0
-IsStillOpen standpoint earlier thing id = IsLeftOpen thing id earlier ⊎ (HasOpen standpoint.seen thing id × ¬ ((thing ≡ Timer) × Does earlier (Cancelling thing id)))
+IsStillOpen standpoint earlier thing id =
+    IsLeftOpen thing id earlier
+    ⊎ (HasOpen standpoint.seen thing id × ¬ ((thing ≡ Timer) × Does earlier (Cancelling thing id)))
 
 -- its last opening was closed by an outside event of this activation
 abbrev pub IsEndedHere : Standpoint → Thing → List ℕ → Type 0
-IsEndedHere standpoint thing id = (number : ℕ) × (i : ℕ) × (closer : Event) × IsLastUnder standpoint.seen thing id number × IsAt standpoint.between i closer × IsTrue (is_outside closer) × IsTrue (closes number closer)
+IsEndedHere standpoint thing id =
+    (number : ℕ) × (i : ℕ) × (closer : Event) × IsLastUnder standpoint.seen thing id number
+    × IsAt standpoint.between i closer × IsTrue (is_outside closer) × IsTrue (closes number closer)
 
--- a cancel of it is late: it is not open at the cut, was not opened in this activation, and was ended by an outside event of it
+-- a cancel of it is late: it is not open at the cut, was not opened in this activation, and was
+-- ended by an outside event of it
 abbrev pub IsLateCancel : Standpoint → List Command → Thing → List ℕ → Type 0
-IsLateCancel standpoint earlier thing id = (¬ HasOpen standpoint.seen thing id) × (¬ Does earlier (Opening thing id)) × IsEndedHere standpoint thing id
+IsLateCancel standpoint earlier thing id =
+    (¬ HasOpen standpoint.seen thing id) × (¬ Does earlier (Opening thing id)) × IsEndedHere standpoint thing id
 
 -- the thing that is open under the id is cancelling at the cut
 abbrev pub IsCancellingAtCut : Standpoint → Thing → List ℕ → Type 0
-IsCancellingAtCut standpoint thing id = (number : ℕ) × IsOpenUnder standpoint.seen thing id number × (status_of standpoint.seen number ≡ CancellingStatus)
+IsCancellingAtCut standpoint thing id =
+    (number : ℕ) × IsOpenUnder standpoint.seen thing id number × (status_of standpoint.seen number ≡ CancellingStatus)
 
 -- an opening under an id that is in use
 abbrev pub UsesId : Standpoint → List Command → Act → Type 0
@@ -61,12 +75,15 @@ ReusesId earlier _ = ⊥
 
 -- a cancel of what is not open by now, and not a late one
 abbrev pub CancelsNothing : Standpoint → List Command → Act → Type 0
-CancelsNothing standpoint earlier (Cancelling thing id) = (¬ IsStillOpen standpoint earlier thing id) × ¬ IsLateCancel standpoint earlier thing id
+CancelsNothing standpoint earlier (Cancelling thing id) =
+    (¬ IsStillOpen standpoint earlier thing id) × ¬ IsLateCancel standpoint earlier thing id
 CancelsNothing standpoint earlier _ = ⊥
 
 -- a cancel of an activity or child that is cancelling at the cut, or open at it and cancelled in this activation
 abbrev pub CancelsAgain : Standpoint → List Command → Act → Type 0
-CancelsAgain standpoint earlier (Cancelling thing id) = (¬ (thing ≡ Timer)) × (IsCancellingAtCut standpoint thing id ⊎ (HasOpen standpoint.seen thing id × Does earlier (Cancelling thing id)))
+CancelsAgain standpoint earlier (Cancelling thing id) =
+    (¬ (thing ≡ Timer)) × (IsCancellingAtCut standpoint thing id
+        ⊎ (HasOpen standpoint.seen thing id × Does earlier (Cancelling thing id)))
 CancelsAgain standpoint earlier _ = ⊥
 
 -- an ask whose least version is above the greatest, or below -1, or whose greatest is below 0
@@ -76,7 +93,8 @@ AsksBadRange _ = ⊥
 
 -- an ask whose version is not in its range
 abbrev pub GetsOutOfRange : Standpoint → Settled → Act → Type 0
-GetsOutOfRange standpoint settled (Asking change_id low high) = let version = (choice_of standpoint settled change_id high).version in (version <ℤ low) ⊎ (high <ℤ version)
+GetsOutOfRange standpoint settled (Asking change_id low high) =
+    let version = (choice_of standpoint settled change_id high).version in (version <ℤ low) ⊎ (high <ℤ version)
 GetsOutOfRange standpoint settled _ = ⊥
 
 -- the row of the table applies to a command after those before it
@@ -104,12 +122,17 @@ row_of VersionOutOfRange = 8
 row_of UnknownWorkflow = 9
 
 -- the least row that applies
-pub record IsLeastRow (standpoint : Standpoint) (settled : Settled) (earlier : List Command) (command : Command) (fault : WorkflowFault) : Type 0 where
+pub record IsLeastRow (standpoint : Standpoint) (settled : Settled) (earlier : List Command) (command : Command)
+        (fault : WorkflowFault) : Type 0 where
   pub applies : RowApplies standpoint settled earlier command fault
-  pub least : (other : WorkflowFault) → RowApplies standpoint settled earlier command other → row_of fault ≤ row_of other
+  pub least : (other : WorkflowFault) → RowApplies standpoint settled earlier command other
+      → row_of fault ≤ row_of other
 
 -- the fault of a command at a cut is the least row of the table that applies
 abbrev pub LeastRowDecides : Type 0
-LeastRowDecides = (standpoint : Standpoint) (settled : Settled) (earlier : List Command) (command : Command) → IsOfCut standpoint
-    → ((command_fault standpoint settled earlier command ≡ None) ↔ ((row : WorkflowFault) → ¬ RowApplies standpoint settled earlier command row))
-    × ((fault : WorkflowFault) → (command_fault standpoint settled earlier command ≡ Some fault) ↔ IsLeastRow standpoint settled earlier command fault)
+LeastRowDecides =
+    (standpoint : Standpoint) (settled : Settled) (earlier : List Command) (command : Command) → IsOfCut standpoint
+    → ((command_fault standpoint settled earlier command ≡ None)
+        ↔ ((row : WorkflowFault) → ¬ RowApplies standpoint settled earlier command row))
+    × ((fault : WorkflowFault) → (command_fault standpoint settled earlier command ≡ Some fault)
+        ↔ IsLeastRow standpoint settled earlier command fault)

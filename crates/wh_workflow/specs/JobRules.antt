@@ -22,11 +22,13 @@ is_untold _ = false
 abbrev pub one_if : Bool → ℕ
 one_if test = if test then 1 else 0
 
--- an event gives one job: the start, as a start; a signal, among the signals; any other outside event but the start of an activity, among the others. No other event gives one
+-- an event gives one job: the start, as a start; a signal, among the signals; any other outside
+-- event but the start of an activity, among the others. No other event gives one
 pub record TellsOnce (seen : List Event) (kind : EventKind) : Type 0 where
   pub start : length (start_job kind) ≡ one_if (is_start_class (class_of kind))
   pub signal : length (signal_job kind) ≡ one_if (is_signal kind)
-  pub outside : length (outside_job seen kind) ≡ one_if (is_outside_class (class_of kind) && not (is_signal kind || is_untold kind))
+  pub outside : length (outside_job seen kind)
+      ≡ one_if (is_outside_class (class_of kind) && not (is_signal kind || is_untold kind))
 
 -- each event tells a workflow once what it is told of it
 abbrev pub EachTellsOnce : Type 0
@@ -34,5 +36,7 @@ EachTellsOnce = (seen : List Event) (kind : EventKind) → TellsOnce seen kind
 
 -- in a history in place the start is told at the first cut alone, before which no events have passed
 abbrev pub StartsOnce : Type 0
-StartsOnce = (passed between : List Event) (cut : Event) → InPlace (passed ++ (between ++ cut ∷ [])) → ¬ IsTrue (is_start cut)
-    → (length passed ≡ 0 → length (jobs_by start_job between) ≡ 1) × (0 < length passed → jobs_by start_job between ≡ [])
+StartsOnce =
+    (passed between : List Event) (cut : Event) → InPlace (passed ++ (between ++ cut ∷ [])) → ¬ IsTrue (is_start cut)
+    → (length passed ≡ 0 → length (jobs_by start_job between) ≡ 1)
+    × (0 < length passed → jobs_by start_job between ≡ [])

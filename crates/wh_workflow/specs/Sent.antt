@@ -6,10 +6,12 @@ use Rattle.wh_workflow.specs.Scripts.{Standpoint, Act, act_of, reduced}
 use Rattle.wh_workflow.specs.Scripts.Act.{Opening, Cancelling, Asking}
 use Rattle.wh_workflow.specs.CommandFaults.{IsOfCut, Does, IsLeftOpen, IsLateCancel}
 
--- a command between earlier and later ones is not sent: an opening that a later one cancels, the next cancel of what an earlier one opens, a late cancel, and an ask
+-- a command between earlier and later ones is not sent: an opening that a later one cancels, the
+-- next cancel of what an earlier one opens, a late cancel, and an ask
 abbrev pub IsDropped : Standpoint → List Command → List Command → Act → Type 0
 IsDropped standpoint earlier later (Opening thing id) = Does later (Cancelling thing id)
-IsDropped standpoint earlier later (Cancelling thing id) = IsLeftOpen thing id earlier ⊎ IsLateCancel standpoint earlier thing id
+IsDropped standpoint earlier later (Cancelling thing id) =
+    IsLeftOpen thing id earlier ⊎ IsLateCancel standpoint earlier thing id
 IsDropped standpoint earlier later (Asking _ _ _) = Unit {0}
 IsDropped standpoint earlier later _ = ⊥
 
@@ -23,14 +25,19 @@ pub record SendsTheRest (standpoint : Standpoint) (issued : List Command) : Type
   pub marks : List Bool
   pub each : length marks ≡ length issued
   pub sent : reduced standpoint issued ≡ marked marks issued
-  pub dropped : (earlier later : List Command) (command : Command) → issued ≡ earlier ++ command ∷ later → (slice_get marks (length earlier) ≡ Some false) ↔ IsDropped standpoint earlier later (act_of command)
+  pub dropped : (earlier later : List Command) (command : Command) → issued ≡ earlier ++ command ∷ later
+      → (slice_get marks (length earlier) ≡ Some false) ↔ IsDropped standpoint earlier later (act_of command)
 
 -- at a cut all the issued commands but the dropped ones are sent, in their order
 abbrev pub SendsAllButDropped : Type 0
-SendsAllButDropped = (standpoint : Standpoint) (issued : List Command) → IsOfCut standpoint → SendsTheRest standpoint issued
+SendsAllButDropped =
+    (standpoint : Standpoint) (issued : List Command) → IsOfCut standpoint → SendsTheRest standpoint issued
 
 -- an opening and the next cancel of it are dropped together
 abbrev pub DropsPairs : Type 0
-DropsPairs = (standpoint : Standpoint) (before between after : List Command) (opening cancel : Command) (thing : Thing) (id : List ℕ)
+DropsPairs =
+    (standpoint : Standpoint) (before between after : List Command) (opening cancel : Command) (thing : Thing)
+        (id : List ℕ)
     → act_of opening ≡ Opening thing id → act_of cancel ≡ Cancelling thing id → ¬ Does between (Cancelling thing id)
-    → IsDropped standpoint before (between ++ cancel ∷ after) (act_of opening) × IsDropped standpoint (before ++ opening ∷ between) after (act_of cancel)
+    → IsDropped standpoint before (between ++ cancel ∷ after) (act_of opening)
+    × IsDropped standpoint (before ++ opening ∷ between) after (act_of cancel)
