@@ -27,6 +27,7 @@ use Rattle.wh_tester.proofs.FaultTexts.{text_by_parts}
 char_stays : (c : ℕ) → (c == 34) ≡ false → (c == 92) ≡ false → escaped_char c ≡ c ∷ []
 char_stays c quote backslash = rw (quote, backslash) refl
 
+-- a digit is neither
 digit_stays : (d : ℕ) → escaped_char (digit_glyph false d) ≡ digit_glyph false d ∷ []
 digit_stays d = by (nat_lt d 10) refl
   where
@@ -34,13 +35,16 @@ digit_stays d = by (nat_lt d 10) refl
     by true e = char_stays (48 + d) (grind (arith, nat_tests)) (grind (arith, nat_tests))
     by false e = char_stays (87 + d) (grind (arith, nat_tests)) (grind (arith, nat_tests))
 
+-- a digit before what is not escaped
 digit_more : (d : ℕ) (acc : List ℕ) → escaped acc ≡ acc → escaped (digit_glyph false d ∷ acc) ≡ digit_glyph false d ∷ acc
 digit_more d acc h = ap (λ t. t ++ escaped acc) (digit_stays d) ∙ ap (λ t. digit_glyph false d ∷ t) h
 
+-- two texts that are not escaped, whichever it is
 either_stays : (b : Bool) (xs ys : List ℕ) → escaped xs ≡ xs → escaped ys ≡ ys → escaped (cond b xs ys) ≡ cond b xs ys
 either_stays true xs ys p q = p
 either_stays false xs ys p q = q
 
+-- digits before what is not escaped
 digits_stay : (k n : ℕ) (acc : List ℕ) → escaped acc ≡ acc → escaped (digits_onto k 10 false n acc) ≡ digits_onto k 10 false n acc
 digits_stay zero n acc h = h
 digits_stay (suc k) n acc h =
@@ -68,6 +72,7 @@ words_stay (read_faults.ShorthandPayload at) = refl
 words_stay (read_faults.UnsupportedMarker at name) = refl
 words_stay read_faults.OutOfMemory = refl
 
+-- nor has the event in words
 event_stays : (event : Option ℕ) → escaped (event_text event) ≡ event_text event
 event_stays None = refl
 event_stays (Some at) = ap (λ t. codes "event " ++ t) (decimal_stays at)
@@ -79,6 +84,7 @@ escaped_by_parts fault = rw (text_by_parts fault) (parts (event_text (event_of f
     parts : (event words name : List ℕ) → escaped event ≡ event → escaped words ≡ words → escaped (event ++ (words ++ name)) ≡ event ++ (words ++ escaped name)
     parts event words name e w = rw (flat_map-append escaped_char event (words ++ name), flat_map-append escaped_char words name, e, w) refl
 
+-- nor has the name of a fault of place
 place_name_stays : (fault : PlaceFault) → escaped (place_fault_name fault) ≡ place_fault_name fault
 place_name_stays places.FirstNotStart = refl
 place_name_stays places.WrongNumber = refl
@@ -89,6 +95,7 @@ place_name_stays places.AlreadyClosed = refl
 place_name_stays places.IdInUse = refl
 place_name_stays places.TooManyEvents = refl
 
+-- nor has the name of a fault of a workflow
 workflow_name_stays : (fault : WorkflowFault) → escaped (workflow_fault_name fault) ≡ workflow_fault_name fault
 workflow_name_stays workflows.AfterClosing = refl
 workflow_name_stays workflows.TooManyCommands = refl
@@ -104,6 +111,7 @@ workflow_name_stays workflows.UnknownWorkflow = refl
 number_stays : (n : ℕ) (rest : List ℕ) → escaped rest ≡ rest → escaped (decimal n ++ rest) ≡ decimal n ++ rest
 number_stays n rest e = rw (flat_map-append escaped_char (decimal n) rest, decimal_stays n, e) refl
 
+-- nothing is escaped in the text of a difference
 mismatch_stays : (at : ℕ) (mismatch : Mismatch) → escaped (mismatch_text at mismatch) ≡ mismatch_text at mismatch
 mismatch_stays at (Different event) = ap (λ t. codes "event " ++ t) (number_stays event (codes " differs") refl)
 mismatch_stays at (CommandMissing event) = ap (λ t. codes "event " ++ t) (number_stays event (codes " has no command") refl)
@@ -139,8 +147,9 @@ pub fault_by_parts : (verdict : Verdict) (fault : Fault) → verdict ≡ verdict
 fault_by_parts verdict fault is =
     ap (λ v. following (verdict_members v)) is
     ∙ ap (λ t. codes ",\"verdict\":\"fault\"" ++ t)
-      (fault_behind (subject_members fault) (replay_fault_text fault) (replay_fault_stays fault))
+    (fault_behind (subject_members fault) (replay_fault_text fault) (replay_fault_stays fault))
 
+-- a character that is shown is one byte
 shown_is_ascii : (c d : ℕ) → d ∷ [] ≡ shown_char c → d < 128
 shown_is_ascii c d shows = by (nat_le 32 c && nat_le c 126) refl shows
   where
@@ -157,5 +166,6 @@ shown_more xs c d escape shows escapes =
   where
     written : escape ++ encode_utf8 d ≡ flat_map escaped_char (d ∷ [])
     written = ap (λ t. escape ++ t) (encode_ascii d (shown_is_ascii c d shows)) ∙ escapes ∙ sym (append-nil (escaped_char d))
+
     last : d ∷ [] ≡ flat_map shown_char (c ∷ [])
     last = shows ∙ sym (append-nil (shown_char c))

@@ -9,8 +9,8 @@ use Rattle.wh_tester.proofs.json_report.write_escaped.Goals as goal
 pub loop-c-preserved : goal.loop-c-preserved
 loop-c-preserved g c = λ plain.
     has_written_of_eq _ _ _ _ _
-      (shown_more c.loop-c.yielded c.in-Some.c c.shown_char-c.result c.escape_of-escape.result.now c.shown_char-c.ensures c.escape_of-escape.ensures)
-      (has_written_append _ _ _ _ _ _ (c.loop-c.invariant plain) (search rules))
+    (shown_more c.loop-c.yielded c.in-Some.c c.shown_char-c.result c.escape_of-escape.result.now c.shown_char-c.ensures c.escape_of-escape.ensures)
+    (has_written_append _ _ _ _ _ _ (c.loop-c.invariant plain) (search rules))
 
 pub returns : goal.returns
 returns g c = λ plain ok.
