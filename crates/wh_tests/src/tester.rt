@@ -6,7 +6,7 @@ use std::process::Abort;
 use wh_events::{EventNo, PlaceFault};
 use wh_json::ReadFault;
 use wh_replay::{Checked, Fault};
-use wh_tester::{Line, Verdict, all_good, write_report};
+use wh_tester::{Line, Verdict, all_good, write_json_report, write_report};
 use wh_workflow::{Mismatch, WorkflowFault};
 
 /// A fault of place, and its name.
@@ -63,6 +63,22 @@ static NAMES: [NameRow; 8] = [
     NameRow { name: " ~!", shown: " ~!" },
     NameRow { name: "a: ok, 2 tasks", shown: "a: ok, 2 tasks" },
 ];
+
+/// The lines of `json_lines`, one for each verdict, then the totals.
+const JSON: &str = r#"{"file":"a\"b\\c?.json","verdict":"ok","tasks":3,"live":false}
+{"file":"","verdict":"ok","tasks":0,"live":true}
+{"file":"x.json","verdict":"unreadable","fault":"not JSON"}
+{"file":"x.json","verdict":"unreadable","event":4,"fault":"event 4 lacks a field"}
+{"file":"x.json","verdict":"unreadable","event":6,"fault":"event 6 has the unsupported type \"\\?"}
+{"file":"x.json","verdict":"fault","fault":"not a task"}
+{"file":"x.json","verdict":"fault","event":5,"fault":"event 5 is not in place: NoSuchRef"}
+{"file":"x.json","verdict":"fault","task":7,"fault":"task at 7: NotOpen"}
+{"file":"x.json","verdict":"fault","event":5,"fault":"event 5 differs"}
+{"file":"x.json","verdict":"fault","event":5,"fault":"event 5 has no command"}
+{"file":"x.json","verdict":"fault","task":7,"fault":"command 2 of the task at 7 has no event"}
+{"file":"x.json","verdict":"out of memory"}
+{"files":12,"ok":2}
+"#;
 
 fn add(rt: &impl Abort, alloc: Global, lines: &mut Vec<Line>, name: &str, verdict: Verdict) {
     let name = text(rt, alloc, name);
@@ -302,4 +318,50 @@ fn reports_many_files(rt: HostRuntime) {
         .expect(&rt, "memory");
     assert!(rt; wanted.push_str("3000 files, 3000 ok\n").is_ok());
     assert_eq!(rt; text.as_str(), wanted.as_str());
+}
+
+/// Adds a file that could not be read for this fault.
+fn add_unreadable(rt: &impl Abort, alloc: Global, lines: &mut Vec<Line>, fault: ReadFault) {
+    add(rt, alloc, lines, "x.json", Verdict::Unreadable(fault));
+}
+
+/// Adds a file whose replay met this fault.
+fn add_faulty(rt: &impl Abort, alloc: Global, lines: &mut Vec<Line>, fault: Fault) {
+    add(rt, alloc, lines, "x.json", Verdict::Faulty(fault));
+}
+
+/// Adds a file whose task at 7 differs from its record.
+fn add_different(rt: &impl Abort, alloc: Global, lines: &mut Vec<Line>, mismatch: Mismatch) {
+    add_faulty(rt, alloc, lines, Fault::Mismatch { at: 7, mismatch });
+}
+
+#[test]
+fn json_lines(rt: HostRuntime) {
+    let alloc = rt.alloc();
+    let mut lines = Vec::new(alloc);
+    add(&rt, alloc, &mut lines, "a\"b\\c\n.json", good(3, false));
+    add(&rt, alloc, &mut lines, "", good(0, true));
+    add_unreadable(&rt, alloc, &mut lines, ReadFault::BadJson);
+    add_unreadable(&rt, alloc, &mut lines, ReadFault::MissingField { at: 4 });
+    let name = text(&rt, alloc, "\"\\\u{1}");
+    add_unreadable(
+        &rt,
+        alloc,
+        &mut lines,
+        ReadFault::UnsupportedEvent { at: 6, name },
+    );
+    add_faulty(&rt, alloc, &mut lines, Fault::NotATask);
+    let fault = PlaceFault::NoSuchRef;
+    add_faulty(&rt, alloc, &mut lines, Fault::Place { at: 5, fault });
+    let fault = WorkflowFault::NotOpen;
+    add_faulty(&rt, alloc, &mut lines, Fault::Workflow { at: 7, fault });
+    let event = EventNo::new(5).expect(&rt, "number");
+    add_different(&rt, alloc, &mut lines, Mismatch::Different { event });
+    add_different(&rt, alloc, &mut lines, Mismatch::CommandMissing { event });
+    add_different(&rt, alloc, &mut lines, Mismatch::CommandExtra { index: 2 });
+    add(&rt, alloc, &mut lines, "x.json", Verdict::OutOfMemory);
+    let mut out = Vec::new(alloc);
+    assert!(rt; write_json_report(lines.as_slice(), &mut out).is_ok());
+    let report = String::from_utf8(out).expect(&rt, "a text");
+    assert_eq!(rt; report.as_str(), JSON);
 }
