@@ -18,10 +18,11 @@ LARGE_FILE = b'{"events":[' + b'"' + b"x" * (60 << 20) + b'"]}'
 
 SERVED = "nap.json: 2 tasks, 2 completed, 0 failed\ntaken 2, completed 2, failed 0, in hand 0\n"
 UNREAD = "nap.json: unreadable, not JSON\n"
+AS_JSON = '{"file":"nap.json","verdict":"ok","tasks":2,"live":false}\n{"files":1,"ok":1}\n'
 HELP = """Usage: wfhost [COMMAND]
 
 Commands:
-  replay   Replays each history of a folder, and prints a line for each
+  replay   Replays each history of folders and files, and prints a line for each
   explain  Replays a history, and prints what the workflow was told and gave, task by task
   serve    Serves each history of a folder as workflow tasks, and prints how they ended
   help     Print this message or the help of the given subcommand(s)
@@ -92,6 +93,9 @@ def cases(room):
     missing = str(Path(room, "missing"))
     mixed = folder_with(room, "mixed", {name: NAP for name in reversed(NAMES)})
     chosen = "".join(f"{name}: ok, 2 tasks\n" for name in NAMES[:3]) + "3 files, 3 ok\n"
+    paths = [well, str(Path(mixed, "C.JSON")), "-", empty]
+    several = f"{well}/nap.json: ok, 2 tasks\n{paths[1]}: ok, 2 tasks\n-: ok, 2 tasks\n3 files, 3 ok\n"
+    none = f"wfhost: no .json file in {empty}\n"
     cannot = "wfhost: cannot read "
     examples = str(TOP / "examples/histories")
     return [
@@ -101,6 +105,14 @@ def cases(room):
         (["replay", examples], 0, EXAMPLES, "", {}),
         (["serve", examples, "--workers", "4"], 0, SERVED_EXAMPLES, "", {}),
         (["serve", examples, "--cache-events", "3"], 0, SERVED_EXAMPLES, "", {}),
+        (["replay", str(Path(well, "nap.json"))], 0, "nap.json: ok, 2 tasks\n1 files, 1 ok\n", "", {}),
+        (["replay", well, "--json"], 0, AS_JSON, "", {}),
+        (["replay", "-"], 0, "-: ok, 2 tasks\n1 files, 1 ok\n", "", {"given": NAP}),
+        (["replay", *paths], 0, several, none, {"given": NAP}),
+        (["replay", empty, empty], 0, "0 files, 0 ok\n", none + none, {}),
+        (["replay", "-", bad], 1, f"-: unreadable, not JSON\n{bad}/{UNREAD}2 files, 0 ok\n", "", {}),
+        (["explain", "-"], 0, EXPLAINED.replace("nap.json", "-"), "", {"given": NAP}),
+        (["explain", "-"], 1, "-: unreadable, not JSON\n", "", {}),
         (["--help"], 0, HELP, "", {}),
         (["--version"], 0, VERSION, "", {}),
         (["explain", str(Path(well, "nap.json"))], 0, EXPLAINED, "", {}),
@@ -114,7 +126,7 @@ def cases(room):
         (["explain", missing], 2, "", f"{cannot}{missing}\n", {}),
         (["explain", well], 2, "", f"{cannot}{well}\n", {}),
         (["replay"], 2, "", "error: ", {}),
-        (["replay", well, empty], 2, "", "error: ", {}),
+        (["replay", well, "--json", "--json"], 2, "", "error: ", {}),
         (["no-such-command"], 2, "", "error: ", {}),
         (["serve", well, "--workers", "0"], 2, "", "error: ", {}),
         (["serve", well, "--workers", "65"], 2, "", "error: ", {}),
@@ -125,6 +137,10 @@ def cases(room):
         (["serve", missing], 2, "", f"{cannot}{missing}\n", {}),
         (["replay", broken], 2, "", f"{cannot}{broken}\n{cannot}{broken}/gone.json\n", {}),
         (["replay", inner], 2, "", f"{cannot}{inner}\n{cannot}{inner}/folder.json\n", {}),
+        (["replay", well, missing], 2, "", f"{cannot}{missing}\n", {}),
+        (["replay", missing, inner], 2, "", f"{cannot}{missing}\n", {}),
+        (["replay", well, broken, inner], 2, "", f"{cannot}{broken}\n{cannot}{broken}/gone.json\n", {}),
+        (["replay", "/dev/null"], 2, "", f"{cannot}/dev/null\n", {}),
         (["replay", well], 2, None, "wfhost: cannot write\n", {"full": True}),
         (["serve", well], 2, None, "wfhost: cannot write\n", {"full": True}),
         (["--help"], 2, None, "wfhost: cannot write\n", {"full": True}),
@@ -133,13 +149,19 @@ def cases(room):
     ]
 
 
-def run(words, full=False, memory=0):
-    """Runs the program, with a device that takes nothing as its standard output or a limit on its memory where wanted."""
+def run(words, full=False, memory=0, given=b""):
+    """Runs the program with this standard input, with a device that takes nothing as its standard output or a limit on
+    its memory where wanted."""
     before = (lambda: resource.setrlimit(resource.RLIMIT_AS, (memory, memory))) if memory else None
     with open("/dev/full", "w") as device:
         out = device if full else subprocess.PIPE
         return subprocess.run(
-            [PROGRAM, *words], stdout=out, stderr=subprocess.PIPE, timeout=LIMIT_SECONDS, preexec_fn=before
+            [PROGRAM, *words],
+            input=given,
+            stdout=out,
+            stderr=subprocess.PIPE,
+            timeout=LIMIT_SECONDS,
+            preexec_fn=before,
         )
 
 

@@ -1,6 +1,6 @@
 -- What a command line asks for.
-use Rattle.std.specs.Prelude.{◌≡◌, ℕ, ◌≤◌, ◌<◌, List, codes, Some}
-use Rattle.clap.specs.Words.{Row, Text, first_of, subcommand_of}
+use Rattle.std.specs.Prelude.{◌≡◌, ℕ, ◌≤◌, ◌<◌, Bool, true, false, List, ◌∷◌, codes, Some, None}
+use Rattle.clap.specs.Words.{Row, Text, all_of, first_of, one_of, subcommand_of}
 use Rattle.wh_command_line.specs.Lines.{program}
 use Rattle.wh_command_line.specs.Options.{AreWithinLimits, GivesNumbers}
 use Rattle.wh_command_line.specs.declared.command_line.Plan.{Plan}
@@ -33,9 +33,21 @@ GivesFolder rows dir = GivesPath (codes "DIR") rows dir
 abbrev pub GivesFile : List Row → Text → Type 0
 GivesFile rows file = GivesPath (codes "FILE") rows file
 
+-- the rows give the paths, the first of which is that of a folder
+pub record GivesPaths (rows : List Row) (dir : Text) (more : List Text) : Type 0 where
+  pub gives_folder : GivesFolder rows dir
+  pub gives_all : all_of (codes "DIR") rows ≡ Some (dir ∷ more)
+
+-- the rows give a flag: its row says whether it is set
+pub record GivesFlag (name : Text) (rows : List Row) (flag : Bool) : Type 0 where
+  pub absent : one_of name rows ≡ None → flag ≡ false
+  pub set : one_of name rows ≡ Some (codes "true") → flag ≡ true
+  pub unset : one_of name rows ≡ Some (codes "false") → flag ≡ false
+
 -- the plan is what the subcommand of a name asks for by its rows
 abbrev pub IsGiven : Text → List Row → Plan → Type 0
-IsGiven name rows (Replay dir) = (name ≡ codes "replay") × GivesFolder rows dir
+IsGiven name rows (Replay dir more json) = (name ≡ codes "replay") × GivesPaths rows dir more.items
+    × GivesFlag (codes "json") rows json
 IsGiven name rows (Explain file) = (name ≡ codes "explain") × GivesFile rows file
 IsGiven name rows (Serve dir workers cache cache_events slots) = (name ≡ codes "serve") × GivesFolder rows dir
     × GivesNumbers rows workers cache cache_events slots

@@ -4,9 +4,11 @@ ghost use Rattle.std.specs.Prelude.{◌≡◌, ◌≢◌, ◌↔◌, ◌<◌, fa
 ghost use Rattle.std.specs.Prelude.{string_bytes};
 ghost use Rattle.clap.specs.Words.{app_of, new_app, found_of, rows_of, rule_of};
 ghost use Rattle.clap.specs.declared.builder.Command.TheViews.{out-Command as fields_of};
-ghost use Rattle.wh_command_line.specs.Lines.{program, replay, explain, serve, needed, folder, number, with_version};
+ghost use Rattle.wh_command_line.specs.Lines.{program, replay, explain, serve, needed, folder, paths, flag, number};
+ghost use Rattle.wh_command_line.specs.Lines.{with_value_name, with_version};
 ghost use Rattle.wh_command_line.specs.Plans.{IsWithinLimits, IsHelp, IsServe, IsGiven, IsAskedBy};
-ghost use Rattle.wh_command_line.specs.Plans.{GivesPath, GivesFewSlots, AsksFewSlots, HasFewSlots};
+ghost use Rattle.wh_command_line.specs.Plans.{GivesPath, GivesPaths, GivesFlag, GivesFewSlots};
+ghost use Rattle.wh_command_line.specs.Plans.{AsksFewSlots, HasFewSlots};
 
 use crate::options::{CACHE, CACHE_EVENTS, Helps, NumberOption, SLOTS, ServeOptions, WORKERS};
 use clap::error::ErrorKind;
@@ -36,9 +38,15 @@ For more information, try '--help'.
 /// What the program is to do.
 #[derive(Debug, Drop)]
 pub enum Plan {
-    /// Replay each history in a folder.
+    /// Replay each history of a list of paths: that of a file, those of a folder, or the one on the
+    /// standard input.
     Replay {
+        /// The first path.
         dir: Text,
+        /// The other paths, in their order.
+        more: Vec<Text>,
+        /// Whether the report is to be JSON.
+        json: bool,
     },
     /// Explain the replay of the history in a file.
     Explain {
@@ -129,6 +137,37 @@ fn needed_argument<'a>(alloc: Global, name: &'a str, help: &'a str) -> Arg<'a>
         .help(help)
 }
 
+/// An argument whose value the help calls by a name of its own.
+fn with_value_name<'a>(argument: Arg<'a>, name: &'a str) -> Arg<'a>
+    ensures rule { rule_of result ≡ with_value_name (rule_of argument.entry) }
+    ensures local { result.global ≡ argument.entry.global }
+{
+    argument.value_name(name)
+}
+
+/// The argument that names what is replayed, by one path or more.
+fn paths_argument<'a>(alloc: Global) -> Arg<'a>
+    ensures rule { rule_of result ≡ paths }
+    ensures local { result.global ≡ false }
+{
+    let argument = Arg::new(alloc, "DIR")
+        .required(true)
+        .action(ArgAction::Append)
+        .help("A folder whose .json files are read, a file, or - for the standard input");
+    with_value_name(argument, "PATH")
+}
+
+/// A flag, with its help.
+fn flag_argument<'a>(alloc: Global, name: &'a str, help: &'a str) -> Arg<'a>
+    ensures rule { rule_of result ≡ flag name.entry.now }
+    ensures local { result.global ≡ false }
+{
+    Arg::new(alloc, name)
+        .long(name)
+        .action(ArgAction::SetTrue)
+        .help(help)
+}
+
 /// The argument that names a folder.
 fn folder_argument<'a>(alloc: Global) -> Arg<'a>
     ensures rule { rule_of result ≡ folder }
@@ -142,11 +181,12 @@ fn number_argument<'a>(alloc: Global, option: &NumberOption, help: &'a str) -> A
     ensures rule { rule_of result ≡ number option.now.name.now option.now.otherwise.now }
     ensures local { result.global ≡ false }
 {
-    Arg::new(alloc, option.name)
+    let argument = Arg::new(alloc, option.name)
         .long(option.name)
         .action(ArgAction::Set)
         .default_value(option.otherwise)
-        .help(help)
+        .help(help);
+    with_value_name(argument, "N")
 }
 
 /// A subcommand with nothing yet but its help.
@@ -165,9 +205,10 @@ fn replay<'a>(alloc: Global) -> Result<Command<'a>, AllocError>
     subcommand(
         alloc,
         "replay",
-        "Replays each history of a folder, and prints a line for each",
+        "Replays each history of folders and files, and prints a line for each",
     )
-    .arg(folder_argument(alloc))
+    .arg(paths_argument(alloc))?
+    .arg(flag_argument(alloc, "json", "Prints the report as JSON"))
 }
 
 /// The subcommand `explain`.
@@ -180,7 +221,11 @@ fn explain<'a>(alloc: Global) -> Result<Command<'a>, AllocError>
         "explain",
         "Replays a history, and prints what the workflow was told and gave, task by task",
     )
-    .arg(needed_argument(alloc, "FILE", "The history file that is read"))
+    .arg(needed_argument(
+        alloc,
+        "FILE",
+        "The history file that is read, or - for the standard input",
+    ))
 }
 
 /// The subcommand `serve`.
@@ -254,6 +299,39 @@ fn path_given(alloc: Global, given: &ArgMatches<'_>, name: &str) -> Result<Text,
     text_copy(alloc, path)
 }
 
+/// Copies of texts, in their order.
+fn text_copies(alloc: Global, texts: &[&str]) -> Result<Vec<Text>, Refusal>
+    ensures ok { IfOk result (λ copies. copies.items ≡ map (λ text. text.now) texts.now) }
+    ensures slots { result ≢ Err Refusal.FewSlots }
+{
+    let mut copies = Vec::new(alloc);
+    for text in texts {
+        let Ok(()) = copies.push(text_copy(alloc, text)?) else {
+            return Err(Refusal::OutOfMemory);
+        };
+    }
+    Ok(copies)
+}
+
+/// The paths that a subcommand is given: the first, and the others in their order.
+fn paths_given(alloc: Global, given: &ArgMatches<'_>) -> Result<(Text, Vec<Text>), Refusal>
+    ensures given { IfOk result (λ paths. GivesPaths (rows_of (found_of given.now)) paths.0 paths.1.items) }
+    ensures slots { result ≢ Err Refusal.FewSlots }
+{
+    if let Some([first, others @ ..]) = given.get_strs("DIR") {
+        let more = text_copies(alloc, others)?;
+        return Ok((text_copy(alloc, first)?, more));
+    }
+    Err(bad_line(String::from_str(alloc, "error: a path is needed\n")))
+}
+
+/// Whether a subcommand is given a flag.
+fn flag_given(given: &ArgMatches<'_>, name: &str) -> bool
+    ensures { GivesFlag name.now (rows_of (found_of given.now)) result }
+{
+    given.get_flag(name)
+}
+
 /// The plan of a subcommand.
 fn asked(alloc: Global, name: &str, given: &ArgMatches<'_>) -> Result<Plan, Refusal>
     ensures limits { IfOk result IsWithinLimits }
@@ -261,9 +339,11 @@ fn asked(alloc: Global, name: &str, given: &ArgMatches<'_>) -> Result<Plan, Refu
     ensures few { result ≡ Err Refusal.FewSlots → AsksFewSlots name.now (rows_of (found_of given.now)) }
 {
     match name {
-        "replay" => Ok(Plan::Replay {
-            dir: path_given(alloc, given, "DIR")?,
-        }),
+        "replay" => {
+            let (dir, more) = paths_given(alloc, given)?;
+            let json = flag_given(given, "json");
+            Ok(Plan::Replay { dir, more, json })
+        }
         "explain" => Ok(Plan::Explain {
             file: path_given(alloc, given, "FILE")?,
         }),

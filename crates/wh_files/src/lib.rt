@@ -1,7 +1,10 @@
-//! Files, and those of a folder.
+//! Files, those of a folder, and the standard input.
 #![tactic(auto)]
 
-use std::alloc::AllocError;
+ghost use Rattle.std.specs.Prelude.{◌≡◌, All, Bool, IfOk};
+ghost use Rattle.wh_files.specs.Inputs.{IsCalled, IsEndOf, IsReadFrom};
+
+use std::alloc::{AllocError, Global};
 use std::fs::File;
 use std::io::{ErrorKind, Read};
 use std::rt::Files;
@@ -53,6 +56,51 @@ impl From<AllocError> for FolderFault {
     }
 }
 
+/// Where the bytes of a file come from.
+#[derive(Debug, Drop)]
+pub enum Origin {
+    /// A file that was named itself.
+    File {
+        /// Its path.
+        path: String,
+    },
+    /// A file of a folder that was named.
+    Entry {
+        /// The path of the folder.
+        dir: String,
+        /// The name of the file in it.
+        name: String,
+    },
+    /// The standard input, which has been read.
+    StandardInput {
+        /// What it had.
+        bytes: Vec<u8>,
+    },
+}
+
+/// A file that is to be read.
+#[derive(Debug, Drop)]
+pub struct Input {
+    /// What it is called in a report.
+    pub name: String,
+    /// Where its bytes come from.
+    pub origin: Origin,
+}
+
+/// Why an input is not there.
+#[derive(Debug, Drop)]
+pub enum InputFault {
+    /// It cannot be read.
+    Unreadable {
+        /// The path that was named: its own, or that of its folder.
+        path: String,
+        /// Its name in the folder, if it is one of a folder.
+        entry: Option<String>,
+    },
+    /// There is no memory for a name or for the bytes.
+    OutOfMemory,
+}
+
 /// The names in a folder that end in `.json`, in the order of their bytes.
 fn names_in<R: Files + AllocGlobal + Clone + Drop>(
     rt: &R,
@@ -85,6 +133,16 @@ pub fn read_file<R: Files + AllocGlobal>(rt: &R, path: &str) -> Result<Vec<u8>, 
     Ok(bytes)
 }
 
+/// The bytes of a file of a folder, as of any file.
+fn read_entry<R: Files + AllocGlobal>(
+    rt: &R,
+    dir: &str,
+    name: &str,
+) -> Result<Vec<u8>, FolderFault> {
+    let path = format!(in rt.alloc(); "{dir}/{name}")?;
+    read_file(rt, path.as_str())
+}
+
 /// The files of a folder whose names end in `.json`, by name and bytes, in the order of the bytes
 /// of their names. Nothing is kept where one of them cannot be read, which the fault names.
 pub fn read_files<R: Files + AllocGlobal + Clone + Drop>(
@@ -93,8 +151,7 @@ pub fn read_files<R: Files + AllocGlobal + Clone + Drop>(
 ) -> Result<Vec<(String, Vec<u8>)>, FolderFault> {
     let mut files = Vec::new(rt.alloc());
     for name in names_in(rt, dir)? {
-        let path = format!(in rt.alloc(); "{dir}/{name}")?;
-        let bytes = match read_file(rt, path.as_str()) {
+        let bytes = match read_entry(rt, dir, name.as_str()) {
             Ok(bytes) => bytes,
             Err(FolderFault::Unreadable) => return Err(FolderFault::UnreadableEntry { name }),
             Err(fault) => return Err(fault),
@@ -104,4 +161,133 @@ pub fn read_files<R: Files + AllocGlobal + Clone + Drop>(
         };
     }
     Ok(files)
+}
+
+/// The bytes of the standard input, up to `READ_LIMIT` of them.
+fn read_standard_input<R: io::Input + AllocGlobal>(rt: &R) -> Result<Vec<u8>, FolderFault> {
+    let mut bytes = Vec::new(rt.alloc());
+    rt.reader().take(READ_LIMIT).read_to_end(&mut bytes)?;
+    Ok(bytes)
+}
+
+/// A file of a folder, called by its name alone, or by its path.
+fn entry_input(alloc: Global, dir: &str, name: String, by_path: bool) -> Result<Input, AllocError>
+    ensures { IfOk result (IsCalled by_path) }
+{
+    let called = if by_path {
+        format!(in alloc; "{dir}/{name}")?
+    } else {
+        String::from_str(alloc, name.as_str())?
+    };
+    let dir = String::from_str(alloc, dir)?;
+    Ok(Input {
+        name: called,
+        origin: Origin::Entry { dir, name },
+    })
+}
+
+/// The files of a folder whose names end in `.json`, in the order of the bytes of their names.
+fn folder_inputs<R: Files + AllocGlobal + Clone + Drop>(
+    rt: &R,
+    dir: &str,
+    by_path: bool,
+) -> Result<Vec<Input>, FolderFault>
+    ensures { IfOk result (λ inputs. All (IsCalled by_path) inputs.items) }
+{
+    let mut inputs = Vec::new(rt.alloc());
+    for name in names_in(rt, dir)? {
+        let input = entry_input(rt.alloc(), dir, name, by_path)?;
+        let Ok(()) = inputs.push(input) else {
+            return Err(FolderFault::OutOfMemory);
+        };
+    }
+    Ok(inputs)
+}
+
+/// The end of a path, behind its last slash.
+fn file_name(path: &str) -> &str
+    ensures { IsEndOf path.now result.now }
+{
+    match path.rsplit_once('/') {
+        Some((_, name)) => name,
+        None => path,
+    }
+}
+
+/// The standard input, which is read at once.
+fn standard_input<R: io::Input + AllocGlobal>(rt: &R) -> Result<Input, FolderFault>
+    ensures { IfOk result (λ input. (by_path : Bool) → IsCalled by_path input) }
+{
+    let bytes = read_standard_input(rt)?;
+    Ok(Input {
+        name: String::from_str(rt.alloc(), "-")?,
+        origin: Origin::StandardInput { bytes },
+    })
+}
+
+/// The file at a path, or the standard input where the path is `-`, which is read at once, up to
+/// `READ_LIMIT` bytes of it. It is called by its path, or by what follows the last slash of it.
+pub fn input_at<R: io::Input + AllocGlobal>(
+    rt: &R,
+    path: &str,
+    by_path: bool,
+) -> Result<Input, FolderFault>
+    ensures { IfOk result (IsCalled by_path) }
+{
+    if path == "-" {
+        return standard_input(rt);
+    }
+    let name = if by_path { path } else { file_name(path) };
+    Ok(Input {
+        name: String::from_str(rt.alloc(), name)?,
+        origin: Origin::File {
+            path: String::from_str(rt.alloc(), path)?,
+        },
+    })
+}
+
+/// What is to be read at a path: the files of a folder whose names end in `.json`, in the order of
+/// the bytes of their names, or else what `input_at` gives. Of a path that is there, whether the
+/// files can be read is seen when they are.
+pub fn inputs_at<R: Files + io::Input + AllocGlobal + Clone + Drop>(
+    rt: &R,
+    path: &str,
+    by_path: bool,
+) -> Result<Vec<Input>, FolderFault>
+    ensures { IfOk result (λ inputs. All (IsCalled by_path) inputs.items) }
+{
+    if path != "-" && fs::metadata(rt, path)?.is_dir() {
+        return folder_inputs(rt, path, by_path);
+    }
+    let mut inputs = Vec::new(rt.alloc());
+    let Ok(()) = inputs.push(input_at(rt, path, by_path)?) else {
+        return Err(FolderFault::OutOfMemory);
+    };
+    Ok(inputs)
+}
+
+/// What a fault of a file means for the input of a path.
+fn input_fault(fault: FolderFault, path: String, entry: Option<String>) -> InputFault {
+    match fault {
+        FolderFault::OutOfMemory => InputFault::OutOfMemory,
+        _ => InputFault::Unreadable { path, entry },
+    }
+}
+
+/// The bytes of an input, up to `READ_LIMIT` of them. What is no file, as a folder or a pipe,
+/// cannot be read, but for the standard input.
+pub fn read_input<R: Files + AllocGlobal>(rt: &R, origin: Origin) -> Result<Vec<u8>, InputFault>
+    ensures { IfOk result (IsReadFrom origin) }
+{
+    match origin {
+        Origin::StandardInput { bytes } => Ok(bytes),
+        Origin::File { path } => match read_file(rt, path.as_str()) {
+            Ok(bytes) => Ok(bytes),
+            Err(fault) => Err(input_fault(fault, path, None)),
+        },
+        Origin::Entry { dir, name } => match read_entry(rt, dir.as_str(), name.as_str()) {
+            Ok(bytes) => Ok(bytes),
+            Err(fault) => Err(input_fault(fault, dir, Some(name))),
+        },
+    }
 }

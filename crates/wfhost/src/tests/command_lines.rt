@@ -9,7 +9,14 @@ use wh_cli::{Plan, Refusal, parse};
 const LINES: &str = "\
 replay d => replay d
 replay ./a/b.c => replay ./a/b.c
+replay - => replay -
+replay d e => replay d e
+replay d e/f.json - d => replay d e/f.json - d
+replay d --json => replay d as JSON
+replay --json d e => replay d e as JSON
+replay d -- --json => replay d --json
 explain d/x.json => explain d/x.json
+explain - => explain -
 serve d => serve d, workers 1, cache 100, cache events 0, slots 100
 serve d --workers 64 --cache 0 --cache-events 512000000 --slots 1000 => serve d, workers 64, cache 0, cache events 512000000, slots 1000
 serve d --workers 1 --cache 10000 --slots 1 => serve d, workers 1, cache 10000, cache events 0, slots 1
@@ -31,7 +38,9 @@ serve gone --slots 3 --workers 4 => too few slots
  => bad line
 serve => bad line
 replay => bad line
-replay d e => bad line
+replay --json => bad line
+replay d --json --json => bad line
+replay d --json=no => bad line
 replay d --workers 2 => bad line
 explain => bad line
 explain a b => bad line
@@ -60,7 +69,16 @@ serve d --slots 1001 => slots 1 1000
 /// A plan in words.
 fn plan_text(rt: &impl Abort, alloc: Global, plan: &Plan) -> String {
     let text = match plan {
-        Plan::Replay { dir } => format!(in alloc; "replay {}", dir.get()),
+        Plan::Replay { dir, more, json } => {
+            let mut text = format!(in alloc; "replay {}", dir.get()).expect(rt, "memory");
+            for path in more {
+                assert!(rt; text.push(' ').is_ok() && text.push_str(path.get()).is_ok());
+            }
+            if *json {
+                assert!(rt; text.push_str(" as JSON").is_ok());
+            }
+            Ok(text)
+        }
         Plan::Explain { file } => format!(in alloc; "explain {}", file.get()),
         Plan::Serve {
             dir,

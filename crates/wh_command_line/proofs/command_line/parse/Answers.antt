@@ -31,7 +31,7 @@ named_by words name rows (Some p) of_name of_rows is_found =
 
 -- what a subcommand asks for is what the words ask for
 asked_by : (words : List Text) (name : Text) (rows : List Row) (plan : Plan) → Names words name rows → IsGiven name rows plan → IsAskedBy words plan
-asked_by words name rows (Replay dir) named given = (name, rows, named, given)
+asked_by words name rows (Replay dir more json) named given = (name, rows, named, given)
 asked_by words name rows (Explain file) named given = (name, rows, named, given)
 asked_by words name rows (Serve dir workers cache cache_events slots) named given = (name, rows, named, given)
 asked_by words name rows (Help text) named given = tt

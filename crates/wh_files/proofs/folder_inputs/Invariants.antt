@@ -1,0 +1,7 @@
+use Rattle.std.specs.Prelude.{All}
+use Rattle.wh_files.specs.Inputs.{IsCalled}
+use Rattle.wh_files.proofs.folder_inputs.Given as goal
+
+-- the inputs so far are called as they should be
+abbrev pub invariant-loop-name : goal.invariant-loop-name
+invariant-loop-name g l = All (IsCalled l.by_path) l.inputs.items

@@ -1,0 +1,29 @@
+-- What an input is called.
+use Rattle.std.specs.Prelude.{◌≡◌, Bool, true, false, List, ℕ, ◌++◌, drop, codes, string_bytes, Vec}
+use Rattle.std.specs.declared.alloc.Global.{Global}
+use Rattle.wh_files.specs.declared.Input.{Input}
+use Rattle.wh_files.specs.declared.Origin.{Origin}
+use Rattle.wh_files.specs.declared.Origin.TheVariants.{File, Entry, StandardInput}
+
+-- the end of a path
+abbrev pub IsEndOf : List ℕ → List ℕ → Type 0
+IsEndOf path name = (start : ℕ) × (name ≡ drop start path)
+
+-- the name of an input from somewhere, by its path where that is told
+abbrev pub IsNameOf : Bool → Origin → List ℕ → Type 0
+IsNameOf true (File path) name = name ≡ string_bytes path
+IsNameOf false (File path) name = IsEndOf (string_bytes path) name
+IsNameOf true (Entry dir entry) name = name ≡ string_bytes dir ++ (codes "/" ++ string_bytes entry)
+IsNameOf false (Entry dir entry) name = name ≡ string_bytes entry
+IsNameOf by_path (StandardInput bytes) name = name ≡ codes "-"
+
+-- the input is called so
+abbrev pub IsCalled : Bool → Input → Type 0
+IsCalled by_path input = IsNameOf by_path input.origin (string_bytes input.name)
+
+-- the bytes are those of an input from somewhere: those that the standard input had, or some that
+-- its file has
+abbrev pub IsReadFrom : Origin → Vec ℕ Global → Type 0
+IsReadFrom (StandardInput given) bytes = bytes ≡ given
+IsReadFrom (File path) bytes = Unit {0}
+IsReadFrom (Entry dir entry) bytes = Unit {0}
