@@ -1,4 +1,5 @@
 pub mod Ends
+pub mod Faults
 pub mod Given
 pub mod Left
 pub mod Listing

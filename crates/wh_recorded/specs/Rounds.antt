@@ -1,12 +1,14 @@
 -- A source over scripted histories: which tasks it gives, what it tells, and how its tasks were
 -- answered.
 use Rattle.std.specs.Prelude.{◌≡◌, ℕ, zero, suc, ◌+◌, ◌-◌, ◌*◌, ◌<◌, ◌&&◌, min, Bool, true, false, List, [], ◌∷◌, ◌++◌, length, drop, take, get_or, slice_get, Option, Some, None, if◌then◌else◌, eqb, leb, ltb, bytes_eq, codes, String, string_bytes, Vec, sum_by, count_by}
-use Rattle.std.specs.List.{list_any}
+use Rattle.std.specs.List.{list_any, flat_map}
+use Rattle.std.specs.Option.{option_or}
 use Rattle.std.specs.declared.alloc.Global.{Global}
 use Rattle.wh_events.specs.declared.event.Event.{Event}
 use Rattle.wh_events.specs.declared.key.RunKey.{RunKey}
-use Rattle.wh_events.specs.Cuts.{is_task_started}
-use Rattle.wh_replay.specs.declared.run.Answer.TheVariants.{Complete}
+use Rattle.wh_events.specs.Cuts.{is_task_started, is_task_completed}
+use Rattle.wh_replay.specs.declared.fault.Fault.{Fault}
+use Rattle.wh_replay.specs.declared.run.Answer.TheVariants.{Complete, Fail}
 use Rattle.wh_slots.specs.declared.TaskName.{TaskName}
 use Rattle.wh_tasks.specs.declared.source.Sent.{Sent}
 use Rattle.wh_tasks.specs.declared.source.Sent.TheVariants.{Workflow as OfWorkflow}
@@ -15,6 +17,7 @@ use Rattle.wh_tasks.specs.declared.source.Polled.{Polled}
 use Rattle.wh_tasks.specs.declared.source.Polled.TheVariants.{Task, Nothing, Closed}
 use Rattle.wh_tasks.specs.Numbers.{last_number}
 use Rattle.wh_tasks.specs.Source.{Delivery, Workflow, Activity}
+use Rattle.wh_recorded.specs.declared.failed_task.FailedTask.{FailedTask}
 
 -- a scripted history: the index of its file, its name, and its events
 pub record Scripted : Type 0 where
@@ -183,6 +186,20 @@ completes name sent = is_complete sent.1 && eqb sent.0.0 name.0
 abbrev pub is_completed : List (TaskName × Sent) → TaskName → Bool
 is_completed answers name = list_any (completes name) answers
 
+-- the fault that a workflow task is answered with, if it is
+abbrev pub fault_in : Sent → Option Fault
+fault_in (OfWorkflow (Fail fault)) = Some fault
+fault_in _ = None
+
+-- the fault that was sent under this name, if what was sent is one
+abbrev pub fault_by : TaskName → TaskName × Sent → Option Fault
+fault_by name sent = if eqb sent.0.0 name.0 then fault_in sent.1 else None
+
+-- the last fault that was sent under this name
+abbrev pub fault_under : List (TaskName × Sent) → TaskName → Option Fault
+fault_under [] name = None
+fault_under (sent ∷ rest) name = option_or (fault_under rest name) (fault_by name sent)
+
 -- the first so many tasks of a history
 abbrev pub first_tasks : Scripted → ℕ → List WorkflowTask
 first_tasks history zero = []
@@ -204,6 +221,36 @@ tally_by stage (Some found) =
 -- how many are not
 abbrev pub tally_of : Stage → List ℕ → Option (ℕ × ℕ × ℕ)
 tally_of stage name = tally_by stage (first_named 0 name stage.histories)
+
+-- a task as one that failed, unless one of the answers completes it
+abbrev pub failed_as : List (TaskName × Sent) → WorkflowTask → List FailedTask
+failed_as answers task =
+    if is_completed answers task.name
+    then []
+    else record { at = last_number task.events; fault = fault_under answers task.name } ∷ []
+
+-- those of the tasks that none of the answers completes
+abbrev pub failed_of : List (TaskName × Sent) → List WorkflowTask → List FailedTask
+failed_of answers tasks = flat_map (failed_as answers) tasks
+
+-- the failed tasks of the first history of a name, by the history and its place
+abbrev pub failed_by : Stage → Option (ℕ × Scripted) → List FailedTask
+failed_by stage None = []
+failed_by stage (Some found) = failed_of stage.answers (first_tasks found.1 (polled_at stage found.0 found.1))
+
+-- the polled tasks of the first history of the name that are not completed, in their order
+abbrev pub failed_in : Stage → List ℕ → List FailedTask
+failed_in stage name = failed_by stage (first_named 0 name stage.histories)
+
+-- the last task of a history has a record: an event that completes a task stands behind the one that starts it
+abbrev pub is_last_recorded : Scripted → Bool
+is_last_recorded history =
+    ltb 0 (tasks_in history)
+    && list_any is_task_completed (drop (begin_at (ends_of history.events) (tasks_in history)) history.events)
+
+-- the last task of one of the histories has a record
+abbrev pub has_last_record : Stage → Bool
+has_last_record stage = list_any is_last_recorded stage.histories
 
 -- how many tasks all histories have, at most 2^64 - 1
 abbrev pub deliveries_of : List Scripted → ℕ

@@ -2,8 +2,9 @@
 ghost use Rattle.std.specs.Prelude.{◌≡◌, ◌<◌, ◌≤◌, ◌+◌, ◌-◌, get_or, length, map, take, drop};
 ghost use Rattle.std.specs.Prelude.{option_map, IfOk, IfErr, IfSome, OnOk, OnErr};
 ghost use Rattle.wh_recorded.specs.Rounds.{scripted, opening_stage, with_answer, ends_of, tasks_in};
-ghost use Rattle.wh_recorded.specs.Rounds.{begin_at, task_of, key_of, events_up_to, first_named};
+ghost use Rattle.wh_recorded.specs.Rounds.{begin_at, events_of, task_of, key_of, events_up_to, first_named};
 ghost use Rattle.wh_recorded.specs.Rounds.{first_tasks, completed_of, tally_of, deliveries_of, first_with};
+ghost use Rattle.wh_recorded.specs.Rounds.{polled_at, failed_of, failed_in, is_last_recorded, has_last_record};
 ghost use Rattle.wh_recorded.specs.Rounds.{upcoming, told, ComesFrom, Gives, Recounts, Polls};
 ghost use Rattle.wh_tasks.specs.Numbers.{last_number};
 ghost use Rattle.wh_tasks.specs.Source.{Delivery, FailsOnly, IfTask, KeepsOrigin, SameTasks};
@@ -11,6 +12,7 @@ ghost use Rattle.wh_tasks.specs.declared.source.Polled.{Polled};
 ghost use Rattle.wh_tasks.specs.declared.source.Sent.{Sent};
 ghost use Rattle.wh_tasks.specs.declared.source.SourceFault.{SourceFault};
 
+use crate::failed_task::FailedTask;
 use crate::sent_answers::SentAnswers;
 use std::alloc::Global;
 use std::marker::Model;
@@ -143,13 +145,20 @@ impl ScriptedHistory {
         if n == 0 { 0 } else { self.ends[n - 1] }
     }
 
+    /// The number of the event that starts a task, counted from 0.
+    fn number_of(&self, n: usize) -> u64
+        requires { n < tasks_in self.now }
+        ensures { result ≡ last_number (events_of self.now.events n) }
+    {
+        last_between(self.events.as_slice(), self.begin(n), self.ends[n])
+    }
+
     /// The name of a task, counted from 0.
     fn name_of(&self, n: usize) -> TaskName
         requires { n < tasks_in self.now }
         ensures { result ≡ (task_of self.now n).name }
     {
-        let number = last_between(self.events.as_slice(), self.begin(n), self.ends[n]);
-        TaskName(u128::from(self.index) * TOKENS + u128::from(number))
+        TaskName(u128::from(self.index) * TOKENS + u128::from(self.number_of(n)))
     }
 
     /// A task, counted from 0.
@@ -177,6 +186,45 @@ impl ScriptedHistory {
             }
         }
         completed
+    }
+
+    /// Those of its first `n` tasks that none of the answers completes.
+    fn failed(
+        &self,
+        alloc: Global,
+        n: usize,
+        answers: &SentAnswers,
+    ) -> Result<Vec<FailedTask>, OutOfMemory>
+        requires { n ≤ tasks_in self.now }
+        ensures { IfOk result (λ failed. failed.items ≡ failed_of answers.now (first_tasks self.now n)) }
+    {
+        let mut failed = Vec::new(alloc);
+        for task in 0..n {
+            let name = self.name_of(task);
+            if !answers.is_completed(name) {
+                failed.push(FailedTask {
+                    at: self.number_of(task),
+                    fault: answers.fault_under(name),
+                })?;
+            }
+        }
+        Ok(failed)
+    }
+
+    /// Whether its last task is completed in it.
+    fn is_last_recorded(&self) -> bool
+        ensures { result ≡ is_last_recorded self.now }
+    {
+        let tasks = self.tasks();
+        if tasks == 0 {
+            return false;
+        }
+        for place in self.ends[tasks - 1]..self.events.len() {
+            if matches!(self.events[place].body, EventKind::WorkflowTaskCompleted) {
+                return true;
+            }
+        }
+        false
     }
 }
 
@@ -293,24 +341,54 @@ impl ScriptSource {
         deliveries
     }
 
+    /// How many tasks of the history at a place were polled.
+    fn polled(&self, place: usize, history: &ScriptedHistory) -> usize
+        ensures exact { result ≡ polled_at self.now place history.now }
+        ensures within { result ≤ tasks_in history.now }
+    {
+        let rounds = if place < self.next {
+            self.round.saturating_add(1)
+        } else {
+            self.round
+        };
+        rounds.min(history.tasks())
+    }
+
     /// For the first history of the name: how many of its tasks were polled, how many of these one
     /// of the answers completes, and how many none does. `None` where no history has the name.
     pub fn tally(&self, name: &str) -> Option<(u64, u64, u64)>
         ensures { result ≡ tally_of self.now name.now }
     {
         let (place, history) = find_named(self.histories.as_slice(), name)?;
-        let rounds = if place < self.next {
-            self.round.saturating_add(1)
-        } else {
-            self.round
-        };
-        let tasks = rounds.min(history.tasks());
+        let tasks = self.polled(place, history);
         let completed = history.count_completed(tasks, &self.answers);
         Some((
             tasks as u64,
             completed,
             (tasks as u64).saturating_sub(completed),
         ))
+    }
+
+    /// Those of the polled tasks of the first history of the name that none of the answers
+    /// completes, in their order: as many as `tally` says. None where no history has the name.
+    /// `OutOfMemory` where no room was found for the list.
+    pub fn failed(&self, name: &str) -> Result<Vec<FailedTask>, OutOfMemory>
+        ensures { IfOk result (λ failed. failed.items ≡ failed_in self.now name.now) }
+    {
+        let Some((place, history)) = find_named(self.histories.as_slice(), name) else {
+            return Ok(Vec::new(self.alloc));
+        };
+        let tasks = self.polled(place, history);
+        history.failed(self.alloc, tasks, &self.answers)
+    }
+
+    /// Whether the last task of one of the histories is completed in it, so that it has a record.
+    pub fn has_last_record(&self) -> bool
+        ensures { result ≡ has_last_record self.now }
+    {
+        self.histories
+            .iter()
+            .any(|history| history.is_last_recorded())
     }
 
     /// The answers that it was sent, each with the name of its task, in the order in which they

@@ -1,53 +1,66 @@
 //! The answers that a source was sent.
 ghost use Rattle.std.specs.Prelude.{◌≡◌, ◌++◌, ◌∷◌, ◌||◌, [], OnOk, OnErr};
+ghost use Rattle.std.specs.Option.{option_or};
+ghost use Rattle.std.specs.BTreeMap.{get};
 ghost use Rattle.std.specs.BTreeSet.{contains};
 ghost use Rattle.std.specs.Ordering.{nat_cmp};
-ghost use Rattle.wh_recorded.specs.Rounds.{is_complete, completes, is_completed};
+ghost use Rattle.wh_recorded.specs.Rounds.{completes, is_completed, fault_by, fault_under};
 ghost use Rattle.wh_slots.specs.declared.TaskName.{TaskName};
 ghost use Rattle.wh_tasks.specs.Source.{FailsOnly};
 ghost use Rattle.wh_tasks.specs.declared.source.SourceFault.{SourceFault};
 
 use std::alloc::Global;
-use std::collections::BTreeSet;
+use std::collections::{BTreeMap, BTreeSet};
 use std::marker::Model;
 use wh_events::OutOfMemory;
-use wh_replay::Answer;
+use wh_replay::{Answer, Fault};
 use wh_slots::TaskName;
 use wh_tasks::{Sent, SourceFault};
 
-/// Whether it is an answer without a fault to a workflow task.
-fn is_complete(sent: &Sent) -> bool
-    ensures { result ≡ is_complete sent.now }
-{
-    matches!(sent, Sent::Workflow(Answer::Complete(_)))
-}
-
-/// Enters the name among those of completed tasks, if the answer completes its task.
-fn enter(completed: &mut BTreeSet<u128>, name: TaskName, sent: &Sent) -> Result<(), OutOfMemory>
+/// Enters the name among those of completed tasks, if the answer completes its task, or the fault
+/// under the name, if the task failed by one. After want of memory nothing is entered.
+fn enter(
+    completed: &mut BTreeSet<u128>,
+    faults: &mut BTreeMap<u128, Fault>,
+    name: TaskName,
+    sent: &Sent,
+) -> Result<(), OutOfMemory>
     ensures entered { OnOk result ((other : TaskName) → contains nat_cmp completed.new other.0
         ≡ (contains nat_cmp completed.old other.0 || completes other (name, sent.now))) }
+    ensures faults { OnOk result ((other : TaskName) → get nat_cmp faults.new other.0
+        ≡ option_or (fault_by other (name, sent.now)) (get nat_cmp faults.old other.0)) }
     ensures kept { OnErr result ((other : TaskName) →
         contains nat_cmp completed.new other.0 ≡ contains nat_cmp completed.old other.0) }
+    ensures kept_faults { OnErr result ((other : TaskName) →
+        get nat_cmp faults.new other.0 ≡ get nat_cmp faults.old other.0) }
 {
-    if is_complete(sent) {
-        completed.insert(name.0)?;
+    match sent {
+        Sent::Workflow(Answer::Complete(_)) => {
+            completed.insert(name.0)?;
+        }
+        Sent::Workflow(Answer::Fail(fault)) => {
+            faults.insert(name.0, *fault)?;
+        }
+        Sent::Activity(_) => {}
     }
     Ok(())
 }
 
 /// The answers that a source was sent, in the order in which they came, with the names of the tasks
-/// that one of them completes.
+/// that one of them completes, and the last fault under each name that has one.
 #[derive(Drop)]
 pub struct SentAnswers {
     list: Vec<(TaskName, Sent)>,
     completed: BTreeSet<u128>,
+    faults: BTreeMap<u128, Fault>,
 }
 
 impl Model for SentAnswers {
     ghost use Rattle.std.specs.Prelude.{◌≡◌, List};
+    ghost use Rattle.std.specs.BTreeMap.{get};
     ghost use Rattle.std.specs.BTreeSet.{contains};
     ghost use Rattle.std.specs.Ordering.{nat_cmp};
-    ghost use Rattle.wh_recorded.specs.Rounds.{is_completed};
+    ghost use Rattle.wh_recorded.specs.Rounds.{is_completed, fault_under};
     ghost use Rattle.wh_slots.specs.declared.TaskName.{TaskName};
     ghost use Rattle.wh_tasks.specs.declared.source.Sent.{Sent};
 
@@ -55,8 +68,9 @@ impl Model for SentAnswers {
 
     ghost view = { λ s. s.list.items };
 
-    ghost invariant = { λ s. (name : TaskName) →
-        contains nat_cmp s.completed name.0 ≡ is_completed s.list.items name };
+    ghost invariant = { λ s. ((name : TaskName) →
+        contains nat_cmp s.completed name.0 ≡ is_completed s.list.items name)
+        × ((name : TaskName) → get nat_cmp s.faults name.0 ≡ fault_under s.list.items name) };
 }
 
 impl SentAnswers {
@@ -67,6 +81,7 @@ impl SentAnswers {
         SentAnswers {
             list: Vec::new(alloc),
             completed: BTreeSet::new(alloc),
+            faults: BTreeMap::new(alloc),
         }
     }
 
@@ -84,6 +99,13 @@ impl SentAnswers {
         self.completed.contains(&name.0)
     }
 
+    /// The fault that the task of this name failed by: the last that was sent under it.
+    pub fn fault_under(&self, name: TaskName) -> Option<Fault>
+        ensures { result ≡ fault_under self.now name }
+    {
+        self.faults.get(&name.0).copied()
+    }
+
     /// One more answer was sent. After want of memory the answers are as they were.
     pub fn store(&mut self, name: TaskName, sent: Sent) -> Result<(), SourceFault>
         ensures sent { OnOk result (self.new ≡ self.old ++ (name, sent) ∷ []) }
@@ -93,7 +115,7 @@ impl SentAnswers {
         if self.list.reserve(1).is_err() {
             return Err(SourceFault::OutOfMemory);
         }
-        if enter(&mut self.completed, name, &sent).is_err() {
+        if enter(&mut self.completed, &mut self.faults, name, &sent).is_err() {
             return Err(SourceFault::OutOfMemory);
         }
         self.list.push_reserved((name, sent));
