@@ -1,4 +1,3 @@
-pub mod Answering
 pub mod Endings
 pub mod Nap
 pub mod Greet

@@ -1,7 +1,8 @@
 //! Asker: asks for a version again and again.
-ghost use Rattle.std.specs.Prelude.{◌≡◌};
-ghost use Rattle.wh_sample_workflows.specs.Asker.{asker, asker_lawful};
+ghost use Rattle.std.specs.Prelude.{◌≡◌, option_to_list, IfOk};
+ghost use Rattle.wh_sample_workflows.specs.Asker.{asker, asker_gives, asker_lawful};
 
+use crate::given::give;
 use crate::stateless::NoState;
 use std::alloc::Global;
 use wh_events::OutOfMemory;
@@ -15,6 +16,20 @@ use wh_workflow::{Command, Job, Meter, Workflow, text_of};
 ///
 /// Other jobs change nothing and give nothing.
 pub struct Asker;
+
+/// What it gives to a job.
+fn given(alloc: Global, job: &Job) -> Result<Option<Command>, OutOfMemory>
+    ensures { IfOk result (λ given. option_to_list given ≡ asker_gives job.now) }
+{
+    Ok(match job {
+        Job::Start { .. } | Job::Version { .. } => Some(Command::Ask {
+            change_id: text_of(alloc, "a")?,
+            min: -1,
+            max: 1,
+        }),
+        _ => None,
+    })
+}
 
 impl Workflow for Asker {
     type State = NoState;
@@ -39,14 +54,6 @@ impl Workflow for Asker {
         meter: &mut Meter,
     ) -> Result<(), OutOfMemory> {
         meter.tick();
-        match job {
-            Job::Start { .. } | Job::Version { .. } => out.push(Command::Ask {
-                change_id: text_of(alloc, "a")?,
-                min: -1,
-                max: 1,
-            })?,
-            _ => {}
-        }
-        Ok(())
+        give(out, given(alloc, job)?)
     }
 }

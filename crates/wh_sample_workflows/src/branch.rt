@@ -1,10 +1,12 @@
 //! Branch: runs the old or the new activity, by the version of a change.
-ghost use Rattle.std.specs.Prelude.{◌≡◌, [], codes, IfOk};
-ghost use Rattle.wh_sample_workflows.specs.Branch.{branch, branch_activity, branch_lawful};
+ghost use Rattle.std.specs.Prelude.{◌≡◌, [], codes, option_to_list, IfOk};
+ghost use Rattle.wh_sample_workflows.specs.Branch.{branch, branch_activity, branch_gives, branch_lawful};
 ghost use Rattle.wh_workflow.specs.declared.command.Command.TheVariants.{StartActivity};
 
 use crate::endings::result_or_failure;
+use crate::given::give;
 use crate::stateless::NoState;
+use crate::texts::texts_of;
 use std::alloc::Global;
 use wh_events::OutOfMemory;
 use wh_workflow::{Command, Job, Meter, Workflow, no_payloads, text_of};
@@ -27,10 +29,31 @@ fn start(alloc: Global, version: i32) -> Result<Command, OutOfMemory>
     ensures { IfOk result (λ command. command ≡ StartActivity (codes "1") (branch_activity version) []) }
 {
     let activity = if version == -1 { "old" } else { "new" };
+    let (id, activity) = texts_of(alloc, "1", activity)?;
     Ok(Command::StartActivity {
-        id: text_of(alloc, "1")?,
-        activity: text_of(alloc, activity)?,
+        id,
+        activity,
         input: no_payloads(alloc),
+    })
+}
+
+/// What it gives to a job.
+fn given(alloc: Global, job: &Job) -> Result<Option<Command>, OutOfMemory>
+    ensures { IfOk result (λ given. option_to_list given ≡ branch_gives job.now) }
+{
+    Ok(match job {
+        Job::Start { .. } => Some(Command::Ask {
+            change_id: text_of(alloc, "chg")?,
+            min: -1,
+            max: 1,
+        }),
+        Job::Version { change_id, version } if change_id.get() == "chg" => {
+            Some(start(alloc, *version)?)
+        }
+        Job::Activity { id, end } if id.get() == "1" => {
+            Some(result_or_failure(alloc, end, "branch")?)
+        }
+        _ => None,
     })
 }
 
@@ -57,20 +80,6 @@ impl Workflow for Branch {
         meter: &mut Meter,
     ) -> Result<(), OutOfMemory> {
         meter.tick();
-        match job {
-            Job::Start { .. } => out.push(Command::Ask {
-                change_id: text_of(alloc, "chg")?,
-                min: -1,
-                max: 1,
-            })?,
-            Job::Version { change_id, version } if change_id.get() == "chg" => {
-                out.push(start(alloc, *version)?)?
-            }
-            Job::Activity { id, end } if id.get() == "1" => out.push(result_or_failure(
-                alloc, end, "branch",
-            )?)?,
-            _ => {}
-        }
-        Ok(())
+        give(out, given(alloc, job)?)
     }
 }

@@ -1,8 +1,10 @@
 //! Caller: signals another workflow.
-ghost use Rattle.std.specs.Prelude.{◌≡◌};
-ghost use Rattle.wh_sample_workflows.specs.Caller.{caller, caller_lawful};
+ghost use Rattle.std.specs.Prelude.{◌≡◌, option_to_list, IfOk};
+ghost use Rattle.wh_sample_workflows.specs.Caller.{caller, caller_gives, caller_lawful};
 
+use crate::given::give;
 use crate::stateless::NoState;
+use crate::texts::texts_of;
 use std::alloc::Global;
 use wh_events::OutOfMemory;
 use wh_workflow::{Command, Job, Meter, Workflow, no_payloads, text_of};
@@ -17,6 +19,29 @@ use wh_workflow::{Command, Job, Meter, Workflow, no_payloads, text_of};
 ///
 /// Other jobs change nothing and give nothing.
 pub struct Caller;
+
+/// What it gives to a job.
+fn given(alloc: Global, job: &Job) -> Result<Option<Command>, OutOfMemory>
+    ensures { IfOk result (λ given. option_to_list given ≡ caller_gives job.now) }
+{
+    Ok(match job {
+        Job::Start { .. } => {
+            let (workflow_id, signal) = texts_of(alloc, "other", "go")?;
+            Some(Command::SignalExternal {
+                workflow_id,
+                signal,
+                input: no_payloads(alloc),
+            })
+        }
+        Job::SignalSent { .. } => Some(Command::Complete {
+            result: no_payloads(alloc),
+        }),
+        Job::SignalFailed { .. } => Some(Command::Fail {
+            message: text_of(alloc, "signal")?,
+        }),
+        _ => None,
+    })
+}
 
 impl Workflow for Caller {
     type State = NoState;
@@ -41,20 +66,6 @@ impl Workflow for Caller {
         meter: &mut Meter,
     ) -> Result<(), OutOfMemory> {
         meter.tick();
-        match job {
-            Job::Start { .. } => out.push(Command::SignalExternal {
-                workflow_id: text_of(alloc, "other")?,
-                signal: text_of(alloc, "go")?,
-                input: no_payloads(alloc),
-            })?,
-            Job::SignalSent { .. } => out.push(Command::Complete {
-                result: no_payloads(alloc),
-            })?,
-            Job::SignalFailed { .. } => out.push(Command::Fail {
-                message: text_of(alloc, "signal")?,
-            })?,
-            _ => {}
-        }
-        Ok(())
+        give(out, given(alloc, job)?)
     }
 }

@@ -1,8 +1,9 @@
 //! Family: runs a child, and cancels it at a signal.
-ghost use Rattle.std.specs.Prelude.{◌≡◌, [], codes, IfOk};
-ghost use Rattle.wh_sample_workflows.specs.Family.{family, family_end, family_lawful};
-ghost use Rattle.wh_workflow.specs.declared.command.Command.TheVariants.{StartChild};
+ghost use Rattle.std.specs.Prelude.{◌≡◌, option_to_list, IfOk};
+ghost use Rattle.wh_sample_workflows.specs.Family.{family, family_after, family_end, family_gives, family_lawful};
 
+use crate::given::give;
+use crate::texts::texts_of;
 use std::alloc::Global;
 use wh_events::OutOfMemory;
 use wh_workflow::{ChildEnd, Command, Job, Meter, Workflow, no_payloads, text_of};
@@ -27,17 +28,6 @@ pub struct FamilyState {
     pub cancellable: bool,
 }
 
-/// How the run starts its child.
-fn start(alloc: Global) -> Result<Command, OutOfMemory>
-    ensures { IfOk result (λ command. command ≡ StartChild (codes "kid") (codes "Nap") []) }
-{
-    Ok(Command::StartChild {
-        workflow_id: text_of(alloc, "kid")?,
-        workflow: text_of(alloc, "Nap")?,
-        input: no_payloads(alloc),
-    })
-}
-
 /// How the run ends where its child ends.
 fn end_of(alloc: Global, end: &ChildEnd) -> Result<Command, OutOfMemory>
     ensures { IfOk result (λ command. command ≡ family_end end.now) }
@@ -50,6 +40,42 @@ fn end_of(alloc: Global, end: &ChildEnd) -> Result<Command, OutOfMemory>
         _ => Ok(Command::Fail {
             message: text_of(alloc, "kid")?,
         }),
+    }
+}
+
+/// What it gives to a job.
+fn given(alloc: Global, state: FamilyState, job: &Job) -> Result<Option<Command>, OutOfMemory>
+    ensures { IfOk result (λ given. option_to_list given ≡ family_gives state job.now) }
+{
+    Ok(match job {
+        Job::Start { .. } => {
+            let (workflow_id, workflow) = texts_of(alloc, "kid", "Nap")?;
+            Some(Command::StartChild {
+                workflow_id,
+                workflow,
+                input: no_payloads(alloc),
+            })
+        }
+        Job::Signal { name, .. } if name.get() == "stop" && state.cancellable => {
+            Some(Command::CancelChild {
+                workflow_id: text_of(alloc, "kid")?,
+            })
+        }
+        Job::Child { workflow_id, end } if workflow_id.get() == "kid" => Some(end_of(alloc, end)?),
+        _ => None,
+    })
+}
+
+/// What a job leaves.
+fn after(state: FamilyState, job: &Job) -> FamilyState
+    ensures { result ≡ family_after state job.now }
+{
+    match job {
+        Job::Signal { name, .. } if name.get() == "stop" => FamilyState { cancellable: false },
+        Job::Child { workflow_id, .. } if workflow_id.get() == "kid" => {
+            FamilyState { cancellable: false }
+        }
+        _ => state,
     }
 }
 
@@ -76,20 +102,8 @@ impl Workflow for Family {
         meter: &mut Meter,
     ) -> Result<(), OutOfMemory> {
         meter.tick();
-        match job {
-            Job::Start { .. } => out.push(start(alloc)?)?,
-            Job::Signal { name, .. } if name.get() == "stop" && state.cancellable => {
-                state.cancellable = false;
-                out.push(Command::CancelChild {
-                    workflow_id: text_of(alloc, "kid")?,
-                })?
-            }
-            Job::Child { workflow_id, end } if workflow_id.get() == "kid" => {
-                state.cancellable = false;
-                out.push(end_of(alloc, end)?)?
-            }
-            _ => {}
-        }
-        Ok(())
+        let given = given(alloc, *state, job)?;
+        *state = after(*state, job);
+        give(out, given)
     }
 }

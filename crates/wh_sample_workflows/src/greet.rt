@@ -1,10 +1,11 @@
 //! Greet: runs one activity, and passes on a request to cancel it.
-ghost use Rattle.std.specs.Prelude.{◌≡◌, codes, IfOk};
-ghost use Rattle.wh_sample_workflows.specs.Greet.{greet, greet_end, greet_lawful};
-ghost use Rattle.wh_workflow.specs.declared.command.Command.TheVariants.{StartActivity};
+ghost use Rattle.std.specs.Prelude.{◌≡◌, option_to_list, IfOk};
+ghost use Rattle.wh_sample_workflows.specs.Greet.{greet, greet_after, greet_end, greet_gives, greet_lawful};
 
+use crate::given::give;
+use crate::texts::texts_of;
 use std::alloc::Global;
-use wh_events::{Items, OutOfMemory, Payload};
+use wh_events::OutOfMemory;
 use wh_workflow::{ActivityEnd, Command, Job, Meter, Workflow, text_of};
 
 /// Runs one activity, and passes on a request to cancel it.
@@ -27,17 +28,6 @@ pub struct GreetState {
     pub cancellable: bool,
 }
 
-/// How the run starts its activity.
-fn start(alloc: Global, input: &Items<Payload>) -> Result<Command, OutOfMemory>
-    ensures { IfOk result (λ command. command ≡ StartActivity (codes "1") (codes "greet") input.now) }
-{
-    Ok(Command::StartActivity {
-        id: text_of(alloc, "1")?,
-        activity: text_of(alloc, "greet")?,
-        input: input.try_copy()?,
-    })
-}
-
 /// How the run ends where its activity ends.
 fn end_of(alloc: Global, end: &ActivityEnd) -> Result<Command, OutOfMemory>
     ensures { IfOk result (λ command. command ≡ greet_end end.now) }
@@ -50,6 +40,39 @@ fn end_of(alloc: Global, end: &ActivityEnd) -> Result<Command, OutOfMemory>
         ActivityEnd::Failed | ActivityEnd::TimedOut => Ok(Command::Fail {
             message: text_of(alloc, "greet")?,
         }),
+    }
+}
+
+/// What it gives to a job.
+fn given(alloc: Global, state: GreetState, job: &Job) -> Result<Option<Command>, OutOfMemory>
+    ensures { IfOk result (λ given. option_to_list given ≡ greet_gives state job.now) }
+{
+    Ok(match job {
+        Job::Start { input, .. } => {
+            let input = input.try_copy()?;
+            let (id, activity) = texts_of(alloc, "1", "greet")?;
+            Some(Command::StartActivity {
+                id,
+                activity,
+                input,
+            })
+        }
+        Job::CancelRequested if state.cancellable => Some(Command::CancelActivity {
+            id: text_of(alloc, "1")?,
+        }),
+        Job::Activity { id, end } if id.get() == "1" => Some(end_of(alloc, end)?),
+        _ => None,
+    })
+}
+
+/// What a job leaves.
+fn after(state: GreetState, job: &Job) -> GreetState
+    ensures { result ≡ greet_after state job.now }
+{
+    match job {
+        Job::CancelRequested => GreetState { cancellable: false },
+        Job::Activity { id, .. } if id.get() == "1" => GreetState { cancellable: false },
+        _ => state,
     }
 }
 
@@ -76,20 +99,8 @@ impl Workflow for Greet {
         meter: &mut Meter,
     ) -> Result<(), OutOfMemory> {
         meter.tick();
-        match job {
-            Job::Start { input, .. } => out.push(start(alloc, input)?)?,
-            Job::CancelRequested if state.cancellable => {
-                state.cancellable = false;
-                out.push(Command::CancelActivity {
-                    id: text_of(alloc, "1")?,
-                })?
-            }
-            Job::Activity { id, end } if id.get() == "1" => {
-                state.cancellable = false;
-                out.push(end_of(alloc, end)?)?
-            }
-            _ => {}
-        }
-        Ok(())
+        let given = given(alloc, *state, job)?;
+        *state = after(*state, job);
+        give(out, given)
     }
 }

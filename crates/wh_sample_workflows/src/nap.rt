@@ -1,7 +1,8 @@
 //! Nap: sleeps for a minute.
-ghost use Rattle.std.specs.Prelude.{◌≡◌};
-ghost use Rattle.wh_sample_workflows.specs.Nap.{nap, nap_lawful};
+ghost use Rattle.std.specs.Prelude.{◌≡◌, option_to_list, IfOk};
+ghost use Rattle.wh_sample_workflows.specs.Nap.{nap, nap_gives, nap_lawful};
 
+use crate::given::give;
 use crate::stateless::NoState;
 use std::alloc::Global;
 use wh_events::OutOfMemory;
@@ -16,6 +17,22 @@ use wh_workflow::{Command, Job, Meter, Workflow, no_payloads, text_of};
 ///
 /// Other jobs change nothing and give nothing.
 pub struct Nap;
+
+/// What it gives to a job.
+fn given(alloc: Global, job: &Job) -> Result<Option<Command>, OutOfMemory>
+    ensures { IfOk result (λ given. option_to_list given ≡ nap_gives job.now) }
+{
+    Ok(match job {
+        Job::Start { .. } => Some(Command::StartTimer {
+            id: text_of(alloc, "nap")?,
+            seconds: 60,
+        }),
+        Job::TimerFired { id } if id.get() == "nap" => Some(Command::Complete {
+            result: no_payloads(alloc),
+        }),
+        _ => None,
+    })
+}
 
 impl Workflow for Nap {
     type State = NoState;
@@ -40,16 +57,6 @@ impl Workflow for Nap {
         meter: &mut Meter,
     ) -> Result<(), OutOfMemory> {
         meter.tick();
-        match job {
-            Job::Start { .. } => out.push(Command::StartTimer {
-                id: text_of(alloc, "nap")?,
-                seconds: 60,
-            })?,
-            Job::TimerFired { id } if id.get() == "nap" => out.push(Command::Complete {
-                result: no_payloads(alloc),
-            })?,
-            _ => {}
-        }
-        Ok(())
+        give(out, given(alloc, job)?)
     }
 }

@@ -1,10 +1,10 @@
 //! Racer: runs an activity against a timer.
-ghost use Rattle.std.specs.Prelude.{◌≡◌, ◌++◌, length, take, drop, IfOk, OnOk, OnErr};
-ghost use Rattle.wh_sample_workflows.specs.Racer.{racer, racer_lawful, race, lateness, ending};
-ghost use Rattle.wh_workflow.specs.Law.{IsAnswer};
-ghost use Rattle.wh_workflow.specs.declared.command.Command.TheVariants.{StartTimer};
+ghost use Rattle.std.specs.Prelude.{◌≡◌, [], ◌∷◌, IfOk};
+ghost use Rattle.wh_sample_workflows.specs.Racer.{racer, racer_after, racer_gives, racer_lawful, race, lateness, ending};
 
 use crate::endings::result_or_failure;
+use crate::given::give_all;
+use crate::texts::texts_of;
 use std::alloc::Global;
 use wh_events::OutOfMemory;
 use wh_workflow::{ActivityEnd, Command, Job, Meter, Workflow, no_payloads, text_of};
@@ -33,55 +33,80 @@ pub enum Phase {
     Done,
 }
 
-/// Starts a timer of so many seconds.
-fn start_timer(alloc: Global, id: &str, seconds: u64) -> Result<Command, OutOfMemory>
-    ensures { IfOk result (λ command. command ≡ StartTimer id.now seconds) }
+/// Both commands, in their order.
+fn both(alloc: Global, first: Command, second: Command) -> Result<Vec<Command>, OutOfMemory>
+    ensures { IfOk result (λ given. given.items ≡ first ∷ second ∷ []) }
 {
-    Ok(Command::StartTimer {
-        id: text_of(alloc, id)?,
-        seconds,
-    })
+    Ok(vec![in alloc; first, second]?)
 }
 
 /// Starts the activity and the timer.
-fn start(alloc: Global, out: &mut Vec<Command>) -> Result<(), OutOfMemory>
-    ensures commands { OnOk result (out.new.items ≡ out.old.items ++ race) }
-    ensures kept { OnErr result (take (length out.old.items) out.new.items ≡ out.old.items) }
-    ensures answer { IsAnswer (drop (length out.old.items) out.new.items) }
+fn start(alloc: Global) -> Result<Vec<Command>, OutOfMemory>
+    ensures { IfOk result (λ given. given.items ≡ race) }
 {
-    out.push(Command::StartActivity {
-        id: text_of(alloc, "1")?,
-        activity: text_of(alloc, "race")?,
-        input: no_payloads(alloc),
-    })?;
-    out.push(start_timer(alloc, "t", 30)?)?;
-    Ok(())
+    let timer = text_of(alloc, "t")?;
+    let (id, activity) = texts_of(alloc, "1", "race")?;
+    let input = no_payloads(alloc);
+    let start = Command::StartActivity {
+        id,
+        activity,
+        input,
+    };
+    let timer = Command::StartTimer {
+        id: timer,
+        seconds: 30,
+    };
+    both(alloc, start, timer)
 }
 
 /// Cancels the activity, and starts the second timer.
-fn come_late(alloc: Global, out: &mut Vec<Command>) -> Result<(), OutOfMemory>
-    ensures commands { OnOk result (out.new.items ≡ out.old.items ++ lateness) }
-    ensures kept { OnErr result (take (length out.old.items) out.new.items ≡ out.old.items) }
-    ensures answer { IsAnswer (drop (length out.old.items) out.new.items) }
+fn come_late(alloc: Global) -> Result<Vec<Command>, OutOfMemory>
+    ensures { IfOk result (λ given. given.items ≡ lateness) }
 {
-    out.push(Command::CancelActivity {
-        id: text_of(alloc, "1")?,
-    })?;
-    out.push(start_timer(alloc, "u", 5)?)?;
-    Ok(())
+    let (activity, timer) = texts_of(alloc, "1", "u")?;
+    let cancel = Command::CancelActivity { id: activity };
+    let timer = Command::StartTimer {
+        id: timer,
+        seconds: 5,
+    };
+    both(alloc, cancel, timer)
 }
 
 /// Cancels the timer, and ends as the activity did.
-fn end_race(alloc: Global, end: &ActivityEnd, out: &mut Vec<Command>) -> Result<(), OutOfMemory>
-    ensures commands { OnOk result (out.new.items ≡ out.old.items ++ ending end.now) }
-    ensures kept { OnErr result (take (length out.old.items) out.new.items ≡ out.old.items) }
-    ensures answer { IsAnswer (drop (length out.old.items) out.new.items) }
+fn end_race(alloc: Global, end: &ActivityEnd) -> Result<Vec<Command>, OutOfMemory>
+    ensures { IfOk result (λ given. given.items ≡ ending end.now) }
 {
-    out.push(Command::CancelTimer {
-        id: text_of(alloc, "t")?,
-    })?;
-    out.push(result_or_failure(alloc, end, "race")?)?;
-    Ok(())
+    let id = text_of(alloc, "t")?;
+    let end = result_or_failure(alloc, end, "race")?;
+    both(alloc, Command::CancelTimer { id }, end)
+}
+
+/// What it gives to a job.
+fn given(alloc: Global, phase: Phase, job: &Job) -> Result<Vec<Command>, OutOfMemory>
+    ensures { IfOk result (λ given. given.items ≡ racer_gives phase job.now) }
+{
+    match (phase, job) {
+        (Phase::Racing, Job::Start { .. }) => start(alloc),
+        (Phase::Racing, Job::TimerFired { id }) if id.get() == "t" => come_late(alloc),
+        (Phase::Racing, Job::Activity { id, end }) if id.get() == "1" => end_race(alloc, end),
+        (Phase::Late, Job::TimerFired { id }) if id.get() == "u" => {
+            let result = no_payloads(alloc);
+            Ok(vec![in alloc; Command::Complete { result }]?)
+        }
+        _ => Ok(Vec::new(alloc)),
+    }
+}
+
+/// What a job leaves.
+fn after(phase: Phase, job: &Job) -> Phase
+    ensures { result ≡ racer_after phase job.now }
+{
+    match (phase, job) {
+        (Phase::Racing, Job::TimerFired { id }) if id.get() == "t" => Phase::Late,
+        (Phase::Racing, Job::Activity { id, .. }) if id.get() == "1" => Phase::Done,
+        (Phase::Late, Job::TimerFired { id }) if id.get() == "u" => Phase::Done,
+        _ => phase,
+    }
 }
 
 impl Workflow for Racer {
@@ -107,24 +132,8 @@ impl Workflow for Racer {
         meter: &mut Meter,
     ) -> Result<(), OutOfMemory> {
         meter.tick();
-        match (*state, job) {
-            (Phase::Racing, Job::Start { .. }) => start(alloc, out)?,
-            (Phase::Racing, Job::TimerFired { id }) if id.get() == "t" => {
-                *state = Phase::Late;
-                come_late(alloc, out)?
-            }
-            (Phase::Racing, Job::Activity { id, end }) if id.get() == "1" => {
-                *state = Phase::Done;
-                end_race(alloc, end, out)?
-            }
-            (Phase::Late, Job::TimerFired { id }) if id.get() == "u" => {
-                *state = Phase::Done;
-                out.push(Command::Complete {
-                    result: no_payloads(alloc),
-                })?
-            }
-            _ => {}
-        }
-        Ok(())
+        let given = given(alloc, *state, job)?;
+        *state = after(*state, job);
+        give_all(out, given)
     }
 }
