@@ -1,6 +1,6 @@
 -- What the command `serve` did: its report, and its status.
 use Rattle.std.specs.Prelude.{◌≡◌, ℕ, ◌+◌, ◌<◌, ◌≤◌, ◌%◌, ◌&&◌, List, [], ◌∷◌, ◌++◌, length, map, get_or, codes, decimal, Bool, false, Option, Some, None, is_none, Result, Ok, Err, String, string_bytes, Vec, if◌then◌else◌, eqb}
-use Rattle.std.specs.List.{flat_map, list_all}
+use Rattle.std.specs.List.{flat_map, list_all, list_any}
 use Rattle.std.specs.declared.alloc.Global.{Global}
 use Rattle.wh_json.specs.declared.fault.ReadFault.{ReadFault}
 use Rattle.wh_json.specs.Events.{history}
@@ -10,12 +10,17 @@ use Rattle.wh_host.specs.declared.reply.Totals.{Totals}
 use Rattle.wh_host.specs.Machine.{totals_of}
 use Rattle.wh_tasks.specs.declared.source.SourceFault.{SourceFault}
 use Rattle.wh_events.specs.declared.event.Event.{Event}
-use Rattle.wh_recorded.specs.Rounds.{Stage, Scripted, ComesFrom, scripted, opening_stage, tally_of}
+use Rattle.wh_replay.specs.declared.fault.Fault.{Fault}
+use Rattle.wh_replay.specs.declared.fault.Fault.TheVariants.{Workflow as OfCommands}
+use Rattle.wh_recorded.specs.Rounds.{Stage, Scripted, ComesFrom, scripted, opening_stage, tally_of, failed_in, has_last_record}
+use Rattle.wh_recorded.specs.declared.failed_task.FailedTask.{FailedTask}
+use Rattle.wh_tester.specs.Faults.{replay_fault_text}
 use Rattle.wh_tester.specs.Report.{shown, line_text}
 use Rattle.wh_tester.specs.declared.line.Verdict.TheVariants.{Unreadable}
 use Rattle.wh_cli.specs.declared.dealing.Dealt.{Dealt}
 use Rattle.wh_cli.specs.declared.service_report.Tally.{Tally}
 use Rattle.wh_cli.specs.declared.service_report.Row.{Row}
+use Rattle.wh_cli.specs.declared.service_report.FileFailure.{FileFailure}
 
 -- a file: its name, and its bytes
 abbrev pub File : Type 0
@@ -78,6 +83,23 @@ abbrev pub rows_from : List Stage → ℕ → List Dealt → List Row
 rows_from sources before [] = []
 rows_from sources before (file ∷ rest) = row_from (source_at sources before) file ∷ rows_from sources (before + 1) rest
 
+-- the failed tasks of a file under its name
+abbrev pub failures_in : List ℕ → List FailedTask → List FileFailure
+failures_in name tasks = map (λ task. record { name = name; task = task }) tasks
+
+-- the failed tasks of a file, as the source of its worker has them: none, where the file cannot be read
+abbrev pub failures_by : Stage → List ℕ → Option ReadFault → List FileFailure
+failures_by source name None = failures_in name (failed_in source name)
+failures_by source name (Some fault) = []
+
+abbrev pub failures_of : Stage → Dealt → List FileFailure
+failures_of source file = failures_by source file.name file.fault
+
+-- the failed tasks of files in their order, where so many stand before them
+abbrev pub failures_from : List Stage → ℕ → List Dealt → List FileFailure
+failures_from sources before [] = []
+failures_from sources before (file ∷ rest) = failures_of (source_at sources before) file ++ failures_from sources (before + 1) rest
+
 -- what a worker leaves: what its seat counted, its source with the answers that it was sent, and the first fault of the source,
 -- if there was one
 pub record Left : Type 0 where
@@ -111,6 +133,13 @@ pub record IsService (files : List File) (count : ℕ) (rows : List Row) (totals
       → length (get_or left worker none_left).source.answers ≤ (get_or left worker none_left).counted.taken
   pub gathered : IsGathered left (map dealt_of files) rows totals faultless
 
+-- a service with what is told of it beside its report: by the sources that the workers leave, the failed tasks of the files, and
+-- whether the last task of a history has a record, which it was not compared with
+pub record IsToldService (files : List File) (count : ℕ) (rows : List Row) (totals : Totals) (faultless : Bool) (failures : List FileFailure) (uncompared : Bool) : Type 0 where
+  pub service : IsService files count rows totals faultless
+  pub failed : failures ≡ failures_from (map (λ worker. worker.source) service.left) 0 (map dealt_of files)
+  pub last : uncompared ≡ list_any (λ worker. has_last_record worker.source) service.left
+
 -- `<tasks> tasks, <completed> completed, <failed> failed`
 abbrev pub tally_text : Tally → List ℕ
 tally_text tally = decimal tally.tasks ++ (codes " tasks, " ++ (decimal tally.completed ++ (codes " completed, " ++ (decimal tally.failed ++ codes " failed\n"))))
@@ -142,3 +171,21 @@ all_served rows = list_all (λ row. is_good_outcome row.outcome) rows
 -- 0 where no worker has a fault, no task failed and each file was read, and else 1
 abbrev pub status_of : Bool → List Row → Totals → ℕ
 status_of faultless rows totals = if faultless && (eqb totals.failed 0 && all_served rows) then 0 else 1
+
+-- the text of the fault begins with the task: a fault of the commands of this very task
+abbrev pub names_task : Fault → ℕ → Bool
+names_task (OfCommands own fault) at = eqb own at
+names_task _ at = false
+
+-- `task at <event>: <words>`
+abbrev pub at_task : ℕ → List ℕ → List ℕ
+at_task at words = codes "task at " ++ (decimal at ++ (codes ": " ++ words))
+
+-- why a task failed: its fault as in the report of replay, behind the task unless the text begins with it
+abbrev pub why_text : ℕ → Option Fault → List ℕ
+why_text at None = at_task at (codes "not answered")
+why_text at (Some fault) = if names_task fault at then replay_fault_text fault else at_task at (replay_fault_text fault)
+
+-- `<name>: task at <event>: <fault>`
+abbrev pub failure_text : FileFailure → List ℕ
+failure_text failure = shown failure.name ++ (codes ": " ++ why_text failure.task.at failure.task.fault)

@@ -1,12 +1,12 @@
 //! What workers did is gathered.
 
-ghost use Rattle.std.specs.Prelude.{◌≡◌, ◌<◌, IfOk, is_none, length, map, vec_len};
-ghost use Rattle.std.specs.List.{list_all};
-ghost use Rattle.wh_recorded.specs.Rounds.{tally_of};
-ghost use Rattle.wh_cli.specs.Services.{tally_from, row_from, rows_from};
+ghost use Rattle.std.specs.Prelude.{◌≡◌, ◌<◌, ◌++◌, IfOk, OnOk, is_none, length, map, vec_len};
+ghost use Rattle.std.specs.List.{list_all, list_any};
+ghost use Rattle.wh_recorded.specs.Rounds.{tally_of, has_last_record};
+ghost use Rattle.wh_cli.specs.Services.{tally_from, row_from, rows_from, failures_of, failures_from};
 
 use crate::dealing::Dealt;
-use crate::service_report::{Row, Tally};
+use crate::service_report::{FileFailure, Row, Tally};
 use std::alloc::Global;
 use wh_events::OutOfMemory;
 use wh_host::Totals;
@@ -20,6 +20,10 @@ pub(crate) struct Service {
     pub(crate) totals: Totals,
     /// Whether no worker has a fault.
     pub(crate) faultless: bool,
+    /// The failed tasks, in the order of the files.
+    pub(crate) failures: Vec<FileFailure>,
+    /// Whether the last task of a history has a record, which it was not compared with.
+    pub(crate) uncompared: bool,
 }
 
 /// The tally of a file in the source of its worker.
@@ -55,18 +59,55 @@ fn row_of(file: Dealt, source: &ScriptSource) -> Row
 /// What a worker of a service leaves.
 type Served = Left<ScriptSource, NoActivities, NoObserver>;
 
-/// The rows of the files, which were dealt to the workers in turn.
-fn rows_of(alloc: Global, files: Vec<Dealt>, workers: &[Served]) -> Result<Vec<Row>, OutOfMemory>
+/// Adds the failed tasks of a file, as the source of its worker tells them.
+#[tactic(auto, using(crate::proofs::Rows::more_failures))]
+fn add_failures(
+    file: &Dealt,
+    source: &ScriptSource,
+    failures: &mut Vec<FileFailure>,
+) -> Result<(), OutOfMemory>
+    ensures { OnOk result (failures.new.items ≡ failures.old.items ++ failures_of source.now file.now) }
+{
+    let None = &file.fault else {
+        return Ok(());
+    };
+    for task in source.failed(file.name.get())? {
+        failures.push(FileFailure {
+            name: file.name.try_copy()?,
+            task,
+        })?;
+    }
+    Ok(())
+}
+
+/// The rows of the files, which were dealt to the workers in turn, and their failed tasks.
+fn rows_of(
+    alloc: Global,
+    files: Vec<Dealt>,
+    workers: &[Served],
+) -> Result<(Vec<Row>, Vec<FileFailure>), OutOfMemory>
     requires { 0 < length workers.now }
-    ensures { IfOk result (λ rows.
-        rows.items ≡ rows_from (map (λ worker. worker.source) workers.now) 0 files.items) }
+    ensures rows { IfOk result (λ told.
+        told.0.items ≡ rows_from (map (λ worker. worker.source) workers.now) 0 files.items) }
+    ensures failures { IfOk result (λ told.
+        told.1.items ≡ failures_from (map (λ worker. worker.source) workers.now) 0 files.items) }
 {
     let mut rows = Vec::new(alloc);
+    let mut failures = Vec::new(alloc);
     for file in files {
         let place = rows.len() % workers.len();
-        rows.push(row_of(file, &workers[place].source))?;
+        let source = &workers[place].source;
+        add_failures(&file, source, &mut failures)?;
+        rows.push(row_of(file, source))?;
     }
-    Ok(rows)
+    Ok((rows, failures))
+}
+
+/// Whether the last task of a history has a record.
+fn have_last_records(workers: &[Served]) -> bool
+    ensures { result ≡ list_any (λ worker. has_last_record worker.source) workers.now }
+{
+    workers.iter().any(|worker| worker.source.has_last_record())
 }
 
 /// Whether the source of a worker had no fault.
@@ -95,11 +136,18 @@ pub(crate) fn gather(
     ensures totals { IfOk result (λ service. service.totals ≡ end.totals) }
     ensures faultless { IfOk result (λ service.
         service.faultless ≡ list_all (λ worker. is_none worker.fault) end.workers.items) }
+    ensures failures { IfOk result (λ service.
+        service.failures.items ≡ failures_from (map (λ worker. worker.source) end.workers.items) 0 dealt.items) }
+    ensures uncompared { IfOk result (λ service.
+        service.uncompared ≡ list_any (λ worker. has_last_record worker.source) end.workers.items) }
 {
     let HostEnd { workers, totals } = end;
+    let (rows, failures) = rows_of(alloc, dealt, workers.as_slice())?;
     Ok(Service {
-        rows: rows_of(alloc, dealt, workers.as_slice())?,
+        rows,
         totals,
         faultless: are_faultless(workers.as_slice()),
+        failures,
+        uncompared: have_last_records(workers.as_slice()),
     })
 }

@@ -13,5 +13,6 @@ mod serving;
 pub use explaining::explain_command;
 pub use program::run;
 pub use replaying::{CommandFault, replay_command};
-pub use serving::serve_command;
+pub use service_report::FileFailure;
+pub use serving::{ServiceEnd, serve_command, serve_with_failures};
 pub use wh_command_line::{Plan, Refusal, parse};

@@ -5,7 +5,7 @@ ghost use Rattle.wh_command_line.specs.Plans.{IsWithinLimits, IsAskedBy, HasFewS
 
 use crate::explaining::explain_command;
 use crate::replaying::{CommandFault, replay_command};
-use crate::serving::serve_command;
+use crate::serving::{ServiceEnd, serve_with_failures};
 use std::alloc::Global;
 use std::io::{BufWriter, ErrorKind, Printer, Write};
 use std::process::ExitCode;
@@ -151,6 +151,36 @@ fn print<R: Runtime>(rt: &R, text: &str) -> Result<u8, Failure> {
     }
 }
 
+/// Says on the standard error why tasks failed, a line for each, and then in a line where `serve`
+/// did not compare all that is recorded.
+fn tell_service<R: Runtime>(rt: &R, end: ServiceEnd) -> io::Result<()> {
+    for failure in end.failures {
+        eprintln!(rt; "wfhost: {failure}")?;
+    }
+    if end.uncompared {
+        eprintln!(rt;
+            "wfhost: the last task of a recorded history is not compared with its record; replay does that"
+        )?;
+    }
+    Ok(())
+}
+
+/// The status of a service, once its report is out and the rest is told.
+fn served<R: Runtime, O: Write>(
+    rt: &R,
+    answer: Result<ServiceEnd, CommandFault>,
+    writer: &mut O,
+) -> Result<u8, Failure> {
+    match answer {
+        Ok(end) => {
+            let status = flushed(Ok(end.status), writer)?;
+            let _ = tell_service(rt, end);
+            Ok(status)
+        }
+        Err(fault) => flushed(Err(fault), writer),
+    }
+}
+
 /// Does what is asked for, and gives the status.
 fn obey<W: Workflow + Send, R: Runtime + AllocGlobal + Threads + Wait + Sync>(
     rt: &R,
@@ -182,7 +212,7 @@ fn obey<W: Workflow + Send, R: Runtime + AllocGlobal + Threads + Wait + Sync>(
         } => {
             let files = files_of(rt, dir)?;
             let mut writer = output(rt)?;
-            let answer = serve_command::<W, _, _>(
+            let answer = serve_with_failures::<W, _, _>(
                 rt,
                 alloc,
                 files,
@@ -192,7 +222,7 @@ fn obey<W: Workflow + Send, R: Runtime + AllocGlobal + Threads + Wait + Sync>(
                 slots,
                 &mut writer,
             );
-            flushed(answer, &mut writer)
+            served(rt, answer, &mut writer)
         }
         Plan::Help { text } => print(rt, text.get()),
     }

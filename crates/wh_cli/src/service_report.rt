@@ -1,17 +1,20 @@
 //! The report of the command `serve`.
 
-ghost use Rattle.std.specs.Prelude.{◌≡◌, ◌++◌, OnOk, codes};
+ghost use Rattle.std.specs.Prelude.{◌≡◌, ◌++◌, OnOk, codes, Some};
 ghost use Rattle.std.specs.List.{flat_map};
 ghost use Rattle.std.specs.Io.KnownBytes.{Appends};
 ghost use Rattle.wh_tester.specs.Report.{shown};
 ghost use Rattle.wh_cli.specs.Services.{tally_text, row_text, totals_text, service_text, is_good_outcome, all_served};
+ghost use Rattle.wh_cli.specs.Services.{failure_text, why_text, names_task};
 
-use std::io;
 use std::io::Write;
+use std::{fmt, io};
 use wh_events::Text;
 use wh_host::Totals;
 use wh_json::ReadFault;
-use wh_tester::{Line, Shown, Verdict, write_line};
+use wh_recorded::FailedTask;
+use wh_replay::Fault;
+use wh_tester::{Line, ReplayFaultText, Shown, Verdict, write_line};
 
 /// How many tasks of a file were polled, and how they ended.
 #[derive(Clone, Copy)]
@@ -31,6 +34,66 @@ pub struct Row {
     pub name: Text,
     /// Its tally, or the fault of reading it.
     pub outcome: Result<Tally, ReadFault>,
+}
+
+/// A failed task of a file. As a text: the name of the file as the report shows it, the task by the
+/// event that starts it, and its fault as the report of replay has it, or that it was not answered.
+#[derive(Drop)]
+pub struct FileFailure {
+    /// The name of the file.
+    pub name: Text,
+    /// The task.
+    pub task: FailedTask,
+}
+
+/// Whether the text of a fault begins with this task, as that of a fault of its commands does.
+fn names_task(fault: &Fault, at: u64) -> bool
+    ensures { result ≡ names_task fault.now at }
+{
+    match fault {
+        Fault::Workflow { at: own, .. } => *own == at,
+        _ => false,
+    }
+}
+
+/// Why a task failed, in words.
+#[derive(Drop)]
+struct WhyText {
+    at: u64,
+    fault: Option<Fault>,
+}
+
+impl fmt::Display for WhyText {
+    ghost output = { λ t. Some (why_text t.at t.fault) };
+
+    fn fmt<W: fmt::Write>(&self, f: &mut fmt::Formatter<W>) -> fmt::Result {
+        let at = self.at;
+        match &self.fault {
+            None => write!(f, "task at {at}: not answered"),
+            Some(fault) => {
+                let is_named = names_task(fault, at);
+                let text = ReplayFaultText(*fault);
+                if is_named {
+                    write!(f, "{text}")
+                } else {
+                    write!(f, "task at {at}: {text}")
+                }
+            }
+        }
+    }
+}
+
+impl fmt::Display for FileFailure {
+    ghost output = { λ failure. Some (failure_text failure) };
+
+    fn fmt<W: fmt::Write>(&self, f: &mut fmt::Formatter<W>) -> fmt::Result {
+        let name = Shown(self.name.get());
+        let why = WhyText {
+            at: self.task.at,
+            fault: self.task.fault,
+        };
+        write!(f, "{name}: {why}")
+    }
 }
 
 /// Writes the line of a file that was served.

@@ -4,14 +4,14 @@ ghost use Rattle.std.specs.Prelude.{◌≡◌, ◌≢◌, List, Bool, Err, IfOk,
 ghost use Rattle.std.specs.Io.KnownBytes.{Appends};
 ghost use Rattle.wh_host.specs.declared.reply.Totals.{Totals};
 ghost use Rattle.wh_command_line.specs.Options.{AreWithinLimits};
-ghost use Rattle.wh_cli.specs.Services.{IsService, service_text, status_of};
+ghost use Rattle.wh_cli.specs.Services.{IsService, IsToldService, service_text, status_of};
 ghost use Rattle.wh_cli.specs.Served.{IsServiceOf};
 ghost use Rattle.wh_cli.specs.declared.service_report.Row.{Row};
 
 use crate::dealing::deal_sources;
 use crate::gathering::{Service, gather};
 use crate::replaying::CommandFault;
-use crate::service_report::{all_served, write_service};
+use crate::service_report::{FileFailure, all_served, write_service};
 use std::alloc::Global;
 use std::io::Write;
 use std::sync::Wait;
@@ -76,17 +76,41 @@ fn status_of(service: &Service) -> u8
     }
 }
 
-/// Writes the report of a service, and gives its status.
-fn report<O: Write>(service: Service, writer: &mut O) -> Result<u8, CommandFault>
-    ensures written { IfOk result (λ status.
+/// What is told of a service beside its report.
+#[derive(Drop)]
+pub struct ServiceEnd {
+    /// The status: 0 where each file was read, no task failed and no worker has a fault, and else 1.
+    pub status: u8,
+    /// The failed tasks, in the order of the files and, within a file, of its tasks.
+    pub failures: Vec<FileFailure>,
+    /// Whether the last task of a history that was served has a record: it is completed in the
+    /// history. A task is compared with its record where the next one is replayed, so this record
+    /// was compared with nothing, whether a task failed or not.
+    pub uncompared: bool,
+}
+
+/// Writes the report of a service, and gives what else is told of it.
+fn report<O: Write>(service: Service, writer: &mut O) -> Result<ServiceEnd, CommandFault>
+    ensures written { IfOk result (λ end.
         Appends (O.contents writer.old) (O.contents writer.new) (service_text service.rows.items service.totals)
-        × (status ≡ status_of service.faultless service.rows.items service.totals)) }
+        × (end.status ≡ status_of service.faultless service.rows.items service.totals)
+        × (end.failures.items ≡ service.failures.items) × (end.uncompared ≡ service.uncompared)) }
     ensures output { result ≢ Err CommandFault.OutOfMemory }
 {
     let status = status_of(&service);
-    let Service { rows, totals, .. } = service;
+    let Service {
+        rows,
+        totals,
+        failures,
+        uncompared,
+        ..
+    } = service;
     match write_service(rows, totals, writer) {
-        Ok(()) => Ok(status),
+        Ok(()) => Ok(ServiceEnd {
+            status,
+            failures,
+            uncompared,
+        }),
         Err(_) => Err(CommandFault::Output),
     }
 }
@@ -94,8 +118,34 @@ fn report<O: Write>(service: Service, writer: &mut O) -> Result<u8, CommandFault
 /// Serves the tasks of the files by workers with a thread each, and writes the report: a line for
 /// each file in their order, then the totals. File by file the workers are dealt the histories in
 /// turn. The status is 0 where each file can be read, no task failed and no worker has a fault, and
-/// else 1. Of equal names each has the tally of the first that its worker was dealt. Nothing is
-/// written where the answer is `OutOfMemory`.
+/// else 1. Of equal names each has the tally and the failed tasks of the first that its worker was
+/// dealt. Nothing is written where the answer is `OutOfMemory`.
+pub fn serve_with_failures<W: Workflow + Send, R: Threads + Wait + Sync, O: Write>(
+    rt: &R,
+    alloc: Global,
+    files: Vec<(String, Vec<u8>)>,
+    workers: u64,
+    cache: u64,
+    cache_events: u64,
+    slots: u64,
+    writer: &mut O,
+) -> Result<ServiceEnd, CommandFault>
+    requires { AreWithinLimits workers cache cache_events slots }
+    ensures report { IfOk result (λ end. (rows : List Row) × (totals : Totals) × (faultless : Bool)
+        × IsToldService files.items workers rows totals faultless end.failures.items end.uncompared
+        × Appends (O.contents writer.old) (O.contents writer.new) (service_text rows totals)
+        × (end.status ≡ status_of faultless rows totals)) }
+    ensures unwritten { result ≡ Err CommandFault.OutOfMemory → writer.new ≡ writer.old }
+{
+    let options = ServeOptions::new(workers, cache, cache_events, slots);
+    let Ok(service) = serve_all::<W, R>(rt, alloc, files, options) else {
+        return Err(CommandFault::OutOfMemory);
+    };
+    report(service, writer)
+}
+
+/// Serves the tasks of the files and writes the report, as `serve_with_failures` does, and gives
+/// the status alone. Nothing is written where the answer is `OutOfMemory`.
 pub fn serve_command<W: Workflow + Send, R: Threads + Wait + Sync, O: Write>(
     rt: &R,
     alloc: Global,
@@ -113,9 +163,15 @@ pub fn serve_command<W: Workflow + Send, R: Threads + Wait + Sync, O: Write>(
         × (status ≡ status_of faultless rows totals)) }
     ensures unwritten { result ≡ Err CommandFault.OutOfMemory → writer.new ≡ writer.old }
 {
-    let options = ServeOptions::new(workers, cache, cache_events, slots);
-    let Ok(service) = serve_all::<W, R>(rt, alloc, files, options) else {
-        return Err(CommandFault::OutOfMemory);
-    };
-    report(service, writer)
+    let end = serve_with_failures::<W, R, O>(
+        rt,
+        alloc,
+        files,
+        workers,
+        cache,
+        cache_events,
+        slots,
+        writer,
+    )?;
+    Ok(end.status)
 }

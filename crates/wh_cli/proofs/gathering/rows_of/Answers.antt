@@ -1,7 +1,13 @@
 use Rattle.std.proofs.Common.{rules}
-use Rattle.wh_cli.proofs.Rows.{rows_push}
+use Rattle.wh_cli.proofs.Rows.{rows_push, failures_push}
 use Rattle.wh_cli.proofs.gathering.rows_of.Goals as goal
 
--- the row of a file comes behind those before it
+-- what is told of a file comes behind what is told of those before it
 pub loop-file-preserved : goal.loop-file-preserved
-loop-file-preserved c = search (rules, rows_push (λ worker. worker.source) c.args.workers.now c.loop-file.yielded c.in-Some.file c.loop-file.rows.items c.row_of.result c.index-workers-place.result c.loop-file.invariant)
+loop-file-preserved c =
+    let workers = c.args.workers.now in
+    let rows = c.loop-file.rows.items in
+    record {
+      rows = search (rules, rows_push (λ worker. worker.source) workers c.loop-file.yielded c.in-Some.file rows c.row_of.result c.index-workers-place.result c.loop-file.invariant.rows);
+      failures = search (rules, failures_push (λ worker. worker.source) workers c.loop-file.yielded c.in-Some.file rows c.loop-file.failures.items c.add_failures.new.failures.items c.index-workers-place.result c.loop-file.invariant.rows c.loop-file.invariant.failures);
+    }
