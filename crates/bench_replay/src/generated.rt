@@ -45,13 +45,13 @@ pub(crate) fn changed(
     let change = below(random, 3);
     for (place, event) in history.iter().enumerate() {
         if place != at || change == 1 {
-            append(&mut events, event.body.try_copy()?)?;
+            append(&mut events, 0, event.body.try_copy()?)?;
         }
         if place == at
             && change != 0
             && let Some(other) = history.get(from)
         {
-            append(&mut events, other.body.try_copy()?)?;
+            append(&mut events, 0, other.body.try_copy()?)?;
         }
     }
     Ok(events)

@@ -1,29 +1,16 @@
-//! Compares `wh_replay` with replay as its definition computes it: by going over the list of events
-//! anew for each place, each task and each look-up, in quadratic time. It tells how many histories
-//! were compared, of how many both say the same, and what they say.
-#![tactic(auto)]
-
-mod blink;
-mod comparing;
-mod cuts;
-mod generated;
-mod lookups;
-mod notation;
-mod places;
-mod replay;
-mod things;
-
+//! The histories that both replays are compared on: each beginning of the examples and of some that
+//! are written as letters, and generated ones.
 use crate::blink::Blink;
 use crate::comparing::{Counts, compare, compare_all};
 use crate::generated::{changed, of_letters};
 use crate::notation::{ROWS, events_of};
 use rand_pcg::Pcg32;
 use std::alloc::Global;
+use std::io;
 use std::io::ErrorKind;
-use std::process::ExitCode;
 use std::rt::{Files, Runtime};
-use std::{fs, io};
 use wh_events::{Event, OutOfMemory};
+use wh_files::read_files;
 use wh_json::read_events;
 use wh_sample_workflows::All;
 use wh_workflow::{Pair, Workflow};
@@ -39,9 +26,11 @@ const CHANGED: u32 = 200;
 
 /// The histories of the folder.
 fn read_histories<R: Files + AllocGlobal + Clone + Drop>(rt: &R) -> io::Result<Vec<Vec<Event>>> {
+    let Ok(files) = read_files(rt, FOLDER) else {
+        return Err(ErrorKind::NotFound.into());
+    };
     let mut histories = Vec::new(rt.alloc());
-    for entry in fs::read_dir(rt, FOLDER)? {
-        let bytes = fs::read(rt, entry?.path())?;
+    for (_name, bytes) in &files {
         let Ok(events) = read_events(rt.alloc(), bytes.as_slice()) else {
             return Err(ErrorKind::InvalidData.into());
         };
@@ -80,7 +69,7 @@ fn compare_letters<W: Workflow>(alloc: Global, counts: &mut Counts) -> Result<()
 }
 
 /// Compares both replays on all histories.
-fn run<R: Runtime + AllocGlobal, W: Workflow>(rt: &R) -> io::Result<Counts> {
+fn compare_histories<R: Runtime + AllocGlobal, W: Workflow>(rt: &R) -> io::Result<Counts> {
     let mut counts = Counts::new();
     for history in read_histories(rt)? {
         let Ok(()) = compare_example::<W>(rt.alloc(), history.as_slice(), &mut counts) else {
@@ -93,16 +82,9 @@ fn run<R: Runtime + AllocGlobal, W: Workflow>(rt: &R) -> io::Result<Counts> {
     Ok(counts)
 }
 
-/// The status is 0 where both replays say the same of all histories, 1 where they don't, and 2
-/// where the histories can't be read.
-fn main(rt: HostRuntime) -> ExitCode {
-    let counts = match run::<HostRuntime, Pair<Blink, All>>(&rt) {
-        Ok(counts) => counts,
-        Err(error) => {
-            let _ = eprintln!(&rt; "bench_plain: {error}");
-            return ExitCode::from(2);
-        }
-    };
+/// Tells how many histories were compared, what both replays say of how many, and whether they say
+/// the same of all. An error where the histories can't be read, or there is no memory.
+pub(crate) fn tell<R: Runtime + AllocGlobal>(rt: &R) -> io::Result<bool> {
     let Counts {
         histories,
         alike,
@@ -110,10 +92,10 @@ fn main(rt: HostRuntime) -> ExitCode {
         misplaced,
         faulty,
         different,
-    } = counts;
-    let _ = println!(&rt; "{histories} histories, both replays say the same of {alike}");
-    let _ = println!(&rt;
+    } = compare_histories::<R, Pair<Blink, All>>(rt)?;
+    println!(rt; "{histories} histories, both replays say the same of {alike}")?;
+    println!(rt;
         "{good} replay, {misplaced} are not in place, {faulty} have a command that can't stand, {different} differ from a record"
-    );
-    ExitCode::from(u8::from(alike != histories))
+    )?;
+    Ok(alike == histories)
 }

@@ -1,8 +1,6 @@
 //! Replay as its definition computes it: each task goes over the history anew, up to the end of its
 //! own record. What a workflow is told, which commands can stand and whether a record matches them
 //! is asked of the crates that say so.
-ghost use Rattle.std.specs.Prelude.{◌<◌, ◌≤◌, length};
-
 use crate::cuts::{after_completed, is_cut, is_recorded, until_completed};
 use crate::places::history_fault;
 use std::alloc::Global;
@@ -28,8 +26,6 @@ struct Task<'a> {
     /// Where the cut is recorded, what stands between its completion and the next.
     record: Option<&'a [Event]>,
     script: Script,
-    ghost rising: { script.previous < script.cut },
-    ghost within: { script.cut ≤ length track },
 }
 
 /// A copy of the events.
@@ -65,16 +61,12 @@ impl<'a> Task<'a> {
     /// The task of the cut in a place, behind the last cut. `None` where the tables refuse the
     /// events.
     fn new(alloc: Global, events: &'a [Event], last: usize, place: usize) -> Option<Task<'a>> {
-        let number = (place as u64).saturating_add(1);
         let after = place.saturating_add(1);
         let rest = events.get(after..)?;
         let end = record_end(rest);
         let track = track_of(alloc, events.get(..after.saturating_add(end))?)?;
-        let cut = EventNo::new(number)?;
+        let cut = EventNo::new(after as u64)?;
         let previous = last as u64;
-        if number <= previous || (track.len() as u64) < number {
-            return None;
-        }
         let record = if is_recorded(rest) {
             Some(until_completed(after_completed(rest)))
         } else {
@@ -157,10 +149,6 @@ impl<'a> Task<'a> {
         state: &mut W::State,
         versions: &mut Versions,
     ) -> Result<(), ScriptFault> {
-        let number = self.cut.get();
-        if number <= self.previous || (self.track.len() as u64) < number {
-            return Ok(());
-        }
         for job in jobs(alloc, &self.track, self.previous, self.cut)? {
             self.settle::<W>(alloc, job, state, versions)?;
         }

@@ -1,6 +1,7 @@
 //! Histories as letters, one for each event.
 use std::alloc::Global;
-use wh_events::{Event, EventKind, EventNo, Items, OutOfMemory, Text};
+use wh_events::{Event, EventKind, EventNo, OutOfMemory};
+use wh_workflow::{no_payloads, text_of};
 
 /// The letters that `kind_of` knows, but for those of starts.
 pub(crate) const LETTERS: &[u8] = b"qscfngTUFCAarKkxmD";
@@ -25,16 +26,19 @@ pub(crate) const ROWS: [&[u8]; 15] = [
     b"BscF",
 ];
 
-/// The text.
-fn text(alloc: Global, content: &str) -> Result<Text, OutOfMemory> {
-    Ok(Text::new(String::from_str(alloc, content)?))
+/// The start of a run of a workflow type.
+pub(crate) fn start(alloc: Global, workflow: &str) -> Result<EventKind, OutOfMemory> {
+    Ok(EventKind::WorkflowExecutionStarted {
+        workflow: text_of(alloc, workflow)?,
+        input: no_payloads(alloc),
+    })
 }
 
-/// The start of a run of a workflow type.
-fn start(alloc: Global, workflow: &str) -> Result<EventKind, OutOfMemory> {
-    Ok(EventKind::WorkflowExecutionStarted {
-        workflow: text(alloc, workflow)?,
-        input: Items::new(Vec::new(alloc)),
+/// A signal.
+pub(crate) fn signal(alloc: Global, name: &str) -> Result<EventKind, OutOfMemory> {
+    Ok(EventKind::WorkflowExecutionSignaled {
+        name: text_of(alloc, name)?,
+        input: no_payloads(alloc),
     })
 }
 
@@ -50,18 +54,18 @@ fn kind_of(alloc: Global, letter: u8, number: u64) -> Result<EventKind, OutOfMem
         b'c' => EventKind::WorkflowTaskCompleted,
         b'f' => EventKind::WorkflowTaskFailed,
         b'n' => EventKind::WorkflowTaskTimedOut,
-        b'g' => EventKind::WorkflowExecutionSignaled { name: text(alloc, "stop")?, input: Items::new(Vec::new(alloc)) },
-        b'T' => EventKind::TimerStarted { id: text(alloc, "t")? },
-        b'U' => EventKind::TimerStarted { id: text(alloc, "u")? },
+        b'g' => signal(alloc, "stop")?,
+        b'T' => EventKind::TimerStarted { id: text_of(alloc, "t")? },
+        b'U' => EventKind::TimerStarted { id: text_of(alloc, "u")? },
         b'F' => EventKind::TimerFired { started: number },
         b'C' => EventKind::TimerCanceled { started: number },
-        b'A' => EventKind::ActivityTaskScheduled { id: text(alloc, "1")?, activity: text(alloc, "race")? },
+        b'A' => EventKind::ActivityTaskScheduled { id: text_of(alloc, "1")?, activity: text_of(alloc, "race")? },
         b'a' => EventKind::ActivityTaskStarted { scheduled: number },
         b'r' => EventKind::ActivityTaskCancelRequested { scheduled: number },
-        b'K' => EventKind::StartChildWorkflowExecutionInitiated { workflow_id: text(alloc, "1")?, workflow: text(alloc, "Nap")? },
-        b'k' => EventKind::RequestCancelExternalWorkflowExecutionInitiated { workflow_id: text(alloc, "1")? },
+        b'K' => EventKind::StartChildWorkflowExecutionInitiated { workflow_id: text_of(alloc, "1")?, workflow: text_of(alloc, "Nap")? },
+        b'k' => EventKind::RequestCancelExternalWorkflowExecutionInitiated { workflow_id: text_of(alloc, "1")? },
         b'x' => EventKind::ChildWorkflowExecutionCanceled { initiated: number },
-        b'm' => EventKind::MarkerRecorded { change_id: text(alloc, "a")?, version: 1 },
+        b'm' => EventKind::MarkerRecorded { change_id: text_of(alloc, "a")?, version: 1 },
         b'D' => EventKind::WorkflowExecutionCompleted,
         _ => EventKind::Inert,
     })
@@ -74,12 +78,18 @@ pub(crate) fn push(
     letter: u8,
     number: u64,
 ) -> Result<(), OutOfMemory> {
-    append(events, kind_of(alloc, letter, number)?)
+    append(events, 0, kind_of(alloc, letter, number)?)
 }
 
-/// Appends an event of the kind, with the next number.
-pub(crate) fn append(events: &mut Vec<Event>, body: EventKind) -> Result<(), OutOfMemory> {
-    let Some(number) = EventNo::new((events.len() as u64).saturating_add(1)) else {
+/// Appends an event of the kind, with the next number, to events that go on behind so many others.
+/// `OutOfMemory` too where the numbers end.
+pub(crate) fn append(
+    events: &mut Vec<Event>,
+    behind: u64,
+    body: EventKind,
+) -> Result<(), OutOfMemory> {
+    let next = behind.saturating_add(events.len() as u64).saturating_add(1);
+    let Some(number) = EventNo::new(next) else {
         return Err(OutOfMemory);
     };
     events.push(Event {

@@ -1,7 +1,7 @@
 //! A workflow that is easily told what it can't do.
 use std::alloc::Global;
-use wh_events::{OutOfMemory, Text};
-use wh_workflow::{Command, Job, Meter, Workflow};
+use wh_events::OutOfMemory;
+use wh_workflow::{Command, Job, Meter, Workflow, text_of};
 
 /// Sets a timer at one job, and cancels it at the next one.
 pub(crate) struct Blink;
@@ -41,7 +41,7 @@ impl Workflow for Blink {
         meter: &mut Meter,
     ) -> Result<(), OutOfMemory> {
         meter.tick();
-        let id = Text::new(String::from_str(alloc, "t")?);
+        let id = text_of(alloc, "t")?;
         let command = if *state {
             Command::StartTimer { id, seconds: 60 }
         } else {

@@ -5,13 +5,19 @@ use std::mem;
 use wh_events::OutOfMemory;
 use wh_workflow::{Command, Job, Meter, Workflow};
 
-/// How many bytes each step takes.
+/// How many bytes each signal takes.
 const BLOCK: usize = 1 << 20;
 
-/// Gives nothing to any job. Each step takes a block of memory, writes all of it and never gives it
-/// back, so the peak of the process's memory tells how many steps were made in it, whatever became
-/// of their states.
-pub struct Keeper;
+/// Gives nothing to any job. Each step by a signal takes a block of memory, writes all of it and
+/// never gives it back, so the peak of the process's memory tells how many signals were told in it,
+/// whatever became of the states.
+pub(crate) struct Keeper;
+
+/// Takes a block of memory for good.
+fn keep_block(alloc: Global) -> Result<(), OutOfMemory> {
+    mem::forget(vec![in alloc; 1u8; BLOCK]?);
+    Ok(())
+}
 
 impl Workflow for Keeper {
     ghost use Rattle.std.specs.Prelude.{true, [], refl, bytes_eq, codes};
@@ -39,13 +45,14 @@ impl Workflow for Keeper {
     fn step(
         alloc: Global,
         _state: &mut bool,
-        _job: &Job,
+        job: &Job,
         _out: &mut Vec<Command>,
         meter: &mut Meter,
     ) -> Result<(), OutOfMemory> {
         meter.tick();
-        let block = vec![in alloc; 1u8; BLOCK]?;
-        mem::forget(block);
+        if matches!(job, Job::Signal { .. }) {
+            keep_block(alloc)?;
+        }
         Ok(())
     }
 }

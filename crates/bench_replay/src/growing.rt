@@ -1,0 +1,86 @@
+//! A long run that goes on by so many tasks, one call of `Run::advance` for each.
+ghost use Rattle.std.specs.Prelude.{◌≡◌, ◌++◌, IfSome};
+ghost use Rattle.wh_replay.specs.Runs.{advance_steps};
+ghost use Rattle.wh_workflow.specs.Counting.{risen};
+
+use crate::long_run::LongRun;
+use std::rt::Runtime;
+use std::time::{Duration, Instant};
+use wh_events::Event;
+use wh_replay::Run;
+use wh_sample_workflows::Flood;
+use wh_workflow::{Meter, Workflow};
+
+/// The run, each of whose tasks starts as many timers as a step may.
+const LONG: LongRun = LongRun {
+    workflow: "Flood",
+    timers: 64,
+};
+
+/// What is done with it.
+#[derive(Clone, Copy)]
+pub(crate) struct Plan {
+    /// How many tasks of the run are completed before the calls.
+    pub(crate) tasks: u64,
+    /// How many calls are made. Each lets the run go on by one task.
+    pub(crate) calls: u64,
+}
+
+/// What the calls of a plan counted and took.
+#[derive(Clone, Copy)]
+struct Measured {
+    /// By how many steps they raised the meter.
+    steps: u64,
+    /// How long they took together.
+    took: Duration,
+}
+
+/// Lets the run go on by one task, and adds how long the call took. `None` where the run can't go
+/// on, where it does not end with a task's timers to be sent, and where there is no clock.
+fn go_on_once<R: Runtime + AllocGlobal, W: Workflow>(
+    rt: &R,
+    run: Run<W>,
+    more: Vec<Event>,
+    meter: &mut Meter,
+    took: &mut Duration,
+) -> Option<Run<W>>
+    ensures run { IfSome result (λ next. next.events ≡ run.events ++ more.items) }
+
+    // The call raises the meter by the steps of the new events, and nothing else does.
+    ensures meter { IfSome result (λ _. meter.new ≡ risen meter.old (advance_steps W.program run.events more.items)) }
+{
+    let start = Instant::now(rt).ok()?;
+    let run = run.advance(rt.alloc(), more, meter).ok()?;
+    *took = took.saturating_add(start.elapsed(rt).ok()?);
+    if run.commands().len() as u64 != LONG.timers {
+        return None;
+    }
+    Some(run)
+}
+
+/// Makes the calls of a plan. `None` where replay has a fault or no memory, and where there is no
+/// clock.
+fn measure<R: Runtime + AllocGlobal, W: Workflow>(rt: &R, plan: Plan) -> Option<Measured> {
+    let Plan { tasks, calls } = plan;
+    let mut meter = Meter::new();
+    let mut run = LONG.replayed::<W>(rt.alloc(), tasks, &mut meter)?;
+    let before = meter.count();
+    let mut took = Duration::ZERO;
+    for completed in tasks..tasks.saturating_add(calls) {
+        let more = LONG.next_task(rt.alloc(), completed).ok()?;
+        run = go_on_once(rt, run, more, &mut meter, &mut took)?;
+    }
+    let steps = meter.count().saturating_sub(before);
+    Some(Measured { steps, took })
+}
+
+/// Tells the steps that the calls of a plan count, and how long they took. `None` where they can't
+/// be made.
+pub(crate) fn tell<R: Runtime + AllocGlobal>(rt: &R, plan: Plan) -> Option<()> {
+    let Plan { tasks, calls } = plan;
+    let Measured { steps, took } = measure::<R, Flood>(rt, plan)?;
+    let micros = took.as_micros();
+    let _ = println!(rt; "{tasks} tasks, and {calls} more: {steps} steps of the calls");
+    let _ = eprintln!(rt; "the calls took {micros} microseconds");
+    Some(())
+}

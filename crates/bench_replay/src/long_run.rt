@@ -1,0 +1,98 @@
+//! Histories of long runs, each of whose tasks does the same.
+use crate::notation::{append, signal, start};
+use std::alloc::Global;
+use wh_events::{Event, EventKind, OutOfMemory, RunKey, Text};
+use wh_replay::Run;
+use wh_workflow::{Meter, Workflow, text_of};
+
+/// A run that is told a signal in each task but the first, and starts so many timers in each.
+#[derive(Clone, Copy)]
+pub(crate) struct LongRun {
+    /// Its workflow type.
+    pub(crate) workflow: &'static str,
+    /// How many timers each task starts.
+    pub(crate) timers: u64,
+}
+
+impl LongRun {
+    /// How many events stand before the task that is taken behind so many completed ones: those of
+    /// each, which are its completion, its timers, a signal and the start of the next, and the
+    /// first three of the run.
+    fn events_before(self, tasks: u64) -> u64 {
+        tasks
+            .saturating_mul(self.timers.saturating_add(4))
+            .saturating_add(3)
+    }
+
+    /// Appends what completes a task, counted from 0, and the next one up to its start, to events
+    /// that go on behind so many others.
+    fn append_task(
+        self,
+        alloc: Global,
+        events: &mut Vec<Event>,
+        behind: u64,
+        task: u64,
+    ) -> Result<(), OutOfMemory> {
+        append(events, behind, EventKind::WorkflowTaskCompleted)?;
+        let first = task.saturating_mul(self.timers);
+        for timer in first..first.saturating_add(self.timers) {
+            append_timer(alloc, events, behind, timer)?;
+        }
+        append_start(events, behind, signal(alloc, "more")?)
+    }
+
+    /// So many completed tasks, and one more that is taken.
+    fn first_tasks(self, alloc: Global, tasks: u64) -> Result<Vec<Event>, OutOfMemory> {
+        let mut events = Vec::new(alloc);
+        append_start(&mut events, 0, start(alloc, self.workflow)?)?;
+        for task in 0..tasks {
+            self.append_task(alloc, &mut events, 0, task)?;
+        }
+        Ok(events)
+    }
+
+    /// What completes the task after so many, and the next one up to its start.
+    pub(crate) fn next_task(self, alloc: Global, tasks: u64) -> Result<Vec<Event>, OutOfMemory> {
+        let mut events = Vec::new(alloc);
+        self.append_task(alloc, &mut events, self.events_before(tasks), tasks)?;
+        Ok(events)
+    }
+
+    /// The run of so many completed tasks. `None` where it can't be made.
+    pub(crate) fn replayed<W: Workflow>(
+        self,
+        alloc: Global,
+        tasks: u64,
+        meter: &mut Meter,
+    ) -> Option<Run<W>> {
+        let events = self.first_tasks(alloc, tasks).ok()?;
+        let key = key(alloc).ok()?;
+        Run::<W>::from_first(alloc, key, events, meter).ok()
+    }
+}
+
+/// Appends a task up to its start: what it is told, and that it is put in the queue and taken.
+fn append_start(events: &mut Vec<Event>, behind: u64, told: EventKind) -> Result<(), OutOfMemory> {
+    append(events, behind, told)?;
+    append(events, behind, EventKind::WorkflowTaskScheduled)?;
+    append(events, behind, EventKind::WorkflowTaskStarted)
+}
+
+/// Appends the start of a timer, whose id is the number.
+fn append_timer(
+    alloc: Global,
+    events: &mut Vec<Event>,
+    behind: u64,
+    timer: u64,
+) -> Result<(), OutOfMemory> {
+    let id = Text::new(format!(in alloc; "{timer}")?);
+    append(events, behind, EventKind::TimerStarted { id })
+}
+
+/// The key of the runs.
+fn key(alloc: Global) -> Result<RunKey, OutOfMemory> {
+    Ok(RunKey {
+        workflow_id: text_of(alloc, "long")?,
+        run_id: text_of(alloc, "first")?,
+    })
+}

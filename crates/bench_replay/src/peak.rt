@@ -1,0 +1,58 @@
+//! A run of a workflow that takes memory for good: whether going on by one task steps that task
+//! alone, told by the peak of the process's memory, which Linux keeps in a file.
+use crate::keeper::Keeper;
+use crate::long_run::LongRun;
+use std::rt::{Files, Runtime};
+use std::str;
+use wh_files::read_file;
+use wh_workflow::{Meter, Workflow};
+
+/// The run, whose workflow takes a block of memory by each signal.
+const LONG: LongRun = LongRun {
+    workflow: "Keeper",
+    timers: 0,
+};
+
+/// How many tasks are completed before the call.
+const TASKS: u64 = 200;
+
+/// How many KiB the replay of these tasks takes at least: seven eighths of a block for each.
+const LEAST: u64 = TASKS * 896;
+
+/// How many KiB the call takes at most: 16 blocks.
+const MOST: u64 = 16 * 1024;
+
+/// The most memory, in KiB, that the process had up to now.
+fn peak<R: Files + AllocGlobal>(rt: &R) -> Option<u64> {
+    let status = read_file(rt, "/proc/self/status").ok()?;
+    for line in str::from_utf8(status.as_slice()).ok()?.lines() {
+        if let Some(size) = line.strip_prefix("VmHWM:") {
+            return size.trim().strip_suffix(" kB")?.parse::<u64>().ok();
+        }
+    }
+    None
+}
+
+/// By how many KiB the peak rises in the replay of all tasks, and then in the call that goes on by
+/// one more. `None` where there is no run, or no peak.
+fn rises<R: Files + AllocGlobal, W: Workflow>(rt: &R) -> Option<(u64, u64)> {
+    let mut meter = Meter::new();
+    let more = LONG.next_task(rt.alloc(), TASKS).ok()?;
+    let first = peak(rt)?;
+    let run = LONG.replayed::<W>(rt.alloc(), TASKS, &mut meter)?;
+    let before = peak(rt)?;
+    let _run = run.advance(rt.alloc(), more, &mut meter).ok()?;
+    let after = peak(rt)?;
+    Some((before.saturating_sub(first), after.saturating_sub(before)))
+}
+
+/// Tells whether the peak shows a replay, and whether the call stepped the new task alone: whether
+/// both hold. `None` where that can't be told.
+pub(crate) fn tell<R: Runtime + AllocGlobal>(rt: &R) -> Option<bool> {
+    let (replay, call) = rises::<R, Keeper>(rt)?;
+    let (shows, is_within) = (LEAST <= replay, call <= MOST);
+    let _ = eprintln!(rt; "the peak rose by {replay} KiB in the replay, by {call} KiB in the call");
+    let _ = println!(rt; "the replay of {TASKS} tasks shows in the peak of memory: {shows}");
+    let _ = println!(rt; "one more task takes 16 MiB at most: {is_within}");
+    Some(shows && is_within)
+}
