@@ -5,7 +5,8 @@ ghost use Rattle.wh_workflow.specs.Law.{IsAnswer};
 use wh_events::OutOfMemory;
 use wh_workflow::Command;
 
-/// Appends the command, if there is one. After `OutOfMemory` nothing is appended.
+/// Appends the command, if there is one. After `OutOfMemory` the commands from before are still
+/// there.
 pub(crate) fn give(out: &mut Vec<Command>, given: Option<Command>) -> Result<(), OutOfMemory>
     requires lawful { IsAnswer (option_to_list given) }
     ensures commands { OnOk result (out.new.items ≡ out.old.items ++ option_to_list given) }
@@ -18,7 +19,7 @@ pub(crate) fn give(out: &mut Vec<Command>, given: Option<Command>) -> Result<(),
     Ok(())
 }
 
-/// Appends the commands. After `OutOfMemory` nothing is appended.
+/// Appends the commands. After `OutOfMemory` those from before are still there.
 pub(crate) fn give_all(out: &mut Vec<Command>, mut given: Vec<Command>) -> Result<(), OutOfMemory>
     requires lawful { IsAnswer given.items }
     ensures commands { OnOk result (out.new.items ≡ out.old.items ++ given.items) }
