@@ -18,7 +18,7 @@ use Rattle.wh_machines.specs.declared.opening.Opening.{Opening}
 use Rattle.wh_machines.specs.Openings.{named_of, opening_with, opened_by, opening_of, status_up_to}
 use Rattle.wh_machines.specs.declared.jumps.Jump.{Jump}
 use Rattle.wh_machines.specs.Jumps.{jump_at, back_by, IsAlike, JumpsBack}
-use Rattle.wh_machines.specs.Chain.{IsLastWithin}
+use Rattle.wh_machines.proofs.Chain.{IsLastWithin}
 use Rattle.wh_machines.proofs.Placed.{NumberedFrom, numbered_after, numbered_take}
 use Rattle.wh_machines.proofs.Firsts.{closed_by-first, status_up_to_is}
 use Rattle.wh_machines.proofs.Named.{opens_under-is, opens_at, last_named_role, last_named-take}

@@ -7,4 +7,5 @@ pub mod Named
 pub mod OpenNamed
 pub mod Jumping
 pub mod Steps
+pub mod Chain
 pub mod Found

@@ -3,4 +3,3 @@ pub mod Openings
 pub mod Changes
 pub mod Jumps
 pub mod Tables
-pub mod Chain

@@ -12,7 +12,7 @@ use Rattle.wh_machines.proofs.Found.{is_named_kind}
 use Rattle.wh_workflow.specs.Scripts.{Standpoint, cancels_open, closer_of, has_outside}
 use Rattle.wh_match.specs.declared.standing.Standing.{Standing}
 use Rattle.wh_match.specs.Issuing.{standpoint_at}
-use Rattle.wh_match.specs.Standings.{standing_of, standing_by, standing_in}
+use Rattle.wh_match.specs.Standings.{standing_of, standing_by}
 
 -- the first events of a history in place are in place
 pub first_placed : (count : ℕ) (before events : List Event) → fault_after before events ≡ None → fault_after before (take count events) ≡ None
@@ -22,6 +22,11 @@ first_placed (suc count) before (event ∷ rest) h =
     let here : place_fault before event ≡ None = place_none _ _ _ h in
     let later = first_placed count (before ++ event ∷ []) rest (later_none _ _ _ h) in
     rw (here, later) refl
+
+-- how things of a kind and an id stand, by the last of them at the cut, if there is one
+abbrev pub standing_in : List Event → Option (ℕ × Status) → Standing
+standing_in between None = record { is_open = false; is_cancelling = false; is_ended = false }
+standing_in between (Some last) = standing_by between last.1
 
 -- how things stand, where this one of them is open and that one is the last
 abbrev standing_with : Standpoint → Option ℕ → Option ℕ → Standing

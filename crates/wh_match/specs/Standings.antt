@@ -37,11 +37,6 @@ standing_by between CancellingStatus = record { is_open = true; is_cancelling = 
 standing_by between Open = record { is_open = true; is_cancelling = false; is_ended = false }
 standing_by between Started = record { is_open = true; is_cancelling = false; is_ended = false }
 
--- how they stand, by the last of them at the cut, if there is one
-abbrev pub standing_in : List Event → Option (ℕ × Status) → Standing
-standing_in between None = record { is_open = false; is_cancelling = false; is_ended = false }
-standing_in between (Some last) = standing_by between last.1
-
 -- there is an event, and the workflow did not cause it itself
 abbrev pub is_outside_in : Option Event → Bool
 is_outside_in None = false

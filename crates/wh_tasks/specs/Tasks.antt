@@ -43,6 +43,13 @@ NeedsMemory Nothing events = ⊥
 NeedsMemory (Joined held) events = Unit {0}
 NeedsMemory Told events = Unit {0}
 
+-- the source is asked only where the task is replayed from what it tells
+abbrev pub AsksSource : Basis → Type 0
+AsksSource Own = ⊥
+AsksSource Nothing = ⊥
+AsksSource (Joined held) = ⊥
+AsksSource Told = Unit {0}
+
 -- the answer to a list of events: the fault of its replay, else the commands that it leaves unsent
 abbrev pub answer_to : {S : Type 0} → Program S → List Event → Answer
 answer_to program events = answered (run_of program events)

@@ -4,8 +4,9 @@ ghost use Rattle.wh_replay.specs.Replays.{ends_in_task};
 ghost use Rattle.wh_tasks.specs.Source.{KeepsOrigin, SameTasks};
 ghost use Rattle.wh_replay.specs.Runs.{follows, steps};
 ghost use Rattle.wh_tasks.specs.Numbers.{last_number};
-ghost use Rattle.wh_tasks.specs.Tasks.{basis_of, later_basis, NeedsMemory, StepsFrom, Steps};
+ghost use Rattle.wh_tasks.specs.Tasks.{basis_of, later_basis, NeedsMemory, AsksSource, StepsFrom, Steps};
 ghost use Rattle.wh_tasks.specs.Tasks.{Replays, ReplaysTold, HasAnswer, FailsOnlySource};
+ghost use Rattle.wh_tasks.specs.declared.source.SourceFault.{SourceFault};
 
 use crate::source::{SourceFault, TaskSource};
 use std::alloc::Global;
@@ -82,6 +83,8 @@ pub fn replay_task<W: Workflow, S: TaskSource>(
     ensures answers { S.answers source.new ≡ S.answers source.old }
     ensures failures { FailsOnlySource result (S.failures source.old) (S.failures source.new) }
     ensures memory { result ≡ Err StepFault.OutOfMemory → NeedsMemory (basis_of run events.items) events.items }
+    ensures asked { (fault : SourceFault) → result ≡ Err (StepFault.Source fault) →
+        AsksSource (basis_of run events.items) }
     ensures same { SameTasks (S.delivers source.old) (S.tells source.old) (S.delivers source.new) (S.tells source.new) }
     ensures origin { KeepsOrigin S.comes_from source.old source.new }
 {
@@ -117,6 +120,8 @@ fn replay_held<W: Workflow, S: TaskSource>(
     ensures origin { KeepsOrigin S.comes_from source.old source.new }
     ensures memory { result ≡ Err StepFault.OutOfMemory →
         NeedsMemory (later_basis (Some run) events.items) events.items }
+    ensures asked { (fault : SourceFault) → result ≡ Err (StepFault.Source fault) →
+        AsksSource (later_basis (Some run) events.items) }
 {
     let up_to = last_number(events.as_slice());
     match run.advance(alloc, events, meter) {
@@ -159,6 +164,8 @@ fn replay_unheld<W: Workflow, S: TaskSource>(
     ensures same { SameTasks (S.delivers source.old) (S.tells source.old) (S.delivers source.new) (S.tells source.new) }
     ensures origin { KeepsOrigin S.comes_from source.old source.new }
     ensures memory { result ≡ Err StepFault.OutOfMemory → NeedsMemory (later_basis None events.now) events.now }
+    ensures asked { (fault : SourceFault) → result ≡ Err (StepFault.Source fault) →
+        AsksSource (later_basis None events.now) }
 {
     if events.is_empty() {
         return Ok(Stepped {

@@ -1,8 +1,8 @@
 use Rattle.std.proofs.Common.{sym, ap, ◌∙◌, ◌+◌, map, drop, Some}
 use Rattle.serde_json.specs.View.{view}
-use Rattle.wh_json.specs.Outcome.{all_of, with_front}
+use Rattle.wh_json.specs.Outcome.{all_of}
 use Rattle.wh_json.specs.Events.{members_from}
-use Rattle.wh_json.proofs.Outcomes.{member_on, members_all}
+use Rattle.wh_json.proofs.Outcomes.{with_front, member_on, members_all}
 use Rattle.wh_json.proofs.events.each_event.Goals as goal
 
 pub loop-index-preserved : goal.loop-index-preserved

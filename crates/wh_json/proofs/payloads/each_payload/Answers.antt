@@ -1,8 +1,8 @@
 use Rattle.std.proofs.Common.{sym, ap, ◌∙◌, ◌+◌, map, drop}
 use Rattle.serde_json.specs.View.{view}
-use Rattle.wh_json.specs.Outcome.{all_of, with_front}
+use Rattle.wh_json.specs.Outcome.{all_of}
 use Rattle.wh_json.specs.Payloads.{payload_of}
-use Rattle.wh_json.proofs.Outcomes.{read_on, read_all}
+use Rattle.wh_json.proofs.Outcomes.{with_front, read_on, read_all}
 use Rattle.wh_json.proofs.payloads.each_payload.Goals as goal
 
 pub loop-value-preserved : goal.loop-value-preserved

@@ -1,6 +1,6 @@
 use Rattle.std.proofs.Common.{unwrap_or}
 use Rattle.wh_machines.specs.Lookups.{thing_of}
-use Rattle.wh_machines.specs.Chain.{IsLastWithin}
+use Rattle.wh_machines.proofs.Chain.{IsLastWithin}
 use Rattle.wh_machines.proofs.track.Track.last_at.Given as goal
 
 abbrev pub invariant-loop-last : goal.invariant-loop-last
