@@ -98,9 +98,11 @@ failures_of source file = failures_by source file.name file.fault
 -- the failed tasks of files in their order, where so many stand before them
 abbrev pub failures_from : List Stage → ℕ → List Dealt → List FileFailure
 failures_from sources before [] = []
-failures_from sources before (file ∷ rest) = failures_of (source_at sources before) file ++ failures_from sources (before + 1) rest
+failures_from sources before (file ∷ rest) =
+    failures_of (source_at sources before) file ++ failures_from sources (before + 1) rest
 
--- what a worker leaves: what its seat counted, its source with the answers that it was sent, and the first fault of the source,
+-- what a worker leaves: what its seat counted, its source with the answers that it was sent, and
+-- the first fault of the source,
 -- if there was one
 pub record Left : Type 0 where
   pub counted : Shares
@@ -114,17 +116,21 @@ none_left = record { counted = no_shares; source = no_source; fault = None }
 abbrev pub left_of : Shares → Stage → Option SourceFault → Left
 left_of counted source fault = record { counted = counted; source = source; fault = fault }
 
--- what is gathered of the files and of what the workers leave: a row for each file, the sums of what their seats counted, and
+-- what is gathered of the files and of what the workers leave: a row for each file, the sums of
+-- what their seats counted, and
 -- whether none of them has a fault
-pub record IsGathered (left : List Left) (dealt : List Dealt) (rows : List Row) (totals : Totals) (faultless : Bool) : Type 0 where
+pub record IsGathered (left : List Left) (dealt : List Dealt) (rows : List Row) (totals : Totals)
+    (faultless : Bool) : Type 0 where
   pub told : rows ≡ rows_from (map (λ worker. worker.source) left) 0 dealt
   pub sums : totals ≡ totals_of (sums_of (map (λ worker. worker.counted) left))
   pub balanced : totals.taken ≡ totals.completed + totals.failed + totals.in_hand
   pub no_fault : faultless ≡ list_all (λ worker. is_none worker.fault) left
 
--- what so many workers did with files: each had a source over the histories that it was dealt, and no others; the source that
+-- what so many workers did with files: each had a source over the histories that it was dealt, and
+-- no others; the source that
 -- it leaves comes from that one, and was sent at most as many answers as the worker's seat took tasks
-pub record IsService (files : List File) (count : ℕ) (rows : List Row) (totals : Totals) (faultless : Bool) : Type 0 where
+pub record IsService (files : List File) (count : ℕ) (rows : List Row) (totals : Totals)
+    (faultless : Bool) : Type 0 where
   pub left : List Left
   pub workers : length left ≡ count
   pub own : (worker : ℕ) → worker < count
@@ -133,16 +139,20 @@ pub record IsService (files : List File) (count : ℕ) (rows : List Row) (totals
       → length (get_or left worker none_left).source.answers ≤ (get_or left worker none_left).counted.taken
   pub gathered : IsGathered left (map dealt_of files) rows totals faultless
 
--- a service with what is told of it beside its report: by the sources that the workers leave, the failed tasks of the files, and
+-- a service with what is told of it beside its report: by the sources that the workers leave, the
+-- failed tasks of the files, and
 -- whether the last task of a history has a record, which it was not compared with
-pub record IsToldService (files : List File) (count : ℕ) (rows : List Row) (totals : Totals) (faultless : Bool) (failures : List FileFailure) (uncompared : Bool) : Type 0 where
+pub record IsToldService (files : List File) (count : ℕ) (rows : List Row) (totals : Totals) (faultless : Bool)
+    (failures : List FileFailure) (uncompared : Bool) : Type 0 where
   pub service : IsService files count rows totals faultless
   pub failed : failures ≡ failures_from (map (λ worker. worker.source) service.left) 0 (map dealt_of files)
   pub last : uncompared ≡ list_any (λ worker. has_last_record worker.source) service.left
 
 -- `<tasks> tasks, <completed> completed, <failed> failed`
 abbrev pub tally_text : Tally → List ℕ
-tally_text tally = decimal tally.tasks ++ (codes " tasks, " ++ (decimal tally.completed ++ (codes " completed, " ++ (decimal tally.failed ++ codes " failed\n"))))
+tally_text tally =
+    decimal tally.tasks ++ (codes " tasks, "
+    ++ (decimal tally.completed ++ (codes " completed, " ++ (decimal tally.failed ++ codes " failed\n"))))
 
 abbrev pub outcome_text : List ℕ → Result Tally ReadFault → List ℕ
 outcome_text name (Ok tally) = shown name ++ (codes ": " ++ tally_text tally)
@@ -154,7 +164,12 @@ row_text row = outcome_text row.name row.outcome
 
 -- `taken <taken>, completed <completed>, failed <failed>, in hand <in hand>`
 abbrev pub totals_text : Totals → List ℕ
-totals_text totals = codes "taken " ++ (decimal totals.taken ++ (codes ", completed " ++ (decimal totals.completed ++ (codes ", failed " ++ (decimal totals.failed ++ (codes ", in hand " ++ (decimal totals.in_hand ++ codes "\n")))))))
+totals_text totals =
+    codes "taken " ++ (decimal totals.taken
+    ++ (codes ", completed " ++
+    (decimal totals.completed
+    ++ (codes ", failed " ++ (decimal totals.failed
+    ++ (codes ", in hand " ++ (decimal totals.in_hand ++ codes "\n")))))))
 
 -- a line for each file, then the totals
 abbrev pub service_text : List Row → Totals → List ℕ

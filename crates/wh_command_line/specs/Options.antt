@@ -8,7 +8,13 @@ use Rattle.wh_command_line.specs.Lines.{value_named}
 -- how large a host the numbers ask for
 abbrev pub config_of : (workers cache cache_events slots : ℕ) → Config
 config_of workers cache cache_events slots =
-    record { workflow_slots = slots; activity_slots = slots; cache = cache; cache_events = cache_events; seats = workers }
+    record {
+      workflow_slots = slots;
+      activity_slots = slots;
+      cache = cache;
+      cache_events = cache_events;
+      seats = workers;
+    }
 
 -- each number is within its limits, which are those of a host
 abbrev pub AreWithinLimits : (workers cache cache_events slots : ℕ) → Type 0

@@ -9,7 +9,8 @@ use Rattle.wh_command_line.specs.declared.command_line.Plan.TheVariants.{Replay,
 
 -- the numbers of a plan are within their limits, with at least as many slots as workers
 abbrev pub IsWithinLimits : Plan → Type 0
-IsWithinLimits (Serve dir workers cache cache_events slots) = AreWithinLimits workers cache cache_events slots × (workers ≤ slots)
+IsWithinLimits (Serve dir workers cache cache_events slots) =
+    AreWithinLimits workers cache cache_events slots × (workers ≤ slots)
 IsWithinLimits _ = Unit {0}
 
 -- the plan is to serve a folder with these options

@@ -47,7 +47,7 @@ same_key-true a b e =
 pub same_key-refl : (a : RunKey) → same_key a a ≡ true
 same_key-refl a =
     both_hold (same_text a.workflow_id a.workflow_id) (same_text a.run_id a.run_id) (same_text-refl a.workflow_id)
-        (same_text-refl a.run_id)
+    (same_text-refl a.run_id)
 
 -- being the same is an equivalence
 pub same_key-equiv : IsEquivalence same_key

@@ -62,7 +62,7 @@ module _ {S : Type 0} where
   abbrev pub IsTask : Program S → List Event → (last number : ℕ) → S → Settled → ExplainedTask → Type 0
   IsTask program events last number state settled task =
       IsTaskAt program events (standpoint_after events last number)
-              (jobs_at events last number) number state settled task
+      (jobs_at events last number) number state settled task
 
   -- what is explained of the cuts of these numbers behind the last one: each of them once, in
   -- order, in what the steps before it leave, up to the first that stops
@@ -76,7 +76,7 @@ module _ {S : Type 0} where
         (tasks : List ExplainedTask)
         → IsTask program events last number state settled task → stops task.ending ≡ false
         → AreTasks program events number rest (state_after program state task.steps)
-            (settled_after settled task.steps) tasks
+        (settled_after settled task.steps) tasks
         → AreTasks program events last (number ∷ rest) state settled (task ∷ tasks)
 
   -- where there is code for the workflow type

@@ -36,7 +36,7 @@ pairings history [] (event ∷ _) = CommandMissing (recorded_event history event
 pairings history (command ∷ _) [] = CommandExtra command ∷ []
 pairings history (command ∷ commands) (event ∷ events) =
     pairing_of history command event
-        ∷ (if names history command event.body then pairings history commands events else [])
+    ∷ (if names history command event.body then pairings history commands events else [])
 
 -- what is sent differs from what is recorded
 abbrev pub differs : Pairing → Bool

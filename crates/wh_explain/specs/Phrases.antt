@@ -29,8 +29,12 @@ pub record Phrase : Type 0 where
 -- the phrase that the code's is
 abbrev pub phrase_seen : code.Phrase → Phrase
 phrase_seen p =
-    record { kind = p.kind.now; id = option_map (λ s. s.now) p.id; name = option_map (λ s. s.now) p.name;
-        detail = p.detail }
+    record {
+      kind = p.kind.now;
+      id = option_map (λ s. s.now) p.id;
+      name = option_map (λ s. s.now) p.name;
+      detail = p.detail;
+    }
 
 -- a kind alone
 abbrev pub bare : List ℕ → Phrase

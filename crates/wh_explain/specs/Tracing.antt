@@ -13,14 +13,17 @@ abbrev pub stood : Standpoint → Settled → List Command → List Command → 
 stood standpoint settled earlier [] = []
 stood standpoint settled earlier (command ∷ rest) =
     command ∷ (if is_some (command_fault standpoint settled earlier command) then []
-        else stood standpoint settled (earlier ++ command ∷ []) rest)
+    else stood standpoint settled (earlier ++ command ∷ []) rest)
 
 module _ {S : Type 0} where
   -- the step of a job: what the workflow gives at it
   abbrev pub step_of : Program S → Standpoint → Progress S → Job → Step
   step_of program standpoint progress job =
-      record { job = job; commands = stood standpoint progress.script.settled progress.script.issued
-          (program.gives progress.state job) }
+      record {
+        job = job;
+        commands = stood standpoint progress.script.settled progress.script.issued
+            (program.gives progress.state job);
+      }
 
   -- the steps of jobs, of which a version job comes first where the step before asks for it, and
   -- what they come to: each job has one step, in order, up to the first with a fault
@@ -31,6 +34,6 @@ module _ {S : Type 0} where
         → turn program standpoint job progress ≡ Err fault
         → IsTraced program standpoint (job ∷ jobs) progress (step_of program standpoint progress job ∷ []) (Err fault)
     stepped : (job : Job) (jobs : List Job) (progress : Progress S) (next : Turn S) (steps : List Step)
-            (result : Result (Progress S) WorkflowFault) → turn program standpoint job progress ≡ Ok next
+        (result : Result (Progress S) WorkflowFault) → turn program standpoint job progress ≡ Ok next
         → IsTraced program standpoint (option_to_list next.next ++ jobs) next.progress steps result
         → IsTraced program standpoint (job ∷ jobs) progress (step_of program standpoint progress job ∷ steps) result

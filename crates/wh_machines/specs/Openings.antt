@@ -62,4 +62,4 @@ up_to place (Some number) = if leb number place then Some number else None
 abbrev pub status_up_to : ℕ → Opening → Status
 status_up_to place opening =
     status_by (up_to place opening.closed) (is_some (up_to place opening.cancelling))
-        (is_some (up_to place opening.started))
+    (is_some (up_to place opening.started))

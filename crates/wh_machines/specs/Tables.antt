@@ -49,7 +49,7 @@ named_in names _ id = None
 
 -- the events are in place, and the tables hold what they tell
 pub record IsTracked (events : List Event) (over : Bool) (openings : Openings) (names : Names)
-        (jumps : List Jump) : Type 0 where
+    (jumps : List Jump) : Type 0 where
   pub placed : fault_after [] events ≡ None
   pub ended : over ≡ is_over events
   pub sound : IsSound openings

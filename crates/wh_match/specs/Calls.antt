@@ -47,7 +47,7 @@ CallsKeepMarks =
 abbrev pub sent_of : List Event → Option (List Event) → ℕ → ℕ → List Call → List Command
 sent_of events recorded previous cut calls =
     reduced_by (after_calls events recorded (begun previous cut) calls).late
-        (after_calls events recorded (begun previous cut) calls).issued
+    (after_calls events recorded (begun previous cut) calls).issued
 
 -- after each list of calls from the beginning, what is sent is what is sent of the issued commands at the standpoint
 abbrev pub CallsReduce : Type 0
@@ -55,4 +55,4 @@ CallsReduce =
     (events : List Event) (recorded : Option (List Event)) (previous cut : ℕ) (calls : List Call)
     → sent_of events recorded previous cut calls
     ≡ reduced (standpoint_at events previous cut recorded)
-        (after_calls events recorded (begun previous cut) calls).issued
+    (after_calls events recorded (begun previous cut) calls).issued

@@ -20,7 +20,7 @@ workflow_fault (Err OutOfMemory) = None
 abbrev pub early_fault : List Command → Option WorkflowFault
 early_fault earlier =
     or_else (fault_if (some_act act_closes earlier) AfterClosing)
-        (fault_if (leb most_commands (length (given earlier))) TooManyCommands)
+    (fault_if (leb most_commands (length (given earlier))) TooManyCommands)
 
 -- still open after the earlier commands
 abbrev pub still_open_by : Standing → List Command → Thing → List ℕ → Bool
@@ -41,17 +41,17 @@ is_cancelled_by standing earlier thing id =
 abbrev pub opening_fault_by : Standing → List Command → Thing → List ℕ → Option WorkflowFault
 opening_fault_by standing earlier thing id =
     or_else (fault_if (still_open_by standing earlier thing id) IdInUse)
-        (fault_if (withdrawn thing id earlier) IdReused)
+    (fault_if (withdrawn thing id earlier) IdReused)
 
 -- why a thing that stands so can't be cancelled
 abbrev pub cancel_fault_by : Standing → List Command → Thing → List ℕ → Option WorkflowFault
 cancel_fault_by standing earlier thing id =
     or_else
-        (fault_if (not (still_open_by standing earlier thing id) && not (is_late_by standing earlier thing id)) NotOpen)
-        (fault_if (is_cancelled_by standing earlier thing id) AlreadyCancelling)
+    (fault_if (not (still_open_by standing earlier thing id) && not (is_late_by standing earlier thing id)) NotOpen)
+    (fault_if (is_cancelled_by standing earlier thing id) AlreadyCancelling)
 
 -- why this version of a change can't be asked for
 abbrev pub range_fault : ℤ → ℤ → ℤ → Option WorkflowFault
 range_fault version low high =
     or_else (fault_if (int_lt high low || (int_lt low (negsuc 0) || int_lt high (pos 0))) BadRange)
-            (fault_if (int_lt version low || int_lt high version) VersionOutOfRange)
+    (fault_if (int_lt version low || int_lt high version) VersionOutOfRange)

@@ -44,8 +44,12 @@ late_marks standpoint issued = late_after standpoint [] issued
 -- with one more command
 abbrev pub with_issued : Issuing → Command → Bool → Issuing
 with_issued script command late =
-    record { previous = script.previous; cut = script.cut; issued = script.issued ++ command ∷ [];
-        late = script.late ++ late ∷ [] }
+    record {
+      previous = script.previous;
+      cut = script.cut;
+      issued = script.issued ++ command ∷ [];
+      late = script.late ++ late ∷ [];
+    }
 
 -- where a marker is issued, that it is no late cancel
 abbrev pub unmarked_if : Bool → List Bool

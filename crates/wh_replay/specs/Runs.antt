@@ -39,8 +39,13 @@ history_of run = record { events = run.events; machines = run.machines; settled 
 -- the run of a key with this history
 abbrev pub run_under : RunKey → HistoryView → Held
 run_under key history =
-    record { key = key; events = history.events; machines = history.machines; settled = history.settled;
-        unsent = history.unsent }
+    record {
+      key = key;
+      events = history.events;
+      machines = history.machines;
+      settled = history.settled;
+      unsent = history.unsent;
+    }
 
 -- the status of the machine of a number, if there is one
 abbrev pub status_in : List Machine → ℕ → Option Status
@@ -60,7 +65,7 @@ module _ {S : Type 0} where
 
   -- a history that ends in a started task, and what its tasks leave
   pub record IsRun (program : Program S) (events : List Event) (state : S) (settled : Settled)
-          (unsent : List Command) : Type 0 where
+      (unsent : List Command) : Type 0 where
     pub ends : ends_in_task events ≡ true
     pub gives : Gives (replay_tasks program events 0) state settled unsent
 
@@ -115,6 +120,6 @@ module _ {S : Type 0} where
   abbrev pub advanced : Program S → List Event → List Event → ℕ → Result (Upshot S) Fault
   advanced program held new meter =
       if confirms program held new
-          then replay_placed (history_fault (held ++ new))
-              (and_then (replay_tasks program held 0) (going_on program held new meter))
-          else replay_tasks program (held ++ new) meter
+      then replay_placed (history_fault (held ++ new))
+      (and_then (replay_tasks program held 0) (going_on program held new meter))
+      else replay_tasks program (held ++ new) meter

@@ -83,7 +83,7 @@ CancelsNothing standpoint earlier _ = ⊥
 abbrev pub CancelsAgain : Standpoint → List Command → Act → Type 0
 CancelsAgain standpoint earlier (Cancelling thing id) =
     (¬ (thing ≡ Timer)) × (IsCancellingAtCut standpoint thing id
-        ⊎ (HasOpen standpoint.seen thing id × Does earlier (Cancelling thing id)))
+    ⊎ (HasOpen standpoint.seen thing id × Does earlier (Cancelling thing id)))
 CancelsAgain standpoint earlier _ = ⊥
 
 -- an ask whose least version is above the greatest, or below -1, or whose greatest is below 0
@@ -123,7 +123,7 @@ row_of UnknownWorkflow = 9
 
 -- the least row that applies
 pub record IsLeastRow (standpoint : Standpoint) (settled : Settled) (earlier : List Command) (command : Command)
-        (fault : WorkflowFault) : Type 0 where
+    (fault : WorkflowFault) : Type 0 where
   pub applies : RowApplies standpoint settled earlier command fault
   pub least : (other : WorkflowFault) → RowApplies standpoint settled earlier command other
       → row_of fault ≤ row_of other
@@ -133,6 +133,6 @@ abbrev pub LeastRowDecides : Type 0
 LeastRowDecides =
     (standpoint : Standpoint) (settled : Settled) (earlier : List Command) (command : Command) → IsOfCut standpoint
     → ((command_fault standpoint settled earlier command ≡ None)
-        ↔ ((row : WorkflowFault) → ¬ RowApplies standpoint settled earlier command row))
+    ↔ ((row : WorkflowFault) → ¬ RowApplies standpoint settled earlier command row))
     × ((fault : WorkflowFault) → (command_fault standpoint settled earlier command ≡ Some fault)
-        ↔ IsLeastRow standpoint settled earlier command fault)
+    ↔ IsLeastRow standpoint settled earlier command fault)

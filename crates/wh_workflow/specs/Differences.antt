@@ -35,4 +35,4 @@ abbrev pub FirstDifferenceDecides : Type 0
 FirstDifferenceDecides = (history : List Event) (commands : List Command) (events : List Event)
     → ((mismatch history commands events ≡ None) ↔ IsMatch history commands events)
     × ((difference : Mismatch) → (mismatch history commands events ≡ Some difference)
-        ↔ IsFirstDifference history commands events difference)
+    ↔ IsFirstDifference history commands events difference)

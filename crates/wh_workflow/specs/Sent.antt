@@ -37,7 +37,7 @@ SendsAllButDropped =
 abbrev pub DropsPairs : Type 0
 DropsPairs =
     (standpoint : Standpoint) (before between after : List Command) (opening cancel : Command) (thing : Thing)
-        (id : List ℕ)
+    (id : List ℕ)
     → act_of opening ≡ Opening thing id → act_of cancel ≡ Cancelling thing id → ¬ Does between (Cancelling thing id)
     → IsDropped standpoint before (between ++ cancel ∷ after) (act_of opening)
     × IsDropped standpoint (before ++ opening ∷ between) after (act_of cancel)
