@@ -102,8 +102,7 @@ failures_from sources before (file ∷ rest) =
     failures_of (source_at sources before) file ++ failures_from sources (before + 1) rest
 
 -- what a worker leaves: what its seat counted, its source with the answers that it was sent, and
--- the first fault of the source,
--- if there was one
+-- the first fault of the source, if there was one
 pub record Left : Type 0 where
   pub counted : Shares
   pub source : Stage
@@ -117,8 +116,7 @@ abbrev pub left_of : Shares → Stage → Option SourceFault → Left
 left_of counted source fault = record { counted = counted; source = source; fault = fault }
 
 -- what is gathered of the files and of what the workers leave: a row for each file, the sums of
--- what their seats counted, and
--- whether none of them has a fault
+-- what their seats counted, and whether none of them has a fault
 pub record IsGathered (left : List Left) (dealt : List Dealt) (rows : List Row) (totals : Totals)
     (faultless : Bool) : Type 0 where
   pub told : rows ≡ rows_from (map (λ worker. worker.source) left) 0 dealt
@@ -127,8 +125,8 @@ pub record IsGathered (left : List Left) (dealt : List Dealt) (rows : List Row) 
   pub no_fault : faultless ≡ list_all (λ worker. is_none worker.fault) left
 
 -- what so many workers did with files: each had a source over the histories that it was dealt, and
--- no others; the source that
--- it leaves comes from that one, and was sent at most as many answers as the worker's seat took tasks
+-- no others; the source that it leaves comes from that one, and was sent at most as many answers as
+-- the worker's seat took tasks
 pub record IsService (files : List File) (count : ℕ) (rows : List Row) (totals : Totals)
     (faultless : Bool) : Type 0 where
   pub left : List Left
@@ -140,8 +138,8 @@ pub record IsService (files : List File) (count : ℕ) (rows : List Row) (totals
   pub gathered : IsGathered left (map dealt_of files) rows totals faultless
 
 -- a service with what is told of it beside its report: by the sources that the workers leave, the
--- failed tasks of the files, and
--- whether the last task of a history has a record, which it was not compared with
+-- failed tasks of the files, and whether the last task of a history has a record, which it was not
+-- compared with
 pub record IsToldService (files : List File) (count : ℕ) (rows : List Row) (totals : Totals) (faultless : Bool)
     (failures : List FileFailure) (uncompared : Bool) : Type 0 where
   pub service : IsService files count rows totals faultless
@@ -166,8 +164,7 @@ row_text row = outcome_text row.name row.outcome
 abbrev pub totals_text : Totals → List ℕ
 totals_text totals =
     codes "taken " ++ (decimal totals.taken
-    ++ (codes ", completed " ++
-    (decimal totals.completed
+    ++ (codes ", completed " ++ (decimal totals.completed
     ++ (codes ", failed " ++ (decimal totals.failed
     ++ (codes ", in hand " ++ (decimal totals.in_hand ++ codes "\n")))))))
 
