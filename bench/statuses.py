@@ -2,6 +2,7 @@
 """Starts the built program in each way that ends with another status, and compares the status and both streams with what
 README's table of statuses says. It is no part of the gate. It ends with status 1 where something differs."""
 
+import json
 import resource
 import subprocess
 import sys
@@ -17,6 +18,7 @@ SMALL_MEMORY = 64 << 20
 LARGE_FILE = b'{"events":[' + b'"' + b"x" * (60 << 20) + b'"]}'
 
 SERVED = "nap.json: 2 tasks, 2 completed, 0 failed\ntaken 2, completed 2, failed 0, in hand 0\n"
+SERVED_LIVE = "nap.json: 1 tasks, 1 completed, 0 failed\ntaken 1, completed 1, failed 0, in hand 0\n"
 UNREAD = "nap.json: unreadable, not JSON\n"
 AS_JSON = '{"file":"nap.json","verdict":"ok","tasks":2,"live":false}\n{"files":1,"ok":1}\n'
 HELP = """Usage: wfhost [COMMAND]
@@ -67,8 +69,18 @@ nap.json: 2 tasks, 2 completed, 0 failed
 racer.json: 4 tasks, 4 completed, 0 failed
 taken 17, completed 17, failed 0, in hand 0
 """
+UNCOMPARED = "wfhost: the last task of a recorded history is not compared with its record; replay does that\n"
+SERVED_BADLY = """nap.json: 2 tasks, 1 completed, 1 failed
+taken 2, completed 1, failed 1, in hand 0
+"""
 # Of these the first three are histories, in the order of the bytes of their names.
 NAMES = [".json", "B.json", "a.json", "C.JSON", "d.json.bak", "e.txt", "xjson"]
+
+
+def up_to(history, number):
+    """A history up to the event of this number."""
+    events = json.loads(history)["events"]
+    return json.dumps({"events": events[:number]}).encode()
 
 
 def folder_with(room, name, files):
@@ -85,6 +97,8 @@ def cases(room):
     well = folder_with(room, "well", {"nap.json": NAP})
     empty = folder_with(room, "empty", {})
     bad = folder_with(room, "bad", {"nap.json": b"{"})
+    strange = folder_with(room, "strange", {"nap.json": NAP.replace(b'"timerId":"nap"', b'"timerId":"nip"')})
+    live = folder_with(room, "live", {"nap.json": up_to(NAP, 3)})
     large = folder_with(room, "large", {"large.json": LARGE_FILE})
     broken = folder_with(room, "broken", {"nap.json": NAP})
     Path(broken, "gone.json").symlink_to("nowhere")
@@ -100,11 +114,13 @@ def cases(room):
     examples = str(TOP / "examples/histories")
     return [
         (["replay", well], 0, "nap.json: ok, 2 tasks\n1 files, 1 ok\n", "", {}),
-        (["serve", well], 0, SERVED, "", {}),
+        (["serve", well], 0, SERVED, UNCOMPARED, {}),
+        (["serve", live], 0, SERVED_LIVE, "", {}),
+        (["serve", strange], 1, SERVED_BADLY, "wfhost: nap.json: task at 8: event 5 differs\n" + UNCOMPARED, {}),
         (["replay", mixed], 0, chosen, "", {}),
         (["replay", examples], 0, EXAMPLES, "", {}),
-        (["serve", examples, "--workers", "4"], 0, SERVED_EXAMPLES, "", {}),
-        (["serve", examples, "--cache-events", "3"], 0, SERVED_EXAMPLES, "", {}),
+        (["serve", examples, "--workers", "4"], 0, SERVED_EXAMPLES, UNCOMPARED, {}),
+        (["serve", examples, "--cache-events", "3"], 0, SERVED_EXAMPLES, UNCOMPARED, {}),
         (["replay", str(Path(well, "nap.json"))], 0, "nap.json: ok, 2 tasks\n1 files, 1 ok\n", "", {}),
         (["replay", well, "--json"], 0, AS_JSON, "", {}),
         (["replay", "-"], 0, "-: ok, 2 tasks\n1 files, 1 ok\n", "", {"given": NAP}),

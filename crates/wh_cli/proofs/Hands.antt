@@ -9,10 +9,10 @@ use Rattle.std.proofs.lemmas.Grind.{get_or-set_at}
 use Rattle.std.proofs.lemmas.List.{append-nil, append_assoc, get_or-map, get_or-replicate, get_or-set_other, length-map, length-replicate}
 use Rattle.wh_events.specs.declared.event.Event.{Event}
 use Rattle.wh_recorded.specs.Rounds.{Scripted, Stage, opening_stage}
-use Rattle.wh_cli.specs.Services.{File, history_of, hand_from, hand_of, hand_seen, no_source}
+use Rattle.wh_cli.specs.Services.{Reading, history_of, hand_from, hand_in, hand_seen, no_source}
 
 -- what a worker is dealt of one more file
-more_dealt : (count worker before : ℕ) (files : List File) (file : File)
+more_dealt : (count worker before : ℕ) (files : List Reading) (file : Reading)
     → hand_from count worker before (files ++ (file ∷ [])) ≡ hand_from count worker before files ++ (if eqb ((before + length files) % count) worker then history_of (before + length files) file else [])
 more_dealt count worker before [] file =
     let none : before ≡ before + 0 = omega arith in
@@ -23,17 +23,17 @@ more_dealt count worker before (f ∷ fs) file =
     ap (λ l. own ++ l) (more_dealt count worker (before + 1) fs file ∙ ap (λ n. hand_from count worker (before + 1) fs ++ (if eqb (n % count) worker then history_of n file else [])) one)
     ∙ sym (append_assoc own (hand_from count worker (before + 1) fs) (if eqb ((before + length (f ∷ fs)) % count) worker then history_of (before + length (f ∷ fs)) file else []))
 
-dealt_by : (seen first : List (List Scripted)) (files : List File) (file : File) (count turn : ℕ) (new : List Scripted) (worker : ℕ)
+dealt_by : (seen first : List (List Scripted)) (files : List Reading) (file : Reading) (count turn : ℕ) (new : List Scripted) (worker : ℕ)
     → turn < length seen → turn ≡ length files % count
     → new ≡ get_or seen turn [] ++ history_of (length files) file
-    → get_or seen worker [] ≡ get_or first worker [] ++ hand_of count worker files
+    → get_or seen worker [] ≡ get_or first worker [] ++ hand_in count worker files
     → ((eqb (length files % count) worker ≡ true) × (length files % count ≡ worker)) ⊎ ((eqb (length files % count) worker ≡ false) × (length files % count ≢ worker))
-    → get_or (set seen turn new) worker [] ≡ get_or first worker [] ++ hand_of count worker (files ++ (file ∷ []))
+    → get_or (set seen turn new) worker [] ≡ get_or first worker [] ++ hand_in count worker (files ++ (file ∷ []))
 dealt_by seen first files file count turn new worker inside at is before (inl same) =
-    let hand = hand_of count worker files in
+    let hand = hand_in count worker files in
     let none : 0 + length files ≡ length files = omega arith in
     let here : turn ≡ worker = at ∙ same.1 in
-    let more : hand_of count worker (files ++ (file ∷ [])) ≡ hand ++ history_of (length files) file =
+    let more : hand_in count worker (files ++ (file ∷ [])) ≡ hand ++ history_of (length files) file =
     more_dealt count worker 0 files file
     ∙ ap (λ k. hand ++ (if eqb (k % count) worker then history_of k file else [])) none
     ∙ ap (λ b. hand ++ (if b then history_of (length files) file else [])) same.0 in
@@ -44,10 +44,10 @@ dealt_by seen first files file count turn new worker inside at is before (inl sa
     ∙ append_assoc (get_or first worker []) hand (history_of (length files) file)
     ∙ ap (λ l. get_or first worker [] ++ l) (sym more)
 dealt_by seen first files file count turn new worker inside at is before (inr other) =
-    let hand = hand_of count worker files in
+    let hand = hand_in count worker files in
     let none : 0 + length files ≡ length files = omega arith in
     let apart : worker ≢ turn = λ e. other.1 (sym at ∙ sym e) in
-    let more : hand_of count worker (files ++ (file ∷ [])) ≡ hand =
+    let more : hand_in count worker (files ++ (file ∷ [])) ≡ hand =
     more_dealt count worker 0 files file
     ∙ ap (λ k. hand ++ (if eqb (k % count) worker then history_of k file else [])) none
     ∙ ap (λ b. hand ++ (if b then history_of (length files) file else [])) other.0
@@ -55,33 +55,34 @@ dealt_by seen first files file count turn new worker inside at is before (inr ot
     get_or-set_other seen turn worker new [] apart ∙ before ∙ ap (λ l. get_or first worker [] ++ l) (sym more)
 
 -- one more file goes to the worker whose turn it is, and leaves the other hands as they are
-pub dealt_push : (seen first : List (List Scripted)) (files : List File) (file : File) (count turn : ℕ) (new : List Scripted)
+pub dealt_push : (seen first : List (List Scripted)) (files : List Reading) (file : Reading) (count turn : ℕ) (new : List Scripted)
     → length seen ≡ count → 0 < count → turn ≡ length files % count
     → new ≡ get_or seen turn [] ++ history_of (length files) file
-    → ((worker : ℕ) → worker < count → get_or seen worker [] ≡ get_or first worker [] ++ hand_of count worker files)
-    → (worker : ℕ) → worker < count → get_or (set seen turn new) worker [] ≡ get_or first worker [] ++ hand_of count worker (files ++ (file ∷ []))
+    → ((worker : ℕ) → worker < count → get_or seen worker [] ≡ get_or first worker [] ++ hand_in count worker files)
+    → (worker : ℕ) → worker < count → get_or (set seen turn new) worker [] ≡ get_or first worker [] ++ hand_in count worker (files ++ (file ∷ []))
 dealt_push seen first files file count turn new long some at is before worker below =
     let low : length files % count < count = mod-lt (length files) some in
     let inside : turn < length seen = omega (arith, low, at, long) in
     dealt_by seen first files file count turn new worker inside at is (before worker below) (eqb_tells (length files % count) worker)
 
-map-twice : {A B C : Type 0} (f : A → B) (g : B → C) (xs : List A) → map g (map f xs) ≡ map (λ x. g (f x)) xs
+-- a map of a map
+pub map-twice : {A B C : Type 0} (f : A → B) (g : B → C) (xs : List A) → map g (map f xs) ≡ map (λ x. g (f x)) xs
 map-twice f g [] = refl
 map-twice f g (x ∷ xs) = ap (λ l. g (f x) ∷ l) (map-twice f g xs)
 
 -- each source is over the hand of its worker
-pub sources_are : (old new : List (Vec (ℕ × String Global × Vec Event Global) Global)) (sources : List Stage) (count : ℕ) (files : List File)
+pub sources_are : (old new : List (Vec (ℕ × String Global × Vec Event Global) Global)) (sources : List Stage) (count : ℕ) (files : List Reading)
     → map hand_seen old ≡ replicate count [] → length new ≡ length old
-    → ((worker : ℕ) → worker < length old → get_or (map hand_seen new) worker [] ≡ get_or (map hand_seen old) worker [] ++ hand_of (length old) worker files)
+    → ((worker : ℕ) → worker < length old → get_or (map hand_seen new) worker [] ≡ get_or (map hand_seen old) worker [] ++ hand_in (length old) worker files)
     → sources ≡ map (λ hand. opening_stage (hand_seen hand)) new
-    → (worker : ℕ) → worker < count → get_or sources worker no_source ≡ opening_stage (hand_of count worker files)
+    → (worker : ℕ) → worker < count → get_or sources worker no_source ≡ opening_stage (hand_in count worker files)
 sources_are old new sources count files empty same dealt are worker below =
     let few : length old ≡ count = sym (length-map old hand_seen) ∙ (ap length empty ∙ length-replicate count []) in
     let inside : worker < length old = omega (arith, below, few) in
     let within : worker < length (map hand_seen new) = omega (arith, inside, same, length-map new hand_seen) in
     let nothing : get_or (map hand_seen old) worker [] ≡ [] = ap (λ l. get_or l worker []) empty ∙ get_or-replicate count worker [] [] below in
-    let hand : get_or (map hand_seen new) worker [] ≡ hand_of count worker files =
-    dealt worker inside ∙ ap (λ l. l ++ hand_of (length old) worker files) nothing ∙ ap (λ n. hand_of n worker files) few in
+    let hand : get_or (map hand_seen new) worker [] ≡ hand_in count worker files =
+    dealt worker inside ∙ ap (λ l. l ++ hand_in (length old) worker files) nothing ∙ ap (λ n. hand_in n worker files) few in
     ap (λ l. get_or l worker no_source) (are ∙ sym (map-twice hand_seen opening_stage new))
     ∙ get_or-map opening_stage (map hand_seen new) worker [] no_source within
     ∙ ap opening_stage hand

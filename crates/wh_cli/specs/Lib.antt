@@ -1,3 +1,4 @@
+pub mod Readings
 pub mod Served
 pub mod Services
 pub mod Statuses

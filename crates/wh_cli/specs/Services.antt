@@ -31,27 +31,40 @@ abbrev pub fault_of : {A : Type 0} → Result A ReadFault → Option ReadFault
 fault_of (Ok x) = None
 fault_of (Err fault) = Some fault
 
+-- a file as it is read: its name, and its history or why it cannot be read
+abbrev pub Reading : Type 0
+Reading = List ℕ × Result (List Event) ReadFault
+
+abbrev pub reading_of : File → Reading
+reading_of file = (string_bytes file.0, history file.1.items)
+
 -- a file by its name, and why it cannot be read
+abbrev pub dealt_as : Reading → Dealt
+dealt_as reading = record { name = reading.0; fault = fault_of reading.1 }
+
 abbrev pub dealt_of : File → Dealt
-dealt_of file = record { name = string_bytes file.0; fault = fault_of (history file.1.items) }
+dealt_of file = dealt_as (reading_of file)
 
 -- the history of a file, under the index and the name of the file, where it can be read
 abbrev pub read_as : ℕ → List ℕ → Result (List Event) ReadFault → List Scripted
 read_as index name (Ok events) = record { index = index; name = name; events = events } ∷ []
 read_as index name (Err fault) = []
 
-abbrev pub history_of : ℕ → File → List Scripted
-history_of index file = read_as index (string_bytes file.0) (history file.1.items)
+abbrev pub history_of : ℕ → Reading → List Scripted
+history_of index reading = read_as index reading.0 reading.1
 
 -- what one of so many workers is dealt of files, where so many stand before them: the workers take turns
-abbrev pub hand_from : (count worker before : ℕ) → List File → List Scripted
+abbrev pub hand_from : (count worker before : ℕ) → List Reading → List Scripted
 hand_from count worker before [] = []
-hand_from count worker before (file ∷ rest) =
-    (if eqb (before % count) worker then history_of before file else []) ++ hand_from count worker (before + 1) rest
+hand_from count worker before (reading ∷ rest) =
+    (if eqb (before % count) worker then history_of before reading else []) ++ hand_from count worker (before + 1) rest
 
 -- what a worker is dealt of all files
+abbrev pub hand_in : (count worker : ℕ) → List Reading → List Scripted
+hand_in count worker readings = hand_from count worker 0 readings
+
 abbrev pub hand_of : (count worker : ℕ) → List File → List Scripted
-hand_of count worker files = hand_from count worker 0 files
+hand_of count worker files = hand_in count worker (map reading_of files)
 
 -- a hand as contracts see it
 abbrev pub hand_seen : Vec (ℕ × String Global × Vec Event Global) Global → List Scripted

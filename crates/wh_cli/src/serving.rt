@@ -55,7 +55,7 @@ fn serve_all<W: Workflow + Send, R: Threads + Wait + Sync>(
     ensures { IfOk result (IsServiceOf files.items options.workers) }
 {
     let config = options.config();
-    let (dealt, sources) = deal_sources(alloc, files, config.seats)?;
+    let (dealt, sources) = deal_sources(rt, alloc, files, config.seats)?;
     let posts = posts_of(alloc, sources)?;
     let end = match run_host::<W, _, _, _, _, _>(rt, alloc, config, posts, &OpenGate) {
         Ok(end) => end,

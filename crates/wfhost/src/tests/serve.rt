@@ -7,7 +7,7 @@ use std::io::Write;
 use std::process::Abort;
 use std::sync::Wait;
 use std::thread::Threads;
-use wh_cli::{CommandFault, serve_command};
+use wh_cli::{CommandFault, serve_command, serve_with_failures};
 use wh_samples::All;
 
 /// Files of all samples, each by its name and its history.
@@ -29,6 +29,9 @@ const BROKEN: &str = "branch.json: branch; hole.json: ; nap.json: nap";
 const STRANGE: &str =
     "gr\u{fc}\u{df}.json: greet | 'name':'greet' -> 'name':'greets'; nap.json: nap";
 
+/// A history of a workflow that the program does not know.
+const UNKNOWN: &str = "nap.json: nap | 'name':'Nap' -> 'name':'Napp'";
+
 /// A history that ends in its only task.
 const LIVE: &str = "nap.json: nap/3";
 
@@ -46,7 +49,7 @@ racer.json: 4 tasks, 4 completed, 0 failed
 taken 15, completed 15, failed 0, in hand 0
 status 0";
 
-/// What is reported of five samples.
+/// What is told of five samples.
 const FIVE_SERVED: &str = "\
 branch.json: 2 tasks, 2 completed, 0 failed
 family.json: 3 tasks, 3 completed, 0 failed
@@ -54,48 +57,65 @@ greet.json: 2 tasks, 2 completed, 0 failed
 nap.json: 2 tasks, 2 completed, 0 failed
 racer.json: 4 tasks, 4 completed, 0 failed
 taken 13, completed 13, failed 0, in hand 0
+not compared: true
 status 0";
 
-/// What is reported where only what stands behind the last task is odd.
+/// What is told where only what stands behind the last task is odd.
 const ENDINGS_SERVED: &str = "\
 inert.json: 1 tasks, 1 completed, 0 failed
 late.json: 2 tasks, 2 completed, 0 failed
 taken 3, completed 3, failed 0, in hand 0
+not compared: true
 status 0";
 
-/// What is reported of a file that is no JSON.
+/// What is told of a file that is no JSON.
 const HOLE: &str = "\
 branch.json: 2 tasks, 2 completed, 0 failed
 hole.json: unreadable, not JSON
 nap.json: 2 tasks, 2 completed, 0 failed
 taken 4, completed 4, failed 0, in hand 0
+not compared: true
 status 1";
 
-/// What is reported of a task that failed.
+/// What is told of a task that failed.
 const FAILED: &str = "\
 gr??.json: 2 tasks, 1 completed, 1 failed
 nap.json: 2 tasks, 2 completed, 0 failed
 taken 4, completed 3, failed 1, in hand 0
+gr??.json: task at 9: event 5 differs
+not compared: true
 status 1";
 
-/// What is reported of a history that ends in its only task.
+/// What is told of a workflow that the program does not know.
+const UNKNOWN_SERVED: &str = "\
+nap.json: 2 tasks, 0 completed, 2 failed
+taken 2, completed 0, failed 2, in hand 0
+nap.json: task at 3: task at 1: UnknownWorkflow
+nap.json: task at 8: task at 1: UnknownWorkflow
+not compared: true
+status 1";
+
+/// What is told of a history that ends in its only task.
 const LIVE_SERVED: &str = "\
 nap.json: 1 tasks, 1 completed, 0 failed
 taken 1, completed 1, failed 0, in hand 0
+not compared: false
 status 0";
 
-/// What is reported where some histories end in their last task.
+/// What is told where some histories end in their last task.
 const LIVE_BETWEEN_SERVED: &str = "\
 a.json: 2 tasks, 2 completed, 0 failed
 b.json: 2 tasks, 2 completed, 0 failed
 c.json: 1 tasks, 1 completed, 0 failed
 d.json: 2 tasks, 2 completed, 0 failed
 taken 7, completed 7, failed 0, in hand 0
+not compared: true
 status 0";
 
-/// What is reported of no files.
+/// What is told of no files.
 const NOTHING: &str = "\
 taken 0, completed 0, failed 0, in hand 0
+not compared: false
 status 0";
 
 /// How many workers serve, and how many runs and events the cache holds.
@@ -106,7 +126,8 @@ struct Sizes {
     cache_events: u64,
 }
 
-/// Files, how many workers serve them, and the report with the status behind it.
+/// Files, how many workers serve them, and the report with what else is told behind it: the failed
+/// tasks, whether a last record was not compared, and the status.
 struct Service {
     files: &'static str,
     workers: u64,
@@ -114,12 +135,13 @@ struct Service {
 }
 
 #[rattlefmt::skip]
-static SERVICES: [Service; 9] = [
+static SERVICES: [Service; 10] = [
     Service { files: "", workers: 4, report: NOTHING },
     Service { files: FIVE, workers: 4, report: FIVE_SERVED },
     Service { files: ENDINGS, workers: 1, report: ENDINGS_SERVED },
     Service { files: BROKEN, workers: 2, report: HOLE },
     Service { files: STRANGE, workers: 1, report: FAILED },
+    Service { files: UNKNOWN, workers: 1, report: UNKNOWN_SERVED },
     Service { files: LIVE, workers: 1, report: LIVE_SERVED },
     Service { files: LIVE, workers: 4, report: LIVE_SERVED },
     Service { files: LIVE_BETWEEN, workers: 1, report: LIVE_BETWEEN_SERVED },
@@ -187,13 +209,25 @@ fn samples_are_served_whatever_the_sizes(rt: HostRuntime) {
 
 #[test]
 fn services_are_reported(rt: HostRuntime) {
+    let alloc = rt.alloc();
     for service in &SERVICES {
-        let sizes = Sizes {
-            workers: service.workers,
-            cache: 1,
-            cache_events: 0,
+        let workers = service.workers;
+        assert!(rt; 1 <= workers && workers <= 4);
+        let files = named_files(&rt, alloc, service.files);
+        let mut out = Vec::new(alloc);
+        let answer = serve_with_failures::<All, _, _>(
+            &rt, alloc, files, workers, 1, 0, workers, &mut out,
+        );
+        let Ok(end) = answer else {
+            panic!(rt; "refused")
         };
-        serves(&rt, rt.alloc(), service.files, sizes, service.report);
+        for failure in end.failures {
+            assert!(rt; write!(out, "{failure}\n").is_ok());
+        }
+        let uncompared = end.uncompared;
+        assert!(rt; write!(out, "not compared: {uncompared}\n").is_ok());
+        let told = with_status(&rt, alloc, out, end.status);
+        wants(&rt, service.files, told, service.report);
     }
 }
 
