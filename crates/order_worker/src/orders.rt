@@ -24,7 +24,7 @@ fn name_of(order: u64, number: u64) -> TaskName {
 }
 
 /// Appends the event of a number, where it is one.
-fn push_event(events: &mut Vec<Event>, number: u64, body: EventKind) -> Result<(), OutOfMemory> {
+fn add(events: &mut Vec<Event>, number: u64, body: EventKind) -> Result<(), OutOfMemory> {
     if let Some(number) = EventNo::new(number) {
         events.push(Event {
             number,
@@ -35,41 +35,22 @@ fn push_event(events: &mut Vec<Event>, number: u64, body: EventKind) -> Result<(
     Ok(())
 }
 
-/// A workflow task with the events from a number on.
-fn workflow_task(
-    alloc: Global,
-    order: u64,
-    first: u64,
-    bodies: Vec<EventKind>,
-) -> Result<WorkflowTask, OutOfMemory> {
+/// The order comes in.
+fn begun(alloc: Global) -> Result<Vec<Event>, OutOfMemory> {
     let mut events = Vec::new(alloc);
-    let mut number = first;
-    for body in bodies {
-        push_event(&mut events, number, body)?;
-        number = number.saturating_add(1);
-    }
-    Ok(WorkflowTask {
-        name: name_of(order, first),
-        run: run_of(alloc, order)?,
-        events: Items::new(events),
-    })
-}
-
-/// The order comes in: events 1 to 3.
-fn begun(alloc: Global) -> Result<Vec<EventKind>, OutOfMemory> {
     let start = EventKind::WorkflowExecutionStarted {
         workflow: text_of(alloc, "Order")?,
         input: no_payloads(alloc),
     };
-    Ok(vec![in alloc;
-        start,
-        EventKind::WorkflowTaskScheduled,
-        EventKind::WorkflowTaskStarted,
-    ]?)
+    add(&mut events, 1, start)?;
+    add(&mut events, 2, EventKind::WorkflowTaskScheduled)?;
+    add(&mut events, 3, EventKind::WorkflowTaskStarted)?;
+    Ok(events)
 }
 
-/// The card was charged: events 4 to 9.
-fn charged(alloc: Global) -> Result<Vec<EventKind>, OutOfMemory> {
+/// The card was charged.
+fn charged(alloc: Global) -> Result<Vec<Event>, OutOfMemory> {
+    let mut events = Vec::new(alloc);
     let scheduled = EventKind::ActivityTaskScheduled {
         id: text_of(alloc, "charge")?,
         activity: text_of(alloc, "ChargeCard")?,
@@ -78,28 +59,31 @@ fn charged(alloc: Global) -> Result<Vec<EventKind>, OutOfMemory> {
         scheduled: 5,
         result: no_payloads(alloc),
     };
-    Ok(vec![in alloc;
-        EventKind::WorkflowTaskCompleted,
-        scheduled,
+    add(&mut events, 4, EventKind::WorkflowTaskCompleted)?;
+    add(&mut events, 5, scheduled)?;
+    add(
+        &mut events,
+        6,
         EventKind::ActivityTaskStarted { scheduled: 5 },
-        completed,
-        EventKind::WorkflowTaskScheduled,
-        EventKind::WorkflowTaskStarted,
-    ]?)
+    )?;
+    add(&mut events, 7, completed)?;
+    add(&mut events, 8, EventKind::WorkflowTaskScheduled)?;
+    add(&mut events, 9, EventKind::WorkflowTaskStarted)?;
+    Ok(events)
 }
 
-/// The order is held, and then this happens: events 10 to 14.
-fn held(alloc: Global, then: EventKind) -> Result<Vec<EventKind>, OutOfMemory> {
+/// The order is held, and then this happens.
+fn held(alloc: Global, then: EventKind) -> Result<Vec<Event>, OutOfMemory> {
+    let mut events = Vec::new(alloc);
     let timer = EventKind::TimerStarted {
         id: text_of(alloc, "hold")?,
     };
-    Ok(vec![in alloc;
-        EventKind::WorkflowTaskCompleted,
-        timer,
-        then,
-        EventKind::WorkflowTaskScheduled,
-        EventKind::WorkflowTaskStarted,
-    ]?)
+    add(&mut events, 10, EventKind::WorkflowTaskCompleted)?;
+    add(&mut events, 11, timer)?;
+    add(&mut events, 12, then)?;
+    add(&mut events, 13, EventKind::WorkflowTaskScheduled)?;
+    add(&mut events, 14, EventKind::WorkflowTaskStarted)?;
+    Ok(events)
 }
 
 /// The customer calls the order off.
@@ -107,6 +91,20 @@ fn called_off(alloc: Global) -> Result<EventKind, OutOfMemory> {
     Ok(EventKind::WorkflowExecutionSignaled {
         name: text_of(alloc, "cancel")?,
         input: no_payloads(alloc),
+    })
+}
+
+/// The workflow task whose events begin with a number.
+fn workflow_task(
+    alloc: Global,
+    order: u64,
+    first: u64,
+    events: Vec<Event>,
+) -> Result<WorkflowTask, OutOfMemory> {
+    Ok(WorkflowTask {
+        name: name_of(order, first),
+        run: run_of(alloc, order)?,
+        events: Items::new(events),
     })
 }
 
