@@ -1,4 +1,5 @@
 pub mod Readings
+pub mod Replays
 pub mod Served
 pub mod Services
 pub mod Statuses
