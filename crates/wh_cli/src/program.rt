@@ -322,9 +322,7 @@ fn tell<R: Runtime>(rt: &R, failure: Failure) {
 /// Runs the program for the workflows of a type: it does what the arguments ask for, writes the
 /// report to the standard output and, where there is no full report, why to the standard error, and
 /// gives the status.
-pub fn run<W: Workflow + Send, R: Runtime + AllocGlobal + Threads + Wait + Sync>(
-    rt: &R,
-) -> ExitCode
+pub fn run<W: Workflow + Send, R: Runtime + AllocGlobal + Threads + Wait + Sync>(rt: &R) -> ExitCode
 where
     R::File: Send,
     R::Dir: Send,
