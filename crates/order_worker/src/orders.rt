@@ -51,43 +51,56 @@ fn begun(alloc: Global) -> Result<Vec<Event>, OutOfMemory> {
 /// The card was charged.
 fn charged(alloc: Global) -> Result<Vec<Event>, OutOfMemory> {
     let mut events = Vec::new(alloc);
-    let scheduled = EventKind::ActivityTaskScheduled {
-        id: text_of(alloc, "charge")?,
-        activity: text_of(alloc, "ChargeCard")?,
-    };
-    let completed = EventKind::ActivityTaskCompleted {
-        scheduled: 5,
-        result: no_payloads(alloc),
-    };
     add(&mut events, 4, EventKind::WorkflowTaskCompleted)?;
-    add(&mut events, 5, scheduled)?;
+    add(
+        &mut events,
+        5,
+        EventKind::ActivityTaskScheduled {
+            id: text_of(alloc, "charge")?,
+            activity: text_of(alloc, "ChargeCard")?,
+        },
+    )?;
     add(
         &mut events,
         6,
         EventKind::ActivityTaskStarted { scheduled: 5 },
     )?;
-    add(&mut events, 7, completed)?;
+    add(
+        &mut events,
+        7,
+        EventKind::ActivityTaskCompleted {
+            scheduled: 5,
+            result: no_payloads(alloc),
+        },
+    )?;
     add(&mut events, 8, EventKind::WorkflowTaskScheduled)?;
     add(&mut events, 9, EventKind::WorkflowTaskStarted)?;
     Ok(events)
 }
 
-/// The order is held, and then this happens.
-fn held(alloc: Global, then: EventKind) -> Result<Vec<Event>, OutOfMemory> {
+/// The order is held, until the hold ends.
+fn held(alloc: Global, order: u64) -> Result<Vec<Event>, OutOfMemory> {
     let mut events = Vec::new(alloc);
-    let timer = EventKind::TimerStarted {
-        id: text_of(alloc, "hold")?,
-    };
     add(&mut events, 10, EventKind::WorkflowTaskCompleted)?;
-    add(&mut events, 11, timer)?;
-    add(&mut events, 12, then)?;
+    add(
+        &mut events,
+        11,
+        EventKind::TimerStarted {
+            id: text_of(alloc, "hold")?,
+        },
+    )?;
+    add(&mut events, 12, hold_end(alloc, order)?)?;
     add(&mut events, 13, EventKind::WorkflowTaskScheduled)?;
     add(&mut events, 14, EventKind::WorkflowTaskStarted)?;
     Ok(events)
 }
 
-/// The customer calls the order off.
-fn called_off(alloc: Global) -> Result<EventKind, OutOfMemory> {
+/// What ends the hold of an order: its timer, but for every third order, which the customer calls
+/// off.
+fn hold_end(alloc: Global, order: u64) -> Result<EventKind, OutOfMemory> {
+    if order % 3 != 0 {
+        return Ok(EventKind::TimerFired { started: 11 });
+    }
     Ok(EventKind::WorkflowExecutionSignaled {
         name: text_of(alloc, "cancel")?,
         input: no_payloads(alloc),
@@ -122,14 +135,9 @@ fn charge_task(alloc: Global, order: u64) -> Result<ActivityTask, OutOfMemory> {
 /// Adds the tasks of an order: three workflow tasks, and one to charge for it. Every third order
 /// is called off, and the others are shipped.
 pub fn add_order(inbox: &mut Inbox, alloc: Global, order: u64) -> Result<(), OutOfMemory> {
-    let then = if order % 3 == 0 {
-        called_off(alloc)?
-    } else {
-        EventKind::TimerFired { started: 11 }
-    };
     inbox.add_workflow(workflow_task(alloc, order, 1, begun(alloc)?)?)?;
     inbox.add_activity(charge_task(alloc, order)?)?;
     inbox.add_workflow(workflow_task(alloc, order, 4, charged(alloc)?)?)?;
-    inbox.add_workflow(workflow_task(alloc, order, 10, held(alloc, then)?)?)?;
+    inbox.add_workflow(workflow_task(alloc, order, 10, held(alloc, order)?)?)?;
     Ok(())
 }
