@@ -46,7 +46,7 @@ fn go_on_once<R: Runtime + AllocGlobal, W: Workflow>(
 ) -> Option<Run<W>>
     ensures run { IfSome result (λ next. next.events ≡ run.events ++ more.items) }
 
-    // The call raises the meter by the steps of the new events, and nothing else does.
+    // The meter has risen by the steps that `advance` takes for the new events.
     ensures meter { IfSome result (λ _. meter.new ≡ risen meter.old (advance_steps W.program run.events more.items)) }
 {
     let start = Instant::now(rt).ok()?;
