@@ -1,3 +1,4 @@
+pub mod Replays
 pub mod Served
 pub mod Services
 pub mod Statuses

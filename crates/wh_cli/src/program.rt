@@ -4,7 +4,7 @@ ghost use Rattle.std.specs.Prelude.{◌≡◌, ◌≢◌, Err, IfOk, map, string
 ghost use Rattle.wh_command_line.specs.Plans.{IsWithinLimits, IsAskedBy, HasFewSlots};
 
 use crate::explaining::explain_command;
-use crate::replaying::{CommandFault, replay_command};
+use crate::replaying::{CommandFault, lines_of, report};
 use crate::serving::serve_command;
 use std::alloc::Global;
 use std::io::{BufWriter, ErrorKind, Printer, Write};
@@ -16,7 +16,7 @@ use std::{env, io};
 use thiserror::Error;
 use wh_command_line::{Plan, Refusal, parse};
 use wh_events::Text;
-use wh_files::{FolderFault, read_file, read_files};
+use wh_files::{FolderFault, Input, InputFault, input_at, inputs_at, read_files, read_input};
 use wh_tester::Shown;
 use wh_workflow::Workflow;
 
@@ -35,7 +35,7 @@ enum Failure {
     /// There are fewer slots than workers.
     #[error("slots must be at least workers")]
     FewSlots,
-    /// The folder, or the file of it that is named, cannot be read.
+    /// A folder or a file, or the entry of the folder that is named, cannot be read.
     #[error("cannot read {dir}", dir = .dir.get())]
     Unreadable { dir: Text, entry: Option<String> },
     /// The report cannot be written.
@@ -76,6 +76,45 @@ fn plan(alloc: Global, words: &[String]) -> Result<Plan, Failure>
     }
 }
 
+impl From<InputFault> for Failure {
+    ghost use Rattle.std.specs.Prelude.{◌≡◌, ◌↔◌};
+    ghost use Rattle.wh_files.specs.declared.InputFault.{InputFault};
+    ghost use Rattle.wh_cli.specs.declared.program.Failure.{Failure};
+
+    ghost from_gives = { λ fault failure.
+        (failure ≡ Failure.OutOfMemory) ↔ (fault ≡ InputFault.OutOfMemory) };
+
+    fn from(fault: InputFault) -> Failure {
+        match fault {
+            InputFault::Unreadable { path, entry } => Failure::Unreadable {
+                dir: Text::new(path),
+                entry,
+            },
+            InputFault::OutOfMemory => Failure::OutOfMemory,
+        }
+    }
+}
+
+/// Why nothing can be read at a path.
+fn unreadable(path: Text, fault: FolderFault) -> Failure {
+    match fault {
+        FolderFault::Unreadable => Failure::Unreadable {
+            dir: path,
+            entry: None,
+        },
+        FolderFault::UnreadableEntry { name } => Failure::Unreadable {
+            dir: path,
+            entry: Some(name),
+        },
+        FolderFault::OutOfMemory => Failure::OutOfMemory,
+    }
+}
+
+/// Says on the standard error that a folder has no file that is read.
+fn tell_empty<R: Runtime>(rt: &R, dir: &str) {
+    let _ = eprintln!(rt; "wfhost: no .json file in {dir}");
+}
+
 /// The files of a folder. Where there is none, the standard error says so.
 fn files_of<R: Runtime + AllocGlobal>(
     rt: &R,
@@ -83,42 +122,54 @@ fn files_of<R: Runtime + AllocGlobal>(
 ) -> Result<Vec<(String, Vec<u8>)>, Failure> {
     let files = match read_files(rt, dir.get()) {
         Ok(files) => files,
-        Err(FolderFault::Unreadable) => return Err(Failure::Unreadable { dir, entry: None }),
-        Err(FolderFault::UnreadableEntry { name }) => {
-            return Err(Failure::Unreadable {
-                dir,
-                entry: Some(name),
-            });
-        }
-        Err(FolderFault::OutOfMemory) => return Err(Failure::OutOfMemory),
+        Err(fault) => return Err(unreadable(dir, fault)),
     };
     if files.is_empty() {
-        let dir = dir.get();
-        let _ = eprintln!(rt; "wfhost: no .json file in {dir}");
+        tell_empty(rt, dir.get());
     }
     Ok(files)
 }
 
-/// The bytes of a file.
-fn bytes_of<R: Runtime + AllocGlobal>(rt: &R, file: &Text) -> Result<Vec<u8>, Failure> {
-    match read_file(rt, file.get()) {
-        Ok(bytes) => Ok(bytes),
-        Err(FolderFault::OutOfMemory) => Err(Failure::OutOfMemory),
-        Err(_) => {
-            let Ok(dir) = file.try_copy() else {
-                return Err(Failure::OutOfMemory);
-            };
-            Err(Failure::Unreadable { dir, entry: None })
-        }
+/// What is to be read at a path. Where it is a folder without a file that is read, the standard
+/// error says so.
+fn inputs_of<R: Runtime + AllocGlobal>(
+    rt: &R,
+    path: Text,
+    by_path: bool,
+) -> Result<Vec<Input>, Failure> {
+    let inputs = match inputs_at(rt, path.get(), by_path) {
+        Ok(inputs) => inputs,
+        Err(fault) => return Err(unreadable(path, fault)),
+    };
+    if inputs.is_empty() {
+        tell_empty(rt, path.get());
     }
+    Ok(inputs)
 }
 
-/// The name of a file, without the folders of its path.
-fn name_of(alloc: Global, path: &str) -> Result<String, Failure> {
-    let name = path.split('/').last().unwrap_or(path);
-    match String::from_str(alloc, name) {
-        Ok(name) => Ok(name),
-        Err(_) => Err(Failure::OutOfMemory),
+/// What is to be read at paths, in their order. Where there is one path alone, files are called
+/// without their folders.
+fn all_inputs<R: Runtime + AllocGlobal>(
+    rt: &R,
+    first: Text,
+    more: Vec<Text>,
+) -> Result<Vec<Input>, Failure> {
+    let by_path = !more.is_empty();
+    let mut inputs = inputs_of(rt, first, by_path)?;
+    for path in more {
+        let mut others = inputs_of(rt, path, by_path)?;
+        let Ok(()) = inputs.append(&mut others) else {
+            return Err(Failure::OutOfMemory);
+        };
+    }
+    Ok(inputs)
+}
+
+/// The name and the bytes of the file at a path, or of the standard input.
+fn file_of<R: Runtime + AllocGlobal>(rt: &R, path: Text) -> Result<(String, Vec<u8>), Failure> {
+    match input_at(rt, path.get(), false) {
+        Ok(Input { name, origin }) => Ok((name, read_input(rt, origin)?)),
+        Err(fault) => Err(unreadable(path, fault)),
     }
 }
 
@@ -156,19 +207,22 @@ fn obey<W: Workflow + Send, R: Runtime + AllocGlobal + Threads + Wait + Sync>(
     rt: &R,
     plan: Plan,
 ) -> Result<u8, Failure>
+where
+    R::File: Send,
+    R::Dir: Send,
     requires { IsWithinLimits plan }
 {
     let alloc = rt.alloc();
     match plan {
-        Plan::Replay { dir } => {
-            let files = files_of(rt, dir)?;
+        Plan::Replay { dir, more, json } => {
+            let inputs = all_inputs(rt, dir, more)?;
+            let lines = lines_of::<W, R>(rt, inputs)?;
             let mut writer = output(rt)?;
-            let answer = replay_command::<W, _, _>(rt, alloc, files, &mut writer);
+            let answer = report(lines.as_slice(), json, &mut writer);
             flushed(answer, &mut writer)
         }
         Plan::Explain { file } => {
-            let bytes = bytes_of(rt, &file)?;
-            let name = name_of(alloc, file.get())?;
+            let (name, bytes) = file_of(rt, file)?;
             let mut writer = output(rt)?;
             let answer = explain_command::<W, _>(alloc, name, bytes.as_slice(), &mut writer);
             flushed(answer, &mut writer)
@@ -201,7 +255,11 @@ fn obey<W: Workflow + Send, R: Runtime + AllocGlobal + Threads + Wait + Sync>(
 /// Does what the command line asks for, and gives the status.
 fn answer<W: Workflow + Send, R: Runtime + AllocGlobal + Threads + Wait + Sync>(
     rt: &R,
-) -> Result<u8, Failure> {
+) -> Result<u8, Failure>
+where
+    R::File: Send,
+    R::Dir: Send,
+{
     let words = words(rt)?;
     let plan = plan(rt.alloc(), words.as_slice())?;
     obey::<W, R>(rt, plan)
@@ -236,7 +294,11 @@ fn tell<R: Runtime>(rt: &R, failure: Failure) {
 /// gives the status.
 pub fn run<W: Workflow + Send, R: Runtime + AllocGlobal + Threads + Wait + Sync>(
     rt: &R,
-) -> ExitCode {
+) -> ExitCode
+where
+    R::File: Send,
+    R::Dir: Send,
+{
     match answer::<W, R>(rt) {
         Ok(status) => ExitCode::from(status),
         Err(failure) => {

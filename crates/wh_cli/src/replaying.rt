@@ -1,18 +1,25 @@
 //! The command `replay`.
 
-ghost use Rattle.std.specs.Prelude.{◌≡◌, List, Err, IfOk};
+ghost use denote.Param.Send.{IsSend};
+ghost use Rattle.std.specs.Prelude.{◌≡◌, ◌≢◌, List, Err, IfOk, OnOk};
 ghost use Rattle.std.specs.List.{AllZip};
 ghost use Rattle.std.specs.Io.KnownBytes.{Appends};
 ghost use Rattle.wh_tester.specs.Report.{report};
+ghost use Rattle.wh_cli.specs.Replays.{IsLineOfInput, report_as};
 ghost use Rattle.wh_cli.specs.Statuses.{status_of};
 ghost use Rattle.wh_tester.specs.Verdicts.{IsLineOf};
 ghost use Rattle.wh_tester.specs.declared.line.Line.{Line};
 
+use rayon::prelude::*;
 use std::alloc::Global;
+use std::io;
 use std::io::Write;
+use std::rt::Files;
 use std::thread::Threads;
 use thiserror::Error;
-use wh_tester::{Line, all_good, check_all, write_report};
+use wh_events::Text;
+use wh_files::{Input, InputFault, read_input};
+use wh_tester::{Line, all_good, check_all, verdict, write_json_report, write_report};
 use wh_workflow::Workflow;
 
 /// Why a command has no status.
@@ -33,6 +40,78 @@ pub(crate) fn status_of(lines: &[Line]) -> u8
     if all_good(lines) { 0 } else { 1 }
 }
 
+/// Writes the report of the lines, as JSON or as text. After an error some of the report may have
+/// been written.
+fn write_as<O: Write>(lines: &[Line], json: bool, writer: &mut O) -> io::Result<()>
+    ensures { OnOk result (Appends (O.contents writer.old) (O.contents writer.new) (report_as json lines.now)) }
+{
+    if json {
+        write_json_report(lines, writer)
+    } else {
+        write_report(lines, writer)
+    }
+}
+
+/// Writes the report of the lines, as JSON or as text. The status is 0 where each file is good, and
+/// else 1.
+pub(crate) fn report<O: Write>(
+    lines: &[Line],
+    json: bool,
+    writer: &mut O,
+) -> Result<u8, CommandFault>
+    ensures written { OnOk result (Appends (O.contents writer.old) (O.contents writer.new) (report_as json lines.now)) }
+    ensures status { IfOk result (λ status. status ≡ status_of lines.now) }
+    ensures memory { result ≢ Err CommandFault.OutOfMemory }
+{
+    let Ok(()) = write_as(lines, json, writer) else {
+        return Err(CommandFault::Output);
+    };
+    Ok(status_of(lines))
+}
+
+/// The line of an input: its name, with the verdict on its bytes, which are kept no longer.
+fn line_of<W: Workflow, R: Files + AllocGlobal>(rt: &R, input: Input) -> Result<Line, InputFault>
+    ensures { IfOk result (IsLineOfInput W.program input) }
+{
+    let Input { name, origin } = input;
+    let bytes = read_input(rt, origin)?;
+    let verdict = verdict::<W>(rt.alloc(), bytes.as_slice());
+    Ok(Line {
+        name: Text::new(name),
+        verdict,
+    })
+}
+
+/// Replays inputs with the code of `W`. `rayon` spreads them over threads, down to one each, and
+/// each is read where it is replayed: so the bytes of no more files are there at once than there
+/// are threads. The lines come in the order of the inputs, whichever is done first, and so does the
+/// fault of the first that cannot be read.
+pub(crate) fn lines_of<W: Workflow + Send, R: Files + AllocGlobal + Threads + Sync>(
+    rt: &R,
+    inputs: Vec<Input>,
+) -> Result<Vec<Line>, InputFault>
+where
+    R::File: Send,
+    R::Dir: Send,
+    ensures { IfOk result (λ lines. AllZip (IsLineOfInput W.program) inputs.items lines.items) }
+{
+    let Ok(lines) = inputs
+        .into_par_iter()
+        .with_min_len(1)
+        .map(
+            |input: Input| -> Result<Line, InputFault>
+                requires file { IsSend R.File.row }
+                requires dir { IsSend R.Dir.row }
+                ensures { IfOk result (IsLineOfInput W.program input) }
+            { line_of::<W, R>(rt, input) },
+        )
+        .collect::<Result<Vec<Line>, InputFault>>(rt, rt.alloc())
+    else {
+        return Err(InputFault::OutOfMemory);
+    };
+    lines
+}
+
 /// Writes the report of the files. The status is 0 where each file is good, and else 1. Nothing is
 /// written where the answer is `OutOfMemory`.
 pub fn replay_command<W: Workflow + Send, R: Threads + Sync, O: Write>(
@@ -49,8 +128,5 @@ pub fn replay_command<W: Workflow + Send, R: Threads + Sync, O: Write>(
     let Ok(lines) = check_all::<W>(rt, alloc, files) else {
         return Err(CommandFault::OutOfMemory);
     };
-    let Ok(()) = write_report(lines.as_slice(), writer) else {
-        return Err(CommandFault::Output);
-    };
-    Ok(status_of(lines.as_slice()))
+    report(lines.as_slice(), false, writer)
 }
