@@ -55,7 +55,7 @@ scripted_gives _ = []
 
 -- what it computes
 abbrev pub scripted : Program NoState
-scripted = record { knows = λ kind. bytes_eq kind (codes "Scripted"); initial = λ _. record {}; after = λ state _. state; gives = λ _ job. scripted_gives job }
+scripted = record { knows = λ _. true; initial = λ _. record {}; after = λ state _. state; gives = λ _ job. scripted_gives job }
 
 -- one command or the other
 given_answers : (test : Bool) (command : Command) (otherwise : Option Command) → IsAnswer (command ∷ []) → IsAnswer (commands_in otherwise) → IsAnswer (commands_in (given_if test command otherwise))

@@ -1,5 +1,8 @@
 //! What a task may command, and whether it is what was recorded.
 
+use crate::tests::cuts::CUTS;
+use crate::tests::places::PLACES;
+use crate::tests::reading::{READ, REFUSED, REFUSED_FIRST};
 use crate::tests::rows::replays;
 use wh_samples::{All, Asker, Flood};
 
@@ -37,6 +40,7 @@ start:Branch chg_marker:MQ== S T C activity:1:old => x.json: ok, 1 tasks
 start:Branch S T C chg_marker:Mg== activity:1:new => x.json: fault, task at 3: VersionOutOfRange
 start:Branch S T C activity:2:x chg_marker:Mg== => x.json: fault, task at 3: VersionOutOfRange
 start:Nope => x.json: fault, task at 1: UnknownWorkflow
+start:Flood S T => x.json: fault, task at 1: UnknownWorkflow
 nap | 'name':'Nap' -> 'name':'Nope' => x.json: fault, task at 1: UnknownWorkflow
 start:Nope S timer_fired:2 => x.json: fault, event 3 is not in place: WrongKindRef
 start:Nap timer:nap S T => x.json: fault, task at 4: IdInUse
@@ -86,8 +90,10 @@ start:Asker S T => x.json: fault, task at 3: TooManyCommands
 ";
 
 #[test]
-fn judges_activations(rt: HostRuntime) {
-    replays::<All, _>(&rt, rt.alloc(), ACTIVATIONS);
+fn judges_histories(rt: HostRuntime) {
+    for table in [READ, REFUSED, REFUSED_FIRST, PLACES, CUTS, ACTIVATIONS] {
+        replays::<All, _>(&rt, rt.alloc(), table);
+    }
 }
 
 #[test]

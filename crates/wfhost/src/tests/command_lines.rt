@@ -107,7 +107,8 @@ fn refusal_text(rt: &impl Abort, alloc: Global, refusal: &Refusal) -> String {
 
 fn push(rt: &impl Abort, alloc: Global, words: &mut Vec<String>, word: &str) {
     let word = String::from_str(alloc, word).expect(rt, "memory");
-    assert!(rt; words.push(word).is_ok());
+    words.reserve(1).expect(rt, "memory");
+    words.push_reserved(word);
 }
 
 /// The answer to the words of a line behind the program's name has this first line, and these words

@@ -1,11 +1,8 @@
 //! Which tasks are cuts, what their records are, and which jobs they have.
 
-use crate::tests::rows::replays;
-use wh_samples::All;
-
 /// Tasks that ended in one way or another; records, which go on to the next completion, whichever
 /// it is; and events of failed tasks and of no record, which give jobs all the same.
-const CUTS: &str = "\
+pub(super) const CUTS: &str = "\
 start:Nap => x.json: ok, 0 tasks
 start:Nap S => x.json: ok, 0 tasks
 nap/3 => x.json: ok, 1 tasks, last live
@@ -41,8 +38,3 @@ start:Nap C S T C timer:nap => x.json: ok, 1 tasks
 start:Nap S S T T C => x.json: fault, command 1 of the task at 5 has no event
 nap/8 task_failed completed S T => x.json: fault, event 11 is not in place: AfterClose
 ";
-
-#[test]
-fn judges_cuts(rt: HostRuntime) {
-    replays::<All, _>(&rt, rt.alloc(), CUTS);
-}

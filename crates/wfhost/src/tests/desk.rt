@@ -4,6 +4,7 @@
 use crate::tests::rows::{recorded, row, shown};
 use crate::tests::scripted::Scripted;
 use std::alloc::Global;
+use std::fmt::Debug;
 use std::process::Abort;
 use std::sync::ledger::Ledger;
 use std::sync::{Mutex, Wait};
@@ -38,8 +39,8 @@ pub(super) fn script(rt: &impl Abort, alloc: Global, table: &'static str) -> Scr
     }
 }
 
-/// The workflows of a host: those of signals' names, and the samples.
-pub(super) type Workflows = Pair<Scripted, All>;
+/// The workflows of a host: the samples, and what signals name.
+pub(super) type Workflows = Pair<All, Scripted>;
 
 /// What is done when the task of a name enters.
 pub(super) struct Deed {
@@ -50,21 +51,12 @@ pub(super) struct Deed {
 /// What is done when a task enters.
 #[derive(Clone, Copy)]
 pub(super) enum Act {
-    /// It waits until the task of this name has entered, or for ten million looks.
-    Await(u128),
+    /// It waits until this call is noted, for ten million looks at most.
+    Await(&'static str),
     /// The run of this name is evicted.
     Evict(&'static str),
     /// The host drains.
     Drain,
-}
-
-/// The calls that were noted, the names of the tasks that have entered, and whether one waited in
-/// vain.
-#[derive(Drop)]
-struct Notes {
-    calls: String,
-    entered: Vec<u128>,
-    in_vain: bool,
 }
 
 /// Notes calls, and is a gate. It takes the host's lock at each call, so that one that is made
@@ -75,7 +67,7 @@ pub(super) struct Notebook<'r, 'h, R: Wait + Abort, T: Ledger, C: Ledger, F: Led
     pub(super) alloc: Global,
     pub(super) host: &'h Host<Workflows, T, C, F>,
     deeds: &'static [Deed],
-    notes: Mutex<Notes>,
+    calls: Mutex<String>,
 }
 
 impl<'r, 'h, R: Wait + Abort, T: Ledger, C: Ledger, F: Ledger> Notebook<'r, 'h, R, T, C, F> {
@@ -86,47 +78,44 @@ impl<'r, 'h, R: Wait + Abort, T: Ledger, C: Ledger, F: Ledger> Notebook<'r, 'h, 
         host: &'h Host<Workflows, T, C, F>,
         deeds: &'static [Deed],
     ) -> Self {
-        let notes = Notes {
-            calls: String::new(alloc),
-            entered: Vec::new(alloc),
-            in_vain: false,
-        };
         Notebook {
             rt,
             alloc,
             host,
             deeds,
-            notes: Mutex::new(notes),
+            calls: Mutex::new(String::new(alloc)),
         }
     }
 
     /// Notes a call.
     fn note(&self, call: &str) {
         drop(self.host.lock(self.rt));
-        let noted = self.notes.lock(self.rt).calls.push_str(call);
+        let noted = self.calls.lock(self.rt).push_str(call);
         assert!(self.rt; noted.is_ok());
+    }
+
+    /// Notes what a task is answered.
+    fn note_answer<A: Debug>(&self, name: TaskName, answer: &A) {
+        let text = shown(self.rt, self.alloc, answer);
+        let call = format!(in self.alloc; "answer {} {text}, ", name.0);
+        self.note(call.expect(self.rt, "memory").as_str());
     }
 
     /// The calls since this was asked last.
     pub(super) fn calls(&self) -> String {
-        let mut notes = self.notes.lock(self.rt);
-        mem::replace(&mut notes.calls, String::new(self.alloc))
+        let mut calls = self.calls.lock(self.rt);
+        mem::replace(&mut *calls, String::new(self.alloc))
     }
 
-    /// Whether a task waited in vain.
-    pub(super) fn in_vain(&self) -> bool {
-        self.notes.lock(self.rt).in_vain
-    }
-
-    /// Waits until the task of a name has entered. Each look takes the lock.
-    fn await_task(&self, name: u128) {
+    /// Waits until a call is noted. Each look takes the lock of the notes.
+    fn await_call(&self, call: &str) {
         for _look in 0..10_000_000 {
-            if self.notes.lock(self.rt).entered.as_slice().contains(&name) {
+            if self.calls.lock(self.rt).as_str().contains(call) {
                 return;
             }
             thread::yield_now();
         }
-        self.notes.lock(self.rt).in_vain = true;
+        panic!(self.rt; "no call: {call}");
     }
 
     /// Evicts the run of a name.
@@ -143,12 +132,10 @@ impl<'r, 'h, R: Wait + Abort, T: Ledger, C: Ledger, F: Ledger> Gate
     fn enter<Q: Wait>(&self, _rt: &Q, name: TaskName) {
         let call = format!(in self.alloc; "enter {}, ", name.0).expect(self.rt, "memory");
         self.note(call.as_str());
-        let entered = self.notes.lock(self.rt).entered.push(name.0);
-        assert!(self.rt; entered.is_ok());
         for deed in self.deeds {
             if deed.name == name.0 {
                 match deed.act {
-                    Act::Await(other) => self.await_task(other),
+                    Act::Await(call) => self.await_call(call),
                     Act::Evict(run) => self.evict(run),
                     Act::Drain => self.host.lock(self.rt).drain(),
                 }
@@ -246,9 +233,7 @@ impl<'b, 'r, 'h, R: Wait + Abort, T: Ledger, C: Ledger, F: Ledger> TaskSource
     }
 
     fn answer_workflow(&mut self, name: TaskName, answer: &Answer) -> Result<(), SourceFault> {
-        let text = shown(self.book.rt, self.book.alloc, answer);
-        let call = format!(in self.book.alloc; "answer {} {text}, ", name.0);
-        self.book.note(call.expect(self.book.rt, "memory").as_str());
+        self.book.note_answer(name, answer);
         self.script.answer_workflow(name, answer)
     }
 
@@ -257,9 +242,7 @@ impl<'b, 'r, 'h, R: Wait + Abort, T: Ledger, C: Ledger, F: Ledger> TaskSource
         name: TaskName,
         answer: &ActivityAnswer,
     ) -> Result<(), SourceFault> {
-        let text = shown(self.book.rt, self.book.alloc, answer);
-        let call = format!(in self.book.alloc; "answer {} {text}, ", name.0);
-        self.book.note(call.expect(self.book.rt, "memory").as_str());
+        self.book.note_answer(name, answer);
         self.script.answer_activity(name, answer)
     }
 }

@@ -1,10 +1,10 @@
 //! What is explained of histories, line by line.
 
-use crate::tests::rows::{bytes_of, wants};
+use crate::tests::rows::{bytes_of, wants, with_status};
 use crate::tests::scripted::Scripted;
 use std::alloc::Global;
 use std::process::Abort;
-use wh_explain::{explain, write_explanation};
+use wh_cli::explain_command;
 use wh_samples::{All, Asker};
 use wh_workflow::Workflow;
 
@@ -22,6 +22,7 @@ task at 8
     gives Complete
   sends Complete, recorded 10 WorkflowExecutionCompleted
 x.json: ok, 2 tasks
+status 0
 
 greet
 task at 3
@@ -35,6 +36,7 @@ task at 9
     gives Complete
   sends Complete, recorded 11 WorkflowExecutionCompleted
 x.json: ok, 2 tasks
+status 0
 
 branch
 task at 3
@@ -50,6 +52,7 @@ task at 9
     gives Complete
   sends Complete, recorded 11 WorkflowExecutionCompleted
 x.json: ok, 2 tasks
+status 0
 
 family
 task at 3
@@ -66,6 +69,7 @@ task at 12
     gives Complete
   sends Complete, recorded 14 WorkflowExecutionCompleted
 x.json: ok, 3 tasks
+status 0
 
 racer
 task at 3
@@ -91,6 +95,7 @@ task at 19
     gives Complete
   sends Complete, recorded 21 WorkflowExecutionCompleted
 x.json: ok, 4 tasks
+status 0
 
 late
 task at 3
@@ -109,6 +114,7 @@ task at 11
   sends StartTimer u (5 s)
   not recorded yet
 x.json: ok, 2 tasks, last live
+status 0
 
 caller
 task at 3
@@ -122,6 +128,7 @@ task at 8
     gives Complete
   sends Complete, recorded 10 WorkflowExecutionCompleted
 x.json: ok, 2 tasks
+status 0
 
 start:Branch S T C chg_marker:MQ== activity:1:new
 task at 3
@@ -133,6 +140,7 @@ task at 3
   sends Marker chg (version 1), recorded 5 MarkerRecorded chg (version 1)
   sends StartActivity 1 new, recorded 6 ActivityTaskScheduled 1 new
 x.json: ok, 1 tasks
+status 0
 
 family/6 signal:stop S T C cancel_child:kid child_canceled:5 cancel_sent:11 S T C canceled
 task at 3
@@ -153,6 +161,7 @@ task at 15
   told CancelSent kid
   sends Cancel, recorded 17 WorkflowExecutionCanceled
 x.json: ok, 3 tasks
+status 0
 
 nap/3
 task at 3
@@ -162,12 +171,17 @@ task at 3
   sends StartTimer nap (60 s)
   not recorded yet
 x.json: ok, 1 tasks, last live
+status 0
 
 nap/1
-x.json: ok, 0 tasks";
+x.json: ok, 0 tasks
+status 0";
 
-/// Histories of the samples with a fault.
-const BAD: &str = "\
+/// No bytes, and histories of the samples with a fault.
+const BAD: &str = "
+x.json: unreadable, not JSON
+status 1
+
 nap | 'timerId':'nap' -> 'timerId':'x'
 task at 3
   told Time 1714557603000000000 ns
@@ -175,6 +189,7 @@ task at 3
     gives StartTimer nap (60 s)
   sends StartTimer nap (60 s), recorded 5 TimerStarted x, differs
 x.json: fault, event 5 differs
+status 1
 
 greet | 'name':'greet' -> 'name':'greets'
 task at 3
@@ -183,6 +198,7 @@ task at 3
     gives StartActivity 1 greet
   sends StartActivity 1 greet, recorded 5 ActivityTaskScheduled 1 greets, differs
 x.json: fault, event 5 differs
+status 1
 
 nap/9 failed
 task at 3
@@ -196,6 +212,7 @@ task at 8
     gives Complete
   sends Complete, recorded 10 WorkflowExecutionFailed, differs
 x.json: fault, event 10 differs
+status 1
 
 nap/5 timer:x
 task at 3
@@ -205,6 +222,7 @@ task at 3
   sends StartTimer nap (60 s), recorded 5 TimerStarted nap
   sends nothing, recorded 6 TimerStarted x, differs
 x.json: fault, event 6 has no command
+status 1
 
 nap/4
 task at 3
@@ -213,6 +231,7 @@ task at 3
     gives StartTimer nap (60 s)
   sends StartTimer nap (60 s), recorded nothing, differs
 x.json: fault, command 1 of the task at 3 has no event
+status 1
 
 racer/5
 task at 3
@@ -223,6 +242,7 @@ task at 3
   sends StartActivity 1 race, recorded 5 ActivityTaskScheduled 1 race
   sends StartTimer t (30 s), recorded nothing, differs
 x.json: fault, command 2 of the task at 3 has no event
+status 1
 
 nap | 'timerId':'nap' -> 'timerId':'\u{e9}\\n'
 task at 3
@@ -231,6 +251,7 @@ task at 3
     gives StartTimer nap (60 s)
   sends StartTimer nap (60 s), recorded 5 TimerStarted ??, differs
 x.json: fault, event 5 differs
+status 1
 
 start:Nap timer:nap S T
 task at 4
@@ -239,6 +260,7 @@ task at 4
     gives StartTimer nap (60 s)
   refuses StartTimer nap (60 s)
 x.json: fault, task at 4: IdInUse
+status 1
 
 start:Greet activity:1:greet activity_completed:2 activity:1:greet activity_completed:4 S T
 task at 7
@@ -251,6 +273,7 @@ task at 7
     gives Complete
   refuses Complete
 x.json: fault, task at 7: AfterClosing
+status 1
 
 greet/5 C activity_cancel:5 cancel_requested S T
 task at 3
@@ -264,6 +287,7 @@ task at 10
     gives CancelActivity 1
   refuses CancelActivity 1
 x.json: fault, task at 10: AlreadyCancelling
+status 1
 
 start:Racer S T C activity:1:race timer:t C timer_canceled:6 activity_completed:5 S T
 task at 3
@@ -279,6 +303,7 @@ task at 11
     gives CancelTimer t
   refuses CancelTimer t
 x.json: fault, task at 11: NotOpen
+status 1
 
 start:Branch S T C chg_marker:Mg== activity:1:new
 task at 3
@@ -287,16 +312,20 @@ task at 3
     gives Ask chg (-1 to 1)
   refuses Ask chg (-1 to 1)
 x.json: fault, task at 3: VersionOutOfRange
+status 1
 
 start:Nope S T C
 no code for the workflow type Nope
 x.json: fault, task at 1: UnknownWorkflow
+status 1
 
 nap/5 timer_fired:3
 x.json: fault, event 6 is not in place: WrongKindRef
+status 1
 
 nap/3 unknown
-x.json: unreadable, event 4 has the unsupported type EVENT_TYPE_SOMETHING_NEW";
+x.json: unreadable, event 4 has the unsupported type EVENT_TYPE_SOMETHING_NEW
+status 1";
 
 /// Histories of a workflow that gives what signals name.
 const SCRIPTED: &str = "\
@@ -312,6 +341,7 @@ task at 6
     gives StartTimer t (1 s)
   refuses StartTimer t (1 s)
 x.json: fault, task at 6: IdReused
+status 1
 
 start:Scripted signal:ask_crossed S T
 task at 4
@@ -321,6 +351,7 @@ task at 4
     gives Ask chg (2 to 1)
   refuses Ask chg (2 to 1)
 x.json: fault, task at 4: BadRange
+status 1
 
 start:Scripted signal:ask signal:fail S T
 task at 5
@@ -335,6 +366,7 @@ task at 5
   sends Fail failure
   not recorded yet
 x.json: ok, 1 tasks, last live
+status 0
 
 start:Scripted signal:start_timer S T C timer:t signal:cancel_timer S T C timer_canceled:6 signal:continue S T C continued
 task at 4
@@ -353,52 +385,34 @@ task at 14
   told Signal continue
     gives ContinueAsNew Nap
   sends ContinueAsNew Nap, recorded 16 WorkflowExecutionContinuedAsNew
-x.json: ok, 3 tasks";
+x.json: ok, 3 tasks
+status 0";
 
-/// The text that explains a file.
+/// The text that explains a file, with the status behind it.
 fn explained<W: Workflow>(rt: &impl Abort, alloc: Global, bytes: &[u8]) -> String {
     let name = String::from_str(alloc, "x.json").expect(rt, "memory");
-    let explanation = explain::<W>(alloc, name, bytes).expect(rt, "memory");
-    let mut text = Vec::new(alloc);
-    assert!(rt; write_explanation(&explanation, &mut text).is_ok());
-    let Ok(text) = String::from_utf8(text) else {
-        panic!(rt; "no text")
-    };
-    text
+    let mut out = Vec::new(alloc);
+    match explain_command::<W, _>(alloc, name, bytes, &mut out) {
+        Ok(status) => with_status(rt, out, status),
+        Err(_) => panic!(rt; "refused"),
+    }
 }
 
 /// Explains the history that each block begins with, and compares the text with the block's.
-fn explains<W: Workflow>(rt: &impl Abort, alloc: Global, blocks: &'static str) {
+pub(super) fn explains<W: Workflow>(rt: &impl Abort, alloc: Global, blocks: &'static str) {
     for block in blocks.split("\n\n") {
         let (history, wanted) = block.split_once("\n").expect(rt, block);
         let bytes = bytes_of(rt, alloc, history);
         let text = explained::<W>(rt, alloc, bytes.as_slice());
-        wants(
-            rt,
-            history,
-            text,
-            format!(in alloc; "{wanted}\n")
-                .expect(rt, "memory")
-                .as_str(),
-        );
+        wants(rt, history, text, wanted);
     }
 }
 
 #[test]
-fn explains_good_histories(rt: HostRuntime) {
+fn explains_histories(rt: HostRuntime) {
     explains::<All>(&rt, rt.alloc(), GOOD);
-}
-
-#[test]
-fn explains_bad_histories(rt: HostRuntime) {
     explains::<All>(&rt, rt.alloc(), BAD);
     explains::<Scripted>(&rt, rt.alloc(), SCRIPTED);
-}
-
-#[test]
-fn explains_what_is_no_history(rt: HostRuntime) {
-    let text = explained::<All>(&rt, rt.alloc(), b"");
-    wants(&rt, "no bytes", text, "x.json: unreadable, not JSON\n");
 }
 
 /// A workflow that asks at each answer asks 4,097 times.
@@ -414,6 +428,6 @@ fn explains_endless_questions(rt: HostRuntime) {
         }
     }
     assert_eq!(rt; told, 4_096);
-    let end = "\n  refuses Ask a (-1 to 1)\nx.json: fault, task at 3: TooManyCommands\n";
+    let end = "\n  refuses Ask a (-1 to 1)\nx.json: fault, task at 3: TooManyCommands\nstatus 1";
     assert!(rt; text.as_str().ends_with(end));
 }

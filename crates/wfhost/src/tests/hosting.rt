@@ -11,13 +11,12 @@ use std::process::Abort;
 use std::sync::Wait;
 use std::sync::ledger::{Blank, Ledger};
 use wh_histories::key;
-use wh_host::{Config, Host, Outcome, Totals};
+use wh_host::{Config, Counts, Host, Outcome};
 use wh_ledger::Seat;
-use wh_poll::serve_one;
+use wh_poll::{SourceFault, Worker, serve_one, work};
 use wh_replay::Run;
 use wh_samples::FaultySource;
 use wh_slots::{Held, SlotKind, TaskName};
-use wh_workflow::Workflow;
 
 /// The places of one worker, without a cache.
 pub(super) const SMALL: Config = Config {
@@ -59,13 +58,14 @@ pub(super) const NAP: Setting = Setting {
     deeds: &[],
 };
 
-/// What is done with a host, each with the calls that it makes and its answer, and what is counted
-/// at the end. Behind the runs in the cache stand the events that they hold, and behind `slots` how
-/// many of workflows and then of activities are free, reserved and held.
-struct Day {
-    setting: Setting,
-    steps: &'static str,
-    counts: &'static str,
+/// What is done with a host: steps, each with the calls that it makes and its answer, and then so
+/// many turns of a worker. The end tells the calls of the worker, the first fault of its source, and
+/// what is counted.
+pub(super) struct Day {
+    pub(super) setting: Setting,
+    pub(super) steps: &'static str,
+    pub(super) turns: u64,
+    pub(super) end: &'static str,
 }
 
 /// The tasks of three naps. The names of those of file 1 begin at 2^64, of file 2 at 2^65.
@@ -82,7 +82,7 @@ workflow => poll, Ok(Closed)
 /// An answer that is not sent: the run is cached all the same, and the next task goes on from it.
 const UNSENT: &str = "\
 workflow => poll, enter 3, Err(Source)
-counts => taken 1, completed 0, failed 1, in hand 0, cached 1 (3), slots 2 0 0, 1 0 0
+counts => Counts taken: 1, completed: 0, failed: 1, in_hand: 0, cached: 1, cached_events: 3, workflow: SlotCount free: 2, reserved: 0, held: 0, activity: SlotCount free: 1, reserved: 0, held: 0
 workflow => poll, enter 8, answer 8 Complete([Complete result: []]), Ok(Workflow name: TaskName(8), hit: true, steps: 2, outcome: Completed)
 workflow => poll, Ok(Closed)
 ";
@@ -100,7 +100,8 @@ workflow => poll, enter 8, answer 8 Complete([Complete result: []]), Ok(Workflow
 workflow => poll, Ok(Closed)
 activity => poll activities, Ok(Closed)
 ",
-        counts: "taken 2, completed 2, failed 0, in hand 0, cached 1 (8), slots 2 0 0, 1 0 0",
+        turns: 0,
+        end: "None, Counts taken: 2, completed: 2, failed: 0, in_hand: 0, cached: 1, cached_events: 8, workflow: SlotCount free: 2, reserved: 0, held: 0, activity: SlotCount free: 1, reserved: 0, held: 0",
     },
     // Without a cache both tasks are replayed. The gate is entered before replay.
     Day {
@@ -110,7 +111,8 @@ workflow => poll, enter 3, answer 3 Complete([StartTimer id: nap, seconds: 60]),
 workflow => poll, enter 8, whole nap 8, answer 8 Complete([Complete result: []]), Ok(Workflow name: TaskName(8), hit: false, steps: 4, outcome: Completed)
 workflow => poll, Ok(Closed)
 ",
-        counts: "taken 2, completed 2, failed 0, in hand 0, cached 0 (0), slots 2 0 0, 1 0 0",
+        turns: 0,
+        end: "None, Counts taken: 2, completed: 2, failed: 0, in_hand: 0, cached: 0, cached_events: 0, workflow: SlotCount free: 2, reserved: 0, held: 0, activity: SlotCount free: 1, reserved: 0, held: 0",
     },
     // A run that is no longer cached answers as one that never was.
     Day {
@@ -119,7 +121,8 @@ workflow => poll, Ok(Closed)
             ..NAP
         },
         steps: THREE_NAPS,
-        counts: "taken 6, completed 6, failed 0, in hand 0, cached 0 (0), slots 2 0 0, 1 0 0",
+        turns: 0,
+        end: "None, Counts taken: 6, completed: 6, failed: 0, in_hand: 0, cached: 0, cached_events: 0, workflow: SlotCount free: 2, reserved: 0, held: 0, activity: SlotCount free: 1, reserved: 0, held: 0",
     },
     Day {
         setting: Setting {
@@ -128,7 +131,8 @@ workflow => poll, Ok(Closed)
             ..NAP
         },
         steps: THREE_NAPS,
-        counts: "taken 6, completed 6, failed 0, in hand 0, cached 2 (16), slots 2 0 0, 1 0 0",
+        turns: 0,
+        end: "None, Counts taken: 6, completed: 6, failed: 0, in_hand: 0, cached: 2, cached_events: 16, workflow: SlotCount free: 2, reserved: 0, held: 0, activity: SlotCount free: 1, reserved: 0, held: 0",
     },
     Day {
         setting: Setting {
@@ -137,7 +141,8 @@ workflow => poll, Ok(Closed)
             ..NAP
         },
         steps: UNSENT,
-        counts: "taken 2, completed 1, failed 1, in hand 0, cached 1 (8), slots 2 0 0, 1 0 0",
+        turns: 0,
+        end: "None, Counts taken: 2, completed: 1, failed: 1, in_hand: 0, cached: 1, cached_events: 8, workflow: SlotCount free: 2, reserved: 0, held: 0, activity: SlotCount free: 1, reserved: 0, held: 0",
     },
     Day {
         setting: Setting {
@@ -149,7 +154,8 @@ workflow => poll, Ok(Closed)
             ..NAP
         },
         steps: UNSENT,
-        counts: "taken 2, completed 1, failed 1, in hand 0, cached 1 (8), slots 2 0 0, 1 0 0",
+        turns: 0,
+        end: "None, Counts taken: 2, completed: 1, failed: 1, in_hand: 0, cached: 1, cached_events: 8, workflow: SlotCount free: 2, reserved: 0, held: 0, activity: SlotCount free: 1, reserved: 0, held: 0",
     },
     // A task that is in hand comes again.
     Day {
@@ -165,11 +171,12 @@ workflow => poll, Ok(Closed)
         steps: "\
 hold 7 nap => false
 workflow => poll, Ok(Repeated name: TaskName(7))
-counts => taken 1, completed 0, failed 0, in hand 1, cached 0 (0), slots 1 0 1, 2 0 0
+counts => Counts taken: 1, completed: 0, failed: 0, in_hand: 1, cached: 0, cached_events: 0, workflow: SlotCount free: 1, reserved: 0, held: 1, activity: SlotCount free: 2, reserved: 0, held: 0
 hold_activity 8 => true
 activity => poll activities, Ok(Repeated name: TaskName(8))
 ",
-        counts: "taken 2, completed 0, failed 0, in hand 2, cached 0 (0), slots 1 0 1, 1 0 1",
+        turns: 0,
+        end: "None, Counts taken: 2, completed: 0, failed: 0, in_hand: 2, cached: 0, cached_events: 0, workflow: SlotCount free: 1, reserved: 0, held: 1, activity: SlotCount free: 1, reserved: 0, held: 1",
     },
     // Tasks of both kinds, and polls that give none.
     Day {
@@ -186,11 +193,12 @@ workflow => poll, enter 7, answer 7 Complete([]), Ok(Workflow name: TaskName(7),
 activity => poll activities, run, answer 8 Completed([Payload encoding: [], content: [112]]), Ok(Activity name: TaskName(8), outcome: Completed)
 workflow => poll, Ok(Closed)
 activity => poll activities, Ok(Idle)
-counts => taken 2, completed 2, failed 0, in hand 0, cached 1 (7), slots 1 0 0, 1 0 0
+counts => Counts taken: 2, completed: 2, failed: 0, in_hand: 0, cached: 1, cached_events: 7, workflow: SlotCount free: 1, reserved: 0, held: 0, activity: SlotCount free: 1, reserved: 0, held: 0
 activity => poll activities, Ok(Closed)
 workflow => poll, Ok(Closed)
 ",
-        counts: "taken 2, completed 2, failed 0, in hand 0, cached 1 (7), slots 1 0 0, 1 0 0",
+        turns: 0,
+        end: "None, Counts taken: 2, completed: 2, failed: 0, in_hand: 0, cached: 1, cached_events: 7, workflow: SlotCount free: 1, reserved: 0, held: 0, activity: SlotCount free: 1, reserved: 0, held: 0",
     },
     // A source whose polls fail.
     Day {
@@ -202,7 +210,8 @@ workflow => poll, Ok(Closed)
         steps: "\
 workflow => Err(Source)
 ",
-        counts: "taken 0, completed 0, failed 0, in hand 0, cached 0 (0), slots 1 0 0, 1 0 0",
+        turns: 0,
+        end: "None, Counts taken: 0, completed: 0, failed: 0, in_hand: 0, cached: 0, cached_events: 0, workflow: SlotCount free: 1, reserved: 0, held: 0, activity: SlotCount free: 1, reserved: 0, held: 0",
     },
     Day {
         setting: Setting {
@@ -213,7 +222,8 @@ workflow => Err(Source)
         steps: "\
 activity => Err(Source)
 ",
-        counts: "taken 0, completed 0, failed 0, in hand 0, cached 0 (0), slots 1 0 0, 1 0 0",
+        turns: 0,
+        end: "None, Counts taken: 0, completed: 0, failed: 0, in_hand: 0, cached: 0, cached_events: 0, workflow: SlotCount free: 1, reserved: 0, held: 0, activity: SlotCount free: 1, reserved: 0, held: 0",
     },
     // A run in hand is evicted.
     Day {
@@ -228,7 +238,8 @@ activity => Err(Source)
         steps: "\
 workflow => poll, enter 3, evict nap Marked, answer 3 Complete([StartTimer id: nap, seconds: 60]), Ok(Workflow name: TaskName(3), hit: false, steps: 2, outcome: Completed)
 ",
-        counts: "taken 1, completed 1, failed 0, in hand 0, cached 0 (0), slots 1 0 0, 1 0 0",
+        turns: 0,
+        end: "None, Counts taken: 1, completed: 1, failed: 0, in_hand: 0, cached: 0, cached_events: 0, workflow: SlotCount free: 1, reserved: 0, held: 0, activity: SlotCount free: 1, reserved: 0, held: 0",
     },
     // No place is free, and then the host drains: the source is not polled.
     Day {
@@ -250,7 +261,8 @@ finish => true
 workflow => Ok(Draining)
 activity => Ok(Draining)
 ",
-        counts: "taken 2, completed 2, failed 0, in hand 0, cached 0 (0), slots 1 0 0, 1 0 0",
+        turns: 0,
+        end: "None, Counts taken: 2, completed: 2, failed: 0, in_hand: 0, cached: 0, cached_events: 0, workflow: SlotCount free: 1, reserved: 0, held: 0, activity: SlotCount free: 1, reserved: 0, held: 0",
     },
     // The cached runs hold at most three events together.
     Day {
@@ -265,14 +277,15 @@ activity => Ok(Draining)
         },
         steps: "\
 workflow => poll, enter 3, answer 3 Complete([StartTimer id: nap, seconds: 60]), Ok(Workflow name: TaskName(3), hit: false, steps: 2, outcome: Completed)
-counts => taken 1, completed 1, failed 0, in hand 0, cached 1 (3), slots 2 0 0, 1 0 0
+counts => Counts taken: 1, completed: 1, failed: 0, in_hand: 0, cached: 1, cached_events: 3, workflow: SlotCount free: 2, reserved: 0, held: 0, activity: SlotCount free: 1, reserved: 0, held: 0
 workflow => poll, enter 18446744073709551619, answer 18446744073709551619 Complete([StartTimer id: nap, seconds: 60]), Ok(Workflow name: TaskName(18446744073709551619), hit: false, steps: 2, outcome: Completed)
-counts => taken 2, completed 2, failed 0, in hand 0, cached 1 (3), slots 2 0 0, 1 0 0
+counts => Counts taken: 2, completed: 2, failed: 0, in_hand: 0, cached: 1, cached_events: 3, workflow: SlotCount free: 2, reserved: 0, held: 0, activity: SlotCount free: 1, reserved: 0, held: 0
 workflow => poll, enter 8, whole a 8, answer 8 Complete([Complete result: []]), Ok(Workflow name: TaskName(8), hit: false, steps: 4, outcome: Completed)
-counts => taken 3, completed 3, failed 0, in hand 0, cached 1 (3), slots 2 0 0, 1 0 0
+counts => Counts taken: 3, completed: 3, failed: 0, in_hand: 0, cached: 1, cached_events: 3, workflow: SlotCount free: 2, reserved: 0, held: 0, activity: SlotCount free: 1, reserved: 0, held: 0
 workflow => poll, enter 18446744073709551624, answer 18446744073709551624 Complete([Complete result: []]), Ok(Workflow name: TaskName(18446744073709551624), hit: true, steps: 2, outcome: Completed)
 ",
-        counts: "taken 4, completed 4, failed 0, in hand 0, cached 0 (0), slots 2 0 0, 1 0 0",
+        turns: 0,
+        end: "None, Counts taken: 4, completed: 4, failed: 0, in_hand: 0, cached: 0, cached_events: 0, workflow: SlotCount free: 2, reserved: 0, held: 0, activity: SlotCount free: 1, reserved: 0, held: 0",
     },
     // After events that are no task the run is given back.
     Day {
@@ -286,7 +299,8 @@ workflow => poll, enter 3, answer 3 Complete([StartTimer id: nap, seconds: 60]),
 workflow => poll, enter 6, answer 6 Fail(NotATask), Ok(Workflow name: TaskName(6), hit: true, steps: 0, outcome: Failed)
 workflow => poll, enter 8, answer 8 Complete([Complete result: []]), Ok(Workflow name: TaskName(8), hit: true, steps: 2, outcome: Completed)
 ",
-        counts: "taken 3, completed 2, failed 1, in hand 0, cached 1 (8), slots 1 0 0, 1 0 0",
+        turns: 0,
+        end: "None, Counts taken: 3, completed: 2, failed: 1, in_hand: 0, cached: 1, cached_events: 8, workflow: SlotCount free: 1, reserved: 0, held: 0, activity: SlotCount free: 1, reserved: 0, held: 0",
     },
     // A run that comes out of the cache goes on as it would have.
     Day {
@@ -298,9 +312,10 @@ workflow => poll, enter 8, answer 8 Complete([Complete result: []]), Ok(Workflow
         steps: "\
 workflow => poll, enter 3, answer 3 Complete([StartTimer id: nap, seconds: 60]), Ok(Workflow name: TaskName(3), hit: false, steps: 2, outcome: Completed)
 workflow => poll, Ok(Closed)
-advance nap/8 => 2 steps, [Complete result: []], took 2, holds 8
+advance nap/8 => 2 steps, holds 8, [Complete result: []]
 ",
-        counts: "taken 2, completed 2, failed 0, in hand 0, cached 0 (0), slots 2 0 0, 1 0 0",
+        turns: 0,
+        end: "None, Counts taken: 2, completed: 2, failed: 0, in_hand: 0, cached: 0, cached_events: 0, workflow: SlotCount free: 2, reserved: 0, held: 0, activity: SlotCount free: 1, reserved: 0, held: 0",
     },
     Day {
         setting: Setting {
@@ -311,9 +326,10 @@ advance nap/8 => 2 steps, [Complete result: []], took 2, holds 8
         steps: "\
 workflow => poll, enter 3, answer 3 Complete([StartTimer id: nap, seconds: 60]), Ok(Workflow name: TaskName(3), hit: false, steps: 2, outcome: Completed)
 workflow => poll, Ok(Closed)
-advance nap/3 behind 2 => Gap, [StartTimer id: nap, seconds: 60], took 0, holds 3
+advance nap/3 behind 2 => Gap, 0 steps, holds 3, [StartTimer id: nap, seconds: 60]
 ",
-        counts: "taken 2, completed 2, failed 0, in hand 0, cached 0 (0), slots 2 0 0, 1 0 0",
+        turns: 0,
+        end: "None, Counts taken: 2, completed: 2, failed: 0, in_hand: 0, cached: 0, cached_events: 0, workflow: SlotCount free: 2, reserved: 0, held: 0, activity: SlotCount free: 1, reserved: 0, held: 0",
     },
     Day {
         setting: Setting {
@@ -324,45 +340,65 @@ advance nap/3 behind 2 => Gap, [StartTimer id: nap, seconds: 60], took 0, holds 
         steps: "\
 workflow => poll, enter 3, answer 3 Complete([StartTimer id: nap, seconds: 60]), Ok(Workflow name: TaskName(3), hit: false, steps: 2, outcome: Completed)
 workflow => poll, Ok(Closed)
-advance nap/6 behind 3 => NotATask, [StartTimer id: nap, seconds: 60], took 0, holds 3
+advance nap/6 behind 3 => NotATask, 0 steps, holds 3, [StartTimer id: nap, seconds: 60]
 ",
-        counts: "taken 2, completed 2, failed 0, in hand 0, cached 0 (0), slots 2 0 0, 1 0 0",
+        turns: 0,
+        end: "None, Counts taken: 2, completed: 2, failed: 0, in_hand: 0, cached: 0, cached_events: 0, workflow: SlotCount free: 2, reserved: 0, held: 0, activity: SlotCount free: 1, reserved: 0, held: 0",
     },
 ];
 
 /// Opens a host with its seats.
-pub(super) fn open<R: Abort, W: Workflow, T: Ledger, C: Ledger, F: Ledger>(
+pub(super) fn open<R: Abort, T: Ledger, C: Ledger, F: Ledger>(
     rt: &R,
     alloc: Global,
     config: Config,
     taken: Blank,
     completed: Blank,
     failed: Blank,
-) -> (Host<W, T, C, F>, Vec<Seat<T, C, F>>)
+) -> (Host<Workflows, T, C, F>, Vec<Seat<T, C, F>>)
     requires taken { (taken.name ≡ T.name) × (taken.parts ≡ T.parts) × (taken.parts ≡ config.seats) }
     requires completed { (completed.name ≡ C.name) × (completed.parts ≡ C.parts) × (completed.parts ≡ config.seats) }
     requires failed { (failed.name ≡ F.name) × (failed.parts ≡ F.parts) × (failed.parts ≡ config.seats) }
 {
-    match Host::<W, T, C, F>::open(alloc, config, taken, completed, failed) {
+    match Host::open(alloc, config, taken, completed, failed) {
         Ok(opened) => opened,
         Err(_) => panic!(rt; "open"),
     }
 }
 
-/// Closes a host. Its seats are all there.
-pub(super) fn close<R: Abort, W: Workflow, T: Ledger, C: Ledger, F: Ledger>(
+/// Closes a host once each seat is there, and gives what it counted last, which its seats have
+/// counted together.
+pub(super) fn close<R: Wait + Abort, T: Ledger, C: Ledger, F: Ledger>(
     rt: &R,
-    host: Host<W, T, C, F>,
-    seats: Vec<Seat<T, C, F>>,
-) -> Totals {
-    match host.close(seats) {
-        Ok(totals) => totals,
-        Err(_) => panic!(rt; "a seat is missing"),
-    }
+    host: Host<Workflows, T, C, F>,
+    mut seats: Vec<Seat<T, C, F>>,
+    mut seat: Seat<T, C, F>,
+) -> Counts {
+    let counts = host.lock(rt).counts(&mut seat);
+    seats.reserve(1).expect(rt, "memory");
+    seats.push_reserved(seat);
+    let Ok(totals) = host.close(seats) else {
+        panic!(rt; "a seat is missing")
+    };
+    assert!(rt; totals.taken == counts.taken && totals.completed == counts.completed);
+    assert!(rt; totals.failed == counts.failed && totals.in_hand == counts.in_hand);
+    counts
+}
+
+/// How a day ends, in words.
+fn end_text(
+    rt: &impl Abort,
+    alloc: Global,
+    calls: String,
+    fault: Option<SourceFault>,
+    counts: &Counts,
+) -> String {
+    let counts = shown(rt, alloc, counts);
+    format!(in alloc; "{calls}{fault:?}, {counts}").expect(rt, "memory")
 }
 
 /// The source of a setting.
-pub(super) fn desk<'b, 'r, 'h, R: Wait + Abort, T: Ledger, C: Ledger, F: Ledger>(
+fn desk<'b, 'r, 'h, R: Wait + Abort, T: Ledger, C: Ledger, F: Ledger>(
     book: &'b Notebook<'r, 'h, R, T, C, F>,
     setting: &Setting,
 ) -> FaultySource<Desk<'b, 'r, 'h, R, T, C, F>> {
@@ -373,33 +409,6 @@ pub(super) fn desk<'b, 'r, 'h, R: Wait + Abort, T: Ledger, C: Ledger, F: Ledger>
         activity_polls: setting.activity_polls,
     };
     FaultySource::new(desk, setting.fail_at)
-}
-
-/// What is counted, in words.
-pub(super) fn counts_text<R: Wait + Abort, W: Workflow, T: Ledger, C: Ledger, F: Ledger>(
-    rt: &R,
-    alloc: Global,
-    host: &Host<W, T, C, F>,
-    seat: &mut Seat<T, C, F>,
-) -> String {
-    let counts = host.lock(rt).counts(seat);
-    let (workflow, activity) = (counts.workflow, counts.activity);
-    let text = format!(in alloc;
-        "taken {}, completed {}, failed {}, in hand {}, cached {} ({}), slots {} {} {}, {} {} {}",
-        counts.taken,
-        counts.completed,
-        counts.failed,
-        counts.in_hand,
-        counts.cached,
-        counts.cached_events,
-        workflow.free,
-        workflow.reserved,
-        workflow.held,
-        activity.free,
-        activity.reserved,
-        activity.held
-    );
-    text.expect(rt, "memory")
 }
 
 /// The calls of one turn, and its answer.
@@ -434,7 +443,8 @@ fn hold<R: Wait + Abort, T: Ledger, C: Ledger, F: Ledger>(
     let Ok((held, run)) = used else {
         panic!(rt; "use")
     };
-    assert!(rt; tasks.push(held).is_ok());
+    tasks.reserve(1).expect(rt, "memory");
+    tasks.push_reserved(held);
     run
 }
 
@@ -450,7 +460,8 @@ fn hold_activity<R: Wait + Abort, T: Ledger, C: Ledger, F: Ledger>(
     let permit = reserved.expect(rt, "reserve");
     let used = book.host.lock(rt).use_activity(permit, name, seat);
     let Ok(held) = used else { panic!(rt; "use") };
-    assert!(rt; tasks.push(held).is_ok());
+    tasks.reserve(1).expect(rt, "memory");
+    tasks.push_reserved(held);
 }
 
 /// Ends the task that was taken in hand last.
@@ -467,7 +478,7 @@ fn finish<R: Wait + Abort, T: Ledger, C: Ledger, F: Ledger>(
     finished.is_ok()
 }
 
-/// Takes the cached run of `nap` with its next task, and advances it.
+/// Takes the cached run of `nap` with its next task, ends that, and advances the run.
 fn advance<R: Wait + Abort, T: Ledger, C: Ledger, F: Ledger>(
     book: &Notebook<'_, '_, R, T, C, F>,
     seat: &mut Seat<T, C, F>,
@@ -477,10 +488,7 @@ fn advance<R: Wait + Abort, T: Ledger, C: Ledger, F: Ledger>(
     let (rt, alloc) = (book.rt, book.alloc);
     let run = hold(book, seat, tasks, TaskName(2), "nap");
     assert!(rt; finish(book, seat, tasks));
-    let run = run.expect(rt, "the run is cached");
-    let gone = runs::advance(rt, alloc, run, history);
-    let text = format!(in alloc; "{}, took {}, holds {}", gone.text, gone.steps, gone.held);
-    text.expect(rt, "memory")
+    runs::advance(rt, alloc, run.expect(rt, "the run is cached"), history)
 }
 
 /// The name of a task in a step.
@@ -501,7 +509,10 @@ fn answered<R: Wait + Abort, T: Ledger, C: Ledger, F: Ledger>(
     match word {
         "workflow" => turn(book, seat, source, SlotKind::Workflow),
         "activity" => turn(book, seat, source, SlotKind::Activity),
-        "counts" => counts_text(rt, alloc, book.host, seat),
+        "counts" => {
+            let counts = book.host.lock(rt).counts(seat);
+            shown(rt, alloc, &counts)
+        }
         "advance" => advance(book, seat, tasks, rest),
         "hold" => {
             let (name, run) = rest.split_once(' ').expect(rt, step);
@@ -518,52 +529,87 @@ fn answered<R: Wait + Abort, T: Ledger, C: Ledger, F: Ledger>(
     }
 }
 
-/// Does the steps of a day, and compares what each of them answers.
+/// Takes the steps of a day, and compares what each of them answers.
+fn take_steps<R: Wait + Abort, T: Ledger, C: Ledger, F: Ledger>(
+    book: &Notebook<'_, '_, R, T, C, F>,
+    seat: &mut Seat<T, C, F>,
+    setting: &Setting,
+    steps: &'static str,
+) {
+    let mut source = desk(book, setting);
+    let mut tasks = Vec::new(book.alloc);
+    for line in steps.lines() {
+        let (step, wanted) = row(book.rt, line);
+        let text = answered(book, seat, &mut source, &mut tasks, step);
+        wants(book.rt, step, text, wanted);
+    }
+}
+
+/// Spends a day: takes its steps, lets a worker do so many turns over a source of its own, closes the
+/// host, and tells how it ended.
 fn spend<R: Wait + Abort, T: Ledger, C: Ledger, F: Ledger>(
     rt: &R,
     alloc: Global,
-    day: &Day,
+    setting: &Setting,
+    steps: &'static str,
+    turns: u64,
     taken: Blank,
     completed: Blank,
     failed: Blank,
-)
-    requires taken { (taken.name ≡ T.name) × (taken.parts ≡ T.parts) × (taken.parts ≡ day.now.setting.config.seats) }
-    requires completed { (completed.name ≡ C.name) × (completed.parts ≡ C.parts) × (completed.parts ≡ day.now.setting.config.seats) }
-    requires failed { (failed.name ≡ F.name) × (failed.parts ≡ F.parts) × (failed.parts ≡ day.now.setting.config.seats) }
+) -> String
+    requires taken { (taken.name ≡ T.name) × (taken.parts ≡ T.parts) × (taken.parts ≡ setting.now.config.seats) }
+    requires completed { (completed.name ≡ C.name) × (completed.parts ≡ C.parts) × (completed.parts ≡ setting.now.config.seats) }
+    requires failed { (failed.name ≡ F.name) × (failed.parts ≡ F.parts) × (failed.parts ≡ setting.now.config.seats) }
 {
-    let setting = &day.setting;
-    let (host, mut seats) = open::<R, Workflows, T, C, F>(
-        rt,
-        alloc,
-        setting.config,
-        taken,
-        completed,
-        failed,
-    );
+    let (host, mut seats) = open::<R, T, C, F>(rt, alloc, setting.config, taken, completed, failed);
     let mut seat = seats.pop().expect(rt, "seat");
     let book = Notebook::new(rt, alloc, &host, setting.deeds);
-    let mut source = desk(&book, setting);
-    let mut tasks = Vec::new(alloc);
-    for line in day.steps.lines() {
-        let (step, wanted) = row(rt, line);
-        let text = answered(&book, &mut seat, &mut source, &mut tasks, step);
-        wants(rt, step, text, wanted);
+    take_steps(&book, &mut seat, setting, steps);
+    let source = desk(&book, setting);
+    let handler = Echo { book: &book };
+    let worker = work(rt, alloc, &host, seat, source, handler, &book, turns);
+    let Worker {
+        seat,
+        source,
+        fault,
+    } = worker;
+    drop(source);
+    let calls = book.calls();
+    drop(book);
+    let counts = close(rt, host, seats, seat);
+    end_text(rt, alloc, calls, fault, &counts)
+}
+
+/// Spends a day with a host of one seat.
+pub(super) fn spent<R: Wait + Abort>(
+    rt: &R,
+    alloc: Global,
+    setting: &Setting,
+    steps: &'static str,
+    turns: u64,
+) -> String {
+    assert!(rt; setting.config.seats == 1);
+    spend::<R, Brand, Brand, Brand>(
+        rt,
+        alloc,
+        setting,
+        steps,
+        turns,
+        Blank::new(1),
+        Blank::new(1),
+        Blank::new(1),
+    )
+}
+
+/// Spends days, and compares how each of them ends.
+pub(super) fn pass<R: Wait + Abort>(rt: &R, alloc: Global, days: &'static [Day]) {
+    for day in days {
+        let text = spent(rt, alloc, &day.setting, day.steps, day.turns);
+        wants(rt, day.setting.script, text, day.end);
     }
-    let counts = counts_text(rt, alloc, &host, &mut seat);
-    wants(rt, "counts", counts, day.counts);
 }
 
 #[test]
 fn days_of_a_host(rt: HostRuntime) {
-    for day in &DAYS {
-        let seats = day.setting.config.seats as u64;
-        spend::<HostRuntime, Brand, Brand, Brand>(
-            &rt,
-            rt.alloc(),
-            day,
-            Blank::new(seats),
-            Blank::new(seats),
-            Blank::new(seats),
-        );
-    }
+    pass(&rt, rt.alloc(), &DAYS);
 }

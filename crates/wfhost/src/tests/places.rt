@@ -4,7 +4,7 @@ use crate::tests::rows::replays;
 use wh_samples::All;
 
 /// Events that are not in place, and then events that are, with what the task makes of them.
-const PLACES: &str = "\
+pub(super) const PLACES: &str = "\
 S => x.json: fault, event 1 is not in place: FirstNotStart
 ignored start:Nap => x.json: fault, event 1 is not in place: FirstNotStart
 nap start:Nap => x.json: fault, event 11 is not in place: FirstNotStart
@@ -75,11 +75,6 @@ start:Nap ignored*51200 => x.json: fault, event 51201 is not in place: TooManyEv
 const LONGEST: &str = "\
 start:Nap signal:s*51199 timer_fired:9 => x.json: fault, event 51201 is not in place: WrongKindRef
 ";
-
-#[test]
-fn judges_places(rt: HostRuntime) {
-    replays::<All, _>(&rt, rt.alloc(), PLACES);
-}
 
 #[test]
 fn bounds_histories(rt: HostRuntime) {

@@ -1,12 +1,10 @@
 //! What the reader takes, and what it refuses.
 
-use crate::tests::rows::{bytes_of, reads, replays, row};
-use std::alloc::Global;
-use std::process::Abort;
+use crate::tests::rows::{bytes_of, reads};
 use wh_samples::All;
 
 /// Forms that are read.
-const READ: &str = "\
+pub(super) const READ: &str = "\
 nap => x.json: ok, 2 tasks
 nap | [{ -> {'events':[{ | }] -> }]} => x.json: ok, 2 tasks
 nap | 'eventId':'1' -> 'eventId':1 | 'startedEventId':'5' -> 'startedEventId':5 => x.json: ok, 2 tasks
@@ -45,7 +43,7 @@ nap/3 signal:s S T | {'signalName' -> {'input':{'payloads':[{'data':'aGk='}]},'s
 ";
 
 /// Numbers, order, types, times, payloads and markers that are refused.
-const REFUSED: &str = "\
+pub(super) const REFUSED: &str = "\
 nap | 'eventId':'1' -> 'eventId':'0' => x.json: unreadable, event 1 has a bad number
 nap | 'eventId':'1' -> 'eventId':'9223372036854775808' => x.json: unreadable, event 1 has a bad number
 nap | 'eventId':'1' -> 'eventId':'9999999999999999999' => x.json: unreadable, event 1 has a bad number
@@ -106,7 +104,7 @@ nap/4 chg_marker:MQ== | 'ImNoZyI=' -> 'IiI=' => x.json: unreadable, event 5 has 
 ";
 
 /// More that is refused, where one thing stands before another.
-const REFUSED_FIRST: &str = "\
+pub(super) const REFUSED_FIRST: &str = "\
 nap | 'eventId':'1' -> 'eventId':-0 => x.json: unreadable, event 1 has a bad number
 nap | 'eventId':'1' -> 'eventId':10e-1 => x.json: unreadable, event 1 has a bad number
 nap | 'eventId':'1' -> 'eventId':'\u{ff11}' => x.json: unreadable, event 1 has a bad number
@@ -152,85 +150,35 @@ nap/4 chg_marker:eA== => x.json: unreadable, event 5 has the unsupported marker 
 nap/4 chg_marker:MQ== | 'ImNoZyI=' -> 'MQ==' => x.json: unreadable, event 5 has the unsupported marker Version
 ";
 
-/// Whole files.
-const FILES: &str = "\
-{\"events\":[]} => x.json: unreadable, no events
-{\"events\":null} => x.json: unreadable, no events
-{} => x.json: unreadable, no events
-[] => x.json: unreadable, no events
- => x.json: unreadable, not JSON
-5 => x.json: unreadable, no events
-[{}] => x.json: unreadable, event 1 has a bad number
-[null] => x.json: unreadable, event 1 has a bad number
-[5] => x.json: unreadable, event 1 has a bad number
-[{}] [] => x.json: unreadable, not JSON
-\u{feff}[] => x.json: unreadable, not JSON
-[ => x.json: unreadable, not JSON
-";
-
-#[test]
-fn events_are_read_or_refused(rt: HostRuntime) {
-    for table in [READ, REFUSED, REFUSED_FIRST] {
-        replays::<All, _>(&rt, rt.alloc(), table);
-    }
-}
-
-/// A file of one byte many times and then another many times, and its line.
-struct Filling {
-    first: u8,
-    firsts: usize,
-    second: u8,
-    seconds: usize,
+/// A file of so many spaces, and its line.
+struct Spaces {
+    count: usize,
     line: &'static str,
 }
 
 #[rattlefmt::skip]
-static FILLINGS: [Filling; 5] = [
-    Filling { first: b' ', firsts: 33_554_432, second: b' ', seconds: 33_554_432, line: "x.json: unreadable, not JSON" },
-    Filling { first: b' ', firsts: 33_554_432, second: b' ', seconds: 33_554_433, line: "x.json: unreadable, file too long" },
-    Filling { first: b' ', firsts: 33_554_433, second: b' ', seconds: 33_554_433, line: "x.json: unreadable, file too long" },
-    Filling { first: b'[', firsts: 1_000, second: b']', seconds: 1_000, line: "x.json: unreadable, not JSON" },
-    Filling { first: b'[', firsts: 100, second: b']', seconds: 100, line: "x.json: unreadable, event 1 has a bad number" },
+static SPACES: [Spaces; 3] = [
+    Spaces { count: 67_108_864, line: "x.json: unreadable, not JSON" },
+    Spaces { count: 67_108_865, line: "x.json: unreadable, file too long" },
+    Spaces { count: 67_108_866, line: "x.json: unreadable, file too long" },
 ];
 
-/// The bytes of such a file.
-fn filled(rt: &impl Abort, alloc: Global, file: &Filling) -> Vec<u8> {
-    let mut bytes = Vec::new(alloc);
-    assert!(rt; bytes.resize(file.firsts, file.first).is_ok());
-    let length = file.firsts.saturating_add(file.seconds);
-    assert!(rt; bytes.resize(length, file.second).is_ok());
-    bytes
-}
-
 #[test]
-fn whole_files_are_refused(rt: HostRuntime) {
+fn long_files_are_refused(rt: HostRuntime) {
     let alloc = rt.alloc();
-    for line in FILES.lines() {
-        let (text, wanted) = row(&rt, line);
-        reads::<All, _>(&rt, alloc, text, text.as_bytes(), wanted);
+    for spaces in &SPACES {
+        let mut bytes = Vec::new(alloc);
+        assert!(rt; bytes.resize(spaces.count, b' ').is_ok());
+        reads::<All, _>(&rt, alloc, "spaces", bytes.as_slice(), spaces.line);
     }
 }
 
 #[test]
-fn long_and_deep_files_are_refused(rt: HostRuntime) {
+fn cut_files_are_refused(rt: HostRuntime) {
     let alloc = rt.alloc();
-    for file in &FILLINGS {
-        let bytes = filled(&rt, alloc, file);
-        reads::<All, _>(&rt, alloc, "filled", bytes.as_slice(), file.line);
-    }
-}
-
-#[test]
-fn damaged_files_are_refused(rt: HostRuntime) {
-    let alloc = rt.alloc();
-    let wanted = "x.json: unreadable, not JSON";
     let bytes = bytes_of(&rt, alloc, "nap | [{ -> {'events':[{ | }] -> }]}");
+    let wanted = "x.json: unreadable, not JSON";
     for count in 0..bytes.len() {
         reads::<All, _>(&rt, alloc, "cut", &bytes.as_slice()[..count], wanted);
     }
-    let mut bytes = bytes_of(&rt, alloc, "nap");
-    if let Some(byte) = bytes.get_mut(3) {
-        *byte = 255;
-    }
-    reads::<All, _>(&rt, alloc, "no text", bytes.as_slice(), wanted);
 }

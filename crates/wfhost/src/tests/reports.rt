@@ -2,12 +2,9 @@
 
 use crate::tests::rows::{bytes_of, push_file, replayed, row, wants};
 use std::alloc::Global;
-use std::io;
-use std::io::Write;
 use std::process::Abort;
 use wh_cli::{CommandFault, replay_command};
 use wh_samples::All;
-use wh_tester::{Verdict, all_good, check_all, verdict};
 
 /// Files, each by its name and its history, with the lines of their report and the status.
 const REPORTS: &str = "\
@@ -49,23 +46,6 @@ fn files_are_reported(rt: HostRuntime) {
 }
 
 #[test]
-fn files_are_checked_in_their_order(rt: HostRuntime) {
-    let alloc = rt.alloc();
-    let list = "b.json: nap; a.json: greet | 'name':'greet' -> 'name':'greets'";
-    let files = named_files(&rt, alloc, list);
-    let lines = check_all::<All>(&rt, alloc, files).expect(&rt, "memory");
-    let mut names = String::new(alloc);
-    for line in lines.iter() {
-        assert!(rt; names.push_str(line.name.get()).is_ok());
-    }
-    assert_eq!(rt; names.as_str(), "b.jsona.json");
-    assert!(rt; !all_good(lines.as_slice()));
-    let bytes = bytes_of(&rt, alloc, "nap");
-    let verdict = verdict::<All>(alloc, bytes.as_slice());
-    assert!(rt; matches!(&verdict, Verdict::Good(checked) if checked.tasks == 2 && !checked.live));
-}
-
-#[test]
 fn many_files_are_replayed(rt: HostRuntime) {
     let alloc = rt.alloc();
     let mut files = Vec::new(alloc);
@@ -74,29 +54,18 @@ fn many_files_are_replayed(rt: HostRuntime) {
         push_file(&rt, alloc, &mut files, "nap.json", bytes.as_slice());
     }
     let line = "nap.json: ok, 2 tasks\n";
-    let mut wanted = line.repeat(alloc, 3_000).expect(&rt, "memory");
-    assert!(rt; wanted.push_str("3000 files, 3000 ok\nstatus 0").is_ok());
+    let lines = line.repeat(alloc, 3_000).expect(&rt, "memory");
     let report = replayed::<All, _>(&rt, alloc, files);
-    wants(&rt, "3000 files", report, wanted.as_str());
+    let totals = report.as_str().strip_prefix(lines.as_str());
+    assert!(rt; totals == Some("3000 files, 3000 ok\nstatus 0"));
 }
 
-/// A writer without room.
-#[derive(Drop)]
-struct Full;
-
-impl Write for Full {
-    fn write(&mut self, _bytes: &[u8]) -> io::Result<usize> {
-        Err(io::Error::from(io::ErrorKind::StorageFull))
-    }
-
-    fn flush(&mut self) -> io::Result<()> {
-        Ok(())
-    }
-}
-
+/// A writer without room for the line of the totals.
 #[test]
 fn failed_output_is_told(rt: HostRuntime) {
+    let mut room = [0; 5];
+    let mut writer = room.as_mut_slice();
     let files = Vec::new(rt.alloc());
-    let answer = replay_command::<All, _, _>(&rt, rt.alloc(), files, &mut Full);
+    let answer = replay_command::<All, _, _>(&rt, rt.alloc(), files, &mut writer);
     assert!(rt; matches!(answer, Err(CommandFault::Output)));
 }

@@ -2,6 +2,7 @@
 
 use std::alloc::Global;
 use std::fmt::Debug;
+use std::io::Write;
 use std::process::Abort;
 use std::thread::Threads;
 use wh_cli::replay_command;
@@ -24,19 +25,13 @@ const MARKS: [&str; 6] = [
     "\"",
 ];
 
-/// A text without any of the marks.
-pub(super) fn without(rt: &impl Abort, alloc: Global, text: String, marks: &[&str]) -> String {
-    let mut text = text;
-    for mark in marks {
+/// A value as its derived text says it, with nothing around its names and numbers.
+pub(super) fn shown<T: Debug>(rt: &impl Abort, alloc: Global, value: &T) -> String {
+    let mut text = format!(in alloc; "{value:?}").expect(rt, "memory");
+    for mark in MARKS {
         text = text.as_str().replace(alloc, mark, "").expect(rt, "memory");
     }
     text
-}
-
-/// A value as its derived text says it, with nothing around its names and numbers.
-pub(super) fn shown<T: Debug>(rt: &impl Abort, alloc: Global, value: &T) -> String {
-    let text = format!(in alloc; "{value:?}").expect(rt, "memory");
-    without(rt, alloc, text, &MARKS)
 }
 
 /// The text of a row is what is wanted.
@@ -77,13 +72,12 @@ pub(super) fn push_file(
 }
 
 /// A report with its status behind it.
-pub(super) fn with_status(rt: &impl Abort, alloc: Global, out: Vec<u8>, status: u8) -> String {
-    let Ok(mut report) = String::from_utf8(out) else {
-        panic!(rt; "no text")
-    };
-    let status = format!(in alloc; "status {status}").expect(rt, "memory");
-    assert!(rt; report.push_str(status.as_str()).is_ok());
-    report
+pub(super) fn with_status(rt: &impl Abort, mut out: Vec<u8>, status: u8) -> String {
+    assert!(rt; write!(out, "status {status}").is_ok());
+    match String::from_utf8(out) {
+        Ok(report) => report,
+        Err(_) => panic!(rt; "no text"),
+    }
 }
 
 /// What the command writes of the files, with its status behind it.
@@ -94,7 +88,7 @@ pub(super) fn replayed<W: Workflow + Send, R: Threads + Sync + Abort>(
 ) -> String {
     let mut out = Vec::new(alloc);
     match replay_command::<W, _, _>(rt, alloc, files, &mut out) {
-        Ok(status) => with_status(rt, alloc, out, status),
+        Ok(status) => with_status(rt, out, status),
         Err(_) => panic!(rt; "refused"),
     }
 }

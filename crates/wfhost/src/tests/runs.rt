@@ -9,69 +9,69 @@ use wh_replay::{AdvanceFault, Answer, Run, RunFault};
 use wh_samples::{All, Flood};
 use wh_workflow::{Meter, Workflow};
 
-/// Runs from their first event.
+/// Runs from their first event: their steps, how many events they hold, and their unsent commands.
 const BEGUN: &str = "\
-nap/3 => 2 steps, [StartTimer id: nap, seconds: 60]
-nap/8 => 4 steps, [Complete result: []]
-nap/3 task_failed S T => 2 steps, [StartTimer id: nap, seconds: 60]
+nap/3 => 2 steps, holds 3, [StartTimer id: nap, seconds: 60]
+nap/8 => 4 steps, holds 8, [Complete result: []]
+nap/3 task_failed S T => 2 steps, holds 6, [StartTimer id: nap, seconds: 60]
 nap => Fault(NotATask)
 nap/3 attributes_upserted => Fault(NotATask)
 nap/3 S => Fault(NotATask)
-greet/3 => 2 steps, [StartActivity id: 1, activity: greet, input: []]
-branch/3 => 3 steps, [Marker change_id: chg, version: 1, StartActivity id: 1, activity: new, input: []], chg is 1
-branch/9 => 5 steps, [Complete result: []], chg is -1
-family/3 => 2 steps, [StartChild workflow_id: kid, workflow: Nap, input: []]
-racer/3 => 2 steps, [StartActivity id: 1, activity: race, input: [], StartTimer id: t, seconds: 30]
-racer/9 => 4 steps, [CancelActivity id: 1, StartTimer id: u, seconds: 5]
-caller/3 => 2 steps, [SignalExternal workflow_id: other, signal: go, input: []]
-late => 5 steps, [StartTimer id: u, seconds: 5]
-start:Racer activity:1:race activity_completed:2 S T => 3 steps, [StartActivity id: 1, activity: race, input: [], Complete result: []]
-start:Racer S T task_failed timer:t timer_fired:5 S T => 3 steps, [StartTimer id: t, seconds: 30, StartTimer id: u, seconds: 5]
-family/9 signal:stop child_completed:5 S T => 7 steps, [Complete result: []]
+greet/3 => 2 steps, holds 3, [StartActivity id: 1, activity: greet, input: []]
+branch/3 => 3 steps, holds 3, [Marker change_id: chg, version: 1, StartActivity id: 1, activity: new, input: []], chg is 1
+branch/9 => 5 steps, holds 9, [Complete result: []], chg is -1
+family/3 => 2 steps, holds 3, [StartChild workflow_id: kid, workflow: Nap, input: []]
+racer/3 => 2 steps, holds 3, [StartActivity id: 1, activity: race, input: [], StartTimer id: t, seconds: 30]
+racer/9 => 4 steps, holds 9, [CancelActivity id: 1, StartTimer id: u, seconds: 5]
+caller/3 => 2 steps, holds 3, [SignalExternal workflow_id: other, signal: go, input: []]
+late => 5 steps, holds 11, [StartTimer id: u, seconds: 5]
+start:Racer activity:1:race activity_completed:2 S T => 3 steps, holds 5, [StartActivity id: 1, activity: race, input: [], Complete result: []]
+start:Racer S T task_failed timer:t timer_fired:5 S T => 3 steps, holds 8, [StartTimer id: t, seconds: 30, StartTimer id: u, seconds: 5]
+family/9 signal:stop child_completed:5 S T => 7 steps, holds 13, [Complete result: []]
 nap/5 timer_fired:4 S T => Fault(Place at: 6, fault: WrongKindRef)
 nap/4 timer:x S T => Fault(Mismatch at: 3, mismatch: Different event: 5)
 start:Nap timer:nap S T => Fault(Workflow at: 4, fault: IdInUse)
  => Fault(NotATask)
-greet/6 activity_completed:5 cancel_requested S T => 5 steps, [Complete result: []]
-greet/6 cancel_requested activity_completed:5 S T => 5 steps, [Complete result: []]
-greet/6 cancel_requested S T => 4 steps, [CancelActivity id: 1]
-family/9 child_completed:5 signal:stop S T => 7 steps, [Complete result: []]
-caller/5 external_failed:5 S T => 4 steps, [Fail message: signal]
-greet/5 activity_failed:5 S T => 4 steps, [Fail message: greet]
-branch/5 activity_failed:5 S T => 5 steps, [Fail message: branch], chg is -1
-family/5 child_failed:5 S T => 4 steps, [Fail message: kid]
-racer/6 activity_failed:5 S T => 4 steps, [CancelTimer id: t, Fail message: race]
-start:Racer activity:1:race activity_completed:2 activity:1:race activity_completed:4 S T => 4 steps, [StartActivity id: 1, activity: race, input: [], Complete result: []]
+greet/6 activity_completed:5 cancel_requested S T => 5 steps, holds 10, [Complete result: []]
+greet/6 cancel_requested activity_completed:5 S T => 5 steps, holds 10, [Complete result: []]
+greet/6 cancel_requested S T => 4 steps, holds 9, [CancelActivity id: 1]
+family/9 child_completed:5 signal:stop S T => 7 steps, holds 13, [Complete result: []]
+caller/5 external_failed:5 S T => 4 steps, holds 8, [Fail message: signal]
+greet/5 activity_failed:5 S T => 4 steps, holds 8, [Fail message: greet]
+branch/5 activity_failed:5 S T => 5 steps, holds 8, [Fail message: branch], chg is -1
+family/5 child_failed:5 S T => 4 steps, holds 8, [Fail message: kid]
+racer/6 activity_failed:5 S T => 4 steps, holds 9, [CancelTimer id: t, Fail message: race]
+start:Racer activity:1:race activity_completed:2 activity:1:race activity_completed:4 S T => 4 steps, holds 7, [StartActivity id: 1, activity: race, input: [], Complete result: []]
 ";
 
 /// Runs of the events before `then`, advanced by those that the longer history has behind them, or
-/// behind another place.
+/// behind another place. The steps are those of the advance.
 const ADVANCED: &str = "\
-nap/3 then nap/8 => 2 steps, [Complete result: []]
-nap/3 then nap/3 attributes_upserted C timer:nap timer_fired:6 S T => 2 steps, [Complete result: []]
-branch/3 then branch/9 => 5 steps, [Complete result: []], chg is -1
-branch/3 then branch/3 task_timed_out S T => 3 steps, [Marker change_id: chg, version: 1, StartActivity id: 1, activity: new, input: []], chg is 1
-branch/3 then branch/3 task_failed S T => 3 steps, [Marker change_id: chg, version: 1, StartActivity id: 1, activity: new, input: []], chg is 1
-branch/3 then branch/3 C chg_marker:MQ== activity:1:new activity_started:6 activity_completed:6 S T => 2 steps, [Complete result: []], chg is 1
-branch/3 then branch/3 C chg_marker:MA== activity:1:new activity_started:6 activity_completed:6 S T => 5 steps, [Complete result: []], chg is 0
+nap/3 then nap/8 => 2 steps, holds 8, [Complete result: []]
+nap/3 then nap/3 attributes_upserted C timer:nap timer_fired:6 S T => 2 steps, holds 9, [Complete result: []]
+branch/3 then branch/9 => 5 steps, holds 9, [Complete result: []], chg is -1
+branch/3 then branch/3 task_timed_out S T => 3 steps, holds 6, [Marker change_id: chg, version: 1, StartActivity id: 1, activity: new, input: []], chg is 1
+branch/3 then branch/3 task_failed S T => 3 steps, holds 6, [Marker change_id: chg, version: 1, StartActivity id: 1, activity: new, input: []], chg is 1
+branch/3 then branch/3 C chg_marker:MQ== activity:1:new activity_started:6 activity_completed:6 S T => 2 steps, holds 10, [Complete result: []], chg is 1
+branch/3 then branch/3 C chg_marker:MA== activity:1:new activity_started:6 activity_completed:6 S T => 5 steps, holds 10, [Complete result: []], chg is 0
 branch/3 then branch/3 C chg_marker:Mg== activity:1:new S T => Fault(Workflow at: 3, fault: VersionOutOfRange)
-family/3 then family/12 => 4 steps, [Complete result: []]
-caller/3 then caller/8 => 2 steps, [Complete result: []]
-racer/3 then racer/9 => 2 steps, [CancelActivity id: 1, StartTimer id: u, seconds: 5]
-racer/3 then racer/19 => 6 steps, [Complete result: []]
-nap/3 then nap/3 signal:s S T => 3 steps, [StartTimer id: nap, seconds: 60]
+family/3 then family/12 => 4 steps, holds 12, [Complete result: []]
+caller/3 then caller/8 => 2 steps, holds 8, [Complete result: []]
+racer/3 then racer/9 => 2 steps, holds 9, [CancelActivity id: 1, StartTimer id: u, seconds: 5]
+racer/3 then racer/19 => 6 steps, holds 19, [Complete result: []]
+nap/3 then nap/3 signal:s S T => 3 steps, holds 6, [StartTimer id: nap, seconds: 60]
 nap/3 then nap/4 timer:x S T => Fault(Mismatch at: 3, mismatch: Different event: 5)
 nap/3 then nap/4 timer:nap timer_fired:4 S T => Fault(Place at: 6, fault: WrongKindRef)
-nap/3 then nap/6 => NotATask, [StartTimer id: nap, seconds: 60]
-nap/3 then nap/3 => NotATask, [StartTimer id: nap, seconds: 60]
-nap/3 then nap/3 task_failed signal:s S T => 3 steps, [StartTimer id: nap, seconds: 60]
-nap/3 then nap/3 attributes_upserted task_failed S T => 2 steps, [StartTimer id: nap, seconds: 60]
-nap/8 then nap/8 task_timed_out S T => 4 steps, [Complete result: []]
+nap/3 then nap/6 => NotATask, 0 steps, holds 3, [StartTimer id: nap, seconds: 60]
+nap/3 then nap/3 => NotATask, 0 steps, holds 3, [StartTimer id: nap, seconds: 60]
+nap/3 then nap/3 task_failed signal:s S T => 3 steps, holds 7, [StartTimer id: nap, seconds: 60]
+nap/3 then nap/3 attributes_upserted task_failed S T => 2 steps, holds 7, [StartTimer id: nap, seconds: 60]
+nap/8 then nap/8 task_timed_out S T => 4 steps, holds 11, [Complete result: []]
 branch/3 then branch/3 C activity:1:new S T => Fault(Mismatch at: 3, mismatch: Different event: 5)
 nap/3 then nap/4 S T => Fault(Mismatch at: 3, mismatch: CommandExtra index: 1)
 nap/3 then nap/5 timer:x S T => Fault(Mismatch at: 3, mismatch: CommandMissing event: 6)
-nap/3 then nap/3 behind 2 => Gap, [StartTimer id: nap, seconds: 60]
-nap/3 then nap/8 behind 4 => Gap, [StartTimer id: nap, seconds: 60]
+nap/3 then nap/3 behind 2 => Gap, 0 steps, holds 3, [StartTimer id: nap, seconds: 60]
+nap/3 then nap/8 behind 4 => Gap, 0 steps, holds 3, [StartTimer id: nap, seconds: 60]
 ";
 
 /// Where something stands that an event of a run opened.
@@ -94,29 +94,24 @@ caller/5 S T at 5 => Some(Open)
 caller/8 at 5 => Some(Closed by: 6)
 ";
 
-/// What came of a run that was advanced, how many steps that took, and how many events it then
-/// holds: 0 where the run is gone.
-#[derive(Drop)]
-pub(super) struct Advanced {
-    pub(super) text: String,
-    pub(super) steps: u64,
-    pub(super) held: usize,
-}
-
-/// The unsent commands of a run behind a word, and the version of the change `chg`.
-fn run_text<W: Workflow>(rt: &impl Abort, alloc: Global, word: &str, run: &Run<W>) -> String {
+/// A run behind a word and so many steps: how many events it holds, its unsent commands, and the
+/// version of the change `chg`.
+fn run_text<W: Workflow>(
+    rt: &impl Abort,
+    alloc: Global,
+    word: &str,
+    steps: u64,
+    run: &Run<W>,
+) -> String {
+    let held = run.held_len();
     let commands = shown(rt, alloc, &run.commands());
     let text = match run.version("chg") {
-        Some(version) => format!(in alloc; "{word}, {commands}, chg is {version}"),
-        None => format!(in alloc; "{word}, {commands}"),
+        Some(version) => {
+            format!(in alloc; "{word}{steps} steps, holds {held}, {commands}, chg is {version}")
+        }
+        None => format!(in alloc; "{word}{steps} steps, holds {held}, {commands}"),
     };
     text.expect(rt, "memory")
-}
-
-/// The run of a history behind the steps that it took.
-fn stepped_text<W: Workflow>(rt: &impl Abort, alloc: Global, steps: u64, run: &Run<W>) -> String {
-    let steps = format!(in alloc; "{steps} steps").expect(rt, "memory");
-    run_text(rt, alloc, steps.as_str(), run)
 }
 
 /// The run of a history from its first event.
@@ -131,15 +126,12 @@ fn begun<W: Workflow>(
 }
 
 /// What comes of a history from its first event.
-pub(super) fn begun_text<W: Workflow>(
-    rt: &impl Abort,
-    alloc: Global,
-    history: &'static str,
-) -> String {
+fn begun_text<W: Workflow>(rt: &impl Abort, alloc: Global, history: &'static str) -> String {
     let mut meter = Meter::new();
-    match begun::<W>(rt, alloc, history, &mut meter) {
-        Ok(run) => stepped_text(rt, alloc, meter.count(), &run),
-        Err(fault) => shown(rt, alloc, &fault),
+    let begun = begun::<W>(rt, alloc, history, &mut meter);
+    match &begun {
+        Ok(run) => run_text(rt, alloc, "", meter.count(), run),
+        Err(fault) => shown(rt, alloc, fault),
     }
 }
 
@@ -151,28 +143,35 @@ fn good<W: Workflow>(rt: &impl Abort, alloc: Global, history: &'static str) -> R
     }
 }
 
+/// What came of a run that was advanced in so many steps.
+fn advanced_text<W: Workflow>(
+    rt: &impl Abort,
+    alloc: Global,
+    steps: u64,
+    advanced: &Result<Run<W>, AdvanceFault<W>>,
+) -> String {
+    match advanced {
+        Ok(run) => run_text(rt, alloc, "", steps, run),
+        Err(AdvanceFault::NotATask(run)) => run_text(rt, alloc, "NotATask, ", steps, run),
+        Err(AdvanceFault::Gap(run)) => run_text(rt, alloc, "Gap, ", steps, run),
+        Err(AdvanceFault::Fault(fault)) => shown(rt, alloc, &RunFault::Fault(*fault)),
+        Err(AdvanceFault::OutOfMemory) => shown(rt, alloc, &RunFault::OutOfMemory),
+    }
+}
+
 /// What comes of a run that is advanced by the events of a history behind those that it holds, or
-/// behind the place that the history names.
+/// behind the place that the history names: the steps of the advance, and the run, where it is not
+/// gone.
 pub(super) fn advance<W: Workflow>(
     rt: &impl Abort,
     alloc: Global,
     run: Run<W>,
     history: &'static str,
-) -> Advanced {
+) -> String {
     let mut meter = Meter::new();
     let new = recorded(rt, alloc, history, run.held_len());
-    let (text, held) = match run.advance(alloc, new, &mut meter) {
-        Ok(run) => (stepped_text(rt, alloc, meter.count(), &run), run.held_len()),
-        Err(AdvanceFault::NotATask(run)) => (run_text(rt, alloc, "NotATask", &run), run.held_len()),
-        Err(AdvanceFault::Gap(run)) => (run_text(rt, alloc, "Gap", &run), run.held_len()),
-        Err(AdvanceFault::Fault(fault)) => (shown(rt, alloc, &RunFault::Fault(fault)), 0),
-        Err(AdvanceFault::OutOfMemory) => (shown(rt, alloc, &RunFault::OutOfMemory), 0),
-    };
-    Advanced {
-        text,
-        steps: meter.count(),
-        held,
-    }
+    let advanced = run.advance(alloc, new, &mut meter);
+    advanced_text(rt, alloc, meter.count(), &advanced)
 }
 
 /// Where something stands that the event of a number opened.
@@ -193,7 +192,7 @@ fn status_text<W: Workflow>(
 fn given_text<W: Workflow>(rt: &impl Abort, alloc: Global, given: &'static str) -> String {
     if let Some((before, after)) = given.split_once(" then ") {
         let run = good::<W>(rt, alloc, before);
-        return advance(rt, alloc, run, after).text;
+        return advance(rt, alloc, run, after);
     }
     match given.split_once(" at ") {
         Some((history, number)) => status_text::<W>(rt, alloc, history, number),
@@ -216,21 +215,20 @@ fn runs_begin_and_go_on(rt: HostRuntime) {
     }
 }
 
-/// How many commands a run has, and how many complete its last task.
-fn command_counts<W: Workflow>(
-    rt: &impl Abort,
-    alloc: Global,
-    history: &'static str,
-) -> (usize, usize) {
+/// How many commands complete the last task of a history.
+fn count_commands<W: Workflow>(rt: &impl Abort, alloc: Global, history: &'static str) -> usize {
     let run = good::<W>(rt, alloc, history);
-    match run.answer(alloc) {
-        Ok(Answer::Complete(commands)) => (run.commands().len(), commands.get().len()),
-        _ => panic!(rt; "no commands"),
+    let answer = run.answer(alloc).expect(rt, "memory");
+    match &answer {
+        Answer::Complete(commands) => commands.get().len(),
+        Answer::Fail(_) => 0,
     }
 }
 
 #[test]
 fn many_commands_are_kept(rt: HostRuntime) {
-    let counts = command_counts::<Flood>(&rt, rt.alloc(), "start:Flood signal:s*63 S T");
-    assert_eq!(rt; counts, (4_096, 4_096));
+    let few = count_commands::<Flood>(&rt, rt.alloc(), "start:Flood S T");
+    assert!(rt; few == 64);
+    let many = count_commands::<Flood>(&rt, rt.alloc(), "start:Flood signal:s*63 S T");
+    assert!(rt; many == 4_096);
 }

@@ -10,7 +10,7 @@ use wh_samples::NoState;
 use wh_workflow::{Command, Job, Meter, Workflow};
 
 /// Gives the command that a signal names. A name that is none of a command gives nothing, and nor
-/// do other jobs.
+/// do other jobs. It has code for every workflow type.
 pub(super) struct Scripted;
 
 fn text(alloc: Global, text: &str) -> Result<Text, OutOfMemory>
@@ -133,8 +133,8 @@ impl Workflow for Scripted {
 
     ghost lawful = { scripted_lawful };
 
-    fn handles(kind: &str) -> bool {
-        kind == "Scripted"
+    fn handles(_kind: &str) -> bool {
+        true
     }
 
     fn begin(_alloc: Global, _kind: &str) -> Result<NoState, OutOfMemory> {

@@ -186,7 +186,7 @@ fn serves<R: Threads + Wait + Abort + Sync>(
 ) {
     let mut out = Vec::new(alloc);
     match serve(rt, alloc, list, sizes, &mut out) {
-        Ok(status) => wants(rt, list, with_status(rt, alloc, out, status), wanted),
+        Ok(status) => wants(rt, list, with_status(rt, out, status), wanted),
         Err(_) => panic!(rt; "refused"),
     }
 }
