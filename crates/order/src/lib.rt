@@ -1,9 +1,8 @@
 //! A workflow to copy: an order that is charged for, held for a day, and shipped.
 #![tactic(auto)]
 
-ghost use Rattle.std.specs.Prelude.{◌≡◌, ◌++◌, [], pos, negsuc, codes, length, take, drop, IfOk, OnOk, OnErr};
-ghost use Rattle.order.specs.Order.{calling_off, charging_after, charging_gives, held_after, held_gives};
-ghost use Rattle.order.specs.Order.{order, order_lawful, parcel_type, shipping_after, shipping_gives};
+ghost use Rattle.std.specs.Prelude.{◌≡◌, ◌++◌, [], ◌∷◌, pos, negsuc, codes, length, take, drop, IfOk, OnOk, OnErr};
+ghost use Rattle.order.specs.Order.{calling_off, order, order_after, order_gives, order_lawful, parcel_type};
 ghost use Rattle.wh_workflow.specs.Law.{IsAnswer};
 ghost use Rattle.wh_workflow.specs.declared.command.Command.TheVariants.{StartActivity, StartTimer, StartChild};
 ghost use Rattle.wh_workflow.specs.declared.command.Command.TheVariants.{Ask, Fail};
@@ -12,7 +11,7 @@ ghost use Rattle.wh_workflow.specs.declared.command.Command.TheVariants.{Ask, Fa
 mod tests;
 
 use std::alloc::Global;
-use wh_events::{Items, OutOfMemory, Payload};
+use wh_events::{Items, OutOfMemory, Payload, Text};
 use wh_workflow::{ActivityEnd, ChildEnd, Command, Job, Meter, Workflow, no_payloads, text_of};
 
 /// Charges for an order, holds it for a day, in which a signal calls it off, and ships it.
@@ -52,10 +51,12 @@ const HOLD: u64 = 86_400;
 fn charge(alloc: Global, input: &Items<Payload>) -> Result<Command, OutOfMemory>
     ensures { IfOk result (λ command. command ≡ StartActivity (codes "charge") (codes "ChargeCard") input.now) }
 {
+    let input = input.try_copy()?;
+    let (id, activity) = texts_of(alloc, "charge", "ChargeCard")?;
     Ok(Command::StartActivity {
-        id: text_of(alloc, "charge")?,
-        activity: text_of(alloc, "ChargeCard")?,
-        input: input.try_copy()?,
+        id,
+        activity,
+        input,
     })
 }
 
@@ -70,18 +71,16 @@ fn hold(alloc: Global) -> Result<Command, OutOfMemory>
 }
 
 /// Calls the order off.
-fn call_off(alloc: Global, out: &mut Vec<Command>) -> Result<(), OutOfMemory>
-    ensures commands { OnOk result (out.new.items ≡ out.old.items ++ calling_off) }
-    ensures kept { OnErr result (take (length out.old.items) out.new.items ≡ out.old.items) }
-    ensures answer { IsAnswer (drop (length out.old.items) out.new.items) }
+fn call_off(alloc: Global) -> Result<Vec<Command>, OutOfMemory>
+    ensures { IfOk result (λ given. given.items ≡ calling_off) }
 {
-    out.push(Command::CancelTimer {
+    let cancel = Command::CancelTimer {
         id: text_of(alloc, "hold")?,
-    })?;
-    out.push(Command::Complete {
+    };
+    let complete = Command::Complete {
         result: no_payloads(alloc),
-    })?;
-    Ok(())
+    };
+    Ok(vec![in alloc; cancel, complete]?)
 }
 
 /// Asks whether parcels of this run are tracked: those that began before the change are not.
@@ -100,9 +99,10 @@ fn ship(alloc: Global, version: i32) -> Result<Command, OutOfMemory>
     ensures { IfOk result (λ command. command ≡ StartChild (codes "parcel") (parcel_type version) []) }
 {
     let workflow = if version == -1 { "Ship" } else { "ShipTracked" };
+    let (workflow_id, workflow) = texts_of(alloc, "parcel", workflow)?;
     Ok(Command::StartChild {
-        workflow_id: text_of(alloc, "parcel")?,
-        workflow: text_of(alloc, workflow)?,
+        workflow_id,
+        workflow,
         input: no_payloads(alloc),
     })
 }
@@ -116,83 +116,80 @@ fn fail(alloc: Global, message: &str) -> Result<Command, OutOfMemory>
     })
 }
 
-/// A step of an order that is charged for. It gives the state after it.
-fn step_charging(
-    alloc: Global,
-    job: &Job,
-    out: &mut Vec<Command>,
-) -> Result<OrderState, OutOfMemory>
-    ensures state { IfOk result (λ state. state ≡ charging_after job.now) }
-    ensures commands { OnOk result (out.new.items ≡ out.old.items ++ charging_gives job.now) }
-    ensures kept { OnErr result (take (length out.old.items) out.new.items ≡ out.old.items) }
-    ensures answer { IsAnswer (drop (length out.old.items) out.new.items) }
+/// Two texts.
+fn texts_of(alloc: Global, first: &str, second: &str) -> Result<(Text, Text), OutOfMemory>
+    ensures first { IfOk result (λ texts. texts.0 ≡ first.now) }
+    ensures second { IfOk result (λ texts. texts.1 ≡ second.now) }
 {
-    match job {
-        Job::Start { input, .. } => {
-            out.push(charge(alloc, input)?)?;
-            Ok(OrderState::Charging)
-        }
-        Job::Activity { id, end } if id.get() == "charge" => match end {
-            ActivityEnd::Completed(_) => {
-                out.push(hold(alloc)?)?;
-                Ok(OrderState::Held)
-            }
-            _ => {
-                out.push(fail(alloc, "charge")?)?;
-                Ok(OrderState::Closed)
-            }
+    let first = text_of(alloc, first)?;
+    let second = text_of(alloc, second)?;
+    Ok((first, second))
+}
+
+/// One command, as a list.
+fn one(alloc: Global, command: Command) -> Result<Vec<Command>, OutOfMemory>
+    ensures { IfOk result (λ given. given.items ≡ command ∷ []) }
+{
+    Ok(vec![in alloc; command]?)
+}
+
+/// What an order gives to a job.
+fn given(alloc: Global, state: OrderState, job: &Job) -> Result<Vec<Command>, OutOfMemory>
+    ensures { IfOk result (λ given. given.items ≡ order_gives state job.now) }
+{
+    match (state, job) {
+        (OrderState::Charging, Job::Start { input, .. }) => one(alloc, charge(alloc, input)?),
+        (OrderState::Charging, Job::Activity { id, end }) if id.get() == "charge" => match end {
+            ActivityEnd::Completed(_) => one(alloc, hold(alloc)?),
+            _ => one(alloc, fail(alloc, "charge")?),
         },
-        _ => Ok(OrderState::Charging),
-    }
-}
-
-/// A step of an order that is held. It gives the state after it.
-fn step_held(alloc: Global, job: &Job, out: &mut Vec<Command>) -> Result<OrderState, OutOfMemory>
-    ensures state { IfOk result (λ state. state ≡ held_after job.now) }
-    ensures commands { OnOk result (out.new.items ≡ out.old.items ++ held_gives job.now) }
-    ensures kept { OnErr result (take (length out.old.items) out.new.items ≡ out.old.items) }
-    ensures answer { IsAnswer (drop (length out.old.items) out.new.items) }
-{
-    match job {
-        Job::Signal { name, .. } if name.get() == "cancel" => {
-            call_off(alloc, out)?;
-            Ok(OrderState::Closed)
-        }
-        Job::TimerFired { id } if id.get() == "hold" => {
-            out.push(ask(alloc)?)?;
-            Ok(OrderState::Shipping)
-        }
-        _ => Ok(OrderState::Held),
-    }
-}
-
-/// A step of an order that is shipped. It gives the state after it.
-fn step_shipping(
-    alloc: Global,
-    job: &Job,
-    out: &mut Vec<Command>,
-) -> Result<OrderState, OutOfMemory>
-    ensures state { IfOk result (λ state. state ≡ shipping_after job.now) }
-    ensures commands { OnOk result (out.new.items ≡ out.old.items ++ shipping_gives job.now) }
-    ensures kept { OnErr result (take (length out.old.items) out.new.items ≡ out.old.items) }
-    ensures answer { IsAnswer (drop (length out.old.items) out.new.items) }
-{
-    match job {
-        Job::Version { change_id, version } if change_id.get() == "tracked" => {
-            out.push(ship(alloc, *version)?)?;
-            Ok(OrderState::Shipping)
-        }
-        Job::Child { workflow_id, end } if workflow_id.get() == "parcel" => {
-            match end {
-                ChildEnd::Completed(result) => out.push(Command::Complete {
-                    result: result.try_copy()?,
-                })?,
-                _ => out.push(fail(alloc, "parcel")?)?,
+        (OrderState::Held, Job::Signal { name, .. }) if name.get() == "cancel" => call_off(alloc),
+        (OrderState::Held, Job::TimerFired { id }) if id.get() == "hold" => one(alloc, ask(alloc)?),
+        (OrderState::Shipping, Job::Version { change_id, version })
+            if change_id.get() == "tracked" => { one(alloc, ship(alloc, *version)?) }
+        (OrderState::Shipping, Job::Child { workflow_id, end }) if workflow_id.get() == "parcel" =>
+            {
+                match end {
+                    ChildEnd::Completed(result) => {
+                        let result = result.try_copy()?;
+                        one(alloc, Command::Complete { result })
+                    }
+                    _ => one(alloc, fail(alloc, "parcel")?),
+                }
             }
-            Ok(OrderState::Closed)
-        }
-        _ => Ok(OrderState::Shipping),
+        _ => Ok(Vec::new(alloc)),
     }
+}
+
+/// What a job leaves.
+fn after(state: OrderState, job: &Job) -> OrderState
+    ensures { result ≡ order_after state job.now }
+{
+    match (state, job) {
+        (OrderState::Charging, Job::Activity { id, end }) if id.get() == "charge" => match end {
+            ActivityEnd::Completed(_) => OrderState::Held,
+            _ => OrderState::Closed,
+        },
+        (OrderState::Held, Job::Signal { name, .. }) if name.get() == "cancel" => {
+            OrderState::Closed
+        }
+        (OrderState::Held, Job::TimerFired { id }) if id.get() == "hold" => OrderState::Shipping,
+        (OrderState::Shipping, Job::Child { workflow_id, .. }) if workflow_id.get() == "parcel" => {
+            OrderState::Closed
+        }
+        _ => state,
+    }
+}
+
+/// Appends what a step gives. After `OutOfMemory` nothing is appended.
+fn give(out: &mut Vec<Command>, mut given: Vec<Command>) -> Result<(), OutOfMemory>
+    requires lawful { IsAnswer given.items }
+    ensures commands { OnOk result (out.new.items ≡ out.old.items ++ given.items) }
+    ensures kept { OnErr result (take (length out.old.items) out.new.items ≡ out.old.items) }
+    ensures answer { IsAnswer (drop (length out.old.items) out.new.items) }
+{
+    out.append(&mut given)?;
+    Ok(())
 }
 
 impl Workflow for Order {
@@ -218,12 +215,8 @@ impl Workflow for Order {
         meter: &mut Meter,
     ) -> Result<(), OutOfMemory> {
         meter.tick();
-        *state = match *state {
-            OrderState::Charging => step_charging(alloc, job, out)?,
-            OrderState::Held => step_held(alloc, job, out)?,
-            OrderState::Shipping => step_shipping(alloc, job, out)?,
-            OrderState::Closed => OrderState::Closed,
-        };
-        Ok(())
+        let given = given(alloc, *state, job)?;
+        *state = after(*state, job);
+        give(out, given)
     }
 }
