@@ -232,6 +232,24 @@ fn repeat<W: Workflow, T: Ledger, C: Ledger, F: Ledger>(
     fault
 }
 
+/// What is held for the task of a name.
+fn held_of<'a>(rt: &impl Abort, tasks: &'a [Task], name: TaskName) -> &'a Held {
+    let task = tasks.get(place_of(rt, tasks, name));
+    &task.expect(rt, "no such task").held
+}
+
+/// Gives a run back under a task in hand.
+fn give_back<W: Workflow, T: Ledger, C: Ledger, F: Ledger>(
+    rt: &impl Abort,
+    alloc: Global,
+    state: &mut HostState<W, T, C, F>,
+    held: &Held,
+    run: Run<W>,
+) -> String {
+    let given = state.give_run(held, run);
+    given_word(rt, alloc, &given)
+}
+
 /// Gives a run back under the task of a name.
 fn give<W: Workflow, T: Ledger, C: Ledger, F: Ledger>(
     rt: &impl Abort,
@@ -242,11 +260,8 @@ fn give<W: Workflow, T: Ledger, C: Ledger, F: Ledger>(
     run: &'static str,
 ) -> String {
     let (key, history) = run.split_once(' ').expect(rt, run);
-    let place = place_of(rt, tasks, name);
-    assert!(rt; place < tasks.len());
     let run = run_of(rt, alloc, key, history);
-    let given = state.give_run(&tasks[place].held, run);
-    given_word(rt, alloc, &given)
+    give_back(rt, alloc, state, held_of(rt, tasks, name), run)
 }
 
 /// Ends the task of a name.

@@ -178,11 +178,16 @@ start:Racer S T C activity:1:race timer:t timer:x => Err(CommandMissing event: 7
 start:Racer S T C activity:1:greets => Err(Different event: 5)
 ";
 
+/// Adds a command by its short word.
+fn add(rt: &impl Abort, alloc: Global, commands: &mut Vec<Command>, word: &str) {
+    assert!(rt; commands.push(command(rt, alloc, word)).is_ok());
+}
+
 /// The commands to race, which a run that begins gives.
 fn race(rt: &impl Abort, alloc: Global) -> Vec<Command> {
     let mut commands = Vec::new(alloc);
-    assert!(rt; commands.push(command(rt, alloc, "activity:1:race")).is_ok());
-    assert!(rt; commands.push(command(rt, alloc, "timer:t")).is_ok());
+    add(rt, alloc, &mut commands, "activity:1:race");
+    add(rt, alloc, &mut commands, "timer:t");
     commands
 }
 
