@@ -1,6 +1,6 @@
 //! What the cache keeps, and what has to go.
 
-use crate::rows::{row, shown};
+use crate::rows::{row, same, shown};
 use crate::workflows::Still;
 use std::alloc::Global;
 use std::process::Abort;
@@ -168,7 +168,7 @@ fn answers<W: Workflow>(rt: &impl Abort, alloc: Global, given: &Cache) {
         let answer = answered(rt, alloc, &mut cache, step);
         let held = cache.held();
         let text = format!(in alloc; "{answer}, holds {held}").expect(rt, "memory");
-        assert_eq!(rt; text.as_str(), wanted, "{step}");
+        same(rt, step, text.as_str(), wanted);
     }
 }
 

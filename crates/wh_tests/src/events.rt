@@ -1,6 +1,6 @@
 //! The text of an error, and that copies are made where there is memory.
 
-use crate::rows::{text, wants};
+use crate::rows::{same, text, wants};
 use std::alloc::Global;
 use std::process::Abort;
 use wh_events::{EventKind, Items, OutOfMemory, Payload};
@@ -13,20 +13,18 @@ const START: &str =
 #[test]
 fn shows_want_of_memory(rt: HostRuntime) {
     let shown = format!(in rt.alloc(); "{OutOfMemory}").expect(&rt, "memory");
-    assert_eq!(rt; shown.as_str(), "out of memory");
+    same(&rt, "a fault", shown.as_str(), "out of memory");
 }
 
 #[test]
 fn copies_keys_and_texts(rt: HostRuntime) {
     let alloc = rt.alloc();
     let key = key(alloc, "order").expect(&rt, "memory");
-    let copy = key.try_copy().expect(&rt, "memory");
-    assert!(rt; copy == key);
-    let wanted = "RunKey workflow_id: order, run_id: recorded";
-    wants(&rt, alloc, "a key", copy, wanted);
-    let copy = text(&rt, alloc, "order").try_copy().expect(&rt, "memory");
-    assert_eq!(rt; copy.get(), "order");
-    assert_eq!(rt; copy.into_inner().as_str(), "order");
+    let wanted = "Ok(RunKey workflow_id: order, run_id: recorded)";
+    wants(&rt, alloc, "a key", key.try_copy(), wanted);
+    let text = text(&rt, alloc, "order");
+    wants(&rt, alloc, "a text", text.try_copy(), "Ok(order)");
+    same(&rt, "a text", text.into_inner().as_str(), "order");
 }
 
 /// Payloads are copied, one by one and as a list.

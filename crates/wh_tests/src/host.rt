@@ -3,19 +3,18 @@
 ghost use Rattle.std.specs.Prelude.{◌≡◌};
 
 use crate::cache::{put_word, run_of};
-use crate::rows::{row, shown, wants};
+use crate::rows::{row, same, shown, wants};
 use crate::workflows::Still;
 use std::alloc::Global;
 use std::marker::Brand;
 use std::process::Abort;
 use std::sync::Wait;
 use std::sync::ledger::{Blank, Ledger};
-use wh_events::RunKey;
 use wh_histories::key;
 use wh_host::{Config, Evict, Given, Host, HostState, OpenFault, Outcome, Totals};
 use wh_ledger::Seat;
 use wh_replay::Run;
-use wh_slots::{Held, Permit, ReserveFault, SlotKind, TaskName, UseFault};
+use wh_slots::{Held, Permit, SlotKind, TaskName, UseFault};
 use wh_workflow::Workflow;
 
 const SMALL: Config = Config {
@@ -135,12 +134,12 @@ fn named(rt: &impl Abort, step: &'static str) -> (TaskName, &'static str) {
     (TaskName(u128::from(number)), rest)
 }
 
-/// Takes the task of a name out of those in hand.
-fn task_of(rt: &impl Abort, tasks: &mut Vec<Task>, name: TaskName) -> Task {
+/// The place of the task of a name among those in hand.
+fn place_of(rt: &impl Abort, tasks: &[Task], name: TaskName) -> usize {
     let place = tasks.iter().position(|task| task.name == name);
     let place = place.expect(rt, "no such task");
     assert!(rt; place < tasks.len());
-    tasks.remove(place)
+    place
 }
 
 /// How many events a run holds, 0 where there is none.
@@ -153,115 +152,140 @@ fn held_len<W: Workflow>(run: &Option<Run<W>>) -> usize {
 
 /// The answer to a run that is given back.
 fn given_word<W: Workflow>(rt: &impl Abort, alloc: Global, given: &Given<W>) -> String {
-    match given {
-        Given::Put(put) => put_word(rt, alloc, put),
-        Given::Marked(_) => String::from_str(alloc, "marked").expect(rt, "memory"),
-        Given::NotHeld(_) => String::from_str(alloc, "not held").expect(rt, "memory"),
-    }
+    let word = match given {
+        Given::Put(put) => return put_word(rt, alloc, put),
+        Given::Marked(_) => "marked",
+        Given::NotHeld(_) => "not held",
+    };
+    String::from_str(alloc, word).expect(rt, "memory")
 }
 
 /// Reserves a place.
-fn reserve<R: Wait + Abort, W: Workflow, T: Ledger, C: Ledger, F: Ledger>(
-    rt: &R,
-    host: &Host<W, T, C, F>,
+fn reserve<W: Workflow, T: Ledger, C: Ledger, F: Ledger>(
+    rt: &impl Abort,
+    state: &mut HostState<W, T, C, F>,
     kind: SlotKind,
 ) -> Permit {
-    let reserved = host.lock(rt).reserve(kind);
-    reserved.expect(rt, "reserve")
-}
-
-/// Nothing can be reserved for an activity, for this reason.
-fn reserve_fails<R: Wait + Abort, W: Workflow, T: Ledger, C: Ledger, F: Ledger>(
-    rt: &R,
-    host: &Host<W, T, C, F>,
-    fault: ReserveFault,
-) {
-    let reserved = host.lock(rt).reserve(SlotKind::Activity);
-    assert_eq!(rt; reserved.err(), Some(fault));
+    state.reserve(kind).expect(rt, "reserve")
 }
 
 /// Gives a reserved place back.
-fn release<R: Wait + Abort, W: Workflow, T: Ledger, C: Ledger, F: Ledger>(
-    rt: &R,
-    host: &Host<W, T, C, F>,
+fn release<W: Workflow, T: Ledger, C: Ledger, F: Ledger>(
+    rt: &impl Abort,
+    state: &mut HostState<W, T, C, F>,
     permit: Permit,
 ) {
-    let released = host.lock(rt).release(permit);
-    assert!(rt; released.is_ok());
+    assert!(rt; state.release(permit).is_ok());
 }
 
-/// Takes a task in hand at a reserved place, and tells how many events its run holds.
-fn hold<R: Wait + Abort, W: Workflow, T: Ledger, C: Ledger, F: Ledger>(
-    rt: &R,
-    host: &Host<W, T, C, F>,
+/// Uses a reserved place for a task of a run: how many events its run holds, or why not.
+fn use_place<W: Workflow, T: Ledger, C: Ledger, F: Ledger>(
+    rt: &impl Abort,
+    alloc: Global,
+    state: &mut HostState<W, T, C, F>,
+    seat: &mut Seat<T, C, F>,
+    permit: Permit,
+    name: TaskName,
+    run: &str,
+) -> Result<(Held, usize), (Permit, UseFault)> {
+    let key = key(alloc, run).expect(rt, "memory");
+    match state.use_workflow(permit, name, key, seat) {
+        Ok((held, run)) => Ok((held, held_len(&run))),
+        Err((permit, _key, fault)) => Err((permit, fault)),
+    }
+}
+
+/// Takes the task of a run in hand at a reserved place, and tells how many events its run holds.
+fn hold<W: Workflow, T: Ledger, C: Ledger, F: Ledger>(
+    rt: &impl Abort,
+    alloc: Global,
+    state: &mut HostState<W, T, C, F>,
     seat: &mut Seat<T, C, F>,
     tasks: &mut Vec<Task>,
     permit: Permit,
     name: TaskName,
-    key: RunKey,
+    run: &str,
 ) -> usize {
-    let used = host.lock(rt).use_workflow(permit, name, key, seat);
-    let Ok((held, run)) = used else {
+    let Ok((held, length)) = use_place(rt, alloc, state, seat, permit, name, run) else {
         panic!(rt; "use")
     };
     assert!(rt; tasks.push(Task { name, held }).is_ok());
-    held_len(&run)
+    length
 }
 
 /// The second use of a name is refused, the permit comes back, and nothing is counted.
-fn repeat<R: Wait + Abort, W: Workflow, T: Ledger, C: Ledger, F: Ledger>(
-    rt: &R,
+fn repeat<W: Workflow, T: Ledger, C: Ledger, F: Ledger>(
+    rt: &impl Abort,
     alloc: Global,
-    host: &Host<W, T, C, F>,
+    state: &mut HostState<W, T, C, F>,
     seat: &mut Seat<T, C, F>,
     name: TaskName,
     run: &str,
 ) -> UseFault {
-    let before = host.lock(rt).counts(seat);
-    let permit = reserve(rt, host, SlotKind::Workflow);
-    let key = key(alloc, run).expect(rt, "memory");
-    let used = host.lock(rt).use_workflow(permit, name, key, seat);
-    let Err((permit, _key, fault)) = used else {
+    let before = state.counts(seat);
+    let permit = reserve(rt, state, SlotKind::Workflow);
+    let Err((permit, fault)) = use_place(rt, alloc, state, seat, permit, name, run) else {
         panic!(rt; "a name is in hand twice")
     };
-    release(rt, host, permit);
-    assert_eq!(rt; host.lock(rt).counts(seat), before);
+    release(rt, state, permit);
+    assert!(rt; state.counts(seat) == before);
     fault
 }
 
+/// What is held for the task of a name.
+fn held_of<'a>(rt: &impl Abort, tasks: &'a [Task], name: TaskName) -> &'a Held {
+    let task = tasks.get(place_of(rt, tasks, name));
+    &task.expect(rt, "no such task").held
+}
+
 /// Gives a run back under a task in hand.
-fn give<R: Wait + Abort, W: Workflow, T: Ledger, C: Ledger, F: Ledger>(
-    rt: &R,
+fn give_back<W: Workflow, T: Ledger, C: Ledger, F: Ledger>(
+    rt: &impl Abort,
     alloc: Global,
-    host: &Host<W, T, C, F>,
+    state: &mut HostState<W, T, C, F>,
     held: &Held,
     run: Run<W>,
 ) -> String {
-    let given = host.lock(rt).give_run(held, run);
+    let given = state.give_run(held, run);
     given_word(rt, alloc, &given)
 }
 
+/// Gives a run back under the task of a name.
+fn give<W: Workflow, T: Ledger, C: Ledger, F: Ledger>(
+    rt: &impl Abort,
+    alloc: Global,
+    state: &mut HostState<W, T, C, F>,
+    tasks: &[Task],
+    name: TaskName,
+    run: &'static str,
+) -> String {
+    let (key, history) = run.split_once(' ').expect(rt, run);
+    let run = run_of(rt, alloc, key, history);
+    give_back(rt, alloc, state, held_of(rt, tasks, name), run)
+}
+
 /// Ends the task of a name.
-fn finish<R: Wait + Abort, W: Workflow, T: Ledger, C: Ledger, F: Ledger>(
-    rt: &R,
-    host: &Host<W, T, C, F>,
+fn finish<W: Workflow, T: Ledger, C: Ledger, F: Ledger>(
+    rt: &impl Abort,
+    state: &mut HostState<W, T, C, F>,
     seat: &mut Seat<T, C, F>,
     tasks: &mut Vec<Task>,
     name: TaskName,
     outcome: Outcome,
 ) -> bool {
-    let task = task_of(rt, tasks, name);
-    let finished = host.lock(rt).finish(task.held, outcome, seat);
-    finished.is_ok()
+    let place = place_of(rt, tasks.as_slice(), name);
+    assert!(rt; place < tasks.len());
+    let task = tasks.remove(place);
+    state.finish(task.held, outcome, seat).is_ok()
 }
 
-fn counts_text<R: Wait + Abort, W: Workflow, T: Ledger, C: Ledger, F: Ledger>(
-    rt: &R,
+fn counts_text<W: Workflow, T: Ledger, C: Ledger, F: Ledger>(
+    rt: &impl Abort,
     alloc: Global,
-    host: &Host<W, T, C, F>,
+    state: &mut HostState<W, T, C, F>,
     seat: &mut Seat<T, C, F>,
 ) -> String {
-    let counts = host.lock(rt).counts(seat);
+    let counts = state.counts(seat);
     let text = format!(in alloc;
         "taken {}, completed {}, cached {}, cached events {}",
         counts.taken, counts.completed, counts.cached, counts.cached_events
@@ -269,122 +293,170 @@ fn counts_text<R: Wait + Abort, W: Workflow, T: Ledger, C: Ledger, F: Ledger>(
     text.expect(rt, "memory")
 }
 
-/// Gives a run back under the task of a name.
-fn give_step<R: Wait + Abort, W: Workflow, T: Ledger, C: Ledger, F: Ledger>(
-    rt: &R,
+fn evict<W: Workflow, T: Ledger, C: Ledger, F: Ledger>(
+    rt: &impl Abort,
     alloc: Global,
-    host: &Host<W, T, C, F>,
-    tasks: &[Task],
-    name: TaskName,
-    run: &'static str,
-) -> String {
-    let (key, history) = run.split_once(' ').expect(rt, run);
-    let task = tasks.iter().find(|task| task.name == name);
-    let task = task.expect(rt, "no such task");
-    give(rt, alloc, host, &task.held, run_of(rt, alloc, key, history))
+    state: &mut HostState<W, T, C, F>,
+    run: &str,
+) -> Evict {
+    let key = key(alloc, run).expect(rt, "memory");
+    state.evict(&key)
 }
 
-/// Takes the task of a run in hand at the next place.
-fn hold_next<R: Wait + Abort, W: Workflow, T: Ledger, C: Ledger, F: Ledger>(
-    rt: &R,
+/// Takes the task of a run in hand at the next place, and tells how many events its run holds.
+fn hold_next<W: Workflow, T: Ledger, C: Ledger, F: Ledger>(
+    rt: &impl Abort,
     alloc: Global,
-    host: &Host<W, T, C, F>,
+    state: &mut HostState<W, T, C, F>,
     seat: &mut Seat<T, C, F>,
     tasks: &mut Vec<Task>,
     name: TaskName,
     run: &str,
 ) -> usize {
-    let permit = reserve(rt, host, SlotKind::Workflow);
-    let key = key(alloc, run).expect(rt, "memory");
-    hold(rt, host, seat, tasks, permit, name, key)
-}
-
-fn evict<R: Wait + Abort, W: Workflow, T: Ledger, C: Ledger, F: Ledger>(
-    rt: &R,
-    alloc: Global,
-    host: &Host<W, T, C, F>,
-    run: &str,
-) -> Evict {
-    let key = key(alloc, run).expect(rt, "memory");
-    host.lock(rt).evict(&key)
+    let permit = reserve(rt, state, SlotKind::Workflow);
+    hold(rt, alloc, state, seat, tasks, permit, name, run)
 }
 
 /// What a host answers to a step about the task of a name: a word, the name, and most often a run.
-fn task_step<R: Wait + Abort, W: Workflow, T: Ledger, C: Ledger, F: Ledger>(
-    rt: &R,
+fn task_step<W: Workflow, T: Ledger, C: Ledger, F: Ledger>(
+    rt: &impl Abort,
     alloc: Global,
-    host: &Host<W, T, C, F>,
+    state: &mut HostState<W, T, C, F>,
     seat: &mut Seat<T, C, F>,
     tasks: &mut Vec<Task>,
     word: &str,
     rest: &'static str,
 ) -> String {
     let (name, run) = named(rt, rest);
-    let (done, bad) = (Outcome::Completed, Outcome::Failed);
-    match word {
-        "hold" => shown(
-            rt,
-            alloc,
-            &hold_next(rt, alloc, host, seat, tasks, name, run),
-        ),
-        "give" => give_step(rt, alloc, host, tasks.as_slice(), name, run),
-        "repeat" => shown(rt, alloc, &repeat(rt, alloc, host, seat, name, run)),
-        "finish" => shown(rt, alloc, &finish(rt, host, seat, tasks, name, done)),
-        _ => shown(rt, alloc, &finish(rt, host, seat, tasks, name, bad)),
+    if word == "give" {
+        return give(rt, alloc, state, tasks.as_slice(), name, run);
     }
+    if word == "repeat" {
+        return shown(rt, alloc, &repeat(rt, alloc, state, seat, name, run));
+    }
+    if word == "hold" {
+        let found = hold_next(rt, alloc, state, seat, tasks, name, run);
+        return shown(rt, alloc, &found);
+    }
+    let outcome = if word == "finish" {
+        Outcome::Completed
+    } else {
+        Outcome::Failed
+    };
+    shown(rt, alloc, &finish(rt, state, seat, tasks, name, outcome))
 }
 
 /// What a host answers to a step.
-fn answered<R: Wait + Abort, W: Workflow, T: Ledger, C: Ledger, F: Ledger>(
-    rt: &R,
+fn answered<W: Workflow, T: Ledger, C: Ledger, F: Ledger>(
+    rt: &impl Abort,
     alloc: Global,
-    host: &Host<W, T, C, F>,
+    state: &mut HostState<W, T, C, F>,
     seat: &mut Seat<T, C, F>,
     tasks: &mut Vec<Task>,
     step: &'static str,
 ) -> String {
     match step.split_once(' ') {
-        None => counts_text(rt, alloc, host, seat),
-        Some(("evict", run)) => shown(rt, alloc, &evict(rt, alloc, host, run)),
-        Some((word, rest)) => task_step(rt, alloc, host, seat, tasks, word, rest),
+        None => counts_text(rt, alloc, state, seat),
+        Some(("evict", run)) => shown(rt, alloc, &evict(rt, alloc, state, run)),
+        Some((word, rest)) => task_step(rt, alloc, state, seat, tasks, word, rest),
+    }
+}
+
+/// Each step is answered as its line says.
+fn follows<W: Workflow, T: Ledger, C: Ledger, F: Ledger>(
+    rt: &impl Abort,
+    alloc: Global,
+    state: &mut HostState<W, T, C, F>,
+    seat: &mut Seat<T, C, F>,
+    tasks: &mut Vec<Task>,
+    steps: &'static str,
+) {
+    for line in steps.lines() {
+        let (step, wanted) = row(rt, line);
+        let answer = answered(rt, alloc, state, seat, tasks, step);
+        same(rt, step, answer.as_str(), wanted);
     }
 }
 
 /// Places of activities are numbered from 1 upwards, until the host drains.
-fn places_are_numbered<R: Wait + Abort, W: Workflow, T: Ledger, C: Ledger, F: Ledger>(
-    rt: &R,
-    host: &Host<W, T, C, F>,
+fn places_are_numbered<W: Workflow, T: Ledger, C: Ledger, F: Ledger>(
+    rt: &impl Abort,
+    alloc: Global,
+    state: &mut HostState<W, T, C, F>,
 ) {
-    let first = reserve(rt, host, SlotKind::Activity);
-    assert_eq!(rt; first.number(), 1);
-    reserve_fails(rt, host, ReserveFault::NoSlot);
-    release(rt, host, first);
-    let second = reserve(rt, host, SlotKind::Activity);
-    assert_eq!(rt; second.number(), 2);
-    host.lock(rt).drain();
-    release(rt, host, second);
-    reserve_fails(rt, host, ReserveFault::Draining);
+    let kind = SlotKind::Activity;
+    let first = reserve(rt, state, kind);
+    assert!(rt; first.number() == 1);
+    wants(rt, alloc, "full", state.reserve(kind).err(), "Some(NoSlot)");
+    release(rt, state, first);
+    let second = reserve(rt, state, kind);
+    assert!(rt; second.number() == 2);
+    state.drain();
+    release(rt, state, second);
+    wants(
+        rt,
+        alloc,
+        "drained",
+        state.reserve(kind).err(),
+        "Some(Draining)",
+    );
 }
 
-/// Closes the host, first with a seat missing: the host that comes back serves one more task, of a
-/// run that it may still cache.
-fn close<R: Wait + Abort, W: Workflow, T: Ledger, C: Ledger, F: Ledger>(
+/// The last task, of run `c`, at a place that was reserved before the host drained: its run holds
+/// so many events.
+fn last_task<R: Wait + Abort, W: Workflow, T: Ledger, C: Ledger, F: Ledger>(
     rt: &R,
+    alloc: Global,
+    host: &Host<W, T, C, F>,
+    seat: &mut Seat<T, C, F>,
+    tasks: &mut Vec<Task>,
+    permit: Permit,
+    cached: usize,
+) {
+    let mut guard = host.lock(rt);
+    let state = &mut *guard;
+    let name = TaskName(10);
+    let found = hold(rt, alloc, state, seat, tasks, permit, name, "c");
+    assert!(rt; found == cached);
+    assert!(rt; finish(rt, state, seat, tasks, name, Outcome::Completed));
+}
+
+/// Follows the steps of a day, and then numbers places. One place stays reserved.
+fn works<R: Wait + Abort, W: Workflow, T: Ledger, C: Ledger, F: Ledger>(
+    rt: &R,
+    alloc: Global,
+    host: &Host<W, T, C, F>,
+    seat: &mut Seat<T, C, F>,
+    tasks: &mut Vec<Task>,
+    steps: &'static str,
+) -> Permit {
+    let mut guard = host.lock(rt);
+    let state = &mut *guard;
+    follows(rt, alloc, state, seat, tasks, steps);
+    let permit = reserve(rt, state, SlotKind::Workflow);
+    places_are_numbered(rt, alloc, state);
+    permit
+}
+
+/// A host that is closed with a seat missing comes back, with the seats that are there.
+fn not_closed<W: Workflow, T: Ledger, C: Ledger, F: Ledger>(
+    rt: &impl Abort,
     host: Host<W, T, C, F>,
     seats: Vec<Seat<T, C, F>>,
-    mut seat: Seat<T, C, F>,
-    mut tasks: Vec<Task>,
-    permit: Permit,
-    key: RunKey,
-    cached: usize,
+) -> (Host<W, T, C, F>, Vec<Seat<T, C, F>>) {
+    match host.close(seats) {
+        Ok(_) => panic!(rt; "closed with a seat missing"),
+        Err((host, seats, _missing)) => (host, seats),
+    }
+}
+
+/// What a host has counted when it is closed with all seats.
+fn closed<W: Workflow, T: Ledger, C: Ledger, F: Ledger>(
+    rt: &impl Abort,
+    host: Host<W, T, C, F>,
+    mut seats: Vec<Seat<T, C, F>>,
+    seat: Seat<T, C, F>,
 ) -> Totals {
-    let Err((host, mut seats, _missing)) = host.close(seats) else {
-        panic!(rt; "closed with a seat missing")
-    };
-    let name = TaskName(10);
-    let found = hold(rt, &host, &mut seat, &mut tasks, permit, name, key);
-    assert_eq!(rt; found, cached);
-    assert!(rt; finish(rt, &host, &mut seat, &mut tasks, name, Outcome::Completed));
     assert!(rt; seats.push(seat).is_ok());
     match host.close(seats) {
         Ok(totals) => totals,
@@ -392,7 +464,8 @@ fn close<R: Wait + Abort, W: Workflow, T: Ledger, C: Ledger, F: Ledger>(
     }
 }
 
-/// What a host has counted at the end of a day.
+/// What a host has counted at the end of a day. It is closed twice, first with a seat missing: the
+/// host that comes back serves one more task, of a run that it may still cache.
 fn totals<R: Wait + Abort, W: Workflow, T: Ledger, C: Ledger, F: Ledger>(
     rt: &R,
     alloc: Global,
@@ -407,20 +480,13 @@ fn totals<R: Wait + Abort, W: Workflow, T: Ledger, C: Ledger, F: Ledger>(
     requires failed { (failed.name ≡ F.name) × (failed.parts ≡ F.parts) × (failed.parts ≡ day.now.config.seats) }
 {
     let opened = Host::<W, T, C, F>::open(alloc, day.config, taken, completed, failed);
-    let Ok((host, mut seats)) = opened else {
-        panic!(rt; "open")
-    };
+    let (host, mut seats) = opened.expect(rt, "open");
     let mut seat = seats.pop().expect(rt, "seat");
     let mut tasks = Vec::new(alloc);
-    for line in day.steps.lines() {
-        let (step, wanted) = row(rt, line);
-        let answer = answered(rt, alloc, &host, &mut seat, &mut tasks, step);
-        assert_eq!(rt; answer.as_str(), wanted, "{step}");
-    }
-    let permit = reserve(rt, &host, SlotKind::Workflow);
-    places_are_numbered(rt, &host);
-    let key = key(alloc, "c").expect(rt, "memory");
-    close(rt, host, seats, seat, tasks, permit, key, day.cached)
+    let permit = works(rt, alloc, &host, &mut seat, &mut tasks, day.steps);
+    let (host, seats) = not_closed(rt, host, seats);
+    last_task(rt, alloc, &host, &mut seat, &mut tasks, permit, day.cached);
+    closed(rt, host, seats, seat)
 }
 
 #[test]
@@ -435,7 +501,7 @@ fn days_of_a_host(rt: HostRuntime) {
             Blank::new(seats),
             Blank::new(seats),
         );
-        assert_eq!(rt; totals, day.totals);
+        assert!(rt; totals == day.totals);
     }
 }
 

@@ -1,6 +1,6 @@
 //! What texts are read as.
 
-use crate::rows::{shown, wants};
+use crate::rows::{row, same, shown, wants};
 use std::alloc::Global;
 use std::process::Abort;
 use wh_json::read_events;
@@ -77,256 +77,190 @@ const ONE: &str = r#"[{"eventId":4,"eventTime":"2024-05-01T12:00:03.5+02:00","ev
 /// How it is read, with `@` in place of what it says.
 const ONE_READ: &str = "Ok([Event number: 4, time: 1714557603500000000, body: @])";
 
-/// A text, and how it is answered.
-struct Row {
-    text: &'static str,
-    answer: &'static str,
-}
-
-/// An event type in both spellings, what stands behind it, and what the event says.
-struct Kind {
-    name: &'static str,
-    spelled: &'static str,
-    attributes: &'static str,
-    body: &'static str,
-}
-
-#[rattlefmt::skip]
-static ROWS: [Row; 27] = [
-    Row { text: "", answer: "BadJson" },
-    Row { text: r#"{"events":[]}"#, answer: "NoEvents" },
-    Row { text: "[]", answer: "NoEvents" },
-    Row { text: "{}", answer: "NoEvents" },
-    Row { text: r#"{"events":null}"#, answer: "NoEvents" },
-    Row { text: r#"{"events":{}}"#, answer: "NoEvents" },
-    Row { text: "5", answer: "NoEvents" },
-    Row { text: "null", answer: "NoEvents" },
-    Row { text: r#""text""#, answer: "NoEvents" },
-    Row { text: "[{}]", answer: "BadNumber at: 1" },
-    Row { text: "[null]", answer: "BadNumber at: 1" },
-    Row { text: "[[]]", answer: "BadNumber at: 1" },
-    Row { text: r#"{"history":[{}]}"#, answer: "NoEvents" },
-    Row { text: r#"{"events":[],"events":[5]}"#, answer: "BadNumber at: 1" },
-    Row { text: "[{}", answer: "BadJson" },
-    Row { text: "[{}]]", answer: "BadJson" },
-    Row { text: "[{},]", answer: "BadJson" },
-    Row { text: r#"[{"x":1e999}]"#, answer: "BadJson" },
-    Row { text: r#"[{"x":1e308}]"#, answer: "BadNumber at: 1" },
-    Row { text: r#"["\ud800"]"#, answer: "BadJson" },
-    Row { text: r#"["\ud83d\ude00"]"#, answer: "BadNumber at: 1" },
-    Row { text: "\u{feff}[]", answer: "BadJson" },
-    Row { text: "['x']", answer: "BadJson" },
-    Row { text: " \n\t[ {} ]\r\n ", answer: "BadNumber at: 1" },
-    Row { text: "01", answer: "BadJson" },
-    Row { text: "[\"a\tb\"]", answer: "BadJson" },
-    Row { text: "NaN", answer: "BadJson" },
-];
+/// Texts as a whole, the empty one first.
+const TEXTS: &str = r#" => BadJson
+{"events":[]} => NoEvents
+[] => NoEvents
+{} => NoEvents
+{"events":null} => NoEvents
+{"events":{}} => NoEvents
+5 => NoEvents
+null => NoEvents
+"text" => NoEvents
+[{}] => BadNumber at: 1
+[null] => BadNumber at: 1
+[[]] => BadNumber at: 1
+{"history":[{}]} => NoEvents
+{"events":[],"events":[5]} => BadNumber at: 1
+[{} => BadJson
+[{}]] => BadJson
+[{},] => BadJson
+[{"x":1e999}] => BadJson
+[{"x":1e308}] => BadNumber at: 1
+["\ud800"] => BadJson
+["\ud83d\ude00"] => BadNumber at: 1
+['x'] => BadJson
+01 => BadJson
+NaN => BadJson
+"#;
 
 /// Numbers of events.
-#[rattlefmt::skip]
-static NUMBERS: [Row; 8] = [
-    Row { text: r#""1""#, answer: "1 events" },
-    Row { text: r#""9223372036854775807""#, answer: "1 events" },
-    Row { text: r#""9223372036854775808""#, answer: "BadNumber at: 1" },
-    Row { text: "0", answer: "BadNumber at: 1" },
-    Row { text: r#""+1""#, answer: "BadNumber at: 1" },
-    Row { text: r#"" 1""#, answer: "BadNumber at: 1" },
-    Row { text: "1.0", answer: "BadNumber at: 1" },
-    Row { text: "-1", answer: "BadNumber at: 1" },
-];
+const NUMBERS: &str = r#""1" => 1 events
+"9223372036854775807" => 1 events
+"9223372036854775808" => BadNumber at: 1
+0 => BadNumber at: 1
+"+1" => BadNumber at: 1
+" 1" => BadNumber at: 1
+1.0 => BadNumber at: 1
+-1 => BadNumber at: 1
+"#;
 
 /// Times of events.
-#[rattlefmt::skip]
-static TIMES: [Row; 7] = [
-    Row { text: r#""2024-05-01T12:00:02.5+02:00""#, answer: "1 events" },
-    Row { text: "1714557602", answer: "MissingField at: 1" },
-    Row { text: "null", answer: "MissingField at: 1" },
-    Row { text: r#""yesterday""#, answer: "BadTime at: 1" },
-    Row { text: r#""2024-05-01""#, answer: "BadTime at: 1" },
-    Row { text: r#""2024-05-01T10:00:02""#, answer: "BadTime at: 1" },
-    Row { text: r#""2024-02-30T10:00:02Z""#, answer: "BadTime at: 1" },
-];
+const TIMES: &str = r#""2024-05-01T12:00:02.5+02:00" => 1 events
+1714557602 => MissingField at: 1
+null => MissingField at: 1
+"yesterday" => BadTime at: 1
+"2024-05-01" => BadTime at: 1
+"2024-05-01T10:00:02" => BadTime at: 1
+"2024-02-30T10:00:02Z" => BadTime at: 1
+"#;
 
 /// Types of events.
-#[rattlefmt::skip]
-static TYPES: [Row; 8] = [
-    Row { text: r#""New""#, answer: "UnsupportedEvent at: 1, name: New" },
-    Row { text: r#""New","workerMayIgnore":true"#, answer: "1 events" },
-    Row { text: r#""New","workerMayIgnore":1"#, answer: "UnsupportedEvent at: 1, name: New" },
-    Row { text: r#""EVENT_TYPE_TimerStarted""#, answer: "UnsupportedEvent at: 1, name: EVENT_TYPE_TimerStarted" },
-    Row { text: r#""timerStarted""#, answer: "UnsupportedEvent at: 1, name: timerStarted" },
-    Row { text: "5", answer: "UnsupportedEvent at: 1, name: " },
-    Row { text: r#"5,"workerMayIgnore":true"#, answer: "1 events" },
-    Row { text: r#""TimerStarted","workerMayIgnore":true"#, answer: "MissingField at: 1" },
-];
+const TYPES: &str = r#""New" => UnsupportedEvent at: 1, name: New
+"New","workerMayIgnore":true => 1 events
+"New","workerMayIgnore":1 => UnsupportedEvent at: 1, name: New
+"EVENT_TYPE_TimerStarted" => UnsupportedEvent at: 1, name: EVENT_TYPE_TimerStarted
+"timerStarted" => UnsupportedEvent at: 1, name: timerStarted
+5 => UnsupportedEvent at: 1, name: 
+5,"workerMayIgnore":true => 1 events
+"TimerStarted","workerMayIgnore":true => MissingField at: 1
+"#;
 
 /// References to events.
-#[rattlefmt::skip]
-static REFERENCES: [Row; 8] = [
-    Row { text: r#""7""#, answer: "1 events" },
-    Row { text: "null", answer: "1 events" },
-    Row { text: r#""0""#, answer: "1 events" },
-    Row { text: "9223372036854775807", answer: "1 events" },
-    Row { text: r#""9223372036854775808""#, answer: "BadNumber at: 1" },
-    Row { text: r#""-1""#, answer: "BadNumber at: 1" },
-    Row { text: "1.5", answer: "BadNumber at: 1" },
-    Row { text: r#""""#, answer: "BadNumber at: 1" },
-];
+const REFERENCES: &str = r#""7" => 1 events
+null => 1 events
+"0" => 1 events
+9223372036854775807 => 1 events
+"9223372036854775808" => BadNumber at: 1
+"-1" => BadNumber at: 1
+1.5 => BadNumber at: 1
+"" => BadNumber at: 1
+"#;
 
 /// Ids of timers.
-#[rattlefmt::skip]
-static IDS: [Row; 4] = [
-    Row { text: r#"" ""#, answer: "1 events" },
-    Row { text: r#""""#, answer: "MissingField at: 1" },
-    Row { text: "5", answer: "MissingField at: 1" },
-    Row { text: "null", answer: "MissingField at: 1" },
-];
+const IDS: &str = r#"" " => 1 events
+"" => MissingField at: 1
+5 => MissingField at: 1
+null => MissingField at: 1
+"#;
 
 /// Payloads of results.
-#[rattlefmt::skip]
-static RESULTS: [Row; 8] = [
-    Row { text: "null", answer: "1 events" },
-    Row { text: r#"{"payloads":[{}]}"#, answer: "1 events" },
-    Row { text: "[]", answer: "ShorthandPayload at: 1" },
-    Row { text: "5", answer: "BadPayload at: 1" },
-    Row { text: r#"{"payloads":{}}"#, answer: "BadPayload at: 1" },
-    Row { text: r#"{"payloads":[null]}"#, answer: "BadPayload at: 1" },
-    Row { text: r#"{"payloads":[{"metadata":{"encoding":5}}]}"#, answer: "BadPayload at: 1" },
-    Row { text: r#"{"payloads":[{"data":"MR=="}]}"#, answer: "BadPayload at: 1" },
-];
+const RESULTS: &str = r#"null => 1 events
+{"payloads":[{}]} => 1 events
+[] => ShorthandPayload at: 1
+5 => BadPayload at: 1
+{"payloads":{}} => BadPayload at: 1
+{"payloads":[null]} => BadPayload at: 1
+{"payloads":[{"metadata":{"encoding":5}}]} => BadPayload at: 1
+{"payloads":[{"data":"MR=="}]} => BadPayload at: 1
+"#;
 
 /// Data of versions.
-#[rattlefmt::skip]
-static VERSIONS: [Row; 8] = [
-    Row { text: r#""IDEg""#, answer: "1 events" },
-    Row { text: r#""LTE=""#, answer: "1 events" },
-    Row { text: r#""MjE0NzQ4MzY0Nw==""#, answer: "1 events" },
-    Row { text: r#""MjE0NzQ4MzY0OA==""#, answer: "UnsupportedMarker at: 1, name: Version" },
-    Row { text: r#""MS4w""#, answer: "UnsupportedMarker at: 1, name: Version" },
-    Row { text: r#""IjEi""#, answer: "UnsupportedMarker at: 1, name: Version" },
-    Row { text: r#""""#, answer: "UnsupportedMarker at: 1, name: Version" },
-    Row { text: r#""M Q=""#, answer: "BadPayload at: 1" },
-];
+const VERSIONS: &str = r#""IDEg" => 1 events
+"LTE=" => 1 events
+"MjE0NzQ4MzY0Nw==" => 1 events
+"MjE0NzQ4MzY0OA==" => UnsupportedMarker at: 1, name: Version
+"MS4w" => UnsupportedMarker at: 1, name: Version
+"IjEi" => UnsupportedMarker at: 1, name: Version
+"" => UnsupportedMarker at: 1, name: Version
+"M Q=" => BadPayload at: 1
+"#;
 
 /// Numbers of events after event 1.
-#[rattlefmt::skip]
-static FOLLOWERS: [Row; 4] = [
-    Row { text: "2", answer: "2 events" },
-    Row { text: r#""1""#, answer: "OutOfOrder at: 2" },
-    Row { text: "3", answer: "OutOfOrder at: 2" },
-    Row { text: r#""x""#, answer: "BadNumber at: 2" },
-];
+const FOLLOWERS: &str = r#"2 => 2 events
+"1" => OutOfOrder at: 2
+3 => OutOfOrder at: 2
+"x" => BadNumber at: 2
+"#;
 
 /// Data of payloads.
-#[rattlefmt::skip]
-static DATA: [Row; 8] = [
-    Row { text: r#""MQ==""#, answer: "1 events" },
-    Row { text: "null", answer: "1 events" },
-    Row { text: r#""MQ=""#, answer: "BadPayload at: 1" },
-    Row { text: r#""MQ""#, answer: "BadPayload at: 1" },
-    Row { text: r#""MR==""#, answer: "BadPayload at: 1" },
-    Row { text: r#""M Q=""#, answer: "BadPayload at: 1" },
-    Row { text: r#""_-8=""#, answer: "BadPayload at: 1" },
-    Row { text: r#""MQ==\n""#, answer: "BadPayload at: 1" },
-];
+const DATA: &str = r#""MQ==" => 1 events
+null => 1 events
+"MQ=" => BadPayload at: 1
+"MQ" => BadPayload at: 1
+"MR==" => BadPayload at: 1
+"M Q=" => BadPayload at: 1
+"_-8=" => BadPayload at: 1
+"MQ==\n" => BadPayload at: 1
+"#;
 
 /// Attributes of markers.
-#[rattlefmt::skip]
-static MARKERS: [Row; 7] = [
-    Row { text: r#"{"markerName":"SideEffect"}"#, answer: "UnsupportedMarker at: 1, name: SideEffect" },
-    Row { text: r#"{"markerName":"Other","details":[{"payloads":5}]}"#, answer: "UnsupportedMarker at: 1, name: Other" },
-    Row { text: "{}", answer: "UnsupportedMarker at: 1, name: " },
-    Row { text: r#"{"markerName":["Version"]}"#, answer: "UnsupportedMarker at: 1, name: " },
-    Row { text: r#"{"markerName":"Version","details":{}}"#, answer: "UnsupportedMarker at: 1, name: Version" },
-    Row { text: r#"{"markerName":"Version","details":{"change-id":["chg"]}}"#, answer: "ShorthandPayload at: 1" },
-    Row { text: r#"{"markerName":"Version","details":{"change-id":["chg"],"version":{"payloads":[{"data":"?"}]}}}"#, answer: "BadPayload at: 1" },
-];
+const MARKERS: &str = r#"{"markerName":"SideEffect"} => UnsupportedMarker at: 1, name: SideEffect
+{"markerName":"Other","details":[{"payloads":5}]} => UnsupportedMarker at: 1, name: Other
+{} => UnsupportedMarker at: 1, name: 
+{"markerName":["Version"]} => UnsupportedMarker at: 1, name: 
+{"markerName":"Version","details":{}} => UnsupportedMarker at: 1, name: Version
+{"markerName":"Version","details":{"change-id":["chg"]}} => ShorthandPayload at: 1
+{"markerName":"Version","details":{"change-id":["chg"],"version":{"payloads":[{"data":"?"}]}}} => BadPayload at: 1
+"#;
 
-#[rattlefmt::skip]
-static KINDS: [Kind; 41] = [
-    Kind { name: "WorkflowExecutionStarted", spelled: "EVENT_TYPE_WORKFLOW_EXECUTION_STARTED",
-        attributes: r#","workflowExecutionStartedEventAttributes":{"workflowType":{"name":"w"},"input":{"payloads":[{"metadata":{"encoding":"YQ=="},"data":"Yg=="}]}}"#, body: "WorkflowExecutionStarted workflow: w, input: [Payload encoding: [97], content: [98]]" },
-    Kind { name: "WorkflowTaskScheduled", spelled: "EVENT_TYPE_WORKFLOW_TASK_SCHEDULED",
-        attributes: "", body: "WorkflowTaskScheduled" },
-    Kind { name: "WorkflowTaskStarted", spelled: "EVENT_TYPE_WORKFLOW_TASK_STARTED",
-        attributes: "", body: "WorkflowTaskStarted" },
-    Kind { name: "WorkflowTaskCompleted", spelled: "EVENT_TYPE_WORKFLOW_TASK_COMPLETED",
-        attributes: "", body: "WorkflowTaskCompleted" },
-    Kind { name: "WorkflowTaskFailed", spelled: "EVENT_TYPE_WORKFLOW_TASK_FAILED",
-        attributes: "", body: "WorkflowTaskFailed" },
-    Kind { name: "WorkflowTaskTimedOut", spelled: "EVENT_TYPE_WORKFLOW_TASK_TIMED_OUT",
-        attributes: "", body: "WorkflowTaskTimedOut" },
-    Kind { name: "ActivityTaskScheduled", spelled: "EVENT_TYPE_ACTIVITY_TASK_SCHEDULED",
-        attributes: r#","activityTaskScheduledEventAttributes":{"activityId":"i","activityType":{"name":"a"}}"#, body: "ActivityTaskScheduled id: i, activity: a" },
-    Kind { name: "ActivityTaskCancelRequested", spelled: "EVENT_TYPE_ACTIVITY_TASK_CANCEL_REQUESTED",
-        attributes: r#","activityTaskCancelRequestedEventAttributes":{"scheduledEventId":"3"}"#, body: "ActivityTaskCancelRequested scheduled: 3" },
-    Kind { name: "TimerStarted", spelled: "EVENT_TYPE_TIMER_STARTED",
-        attributes: r#","timerStartedEventAttributes":{"timerId":"i"}"#, body: "TimerStarted id: i" },
-    Kind { name: "TimerCanceled", spelled: "EVENT_TYPE_TIMER_CANCELED",
-        attributes: r#","timerCanceledEventAttributes":{"startedEventId":"3"}"#, body: "TimerCanceled started: 3" },
-    Kind { name: "StartChildWorkflowExecutionInitiated", spelled: "EVENT_TYPE_START_CHILD_WORKFLOW_EXECUTION_INITIATED",
-        attributes: r#","startChildWorkflowExecutionInitiatedEventAttributes":{"workflowId":"i","workflowType":{"name":"w"}}"#, body: "StartChildWorkflowExecutionInitiated workflow_id: i, workflow: w" },
-    Kind { name: "RequestCancelExternalWorkflowExecutionInitiated", spelled: "EVENT_TYPE_REQUEST_CANCEL_EXTERNAL_WORKFLOW_EXECUTION_INITIATED",
-        attributes: r#","requestCancelExternalWorkflowExecutionInitiatedEventAttributes":{"workflowExecution":{"workflowId":"i"}}"#, body: "RequestCancelExternalWorkflowExecutionInitiated workflow_id: i" },
-    Kind { name: "SignalExternalWorkflowExecutionInitiated", spelled: "EVENT_TYPE_SIGNAL_EXTERNAL_WORKFLOW_EXECUTION_INITIATED",
-        attributes: r#","signalExternalWorkflowExecutionInitiatedEventAttributes":{"workflowExecution":{"workflowId":"i"},"signalName":"s"}"#, body: "SignalExternalWorkflowExecutionInitiated workflow_id: i, signal: s" },
-    Kind { name: "MarkerRecorded", spelled: "EVENT_TYPE_MARKER_RECORDED",
-        attributes: r#","markerRecordedEventAttributes":{"markerName":"Version","details":{"change-id":{"payloads":[{"metadata":{"encoding":"anNvbi9wbGFpbg=="},"data":"ImNoZyI="}]},"version":{"payloads":[{"metadata":{"encoding":"anNvbi9wbGFpbg=="},"data":"MQ=="}]}}}"#, body: "MarkerRecorded change_id: chg, version: 1" },
-    Kind { name: "WorkflowExecutionCompleted", spelled: "EVENT_TYPE_WORKFLOW_EXECUTION_COMPLETED",
-        attributes: "", body: "WorkflowExecutionCompleted" },
-    Kind { name: "WorkflowExecutionFailed", spelled: "EVENT_TYPE_WORKFLOW_EXECUTION_FAILED",
-        attributes: "", body: "WorkflowExecutionFailed" },
-    Kind { name: "WorkflowExecutionCanceled", spelled: "EVENT_TYPE_WORKFLOW_EXECUTION_CANCELED",
-        attributes: "", body: "WorkflowExecutionCanceled" },
-    Kind { name: "WorkflowExecutionContinuedAsNew", spelled: "EVENT_TYPE_WORKFLOW_EXECUTION_CONTINUED_AS_NEW",
-        attributes: "", body: "WorkflowExecutionContinuedAsNew" },
-    Kind { name: "ActivityTaskStarted", spelled: "EVENT_TYPE_ACTIVITY_TASK_STARTED",
-        attributes: r#","activityTaskStartedEventAttributes":{"scheduledEventId":"3"}"#, body: "ActivityTaskStarted scheduled: 3" },
-    Kind { name: "ActivityTaskCompleted", spelled: "EVENT_TYPE_ACTIVITY_TASK_COMPLETED",
-        attributes: r#","activityTaskCompletedEventAttributes":{"scheduledEventId":"3","result":{"payloads":[{"metadata":{"encoding":"YQ=="},"data":"Yg=="}]}}"#, body: "ActivityTaskCompleted scheduled: 3, result: [Payload encoding: [97], content: [98]]" },
-    Kind { name: "ActivityTaskFailed", spelled: "EVENT_TYPE_ACTIVITY_TASK_FAILED",
-        attributes: r#","activityTaskFailedEventAttributes":{"scheduledEventId":"3"}"#, body: "ActivityTaskFailed scheduled: 3" },
-    Kind { name: "ActivityTaskTimedOut", spelled: "EVENT_TYPE_ACTIVITY_TASK_TIMED_OUT",
-        attributes: r#","activityTaskTimedOutEventAttributes":{"scheduledEventId":"3"}"#, body: "ActivityTaskTimedOut scheduled: 3" },
-    Kind { name: "ActivityTaskCanceled", spelled: "EVENT_TYPE_ACTIVITY_TASK_CANCELED",
-        attributes: r#","activityTaskCanceledEventAttributes":{"scheduledEventId":"3"}"#, body: "ActivityTaskCanceled scheduled: 3" },
-    Kind { name: "TimerFired", spelled: "EVENT_TYPE_TIMER_FIRED",
-        attributes: r#","timerFiredEventAttributes":{"startedEventId":"3"}"#, body: "TimerFired started: 3" },
-    Kind { name: "ChildWorkflowExecutionStarted", spelled: "EVENT_TYPE_CHILD_WORKFLOW_EXECUTION_STARTED",
-        attributes: r#","childWorkflowExecutionStartedEventAttributes":{"initiatedEventId":"3"}"#, body: "ChildWorkflowExecutionStarted initiated: 3" },
-    Kind { name: "ChildWorkflowExecutionCompleted", spelled: "EVENT_TYPE_CHILD_WORKFLOW_EXECUTION_COMPLETED",
-        attributes: r#","childWorkflowExecutionCompletedEventAttributes":{"initiatedEventId":"3","result":{"payloads":[{"metadata":{"encoding":"YQ=="},"data":"Yg=="}]}}"#, body: "ChildWorkflowExecutionCompleted initiated: 3, result: [Payload encoding: [97], content: [98]]" },
-    Kind { name: "ChildWorkflowExecutionFailed", spelled: "EVENT_TYPE_CHILD_WORKFLOW_EXECUTION_FAILED",
-        attributes: r#","childWorkflowExecutionFailedEventAttributes":{"initiatedEventId":"3"}"#, body: "ChildWorkflowExecutionFailed initiated: 3" },
-    Kind { name: "ChildWorkflowExecutionCanceled", spelled: "EVENT_TYPE_CHILD_WORKFLOW_EXECUTION_CANCELED",
-        attributes: r#","childWorkflowExecutionCanceledEventAttributes":{"initiatedEventId":"3"}"#, body: "ChildWorkflowExecutionCanceled initiated: 3" },
-    Kind { name: "ChildWorkflowExecutionTimedOut", spelled: "EVENT_TYPE_CHILD_WORKFLOW_EXECUTION_TIMED_OUT",
-        attributes: r#","childWorkflowExecutionTimedOutEventAttributes":{"initiatedEventId":"3"}"#, body: "ChildWorkflowExecutionTimedOut initiated: 3" },
-    Kind { name: "ChildWorkflowExecutionTerminated", spelled: "EVENT_TYPE_CHILD_WORKFLOW_EXECUTION_TERMINATED",
-        attributes: r#","childWorkflowExecutionTerminatedEventAttributes":{"initiatedEventId":"3"}"#, body: "ChildWorkflowExecutionTerminated initiated: 3" },
-    Kind { name: "StartChildWorkflowExecutionFailed", spelled: "EVENT_TYPE_START_CHILD_WORKFLOW_EXECUTION_FAILED",
-        attributes: r#","startChildWorkflowExecutionFailedEventAttributes":{"initiatedEventId":"3"}"#, body: "StartChildWorkflowExecutionFailed initiated: 3" },
-    Kind { name: "ExternalWorkflowExecutionCancelRequested", spelled: "EVENT_TYPE_EXTERNAL_WORKFLOW_EXECUTION_CANCEL_REQUESTED",
-        attributes: r#","externalWorkflowExecutionCancelRequestedEventAttributes":{"initiatedEventId":"3"}"#, body: "ExternalWorkflowExecutionCancelRequested initiated: 3" },
-    Kind { name: "RequestCancelExternalWorkflowExecutionFailed", spelled: "EVENT_TYPE_REQUEST_CANCEL_EXTERNAL_WORKFLOW_EXECUTION_FAILED",
-        attributes: r#","requestCancelExternalWorkflowExecutionFailedEventAttributes":{"initiatedEventId":"3"}"#, body: "RequestCancelExternalWorkflowExecutionFailed initiated: 3" },
-    Kind { name: "ExternalWorkflowExecutionSignaled", spelled: "EVENT_TYPE_EXTERNAL_WORKFLOW_EXECUTION_SIGNALED",
-        attributes: r#","externalWorkflowExecutionSignaledEventAttributes":{"initiatedEventId":"3"}"#, body: "ExternalWorkflowExecutionSignaled initiated: 3" },
-    Kind { name: "SignalExternalWorkflowExecutionFailed", spelled: "EVENT_TYPE_SIGNAL_EXTERNAL_WORKFLOW_EXECUTION_FAILED",
-        attributes: r#","signalExternalWorkflowExecutionFailedEventAttributes":{"initiatedEventId":"3"}"#, body: "SignalExternalWorkflowExecutionFailed initiated: 3" },
-    Kind { name: "WorkflowExecutionSignaled", spelled: "EVENT_TYPE_WORKFLOW_EXECUTION_SIGNALED",
-        attributes: r#","workflowExecutionSignaledEventAttributes":{"signalName":"s","input":{"payloads":[{"metadata":{"encoding":"YQ=="},"data":"Yg=="}]}}"#, body: "WorkflowExecutionSignaled name: s, input: [Payload encoding: [97], content: [98]]" },
-    Kind { name: "WorkflowExecutionCancelRequested", spelled: "EVENT_TYPE_WORKFLOW_EXECUTION_CANCEL_REQUESTED",
-        attributes: "", body: "WorkflowExecutionCancelRequested" },
-    Kind { name: "WorkflowExecutionTimedOut", spelled: "EVENT_TYPE_WORKFLOW_EXECUTION_TIMED_OUT",
-        attributes: "", body: "WorkflowExecutionTimedOut" },
-    Kind { name: "WorkflowExecutionTerminated", spelled: "EVENT_TYPE_WORKFLOW_EXECUTION_TERMINATED",
-        attributes: "", body: "WorkflowExecutionTerminated" },
-    Kind { name: "UpsertWorkflowSearchAttributes", spelled: "EVENT_TYPE_UPSERT_WORKFLOW_SEARCH_ATTRIBUTES",
-        attributes: "", body: "Inert" },
-    Kind { name: "WorkflowPropertiesModified", spelled: "EVENT_TYPE_WORKFLOW_PROPERTIES_MODIFIED",
-        attributes: "", body: "Inert" },
-];
+/// Types of events in both spellings, what stands behind the type, and what the event says. First
+/// the start, and what is said of tasks.
+const TASK_KINDS: &str =
+    r#"WorkflowExecutionStarted EVENT_TYPE_WORKFLOW_EXECUTION_STARTED ,"workflowExecutionStartedEventAttributes":{"workflowType":{"name":"w"},"input":{"payloads":[{"metadata":{"encoding":"YQ=="},"data":"Yg=="}]}} => WorkflowExecutionStarted workflow: w, input: [Payload encoding: [97], content: [98]]
+WorkflowTaskScheduled EVENT_TYPE_WORKFLOW_TASK_SCHEDULED  => WorkflowTaskScheduled
+WorkflowTaskStarted EVENT_TYPE_WORKFLOW_TASK_STARTED  => WorkflowTaskStarted
+WorkflowTaskCompleted EVENT_TYPE_WORKFLOW_TASK_COMPLETED  => WorkflowTaskCompleted
+WorkflowTaskFailed EVENT_TYPE_WORKFLOW_TASK_FAILED  => WorkflowTaskFailed
+WorkflowTaskTimedOut EVENT_TYPE_WORKFLOW_TASK_TIMED_OUT  => WorkflowTaskTimedOut
+"#;
+
+/// Types of events that commands give, closing ones too.
+const COMMANDED_KINDS: &str =
+    r#"ActivityTaskScheduled EVENT_TYPE_ACTIVITY_TASK_SCHEDULED ,"activityTaskScheduledEventAttributes":{"activityId":"i","activityType":{"name":"a"}} => ActivityTaskScheduled id: i, activity: a
+ActivityTaskCancelRequested EVENT_TYPE_ACTIVITY_TASK_CANCEL_REQUESTED ,"activityTaskCancelRequestedEventAttributes":{"scheduledEventId":"3"} => ActivityTaskCancelRequested scheduled: 3
+TimerStarted EVENT_TYPE_TIMER_STARTED ,"timerStartedEventAttributes":{"timerId":"i"} => TimerStarted id: i
+TimerCanceled EVENT_TYPE_TIMER_CANCELED ,"timerCanceledEventAttributes":{"startedEventId":"3"} => TimerCanceled started: 3
+StartChildWorkflowExecutionInitiated EVENT_TYPE_START_CHILD_WORKFLOW_EXECUTION_INITIATED ,"startChildWorkflowExecutionInitiatedEventAttributes":{"workflowId":"i","workflowType":{"name":"w"}} => StartChildWorkflowExecutionInitiated workflow_id: i, workflow: w
+RequestCancelExternalWorkflowExecutionInitiated EVENT_TYPE_REQUEST_CANCEL_EXTERNAL_WORKFLOW_EXECUTION_INITIATED ,"requestCancelExternalWorkflowExecutionInitiatedEventAttributes":{"workflowExecution":{"workflowId":"i"}} => RequestCancelExternalWorkflowExecutionInitiated workflow_id: i
+SignalExternalWorkflowExecutionInitiated EVENT_TYPE_SIGNAL_EXTERNAL_WORKFLOW_EXECUTION_INITIATED ,"signalExternalWorkflowExecutionInitiatedEventAttributes":{"workflowExecution":{"workflowId":"i"},"signalName":"s"} => SignalExternalWorkflowExecutionInitiated workflow_id: i, signal: s
+MarkerRecorded EVENT_TYPE_MARKER_RECORDED ,"markerRecordedEventAttributes":{"markerName":"Version","details":{"change-id":{"payloads":[{"metadata":{"encoding":"anNvbi9wbGFpbg=="},"data":"ImNoZyI="}]},"version":{"payloads":[{"metadata":{"encoding":"anNvbi9wbGFpbg=="},"data":"MQ=="}]}}} => MarkerRecorded change_id: chg, version: 1
+WorkflowExecutionCompleted EVENT_TYPE_WORKFLOW_EXECUTION_COMPLETED  => WorkflowExecutionCompleted
+WorkflowExecutionFailed EVENT_TYPE_WORKFLOW_EXECUTION_FAILED  => WorkflowExecutionFailed
+WorkflowExecutionCanceled EVENT_TYPE_WORKFLOW_EXECUTION_CANCELED  => WorkflowExecutionCanceled
+WorkflowExecutionContinuedAsNew EVENT_TYPE_WORKFLOW_EXECUTION_CONTINUED_AS_NEW  => WorkflowExecutionContinuedAsNew
+"#;
+
+/// Types of events that come from outside.
+const OUTSIDE_KINDS: &str =
+    r#"ActivityTaskStarted EVENT_TYPE_ACTIVITY_TASK_STARTED ,"activityTaskStartedEventAttributes":{"scheduledEventId":"3"} => ActivityTaskStarted scheduled: 3
+ActivityTaskCompleted EVENT_TYPE_ACTIVITY_TASK_COMPLETED ,"activityTaskCompletedEventAttributes":{"scheduledEventId":"3","result":{"payloads":[{"metadata":{"encoding":"YQ=="},"data":"Yg=="}]}} => ActivityTaskCompleted scheduled: 3, result: [Payload encoding: [97], content: [98]]
+ActivityTaskFailed EVENT_TYPE_ACTIVITY_TASK_FAILED ,"activityTaskFailedEventAttributes":{"scheduledEventId":"3"} => ActivityTaskFailed scheduled: 3
+ActivityTaskTimedOut EVENT_TYPE_ACTIVITY_TASK_TIMED_OUT ,"activityTaskTimedOutEventAttributes":{"scheduledEventId":"3"} => ActivityTaskTimedOut scheduled: 3
+ActivityTaskCanceled EVENT_TYPE_ACTIVITY_TASK_CANCELED ,"activityTaskCanceledEventAttributes":{"scheduledEventId":"3"} => ActivityTaskCanceled scheduled: 3
+TimerFired EVENT_TYPE_TIMER_FIRED ,"timerFiredEventAttributes":{"startedEventId":"3"} => TimerFired started: 3
+ChildWorkflowExecutionStarted EVENT_TYPE_CHILD_WORKFLOW_EXECUTION_STARTED ,"childWorkflowExecutionStartedEventAttributes":{"initiatedEventId":"3"} => ChildWorkflowExecutionStarted initiated: 3
+ChildWorkflowExecutionCompleted EVENT_TYPE_CHILD_WORKFLOW_EXECUTION_COMPLETED ,"childWorkflowExecutionCompletedEventAttributes":{"initiatedEventId":"3","result":{"payloads":[{"metadata":{"encoding":"YQ=="},"data":"Yg=="}]}} => ChildWorkflowExecutionCompleted initiated: 3, result: [Payload encoding: [97], content: [98]]
+ChildWorkflowExecutionFailed EVENT_TYPE_CHILD_WORKFLOW_EXECUTION_FAILED ,"childWorkflowExecutionFailedEventAttributes":{"initiatedEventId":"3"} => ChildWorkflowExecutionFailed initiated: 3
+ChildWorkflowExecutionCanceled EVENT_TYPE_CHILD_WORKFLOW_EXECUTION_CANCELED ,"childWorkflowExecutionCanceledEventAttributes":{"initiatedEventId":"3"} => ChildWorkflowExecutionCanceled initiated: 3
+ChildWorkflowExecutionTimedOut EVENT_TYPE_CHILD_WORKFLOW_EXECUTION_TIMED_OUT ,"childWorkflowExecutionTimedOutEventAttributes":{"initiatedEventId":"3"} => ChildWorkflowExecutionTimedOut initiated: 3
+ChildWorkflowExecutionTerminated EVENT_TYPE_CHILD_WORKFLOW_EXECUTION_TERMINATED ,"childWorkflowExecutionTerminatedEventAttributes":{"initiatedEventId":"3"} => ChildWorkflowExecutionTerminated initiated: 3
+StartChildWorkflowExecutionFailed EVENT_TYPE_START_CHILD_WORKFLOW_EXECUTION_FAILED ,"startChildWorkflowExecutionFailedEventAttributes":{"initiatedEventId":"3"} => StartChildWorkflowExecutionFailed initiated: 3
+ExternalWorkflowExecutionCancelRequested EVENT_TYPE_EXTERNAL_WORKFLOW_EXECUTION_CANCEL_REQUESTED ,"externalWorkflowExecutionCancelRequestedEventAttributes":{"initiatedEventId":"3"} => ExternalWorkflowExecutionCancelRequested initiated: 3
+RequestCancelExternalWorkflowExecutionFailed EVENT_TYPE_REQUEST_CANCEL_EXTERNAL_WORKFLOW_EXECUTION_FAILED ,"requestCancelExternalWorkflowExecutionFailedEventAttributes":{"initiatedEventId":"3"} => RequestCancelExternalWorkflowExecutionFailed initiated: 3
+ExternalWorkflowExecutionSignaled EVENT_TYPE_EXTERNAL_WORKFLOW_EXECUTION_SIGNALED ,"externalWorkflowExecutionSignaledEventAttributes":{"initiatedEventId":"3"} => ExternalWorkflowExecutionSignaled initiated: 3
+SignalExternalWorkflowExecutionFailed EVENT_TYPE_SIGNAL_EXTERNAL_WORKFLOW_EXECUTION_FAILED ,"signalExternalWorkflowExecutionFailedEventAttributes":{"initiatedEventId":"3"} => SignalExternalWorkflowExecutionFailed initiated: 3
+WorkflowExecutionSignaled EVENT_TYPE_WORKFLOW_EXECUTION_SIGNALED ,"workflowExecutionSignaledEventAttributes":{"signalName":"s","input":{"payloads":[{"metadata":{"encoding":"YQ=="},"data":"Yg=="}]}} => WorkflowExecutionSignaled name: s, input: [Payload encoding: [97], content: [98]]
+WorkflowExecutionCancelRequested EVENT_TYPE_WORKFLOW_EXECUTION_CANCEL_REQUESTED  => WorkflowExecutionCancelRequested
+"#;
+
+/// Types of events that close a run from outside, and inert ones.
+const OTHER_KINDS: &str =
+    r#"WorkflowExecutionTimedOut EVENT_TYPE_WORKFLOW_EXECUTION_TIMED_OUT  => WorkflowExecutionTimedOut
+WorkflowExecutionTerminated EVENT_TYPE_WORKFLOW_EXECUTION_TERMINATED  => WorkflowExecutionTerminated
+UpsertWorkflowSearchAttributes EVENT_TYPE_UPSERT_WORKFLOW_SEARCH_ATTRIBUTES  => Inert
+WorkflowPropertiesModified EVENT_TYPE_WORKFLOW_PROPERTIES_MODIFIED  => Inert
+"#;
 
 /// A form with other texts in place of its `@` and its `%`.
 fn filled(rt: &impl Abort, alloc: Global, form: &str, first: &str, second: &str) -> String {
@@ -347,47 +281,69 @@ fn answer(rt: &impl Abort, alloc: Global, bytes: &[u8]) -> String {
 /// The answer to the bytes is what is wanted.
 fn answers(rt: &impl Abort, alloc: Global, bytes: &[u8], wanted: &str) {
     let answer = answer(rt, alloc, bytes);
-    assert_eq!(rt; answer.as_str(), wanted);
+    same(rt, wanted, answer.as_str(), wanted);
 }
 
-/// Puts each row's text into a form, and compares the answers.
-fn answers_each(rt: &impl Abort, alloc: Global, form: &str, rows: &[Row]) {
-    for row in rows {
-        let text = filled(rt, alloc, form, row.text, "%");
-        answers(rt, alloc, text.as_bytes(), row.answer);
+/// Puts the text of each line into a form, and compares the answers.
+fn answers_each(rt: &impl Abort, alloc: Global, form: &str, lines: &'static str) {
+    for line in lines.lines() {
+        let (given, wanted) = row(rt, line);
+        let text = filled(rt, alloc, form, given, "%");
+        let answer = answer(rt, alloc, text.as_bytes());
+        same(rt, line, answer.as_str(), wanted);
     }
 }
 
 #[test]
 fn answers_texts(rt: HostRuntime) {
     let alloc = rt.alloc();
-    answers_each(&rt, alloc, "@", &ROWS);
-    answers_each(&rt, alloc, NUMBERED, &NUMBERS);
-    answers_each(&rt, alloc, TIMED, &TIMES);
-    answers_each(&rt, alloc, TYPED, &TYPES);
-    answers_each(&rt, alloc, FIRED, &REFERENCES);
-    answers_each(&rt, alloc, STARTED, &IDS);
-    answers_each(&rt, alloc, COMPLETED, &RESULTS);
-    answers_each(&rt, alloc, VERSIONED, &VERSIONS);
-    answers_each(&rt, alloc, FOLLOWED, &FOLLOWERS);
-    answers_each(&rt, alloc, SIGNALED, &DATA);
-    answers_each(&rt, alloc, MARKED, &MARKERS);
+    answers_each(&rt, alloc, "@", TEXTS);
+    answers_each(&rt, alloc, NUMBERED, NUMBERS);
+    answers_each(&rt, alloc, TIMED, TIMES);
+    answers_each(&rt, alloc, TYPED, TYPES);
+    answers_each(&rt, alloc, FIRED, REFERENCES);
+    answers_each(&rt, alloc, STARTED, IDS);
+    answers_each(&rt, alloc, COMPLETED, RESULTS);
+    answers_each(&rt, alloc, VERSIONED, VERSIONS);
+    answers_each(&rt, alloc, FOLLOWED, FOLLOWERS);
+    answers_each(&rt, alloc, SIGNALED, DATA);
+    answers_each(&rt, alloc, MARKED, MARKERS);
 }
 
-/// Reads an event of the kind under one of its names.
-fn reads_kind(rt: &impl Abort, alloc: Global, name: &str, kind: &Kind) {
-    let text = filled(rt, alloc, ONE, name, kind.attributes);
-    let wanted = filled(rt, alloc, ONE_READ, kind.body, "%");
+#[test]
+fn answers_blanks_and_marks(rt: HostRuntime) {
+    let alloc = rt.alloc();
+    answers(&rt, alloc, "\u{feff}[]".as_bytes(), "BadJson");
+    answers(&rt, alloc, " \n\t[ {} ]\r\n ".as_bytes(), "BadNumber at: 1");
+    answers(&rt, alloc, "[\"a\tb\"]".as_bytes(), "BadJson");
+}
+
+/// Reads an event of the type of a name, with its attributes behind it.
+fn reads_kind(rt: &impl Abort, alloc: Global, name: &str, attributes: &str, body: &str) {
+    let text = filled(rt, alloc, ONE, name, attributes);
+    let wanted = filled(rt, alloc, ONE_READ, body, "%");
     let events = read_events(alloc, text.as_bytes());
     wants(rt, alloc, name, events, wanted.as_str());
 }
 
+/// Reads an event of each type, under both of its names.
+fn reads_kinds(rt: &impl Abort, alloc: Global, lines: &'static str) {
+    for line in lines.lines() {
+        let (given, body) = row(rt, line);
+        let (name, rest) = given.split_once(' ').expect(rt, line);
+        let (spelled, attributes) = rest.split_once(' ').expect(rt, line);
+        reads_kind(rt, alloc, name, attributes, body);
+        reads_kind(rt, alloc, spelled, attributes, body);
+    }
+}
+
 #[test]
 fn reads_each_kind(rt: HostRuntime) {
-    for kind in &KINDS {
-        reads_kind(&rt, rt.alloc(), kind.name, kind);
-        reads_kind(&rt, rt.alloc(), kind.spelled, kind);
-    }
+    let alloc = rt.alloc();
+    reads_kinds(&rt, alloc, TASK_KINDS);
+    reads_kinds(&rt, alloc, COMMANDED_KINDS);
+    reads_kinds(&rt, alloc, OUTSIDE_KINDS);
+    reads_kinds(&rt, alloc, OTHER_KINDS);
 }
 
 /// Both texts are read as the same ten events.
@@ -446,12 +402,18 @@ static DEPTHS: [Depth; 4] = [
     Depth { depth: 1000, answer: "BadJson" },
 ];
 
+/// As many lists within one another.
+fn nested(rt: &impl Abort, alloc: Global, depth: usize) -> String {
+    let mut text = "[".repeat(alloc, depth).expect(rt, "memory");
+    let close = "]".repeat(alloc, depth).expect(rt, "memory");
+    text.push_str(close.as_str()).expect(rt, "memory");
+    text
+}
+
 #[test]
 fn bounds_the_nesting(rt: HostRuntime) {
     for row in &DEPTHS {
-        let mut text = "[".repeat(rt.alloc(), row.depth).expect(&rt, "memory");
-        let close = "]".repeat(rt.alloc(), row.depth).expect(&rt, "memory");
-        assert!(rt; text.push_str(close.as_str()).is_ok());
+        let text = nested(&rt, rt.alloc(), row.depth);
         answers(&rt, rt.alloc(), text.as_bytes(), row.answer);
     }
 }

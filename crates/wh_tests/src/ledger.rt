@@ -55,6 +55,6 @@ fn totals_are_sums(rt: HostRuntime) {
         completed: 1,
         failed: 1,
     };
-    assert_eq!(rt; totals, counted);
-    assert_eq!(rt; sums, counted);
+    assert!(rt; totals == counted);
+    assert!(rt; sums == counted);
 }

@@ -3,7 +3,7 @@
 use crate::rows::{numbered, row, text, track_of, wants};
 use std::alloc::Global;
 use std::process::Abort;
-use wh_events::{Event, EventKind, Items, OpenKind, PlaceFault, Status, Text};
+use wh_events::{Event, EventKind, Items, OpenKind, Status, Text};
 use wh_histories::events;
 use wh_machines::{PushFault, Track};
 
@@ -66,25 +66,39 @@ fn fire(rt: &impl Abort, track: &mut Track) {
 /// Whether a value may go to another thread.
 fn sendable<T: Send>(_value: &T) {}
 
+/// The timer `nap` that was opened last before a place, and its status then.
+fn last_nap(rt: &impl Abort, track: &Track, place: u64, opened: u64, status: Status) {
+    let last = track.last_at(OpenKind::Timer, "nap", place);
+    let opened = numbered(rt, opened);
+    assert!(rt; last == Some((opened, status)), "at {place}");
+}
+
+/// The event of a number has this status, in words.
+fn stands(rt: &impl Abort, alloc: Global, track: &Track, opened: u64, status: &str) {
+    let opened = numbered(rt, opened);
+    wants(rt, alloc, "a status", track.status(opened), status);
+}
+
+/// A copy of a track of six events takes a seventh, and the first has six still.
+fn copies(rt: &impl Abort, track: &Track) {
+    let mut copy = track.try_copy().expect(rt, "memory");
+    assert!(rt; push(rt, &mut copy, EventKind::WorkflowTaskScheduled).is_ok());
+    assert!(rt; copy.len() == 7 && track.len() == 6);
+}
+
 #[test]
 fn follows_the_timer_of_a_nap(rt: HostRuntime) {
     let alloc = rt.alloc();
     let mut track = track_of(&rt, alloc, "nap/5");
     sendable(&track);
-    let five = numbered(&rt, 5);
-    assert_eq!(rt; track.open_named(OpenKind::Timer, "nap"), Some(five));
+    let opened = track.open_named(OpenKind::Timer, "nap");
+    wants(&rt, alloc, "a timer", opened, "Some(5)");
     fire(&rt, &mut track);
-    let closed = Status::Closed {
-        by: numbered(&rt, 6),
-    };
-    assert_eq!(rt; track.status(five), Some(closed));
-    let opened = track.last_at(OpenKind::Timer, "nap", 5);
-    assert_eq!(rt; opened, Some((five, Status::Open)));
-    let mut copy = track.try_copy().expect(&rt, "memory");
-    assert!(rt; push(&rt, &mut copy, EventKind::WorkflowTaskScheduled).is_ok());
-    assert_eq!(rt; (copy.len(), track.len()), (7, 6));
-    assert_eq!(rt; track.between(0, 1).len(), 0);
-    assert_eq!(rt; track.into_events().len(), 6);
+    stands(&rt, alloc, &track, 5, "Some(Closed by: 6)");
+    last_nap(&rt, &track, 5, 5, Status::Open);
+    copies(&rt, &track);
+    assert!(rt; track.between(0, 1).is_empty());
+    assert!(rt; track.into_events().len() == 6);
 }
 
 /// No history in JSON has so large a number.
@@ -92,8 +106,19 @@ fn follows_the_timer_of_a_nap(rt: HostRuntime) {
 fn refuses_a_number_that_no_event_has(rt: HostRuntime) {
     let mut track = track_of(&rt, rt.alloc(), "nap/5");
     let fired = EventKind::TimerFired { started: 1 << 63 };
-    let refused = Err(PushFault::Place(PlaceFault::NoSuchRef));
-    assert_eq!(rt; push(&rt, &mut track, fired), refused);
+    let pushed = push(&rt, &mut track, fired);
+    wants(&rt, rt.alloc(), "2^63", pushed, "Err(Place(NoSuchRef))");
+}
+
+/// The timers `nap` of event 3 and each second one after it, up to event 199, each of which the
+/// event behind it fires.
+fn finds_each_nap(rt: &impl Abort, track: &Track) {
+    for pair in 2..100u64 {
+        let opened = 2 * pair + 1;
+        let by = numbered(rt, 2 * pair + 2);
+        last_nap(rt, track, opened, opened, Status::Open);
+        last_nap(rt, track, by.get(), opened, Status::Closed { by });
+    }
 }
 
 #[test]
@@ -103,36 +128,39 @@ fn walks_back_over_timers_of_one_id(rt: HostRuntime) {
         start_timer(&rt, rt.alloc(), &mut track, "nap");
         fire(&rt, &mut track);
     }
-    for pair in 2..100u64 {
-        let opened = numbered(&rt, 2 * pair + 1);
-        let by = numbered(&rt, 2 * pair + 2);
-        let first = track.last_at(OpenKind::Timer, "nap", 2 * pair + 1);
-        assert_eq!(rt; first, Some((opened, Status::Open)));
-        let second = track.last_at(OpenKind::Timer, "nap", 2 * pair + 2);
-        assert_eq!(rt; second, Some((opened, Status::Closed { by })));
+    finds_each_nap(&rt, &track);
+    assert!(rt; track.last_at(OpenKind::Timer, "nap", 4).is_none());
+}
+
+/// The track of a start and as many timers as there is room for, each fired.
+fn full_track(rt: &impl Abort, alloc: Global) -> Track {
+    let mut track = track_of(rt, alloc, "start:Nap");
+    for pair in 1..25_600u64 {
+        let id = format!(in alloc; "{pair}").expect(rt, "memory");
+        start_timer(rt, alloc, &mut track, id.as_str());
+        fire(rt, &mut track);
     }
-    assert_eq!(rt; track.last_at(OpenKind::Timer, "nap", 4), None);
+    track
 }
 
 #[test]
 fn holds_the_most_events(rt: HostRuntime) {
     let alloc = rt.alloc();
-    let mut track = track_of(&rt, alloc, "start:Nap");
-    for pair in 1..25_600u64 {
-        let id = format!(in alloc; "{pair}").expect(&rt, "memory");
-        start_timer(&rt, alloc, &mut track, id.as_str());
-        fire(&rt, &mut track);
-    }
-    let last = numbered(&rt, 51_198);
-    let by = numbered(&rt, 51_199);
-    assert_eq!(rt; track.open_named(OpenKind::Timer, "25599"), None);
-    assert_eq!(rt; track.last_named(OpenKind::Timer, "25599"), Some(last));
-    assert_eq!(rt; track.status(last), Some(Status::Closed { by }));
-    assert!(rt; push(&rt, &mut track, EventKind::WorkflowTaskScheduled).is_ok());
-    let refused = Err(PushFault::Place(PlaceFault::TooManyEvents));
-    assert_eq!(rt;
-        push(&rt, &mut track, EventKind::WorkflowTaskStarted),
-        refused
+    let mut track = full_track(&rt, alloc);
+    let opened = track.open_named(OpenKind::Timer, "25599");
+    wants(&rt, alloc, "an open timer", opened, "None");
+    let last = track.last_named(OpenKind::Timer, "25599");
+    wants(&rt, alloc, "the last timer", last, "Some(51198)");
+    stands(&rt, alloc, &track, 51_198, "Some(Closed by: 51199)");
+    let pushed = push(&rt, &mut track, EventKind::WorkflowTaskScheduled);
+    wants(&rt, alloc, "event 51200", pushed, "Ok(())");
+    let pushed = push(&rt, &mut track, EventKind::WorkflowTaskStarted);
+    wants(
+        &rt,
+        alloc,
+        "event 51201",
+        pushed,
+        "Err(Place(TooManyEvents))",
     );
 }
 
@@ -153,26 +181,37 @@ fn start(alloc: Global) -> EventKind {
     }
 }
 
-/// Each timer is open after its push. Where a growth is refused, which happens only where the tests
-/// are run so, the track is as it was, and the same push can be made again.
+/// A track of one event. Its push is made again where a growth is refused.
+fn started(rt: &impl Abort, alloc: Global) -> Track {
+    let mut track = Track::new(alloc);
+    if push(rt, &mut track, start(alloc)).is_err() {
+        assert!(rt; push(rt, &mut track, start(alloc)).is_ok());
+    }
+    track
+}
+
+/// After want of memory the track is as it was before this number, and the same push can be made
+/// again.
+fn pushes_again(rt: &impl Abort, alloc: Global, track: &mut Track, number: u64, fault: PushFault) {
+    assert!(rt; fault == PushFault::OutOfMemory);
+    assert!(rt; (track.len() as u64).saturating_add(1) == number);
+    stands(rt, alloc, track, number, "None");
+    assert!(rt; push(rt, track, new_timer(rt, alloc, number)).is_ok());
+}
+
+/// Each timer is open after its push. A growth is refused only where the tests are run so, and then
+/// once.
 #[test]
 fn a_push_can_be_made_again(rt: HostRuntime) {
     let alloc = rt.alloc();
-    let mut track = Track::new(alloc);
-    if push(&rt, &mut track, start(alloc)).is_err() {
-        assert!(rt; push(&rt, &mut track, start(alloc)).is_ok());
-    }
+    let mut track = started(&rt, alloc);
     let mut refusals = 0u32;
     for number in 2..60u64 {
-        let opened = numbered(&rt, number);
         if let Err(fault) = push(&rt, &mut track, new_timer(&rt, alloc, number)) {
-            assert_eq!(rt; fault, PushFault::OutOfMemory);
             refusals = refusals.saturating_add(1);
-            assert_eq!(rt; track.len() as u64, number - 1);
-            assert_eq!(rt; track.status(opened), None);
-            assert!(rt; push(&rt, &mut track, new_timer(&rt, alloc, number)).is_ok());
+            pushes_again(&rt, alloc, &mut track, number, fault);
         }
-        assert_eq!(rt; track.status(opened), Some(Status::Open));
+        stands(&rt, alloc, &track, number, "Some(Open)");
     }
     assert!(rt; refusals < 2);
 }

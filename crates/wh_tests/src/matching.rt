@@ -1,6 +1,6 @@
 //! What a task may command, which versions it is told, and whether commands match their record.
 
-use crate::rows::{numbered, row, shown, text, track_of, wants};
+use crate::rows::{numbered, row, same, shown, text, track_of, wants};
 use std::alloc::Global;
 use std::process::Abort;
 use wh_events::{Event, Items};
@@ -134,7 +134,7 @@ fn answers(rt: &impl Abort, alloc: Global, row: &Row, track: &Track) {
         all.push_str(answer.as_str()).expect(rt, "memory");
         all.push_str(" ").expect(rt, "memory");
     }
-    assert_eq!(rt; all.as_str(), row.answers, "{}", row.history);
+    same(rt, row.history, all.as_str(), row.answers);
     let sent = script.reduced().expect(rt, "memory");
     wants(rt, alloc, row.history, sent, row.sent);
 }
@@ -157,7 +157,7 @@ fn takes_as_many_asks_as_commands(rt: HostRuntime) {
     let mut versions = Versions::new(alloc);
     let mut script = Script::new(alloc, 0, numbered(&rt, 3));
     for _ in 0..4096u32 {
-        assert_eq!(rt; script.ask(None, &mut versions, "chg", -1, 1), Ok(1));
+        assert!(rt; script.ask(None, &mut versions, "chg", -1, 1) == Ok(1));
     }
     let refused = script.ask(None, &mut versions, "chg", -1, 1);
     wants(
@@ -178,11 +178,16 @@ start:Racer S T C activity:1:race timer:t timer:x => Err(CommandMissing event: 7
 start:Racer S T C activity:1:greets => Err(Different event: 5)
 ";
 
+/// Adds a command by its short word.
+fn add(rt: &impl Abort, alloc: Global, commands: &mut Vec<Command>, word: &str) {
+    assert!(rt; commands.push(command(rt, alloc, word)).is_ok());
+}
+
 /// The commands to race, which a run that begins gives.
 fn race(rt: &impl Abort, alloc: Global) -> Vec<Command> {
     let mut commands = Vec::new(alloc);
-    assert!(rt; commands.push(command(rt, alloc, "activity:1:race")).is_ok());
-    assert!(rt; commands.push(command(rt, alloc, "timer:t")).is_ok());
+    add(rt, alloc, &mut commands, "activity:1:race");
+    add(rt, alloc, &mut commands, "timer:t");
     commands
 }
 

@@ -1,6 +1,6 @@
 //! Runs, how often they are stepped, and histories that are checked.
 
-use crate::rows::{row, shown};
+use crate::rows::{row, same, shown};
 use crate::workflows::Still;
 use std::alloc::Global;
 use std::process::Abort;
@@ -52,7 +52,7 @@ fn only_a_lost_task_is_stepped_again(rt: HostRuntime) {
     for line in STEPS.lines() {
         let (history, wanted) = row(&rt, line);
         let text = steps::<Still>(&rt, rt.alloc(), history);
-        assert_eq!(rt; text.as_str(), wanted);
+        same(&rt, history, text.as_str(), wanted);
     }
 }
 
@@ -66,7 +66,7 @@ fn copied_answer<W: Workflow>(rt: &impl Abort, alloc: Global, history: &'static 
 #[test]
 fn an_answer_is_copied(rt: HostRuntime) {
     let copy = copied_answer::<Still>(&rt, rt.alloc(), "start:Still T");
-    assert_eq!(rt; copy.as_str(), "Ok(Complete([]))");
+    same(&rt, "a copy", copy.as_str(), "Ok(Complete([]))");
 }
 
 /// What a history has.
@@ -87,6 +87,6 @@ fn histories_are_checked(rt: HostRuntime) {
     for line in CHECKED.lines() {
         let (history, wanted) = row(&rt, line);
         let text = checked_text::<Still>(&rt, rt.alloc(), history);
-        assert_eq!(rt; text.as_str(), wanted);
+        same(&rt, history, text.as_str(), wanted);
     }
 }

@@ -31,6 +31,11 @@ pub(crate) fn shown<T: Debug>(rt: &impl Abort, alloc: Global, value: &T) -> Stri
     text
 }
 
+/// The words are what is wanted of what is given.
+pub(crate) fn same(rt: &impl Abort, given: &str, words: &str, wanted: &str) {
+    assert_eq!(rt; words, wanted, "{given}");
+}
+
 /// The value of a row is what is wanted, in words.
 pub(crate) fn wants<T: Debug + Drop>(
     rt: &impl Abort,
@@ -40,7 +45,7 @@ pub(crate) fn wants<T: Debug + Drop>(
     wanted: &str,
 ) {
     let text = shown(rt, alloc, &value);
-    assert_eq!(rt; text.as_str(), wanted, "{given}");
+    same(rt, given, text.as_str(), wanted);
 }
 
 /// The number of an event.

@@ -1,67 +1,92 @@
 //! What the report looks like.
 
-use crate::rows::text;
+use crate::rows::{numbered, same, text};
 use std::alloc::Global;
 use std::process::Abort;
-use wh_events::{EventNo, PlaceFault};
+use wh_events::PlaceFault;
 use wh_json::ReadFault;
 use wh_replay::{Checked, Fault};
 use wh_tester::{Line, Verdict, all_good, write_json_report, write_report};
 use wh_workflow::{Mismatch, WorkflowFault};
 
-/// A fault of place, and its name.
-struct PlaceRow {
-    fault: PlaceFault,
-    name: &'static str,
-}
-
-/// A fault of a workflow, and its name.
-struct WorkflowRow {
-    fault: WorkflowFault,
-    name: &'static str,
-}
-
-/// A name, and how it is shown.
-struct NameRow {
-    name: &'static str,
-    shown: &'static str,
-}
-
-#[rattlefmt::skip]
-static PLACE_FAULTS: [PlaceRow; 8] = [
-    PlaceRow { fault: PlaceFault::FirstNotStart, name: "FirstNotStart" },
-    PlaceRow { fault: PlaceFault::WrongNumber, name: "WrongNumber" },
-    PlaceRow { fault: PlaceFault::AfterClose, name: "AfterClose" },
-    PlaceRow { fault: PlaceFault::NoSuchRef, name: "NoSuchRef" },
-    PlaceRow { fault: PlaceFault::WrongKindRef, name: "WrongKindRef" },
-    PlaceRow { fault: PlaceFault::AlreadyClosed, name: "AlreadyClosed" },
-    PlaceRow { fault: PlaceFault::IdInUse, name: "IdInUse" },
-    PlaceRow { fault: PlaceFault::TooManyEvents, name: "TooManyEvents" },
+/// The faults of place.
+static PLACE_FAULTS: [PlaceFault; 8] = [
+    PlaceFault::FirstNotStart,
+    PlaceFault::WrongNumber,
+    PlaceFault::AfterClose,
+    PlaceFault::NoSuchRef,
+    PlaceFault::WrongKindRef,
+    PlaceFault::AlreadyClosed,
+    PlaceFault::IdInUse,
+    PlaceFault::TooManyEvents,
 ];
 
-#[rattlefmt::skip]
-static WORKFLOW_FAULTS: [WorkflowRow; 9] = [
-    WorkflowRow { fault: WorkflowFault::AfterClosing, name: "AfterClosing" },
-    WorkflowRow { fault: WorkflowFault::TooManyCommands, name: "TooManyCommands" },
-    WorkflowRow { fault: WorkflowFault::IdInUse, name: "IdInUse" },
-    WorkflowRow { fault: WorkflowFault::IdReused, name: "IdReused" },
-    WorkflowRow { fault: WorkflowFault::NotOpen, name: "NotOpen" },
-    WorkflowRow { fault: WorkflowFault::AlreadyCancelling, name: "AlreadyCancelling" },
-    WorkflowRow { fault: WorkflowFault::BadRange, name: "BadRange" },
-    WorkflowRow { fault: WorkflowFault::VersionOutOfRange, name: "VersionOutOfRange" },
-    WorkflowRow { fault: WorkflowFault::UnknownWorkflow, name: "UnknownWorkflow" },
+/// The faults of workflows.
+static WORKFLOW_FAULTS: [WorkflowFault; 9] = [
+    WorkflowFault::AfterClosing,
+    WorkflowFault::TooManyCommands,
+    WorkflowFault::IdInUse,
+    WorkflowFault::IdReused,
+    WorkflowFault::NotOpen,
+    WorkflowFault::AlreadyCancelling,
+    WorkflowFault::BadRange,
+    WorkflowFault::VersionOutOfRange,
+    WorkflowFault::UnknownWorkflow,
 ];
 
-#[rattlefmt::skip]
-static NAMES: [NameRow; 8] = [
-    NameRow { name: "nap.json", shown: "nap.json" },
-    NameRow { name: "", shown: "" },
-    NameRow { name: "\u{e9}.json", shown: "?.json" },
-    NameRow { name: "e\u{301}.json", shown: "e?.json" },
-    NameRow { name: "A\nB", shown: "A?B" },
-    NameRow { name: "\u{1f600}\u{0}\u{7f}", shown: "???" },
-    NameRow { name: " ~!", shown: " ~!" },
-    NameRow { name: "a: ok, 2 tasks", shown: "a: ok, 2 tasks" },
+/// The report of the faults of place, those of workflows, and differences.
+const FAULTS: &str = "\
+x.json: fault, event 9223372036854775807 is not in place: FirstNotStart
+x.json: fault, event 9223372036854775807 is not in place: WrongNumber
+x.json: fault, event 9223372036854775807 is not in place: AfterClose
+x.json: fault, event 9223372036854775807 is not in place: NoSuchRef
+x.json: fault, event 9223372036854775807 is not in place: WrongKindRef
+x.json: fault, event 9223372036854775807 is not in place: AlreadyClosed
+x.json: fault, event 9223372036854775807 is not in place: IdInUse
+x.json: fault, event 9223372036854775807 is not in place: TooManyEvents
+x.json: fault, task at 67: AfterClosing
+x.json: fault, task at 67: TooManyCommands
+x.json: fault, task at 67: IdInUse
+x.json: fault, task at 67: IdReused
+x.json: fault, task at 67: NotOpen
+x.json: fault, task at 67: AlreadyCancelling
+x.json: fault, task at 67: BadRange
+x.json: fault, task at 67: VersionOutOfRange
+x.json: fault, task at 67: UnknownWorkflow
+x.json: fault, event 5 differs
+x.json: fault, event 5 has no command
+x.json: fault, command 2 of the task at 8 has no event
+x.json: fault, not a task
+21 files, 0 ok
+";
+
+/// The report of the faults of reading.
+const UNREADABLE: &str = "\
+x.json: unreadable, file too long
+x.json: unreadable, not JSON
+x.json: unreadable, no events
+x.json: unreadable, out of memory
+x.json: unreadable, event 1 has a bad number
+x.json: unreadable, event 3 is out of order
+x.json: unreadable, event 5 lacks a field
+x.json: unreadable, event 2 has a bad time
+x.json: unreadable, event 7 has a bad payload
+x.json: unreadable, event 7 has a shorthand payload
+x.json: unreadable, event 4 has the unsupported type A?B
+x.json: unreadable, event 5 has the unsupported marker Side?ffect
+12 files, 0 ok
+";
+
+/// Names of files.
+static NAMES: [&str; 8] = [
+    "nap.json",
+    "",
+    "\u{e9}.json",
+    "e\u{301}.json",
+    "A\nB",
+    "\u{1f600}\u{0}\u{7f}",
+    " ~!",
+    "a: ok, 2 tasks",
 ];
 
 /// The lines of `json_lines`, one for each verdict, then the totals.
@@ -75,10 +100,23 @@ const JSON: &str = r#"{"file":"a\"b\\c?.json","verdict":"ok","tasks":3,"live":fa
 {"file":"x.json","verdict":"fault","task":7,"fault":"task at 7: NotOpen"}
 {"file":"x.json","verdict":"fault","event":5,"fault":"event 5 differs"}
 {"file":"x.json","verdict":"fault","event":5,"fault":"event 5 has no command"}
-{"file":"x.json","verdict":"fault","task":7,"fault":"command 2 of the task at 7 has no event"}
+{"file":"x.json","verdict":"fault","task":8,"fault":"command 2 of the task at 8 has no event"}
 {"file":"x.json","verdict":"out of memory"}
 {"files":12,"ok":2}
 "#;
+
+/// The report of files of these names, for each of which memory was wanting.
+const SHOWN_NAMES: &str = "\
+nap.json: out of memory
+: out of memory
+?.json: out of memory
+e?.json: out of memory
+A?B: out of memory
+???: out of memory
+ ~!: out of memory
+a: ok, 2 tasks: out of memory
+8 files, 0 ok
+";
 
 fn add(rt: &impl Abort, alloc: Global, lines: &mut Vec<Line>, name: &str, verdict: Verdict) {
     let name = text(rt, alloc, name);
@@ -95,214 +133,175 @@ fn report_of(rt: &impl Abort, alloc: Global, lines: &[Line]) -> String {
     }
 }
 
-/// The report of one file is this text.
-fn reports(rt: &impl Abort, alloc: Global, name: &str, verdict: Verdict, wanted: &str) {
+/// The report of these lines is this text.
+fn reports(rt: &impl Abort, alloc: Global, lines: &[Line], wanted: &str) {
+    let report = report_of(rt, alloc, lines);
+    same(rt, "a report", report.as_str(), wanted);
+}
+
+/// A file whose replay met a fault.
+fn add_fault(rt: &impl Abort, alloc: Global, lines: &mut Vec<Line>, fault: Fault) {
+    add(rt, alloc, lines, "x.json", Verdict::Faulty(fault));
+}
+
+/// A file whose task at 8 differs from its record.
+fn add_mismatch(rt: &impl Abort, alloc: Global, lines: &mut Vec<Line>, mismatch: Mismatch) {
+    add_fault(rt, alloc, lines, Fault::Mismatch { at: 8, mismatch });
+}
+
+fn add_mismatches(rt: &impl Abort, alloc: Global, lines: &mut Vec<Line>) {
+    let event = numbered(rt, 5);
+    add_mismatch(rt, alloc, lines, Mismatch::Different { event });
+    add_mismatch(rt, alloc, lines, Mismatch::CommandMissing { event });
+    add_mismatch(rt, alloc, lines, Mismatch::CommandExtra { index: 2 });
+}
+
+#[test]
+fn shows_faults(rt: HostRuntime) {
+    let alloc = rt.alloc();
     let mut lines = Vec::new(alloc);
-    add(rt, alloc, &mut lines, name, verdict);
-    let report = report_of(rt, alloc, lines.as_slice());
-    assert_eq!(rt; report.as_str(), wanted);
-}
-
-/// The form with the words in place of its `@`.
-fn filled(rt: &impl Abort, alloc: Global, form: &str, words: &str) -> String {
-    form.replace(alloc, "@", words).expect(rt, "memory")
-}
-
-/// The report of one file that isn't good says these words of it.
-fn reports_bad(rt: &impl Abort, alloc: Global, verdict: Verdict, words: &str) {
-    let wanted = filled(rt, alloc, "x.json: @\n1 files, 0 ok\n", words);
-    reports(rt, alloc, "x.json", verdict, wanted.as_str());
-}
-
-fn good(tasks: u64, live: bool) -> Verdict {
-    Verdict::Good(Checked { tasks, live })
-}
-
-#[test]
-fn shows_faults_of_place(rt: HostRuntime) {
-    for row in &PLACE_FAULTS {
+    for fault in &PLACE_FAULTS {
         let at = 9_223_372_036_854_775_807;
-        let fault = row.fault;
-        let form = "fault, event 9223372036854775807 is not in place: @";
-        let words = filled(&rt, rt.alloc(), form, row.name);
-        let verdict = Verdict::Faulty(Fault::Place { at, fault });
-        reports_bad(&rt, rt.alloc(), verdict, words.as_str());
+        let fault = Fault::Place { at, fault: *fault };
+        add_fault(&rt, alloc, &mut lines, fault);
     }
-}
-
-#[test]
-fn shows_faults_of_workflows(rt: HostRuntime) {
-    for row in &WORKFLOW_FAULTS {
-        let fault = row.fault;
-        let words = filled(&rt, rt.alloc(), "fault, task at 67: @", row.name);
-        let verdict = Verdict::Faulty(Fault::Workflow { at: 67, fault });
-        reports_bad(&rt, rt.alloc(), verdict, words.as_str());
+    for fault in &WORKFLOW_FAULTS {
+        let fault = Fault::Workflow {
+            at: 67,
+            fault: *fault,
+        };
+        add_fault(&rt, alloc, &mut lines, fault);
     }
+    add_mismatches(&rt, alloc, &mut lines);
+    add_fault(&rt, alloc, &mut lines, Fault::NotATask);
+    reports(&rt, alloc, lines.as_slice(), FAULTS);
 }
 
-/// A task at 8 that differs from its record is reported so.
-fn differs(rt: &impl Abort, alloc: Global, mismatch: Mismatch, words: &str) {
-    let verdict = Verdict::Faulty(Fault::Mismatch { at: 8, mismatch });
-    reports_bad(rt, alloc, verdict, words);
+/// A file that could not be read for this fault.
+fn add_unreadable(rt: &impl Abort, alloc: Global, lines: &mut Vec<Line>, fault: ReadFault) {
+    add(rt, alloc, lines, "x.json", Verdict::Unreadable(fault));
 }
 
-#[test]
-fn shows_differences(rt: HostRuntime) {
-    let alloc = rt.alloc();
-    let event = EventNo::new(5).expect(&rt, "number");
-    differs(
-        &rt,
-        alloc,
-        Mismatch::Different { event },
-        "fault, event 5 differs",
-    );
-    differs(
-        &rt,
-        alloc,
-        Mismatch::CommandMissing { event },
-        "fault, event 5 has no command",
-    );
-    differs(
-        &rt,
-        alloc,
-        Mismatch::CommandExtra { index: 2 },
-        "fault, command 2 of the task at 8 has no event",
-    );
-    reports_bad(
-        &rt,
-        alloc,
-        Verdict::Faulty(Fault::NotATask),
-        "fault, not a task",
-    );
+/// Files that are no lists of events.
+fn add_no_lists(rt: &impl Abort, alloc: Global, lines: &mut Vec<Line>) {
+    add_unreadable(rt, alloc, lines, ReadFault::TooLong);
+    add_unreadable(rt, alloc, lines, ReadFault::BadJson);
+    add_unreadable(rt, alloc, lines, ReadFault::NoEvents);
+    add_unreadable(rt, alloc, lines, ReadFault::OutOfMemory);
 }
 
-/// A history that could not be read for this fault is reported so.
-fn unreadable(rt: &impl Abort, alloc: Global, fault: ReadFault, words: &str) {
-    let words = filled(rt, alloc, "unreadable, @", words);
-    reports_bad(rt, alloc, Verdict::Unreadable(fault), words.as_str());
+/// Files with an event that is not read.
+fn add_bad_events(rt: &impl Abort, alloc: Global, lines: &mut Vec<Line>) {
+    add_unreadable(rt, alloc, lines, ReadFault::BadNumber { at: 1 });
+    add_unreadable(rt, alloc, lines, ReadFault::OutOfOrder { at: 3 });
+    add_unreadable(rt, alloc, lines, ReadFault::MissingField { at: 5 });
+    add_unreadable(rt, alloc, lines, ReadFault::BadTime { at: 2 });
+    add_unreadable(rt, alloc, lines, ReadFault::BadPayload { at: 7 });
+    add_unreadable(rt, alloc, lines, ReadFault::ShorthandPayload { at: 7 });
 }
 
-#[test]
-fn shows_faults_of_reading(rt: HostRuntime) {
-    let alloc = rt.alloc();
-    unreadable(&rt, alloc, ReadFault::TooLong, "file too long");
-    unreadable(&rt, alloc, ReadFault::BadJson, "not JSON");
-    unreadable(&rt, alloc, ReadFault::NoEvents, "no events");
-    unreadable(&rt, alloc, ReadFault::OutOfMemory, "out of memory");
-}
-
-#[test]
-fn shows_faults_of_events(rt: HostRuntime) {
-    let alloc = rt.alloc();
-    unreadable(
-        &rt,
+/// Files with an event that is not supported.
+fn add_unsupported(rt: &impl Abort, alloc: Global, lines: &mut Vec<Line>) {
+    let name = text(rt, alloc, "A\nB");
+    add_unreadable(
+        rt,
         alloc,
-        ReadFault::BadNumber { at: 1 },
-        "event 1 has a bad number",
-    );
-    unreadable(
-        &rt,
-        alloc,
-        ReadFault::OutOfOrder { at: 3 },
-        "event 3 is out of order",
-    );
-    unreadable(
-        &rt,
-        alloc,
-        ReadFault::MissingField { at: 5 },
-        "event 5 lacks a field",
-    );
-    unreadable(
-        &rt,
-        alloc,
-        ReadFault::BadTime { at: 2 },
-        "event 2 has a bad time",
-    );
-    unreadable(
-        &rt,
-        alloc,
-        ReadFault::BadPayload { at: 7 },
-        "event 7 has a bad payload",
-    );
-    unreadable(
-        &rt,
-        alloc,
-        ReadFault::ShorthandPayload { at: 7 },
-        "event 7 has a shorthand payload",
-    );
-}
-
-#[test]
-fn shows_what_is_not_supported(rt: HostRuntime) {
-    let name = text(&rt, rt.alloc(), "A\nB");
-    unreadable(
-        &rt,
-        rt.alloc(),
+        lines,
         ReadFault::UnsupportedEvent { at: 4, name },
-        "event 4 has the unsupported type A?B",
     );
-    let name = text(&rt, rt.alloc(), "Side\u{e9}ffect");
-    unreadable(
-        &rt,
-        rt.alloc(),
+    let name = text(rt, alloc, "Side\u{e9}ffect");
+    add_unreadable(
+        rt,
+        alloc,
+        lines,
         ReadFault::UnsupportedMarker { at: 5, name },
-        "event 5 has the unsupported marker Side?ffect",
     );
+}
+
+#[test]
+fn shows_what_is_unreadable(rt: HostRuntime) {
+    let alloc = rt.alloc();
+    let mut lines = Vec::new(alloc);
+    add_no_lists(&rt, alloc, &mut lines);
+    add_bad_events(&rt, alloc, &mut lines);
+    add_unsupported(&rt, alloc, &mut lines);
+    reports(&rt, alloc, lines.as_slice(), UNREADABLE);
 }
 
 #[test]
 fn shows_names(rt: HostRuntime) {
-    for row in &NAMES {
-        let form = "@: out of memory\n1 files, 0 ok\n";
-        let wanted = filled(&rt, rt.alloc(), form, row.shown);
-        reports(
-            &rt,
-            rt.alloc(),
-            row.name,
-            Verdict::OutOfMemory,
-            wanted.as_str(),
-        );
+    let alloc = rt.alloc();
+    let mut lines = Vec::new(alloc);
+    for name in &NAMES {
+        add(&rt, alloc, &mut lines, name, Verdict::OutOfMemory);
     }
+    reports(&rt, alloc, lines.as_slice(), SHOWN_NAMES);
+}
+
+/// A file with a good verdict.
+fn add_good(
+    rt: &impl Abort,
+    alloc: Global,
+    lines: &mut Vec<Line>,
+    name: &str,
+    tasks: u64,
+    live: bool,
+) {
+    add(
+        rt,
+        alloc,
+        lines,
+        name,
+        Verdict::Good(Checked { tasks, live }),
+    );
+}
+
+/// Of a name of 256 such characters the first 255 are shown.
+fn cuts(rt: &impl Abort, alloc: Global, character: &str, shown: &str) {
+    let name = character.repeat(alloc, 256).expect(rt, "memory");
+    let mut wanted = shown.repeat(alloc, 255).expect(rt, "memory");
+    wanted
+        .push_str(": ok, 1 tasks, last live\n1 files, 1 ok\n")
+        .expect(rt, "memory");
+    let mut lines = Vec::new(alloc);
+    add_good(rt, alloc, &mut lines, name.as_str(), 1, true);
+    reports(rt, alloc, lines.as_slice(), wanted.as_str());
 }
 
 #[test]
 fn cuts_long_names(rt: HostRuntime) {
-    for (character, shown) in [("x", "x"), ("\u{e9}", "?")] {
-        let name = character.repeat(rt.alloc(), 256).expect(&rt, "memory");
-        let shown = shown.repeat(rt.alloc(), 255).expect(&rt, "memory");
-        let form = "@: ok, 1 tasks, last live\n1 files, 1 ok\n";
-        let wanted = filled(&rt, rt.alloc(), form, shown.as_str());
-        reports(
-            &rt,
-            rt.alloc(),
-            name.as_str(),
-            good(1, true),
-            wanted.as_str(),
-        );
-    }
+    cuts(&rt, rt.alloc(), "x", "x");
+    cuts(&rt, rt.alloc(), "\u{e9}", "?");
 }
+
+/// The report of two good files and one that is no JSON.
+const ORDERED: &str = "\
+b.json: ok, 2 tasks
+a.json: ok, 0 tasks
+c.json: unreadable, not JSON
+3 files, 2 ok
+";
 
 #[test]
 fn keeps_the_order(rt: HostRuntime) {
     let alloc = rt.alloc();
     let mut lines = Vec::new(alloc);
-    let empty = report_of(&rt, alloc, lines.as_slice());
-    assert_eq!(rt; empty.as_str(), "0 files, 0 ok\n");
-    add(&rt, alloc, &mut lines, "b.json", good(2, false));
-    add(&rt, alloc, &mut lines, "a.json", good(0, false));
+    reports(&rt, alloc, lines.as_slice(), "0 files, 0 ok\n");
+    add_good(&rt, alloc, &mut lines, "b.json", 2, false);
+    add_good(&rt, alloc, &mut lines, "a.json", 0, false);
     assert!(rt; all_good(lines.as_slice()));
-    add(
-        &rt,
-        alloc,
-        &mut lines,
-        "c.json",
-        Verdict::Unreadable(ReadFault::BadJson),
-    );
+    let verdict = Verdict::Unreadable(ReadFault::BadJson);
+    add(&rt, alloc, &mut lines, "c.json", verdict);
     assert!(rt; !all_good(lines.as_slice()));
-    let report = report_of(&rt, alloc, lines.as_slice());
-    let wanted =
-        "b.json: ok, 2 tasks\na.json: ok, 0 tasks\nc.json: unreadable, not JSON\n3 files, 2 ok\n";
-    assert_eq!(rt; report.as_str(), wanted);
+    reports(&rt, alloc, lines.as_slice(), ORDERED);
+}
+
+/// The report of 3,000 good files.
+fn many(rt: &impl Abort, alloc: Global) -> String {
+    let text = "nap.json: ok, 2 tasks\n".repeat(alloc, 3000);
+    let mut text = text.expect(rt, "memory");
+    text.push_str("3000 files, 3000 ok\n").expect(rt, "memory");
+    text
 }
 
 #[test]
@@ -310,58 +309,41 @@ fn reports_many_files(rt: HostRuntime) {
     let alloc = rt.alloc();
     let mut lines = Vec::new(alloc);
     for _ in 0..3000 {
-        add(&rt, alloc, &mut lines, "nap.json", good(2, false));
+        add_good(&rt, alloc, &mut lines, "nap.json", 2, false);
     }
-    let text = report_of(&rt, alloc, lines.as_slice());
-    let mut wanted = "nap.json: ok, 2 tasks\n"
-        .repeat(alloc, 3000)
-        .expect(&rt, "memory");
-    assert!(rt; wanted.push_str("3000 files, 3000 ok\n").is_ok());
-    assert_eq!(rt; text.as_str(), wanted.as_str());
+    let wanted = many(&rt, alloc);
+    reports(&rt, alloc, lines.as_slice(), wanted.as_str());
 }
 
-/// Adds a file that could not be read for this fault.
-fn add_unreadable(rt: &impl Abort, alloc: Global, lines: &mut Vec<Line>, fault: ReadFault) {
-    add(rt, alloc, lines, "x.json", Verdict::Unreadable(fault));
-}
-
-/// Adds a file whose replay met this fault.
-fn add_faulty(rt: &impl Abort, alloc: Global, lines: &mut Vec<Line>, fault: Fault) {
-    add(rt, alloc, lines, "x.json", Verdict::Faulty(fault));
-}
-
-/// Adds a file whose task at 7 differs from its record.
-fn add_different(rt: &impl Abort, alloc: Global, lines: &mut Vec<Line>, mismatch: Mismatch) {
-    add_faulty(rt, alloc, lines, Fault::Mismatch { at: 7, mismatch });
+/// Files of each verdict but want of memory, and names with what JSON escapes.
+fn add_each(rt: &impl Abort, alloc: Global, lines: &mut Vec<Line>) {
+    add_good(rt, alloc, lines, "a\"b\\c\n.json", 3, false);
+    add_good(rt, alloc, lines, "", 0, true);
+    add_unreadable(rt, alloc, lines, ReadFault::BadJson);
+    add_unreadable(rt, alloc, lines, ReadFault::MissingField { at: 4 });
+    let name = text(rt, alloc, "\"\\\u{1}");
+    add_unreadable(
+        rt,
+        alloc,
+        lines,
+        ReadFault::UnsupportedEvent { at: 6, name },
+    );
+    add_fault(rt, alloc, lines, Fault::NotATask);
+    let fault = PlaceFault::NoSuchRef;
+    add_fault(rt, alloc, lines, Fault::Place { at: 5, fault });
+    let fault = WorkflowFault::NotOpen;
+    add_fault(rt, alloc, lines, Fault::Workflow { at: 7, fault });
+    add_mismatches(rt, alloc, lines);
 }
 
 #[test]
 fn json_lines(rt: HostRuntime) {
     let alloc = rt.alloc();
     let mut lines = Vec::new(alloc);
-    add(&rt, alloc, &mut lines, "a\"b\\c\n.json", good(3, false));
-    add(&rt, alloc, &mut lines, "", good(0, true));
-    add_unreadable(&rt, alloc, &mut lines, ReadFault::BadJson);
-    add_unreadable(&rt, alloc, &mut lines, ReadFault::MissingField { at: 4 });
-    let name = text(&rt, alloc, "\"\\\u{1}");
-    add_unreadable(
-        &rt,
-        alloc,
-        &mut lines,
-        ReadFault::UnsupportedEvent { at: 6, name },
-    );
-    add_faulty(&rt, alloc, &mut lines, Fault::NotATask);
-    let fault = PlaceFault::NoSuchRef;
-    add_faulty(&rt, alloc, &mut lines, Fault::Place { at: 5, fault });
-    let fault = WorkflowFault::NotOpen;
-    add_faulty(&rt, alloc, &mut lines, Fault::Workflow { at: 7, fault });
-    let event = EventNo::new(5).expect(&rt, "number");
-    add_different(&rt, alloc, &mut lines, Mismatch::Different { event });
-    add_different(&rt, alloc, &mut lines, Mismatch::CommandMissing { event });
-    add_different(&rt, alloc, &mut lines, Mismatch::CommandExtra { index: 2 });
+    add_each(&rt, alloc, &mut lines);
     add(&rt, alloc, &mut lines, "x.json", Verdict::OutOfMemory);
     let mut out = Vec::new(alloc);
     assert!(rt; write_json_report(lines.as_slice(), &mut out).is_ok());
     let report = String::from_utf8(out).expect(&rt, "a text");
-    assert_eq!(rt; report.as_str(), JSON);
+    same(&rt, "a report", report.as_str(), JSON);
 }
