@@ -5,7 +5,7 @@ use Rattle.wh_workflow.specs.declared.command.Command.TheVariants.{StartActivity
 use Rattle.wh_workflow.specs.declared.job.Job.{Job}
 use Rattle.wh_workflow.specs.declared.job.Job.TheVariants.{Signal}
 use Rattle.wh_workflow.specs.Law.{Program, IsAnswer, IsLawful}
-use Rattle.wh_samples.specs.Parts.{none, one}
+use Rattle.wh_workflow.specs.Answering.{none_is_answer as none, one_is_answer as one}
 use Rattle.wh_samples.specs.declared.parts.NoState.{NoState}
 
 -- the value where the test holds, else what another test gives
