@@ -226,7 +226,7 @@ fn services_are_reported(rt: HostRuntime) {
         }
         let uncompared = end.uncompared;
         assert!(rt; write!(out, "not compared: {uncompared}\n").is_ok());
-        let told = with_status(&rt, alloc, out, end.status);
+        let told = with_status(&rt, out, end.status);
         wants(&rt, service.files, told, service.report);
     }
 }
