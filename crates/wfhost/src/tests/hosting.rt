@@ -587,8 +587,9 @@ pub(super) fn spent<R: Wait + Abort>(
     setting: &Setting,
     steps: &'static str,
     turns: u64,
-) -> String {
-    assert!(rt; setting.config.seats == 1);
+) -> String
+    requires { setting.now.config.seats ≡ 1 }
+{
     spend::<R, Brand, Brand, Brand>(
         rt,
         alloc,
@@ -604,6 +605,7 @@ pub(super) fn spent<R: Wait + Abort>(
 /// Spends days, and compares how each of them ends.
 pub(super) fn pass<R: Wait + Abort>(rt: &R, alloc: Global, days: &'static [Day]) {
     for day in days {
+        assert!(rt; day.setting.config.seats == 1);
         let text = spent(rt, alloc, &day.setting, day.steps, day.turns);
         wants(rt, day.setting.script, text, day.end);
     }
