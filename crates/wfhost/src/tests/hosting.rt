@@ -61,6 +61,7 @@ pub(super) const NAP: Setting = Setting {
 /// What is done with a host: steps, each with the calls that it makes and its answer, and then so
 /// many turns of a worker. The end tells the calls of the worker, the first fault of its source, and
 /// what is counted.
+#[derive(Clone, Copy)]
 pub(super) struct Day {
     pub(super) setting: Setting,
     pub(super) steps: &'static str,
@@ -550,24 +551,23 @@ fn take_steps<R: Wait + Abort, T: Ledger, C: Ledger, F: Ledger>(
 fn spend<R: Wait + Abort, T: Ledger, C: Ledger, F: Ledger>(
     rt: &R,
     alloc: Global,
-    setting: &Setting,
-    steps: &'static str,
-    turns: u64,
+    day: &Day,
     taken: Blank,
     completed: Blank,
     failed: Blank,
 ) -> String
-    requires taken { (taken.name ≡ T.name) × (taken.parts ≡ T.parts) × (taken.parts ≡ setting.now.config.seats) }
-    requires completed { (completed.name ≡ C.name) × (completed.parts ≡ C.parts) × (completed.parts ≡ setting.now.config.seats) }
-    requires failed { (failed.name ≡ F.name) × (failed.parts ≡ F.parts) × (failed.parts ≡ setting.now.config.seats) }
+    requires taken { (taken.name ≡ T.name) × (taken.parts ≡ T.parts) × (taken.parts ≡ day.now.setting.config.seats) }
+    requires completed { (completed.name ≡ C.name) × (completed.parts ≡ C.parts) × (completed.parts ≡ day.now.setting.config.seats) }
+    requires failed { (failed.name ≡ F.name) × (failed.parts ≡ F.parts) × (failed.parts ≡ day.now.setting.config.seats) }
 {
+    let setting = &day.setting;
     let (host, mut seats) = open::<R, T, C, F>(rt, alloc, setting.config, taken, completed, failed);
     let mut seat = seats.pop().expect(rt, "seat");
     let book = Notebook::new(rt, alloc, &host, setting.deeds);
-    take_steps(&book, &mut seat, setting, steps);
+    take_steps(&book, &mut seat, setting, day.steps);
     let source = desk(&book, setting);
     let handler = Echo { book: &book };
-    let worker = work(rt, alloc, &host, seat, source, handler, &book, turns);
+    let worker = work(rt, alloc, &host, seat, source, handler, &book, day.turns);
     let Worker {
         seat,
         source,
@@ -581,32 +581,17 @@ fn spend<R: Wait + Abort, T: Ledger, C: Ledger, F: Ledger>(
 }
 
 /// Spends a day with a host of one seat.
-pub(super) fn spent<R: Wait + Abort>(
-    rt: &R,
-    alloc: Global,
-    setting: &Setting,
-    steps: &'static str,
-    turns: u64,
-) -> String
-    requires { setting.now.config.seats ≡ 1 }
+pub(super) fn spent<R: Wait + Abort>(rt: &R, alloc: Global, day: &Day) -> String
+    requires { day.now.setting.config.seats ≡ 1 }
 {
-    spend::<R, Brand, Brand, Brand>(
-        rt,
-        alloc,
-        setting,
-        steps,
-        turns,
-        Blank::new(1),
-        Blank::new(1),
-        Blank::new(1),
-    )
+    spend::<R, Brand, Brand, Brand>(rt, alloc, day, Blank::new(1), Blank::new(1), Blank::new(1))
 }
 
 /// Spends days, and compares how each of them ends.
 pub(super) fn pass<R: Wait + Abort>(rt: &R, alloc: Global, days: &'static [Day]) {
     for day in days {
         assert!(rt; day.setting.config.seats == 1);
-        let text = spent(rt, alloc, &day.setting, day.steps, day.turns);
+        let text = spent(rt, alloc, day);
         wants(rt, day.setting.script, text, day.end);
     }
 }

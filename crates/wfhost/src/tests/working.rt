@@ -138,7 +138,13 @@ fn serves_samples<R: Wait + Abort>(rt: &R, alloc: Global, cache: usize, fail_at:
         fail_at,
         ..NAP
     };
-    let text = spent(rt, alloc, &setting, "", 16);
+    let day = Day {
+        setting,
+        steps: "",
+        turns: 16,
+        end: "",
+    };
+    let text = spent(rt, alloc, &day);
     let text = text.as_str();
     let fails = 1 <= fail_at && fail_at <= 28;
     let none_fails = text.contains("Counts taken: 13, completed: 13, failed: 0, in_hand: 0, ");
