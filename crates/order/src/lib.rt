@@ -1,9 +1,8 @@
 //! A workflow to copy: an order that is charged for, held for a day, and shipped.
 #![tactic(auto)]
 
-ghost use Rattle.std.specs.Prelude.{◌≡◌, ◌++◌, [], ◌∷◌, pos, negsuc, codes, length, take, drop, IfOk, OnOk, OnErr};
+ghost use Rattle.std.specs.Prelude.{◌≡◌, [], ◌∷◌, pos, negsuc, codes, IfOk};
 ghost use Rattle.order.specs.Order.{calling_off, order, order_after, order_gives, order_lawful, parcel_type};
-ghost use Rattle.wh_workflow.specs.Law.{IsAnswer};
 ghost use Rattle.wh_workflow.specs.declared.command.Command.TheVariants.{StartActivity, StartTimer, StartChild};
 ghost use Rattle.wh_workflow.specs.declared.command.Command.TheVariants.{Ask, Fail};
 
@@ -11,8 +10,10 @@ ghost use Rattle.wh_workflow.specs.declared.command.Command.TheVariants.{Ask, Fa
 mod tests;
 
 use std::alloc::Global;
-use wh_events::{Items, OutOfMemory, Payload, Text};
-use wh_workflow::{ActivityEnd, ChildEnd, Command, Job, Meter, Workflow, no_payloads, text_of};
+use wh_events::{Items, OutOfMemory, Payload};
+use wh_workflow::{
+    ActivityEnd, ChildEnd, Command, Job, Meter, Workflow, give_all, no_payloads, text_of, texts_of,
+};
 
 /// Charges for an order, holds it for a day, in which a signal calls it off, and ships it.
 ///
@@ -116,16 +117,6 @@ fn fail(alloc: Global, message: &str) -> Result<Command, OutOfMemory>
     })
 }
 
-/// Two texts.
-fn texts_of(alloc: Global, first: &str, second: &str) -> Result<(Text, Text), OutOfMemory>
-    ensures first { IfOk result (λ texts. texts.0 ≡ first.now) }
-    ensures second { IfOk result (λ texts. texts.1 ≡ second.now) }
-{
-    let first = text_of(alloc, first)?;
-    let second = text_of(alloc, second)?;
-    Ok((first, second))
-}
-
 /// One command, as a list.
 fn one(alloc: Global, command: Command) -> Result<Vec<Command>, OutOfMemory>
     ensures { IfOk result (λ given. given.items ≡ command ∷ []) }
@@ -181,17 +172,6 @@ fn after(state: OrderState, job: &Job) -> OrderState
     }
 }
 
-/// Appends what a step gives. After `OutOfMemory` nothing is appended.
-fn give(out: &mut Vec<Command>, mut given: Vec<Command>) -> Result<(), OutOfMemory>
-    requires lawful { IsAnswer given.items }
-    ensures commands { OnOk result (out.new.items ≡ out.old.items ++ given.items) }
-    ensures kept { OnErr result (take (length out.old.items) out.new.items ≡ out.old.items) }
-    ensures answer { IsAnswer (drop (length out.old.items) out.new.items) }
-{
-    out.append(&mut given)?;
-    Ok(())
-}
-
 impl Workflow for Order {
     type State = OrderState;
 
@@ -217,6 +197,6 @@ impl Workflow for Order {
         meter.tick();
         let given = given(alloc, *state, job)?;
         *state = after(*state, job);
-        give(out, given)
+        give_all(out, given)
     }
 }

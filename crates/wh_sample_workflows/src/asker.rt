@@ -2,11 +2,10 @@
 ghost use Rattle.std.specs.Prelude.{◌≡◌, option_to_list, IfOk};
 ghost use Rattle.wh_sample_workflows.specs.Asker.{asker, asker_gives, asker_lawful};
 
-use crate::given::give;
 use crate::stateless::NoState;
 use std::alloc::Global;
 use wh_events::OutOfMemory;
-use wh_workflow::{Command, Job, Meter, Workflow, text_of};
+use wh_workflow::{Command, Job, Meter, Workflow, give, text_of};
 
 /// Asks again and again.
 ///

@@ -4,12 +4,10 @@ ghost use Rattle.wh_sample_workflows.specs.Branch.{branch, branch_activity, bran
 ghost use Rattle.wh_workflow.specs.declared.command.Command.TheVariants.{StartActivity};
 
 use crate::endings::result_or_failure;
-use crate::given::give;
 use crate::stateless::NoState;
-use crate::texts::texts_of;
 use std::alloc::Global;
 use wh_events::OutOfMemory;
-use wh_workflow::{Command, Job, Meter, Workflow, no_payloads, text_of};
+use wh_workflow::{Command, Job, Meter, Workflow, give, no_payloads, text_of, texts_of};
 
 /// Runs the old or the new activity, by the version of a change.
 ///

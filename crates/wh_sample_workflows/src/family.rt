@@ -2,11 +2,9 @@
 ghost use Rattle.std.specs.Prelude.{◌≡◌, option_to_list, IfOk};
 ghost use Rattle.wh_sample_workflows.specs.Family.{family, family_after, family_end, family_gives, family_lawful};
 
-use crate::given::give;
-use crate::texts::texts_of;
 use std::alloc::Global;
 use wh_events::OutOfMemory;
-use wh_workflow::{ChildEnd, Command, Job, Meter, Workflow, no_payloads, text_of};
+use wh_workflow::{ChildEnd, Command, Job, Meter, Workflow, give, no_payloads, text_of, texts_of};
 
 /// Runs a child, and cancels it at the signal `stop`.
 ///

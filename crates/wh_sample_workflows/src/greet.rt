@@ -2,11 +2,9 @@
 ghost use Rattle.std.specs.Prelude.{◌≡◌, option_to_list, IfOk};
 ghost use Rattle.wh_sample_workflows.specs.Greet.{greet, greet_after, greet_end, greet_gives, greet_lawful};
 
-use crate::given::give;
-use crate::texts::texts_of;
 use std::alloc::Global;
 use wh_events::OutOfMemory;
-use wh_workflow::{ActivityEnd, Command, Job, Meter, Workflow, text_of};
+use wh_workflow::{ActivityEnd, Command, Job, Meter, Workflow, give, text_of, texts_of};
 
 /// Runs one activity, and passes on a request to cancel it.
 ///

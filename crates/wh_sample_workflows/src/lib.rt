@@ -7,12 +7,10 @@ mod caller;
 mod endings;
 mod family;
 mod flood;
-mod given;
 mod greet;
 mod nap;
 mod racer;
 mod stateless;
-mod texts;
 
 pub use asker::Asker;
 pub use branch::Branch;

@@ -2,11 +2,10 @@
 ghost use Rattle.std.specs.Prelude.{◌≡◌, option_to_list, IfOk};
 ghost use Rattle.wh_sample_workflows.specs.Nap.{nap, nap_gives, nap_lawful};
 
-use crate::given::give;
 use crate::stateless::NoState;
 use std::alloc::Global;
 use wh_events::OutOfMemory;
-use wh_workflow::{Command, Job, Meter, Workflow, no_payloads, text_of};
+use wh_workflow::{Command, Job, Meter, Workflow, give, no_payloads, text_of};
 
 /// Sleeps for a minute.
 ///

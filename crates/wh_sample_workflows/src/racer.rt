@@ -3,11 +3,11 @@ ghost use Rattle.std.specs.Prelude.{◌≡◌, [], ◌∷◌, IfOk};
 ghost use Rattle.wh_sample_workflows.specs.Racer.{racer, racer_after, racer_gives, racer_lawful, race, lateness, ending};
 
 use crate::endings::result_or_failure;
-use crate::given::give_all;
-use crate::texts::texts_of;
 use std::alloc::Global;
 use wh_events::OutOfMemory;
-use wh_workflow::{ActivityEnd, Command, Job, Meter, Workflow, no_payloads, text_of};
+use wh_workflow::{
+    ActivityEnd, Command, Job, Meter, Workflow, give_all, no_payloads, text_of, texts_of,
+};
 
 /// Runs an activity against a timer.
 ///

@@ -3,6 +3,7 @@
 
 mod command;
 mod fault;
+mod giving;
 mod job;
 pub mod laws;
 mod meter;
@@ -12,8 +13,9 @@ mod workflow;
 
 pub use command::Command;
 pub use fault::{Mismatch, WorkflowFault};
+pub use giving::{give, give_all};
 pub use job::{ActivityEnd, ChildEnd, Job};
 pub use meter::Meter;
 pub use pair::{Either, Pair};
-pub use values::{no_payloads, text_of};
+pub use values::{no_payloads, text_of, texts_of};
 pub use workflow::Workflow;

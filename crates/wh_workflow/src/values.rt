@@ -11,6 +11,16 @@ pub fn text_of(alloc: Global, literal: &str) -> Result<Text, OutOfMemory>
     Ok(Text::new(String::from_str(alloc, literal)?))
 }
 
+/// The texts of two literals. `OutOfMemory` where no room was found for one of them.
+pub fn texts_of(alloc: Global, first: &str, second: &str) -> Result<(Text, Text), OutOfMemory>
+    ensures first { IfOk result (λ texts. texts.0 ≡ first.now) }
+    ensures second { IfOk result (λ texts. texts.1 ≡ second.now) }
+{
+    let first = text_of(alloc, first)?;
+    let second = text_of(alloc, second)?;
+    Ok((first, second))
+}
+
 /// An input or a result without a payload. It takes no memory.
 pub fn no_payloads(alloc: Global) -> Items<Payload>
     ensures { result ≡ [] }
