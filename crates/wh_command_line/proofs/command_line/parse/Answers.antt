@@ -1,12 +1,13 @@
-use Rattle.std.proofs.Common.{◌≡◌, ◌∙◌, List, ap, ap₂, sym, refl, true, Option, Some, None}
-use Rattle.std.proofs.lemmas.Result.{IfOk-weaker}
+use Rattle.std.proofs.Common.{◌≡◌, ◌∙◌, inl, inr, List, ap, ap₂, sym, refl, true, Option, Some, None}
+use Rattle.std.proofs.lemmas.Result.{IfOk-weaker, IfErr-weaker}
 use Rattle.std.specs.Prelude.{map, option_map, codes, string_bytes}
-use Rattle.clap.specs.Words.{Row, Text, is_simple, subcommand_of}
+use Rattle.clap.specs.Words.{Row, Text, is_simple, is_simple_and_free, subcommand_of}
 use Rattle.clap.proofs.OnLiterals.{clap_on_literals}
 use Rattle.wh_command_line.specs.Lines.{program}
 use Rattle.wh_command_line.specs.Plans.{Names, IsGiven, IsAskedBy, GivesFewSlots, HasFewSlots}
 use Rattle.wh_command_line.specs.declared.command_line.Plan.{Plan}
 use Rattle.wh_command_line.specs.declared.command_line.Plan.TheVariants.{Replay, Explain, Serve, Help}
+use Rattle.wh_command_line.proofs.Reasons.{if_bad, if_bad_then, program_is_free, kinds_by, help_by, mistaken_by, none_found}
 use Rattle.wh_command_line.proofs.command_line.parse.Goals as goal
 
 program_is_simple : is_simple program ≡ true
@@ -34,7 +35,7 @@ asked_by : (words : List Text) (name : Text) (rows : List Row) (plan : Plan) →
 asked_by words name rows (Replay dir more json) named given = (name, rows, named, given)
 asked_by words name rows (Explain file) named given = (name, rows, named, given)
 asked_by words name rows (Serve dir workers cache cache_events slots) named given = (name, rows, named, given)
-asked_by words name rows (Help text) named given = tt
+asked_by words name rows (Help text) named given = absurd given
 
 -- few slots of the subcommand `serve` are those of the words
 few_by : (words : List Text) (name : Text) (rows : List Row) → Names words name rows → (name ≡ codes "serve") × GivesFewSlots rows → HasFewSlots words
@@ -53,3 +54,26 @@ returns-clause-few c = λ few.
     let found = matched.1 ∙ ap (λ app. subcommand_of app (map string_bytes c.args.words.now)) c.in_ok-command.ensures in
     let named = named_by _ _ _ _ (c.in-Some.ensures.name ∙ first_made _ _ _) c.in-Some.ensures.rows found in
     few_by _ _ _ named (c.asked.ensures.few few)
+
+pub returns-in-Err-clause-asked : goal.returns-in-Err-clause-asked
+returns-in-Err-clause-asked c =
+    let has = kinds_by _ _ c.in-Err.error c.in_ok-command.ensures (c.in-Err.ensures.kinds (ap is_simple_and_free c.in_ok-command.ensures ∙ program_is_free)) in
+    help_by _ _ has c.refused.result c.refused.ensures.help c.refused.ensures.asked
+
+pub returns-in-Err-clause-bad : goal.returns-in-Err-clause-bad
+returns-in-Err-clause-bad c =
+    let has = kinds_by _ _ c.in-Err.error c.in_ok-command.ensures (c.in-Err.ensures.kinds (ap is_simple_and_free c.in_ok-command.ensures ∙ program_is_free)) in
+    IfErr-weaker c.refused.result _ _ (if_bad_then _ _ (λ mistake. inl (mistaken_by _ _ has mistake))) c.refused.ensures.bad
+
+pub returns-in_default-clause-bad : goal.returns-in_default-clause-bad
+returns-in_default-clause-bad c =
+    let matched = c.in-Ok.ensures.matches (ap is_simple c.in_ok-command.ensures ∙ program_is_simple) in
+    let found = matched.1 ∙ ap (λ app. subcommand_of app (map string_bytes c.args.words.now)) c.in_ok-command.ensures in
+    if_bad _ c.bad_line.result (inr (inl (sym found ∙ none_found _ c.in_default.ensures.rows)))
+
+pub returns-clause-bad : goal.returns-clause-bad
+returns-clause-bad c =
+    let matched = c.in-Ok.ensures.matches (ap is_simple c.in_ok-command.ensures ∙ program_is_simple) in
+    let found = matched.1 ∙ ap (λ app. subcommand_of app (map string_bytes c.args.words.now)) c.in_ok-command.ensures in
+    let named = named_by _ _ _ _ (c.in-Some.ensures.name ∙ first_made _ _ _) c.in-Some.ensures.rows found in
+    IfErr-weaker c.asked.result _ _ (if_bad_then _ _ (λ bad. inr (inr (_, _, named, bad)))) c.asked.ensures.bad
