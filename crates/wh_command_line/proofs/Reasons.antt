@@ -1,5 +1,5 @@
 -- From reason to reason.
-use Rattle.std.proofs.Common.{◌≡◌, ◌⊎◌, List, inl, inr, subst, true, Option, Some, None, Result, Ok, Err, refl}
+use Rattle.std.proofs.Common.{◌≡◌, ◌⊎◌, List, [], inl, inr, subst, true, Option, Some, None, Result, Ok, Err, refl}
 use Rattle.std.specs.Prelude.{IfOk, option_map}
 use Rattle.clap.specs.Words.{App, HasKind, IsAmong, Row, Text, fault_of, is_simple_and_free}
 use Rattle.clap.proofs.OnLiterals.{clap_on_literals}
@@ -8,7 +8,7 @@ use Rattle.clap.specs.declared.error.kind.ErrorKind.{ErrorKind}
 use Rattle.clap.specs.declared.error.kind.ErrorKind.TheVariants.{OutOfMemory}
 use Rattle.wh_command_line.specs.Lines.{program}
 use Rattle.wh_command_line.specs.Refusals.{IfBad}
-use Rattle.wh_command_line.specs.Plans.{IsHelp, IsRequest, IsMistake, kinds_of, AsksText, HasMistake, IsAskedBy}
+use Rattle.wh_command_line.specs.Plans.{IsHelp, IsRequest, IsMistake, IsRead, kinds_of, AsksText, HasMistake, IsAskedBy}
 use Rattle.wh_command_line.specs.declared.command_line.Plan.{Plan}
 use Rattle.wh_command_line.specs.declared.command_line.Plan.TheVariants as plans
 use Rattle.wh_command_line.specs.declared.command_line.Refusal.{Refusal}
@@ -36,6 +36,11 @@ pub kinds_by : (app : App) (words : List Text) (error : Error) → app ≡ progr
     → HasKind (kinds_of words) error
 unfolding kinds_of
 kinds_by app words error same has = subst (λ (a : App). HasKind (fault_of a words) error) same has
+
+-- clap reads the words
+pub read_by : (app : App) (words : List Text) → app ≡ program → fault_of app words ≡ [] → IsRead words
+unfolding kinds_of
+read_by app words same none = subst (λ (a : App). fault_of a words ≡ []) same none
 
 -- what clap answers, where it is a request, is one that the words make
 asks_by : (words : List Text) (kind : ErrorKind) → (kind ≡ OutOfMemory) ⊎ IsAmong kind (kinds_of words) → IsRequest kind → AsksText words

@@ -1,5 +1,5 @@
 -- What a command line asks for.
-use Rattle.std.specs.Prelude.{◌≡◌, ◌≢◌, ◌⊎◌, ℕ, ◌≤◌, ◌<◌, Bool, true, false, List, ◌∷◌, codes, Some, None}
+use Rattle.std.specs.Prelude.{◌≡◌, ◌≢◌, ◌⊎◌, ℕ, ◌≤◌, ◌<◌, Bool, true, false, List, [], ◌∷◌, codes, Some, None}
 use Rattle.clap.specs.Words.{IsAmong, Kinds, Row, Text, all_of, fault_of, first_of, one_of, subcommand_of}
 use Rattle.clap.specs.declared.error.kind.ErrorKind.{ErrorKind}
 use Rattle.clap.specs.declared.error.kind.ErrorKind.TheVariants.{DisplayHelp, DisplayVersion, OutOfMemory}
@@ -56,10 +56,6 @@ IsGiven name rows (Serve dir workers cache cache_events slots) = (name ≡ codes
     × GivesNumbers rows workers cache cache_events slots
 IsGiven name rows (Help text) = ⊥
 
--- the words name the subcommand, and give it these rows
-abbrev pub Names : List Text → Text → List Row → Type 0
-Names words name rows = subcommand_of program words ≡ Some (name, rows)
-
 -- clap's answer is a text that was asked for: the help or the version
 abbrev pub IsRequest : ErrorKind → Type 0
 IsRequest kind = (kind ≡ DisplayHelp) ⊎ (kind ≡ DisplayVersion)
@@ -71,6 +67,18 @@ IsMistake kind = (kind ≢ DisplayHelp) × (kind ≢ DisplayVersion) × (kind �
 -- what kinds of answer clap may give for the words in place of a reading, none where it reads them
 unfoldable pub kinds_of : List Text → Kinds
 kinds_of words = fault_of program words
+
+-- clap reads the words
+abbrev pub IsRead : List Text → Type 0
+IsRead words = kinds_of words ≡ []
+
+-- clap reads the words; they name the subcommand, and give it these rows
+abbrev pub Names : List Text → Text → List Row → Type 0
+Names words name rows = IsRead words × (subcommand_of program words ≡ Some (name, rows))
+
+-- clap reads the words, and they name no subcommand
+abbrev pub NamesNone : List Text → Type 0
+NamesNone words = IsRead words × (subcommand_of program words ≡ None)
 
 -- the words ask for the help or the version
 abbrev pub AsksText : List Text → Type 0
@@ -118,12 +126,13 @@ IsNoCommand name = (name ≢ codes "replay") × (name ≢ codes "explain") × (n
 -- the subcommand of a name can't do with its rows: it lacks its path, or a number within its limits
 abbrev pub IsBadGiven : Text → List Row → Type 0
 IsBadGiven name rows =
-    ((name ≡ codes "replay") × LacksPath (codes "DIR") rows) ⊎ (((name ≡ codes "explain") × LacksPath (codes "FILE") rows)
+    ((name ≡ codes "replay") × LacksPath (codes "DIR") rows)
+    ⊎ (((name ≡ codes "explain") × LacksPath (codes "FILE") rows)
     ⊎ (((name ≡ codes "serve") × LacksService rows) ⊎ IsNoCommand name))
 
--- the words are none of the program's: clap finds a mistake, there is no subcommand, or it can't do
--- with what it is given
+-- the words are none of the program's: clap finds a mistake, or it reads them, and there is no
+-- subcommand, or that can't do with what it is given
 abbrev pub IsBadLine : List Text → Type 0
 IsBadLine words =
-    HasMistake words ⊎ ((subcommand_of program words ≡ None)
+    HasMistake words ⊎ (NamesNone words
     ⊎ ((name : Text) × (rows : List Row) × Names words name rows × IsBadGiven name rows))

@@ -9,8 +9,8 @@ ghost use Rattle.wh_command_line.specs.Lines.{with_value_name, with_version};
 ghost use Rattle.wh_command_line.specs.Plans.{IsWithinLimits, IsHelp, IsServe, IsGiven, IsAskedBy};
 ghost use Rattle.wh_command_line.specs.Plans.{GivesPath, GivesPaths, GivesFlag, GivesFewSlots};
 ghost use Rattle.wh_command_line.specs.Plans.{AsksFewSlots, HasFewSlots};
-ghost use Rattle.wh_command_line.specs.Refusals.{IfBad};
 ghost use Rattle.wh_command_line.specs.Plans.{IsRequest, IsMistake, LacksPath, IsBadGiven, IsBadLine};
+ghost use Rattle.wh_command_line.specs.Refusals.{IfBad};
 
 use crate::options::{CACHE, CACHE_EVENTS, Helps, NumberOption, SLOTS, ServeOptions, WORKERS};
 use clap::error::ErrorKind;
@@ -373,10 +373,13 @@ fn asked(alloc: Global, name: &str, given: &ArgMatches<'_>) -> Result<Plan, Refu
     }
 }
 
-/// The plan of a command line, whose first word is the program's name. `BadLine` holds what is
-/// wrong with the line, as it is shown. `FewSlots` comes only where the line names numbers within
-/// their limits, with fewer slots than workers. `OutOfMemory` comes where there is no memory to
-/// read it.
+/// The plan of a command line, whose first word is the program's name. `Help` comes only where the
+/// line asks for a text, every other plan only where `clap` reads the line.
+///
+/// `BadLine` holds what is wrong with the line, as it is shown. It comes only where `clap` finds a
+/// mistake, where the line names no subcommand, and where what it gives is no number or one that is
+/// not within its limits. `FewSlots` comes only where the line names numbers within their limits,
+/// with fewer slots than workers. `OutOfMemory` comes where there is no memory to read it.
 pub fn parse<'a>(alloc: Global, words: &'a [String]) -> Result<Plan, Refusal>
     ensures limits { IfOk result IsWithinLimits }
     ensures asked { IfOk result (IsAskedBy (map string_bytes words.entry.now)) }
