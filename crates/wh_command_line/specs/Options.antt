@@ -1,9 +1,10 @@
 -- The options of `serve`.
-use Rattle.std.specs.Prelude.{◌≡◌, ℕ, List, codes, Some}
-use Rattle.clap.specs.Words.{Row}
+use Rattle.std.specs.Prelude.{◌≡◌, ℕ, ◌≤◌, List, codes, Some}
+use Rattle.std.specs.Str.Parse.{IsNumeral, without_leading_plus}
+use Rattle.clap.specs.Words.{Row, Text, first_of}
 use Rattle.wh_host.specs.Machine.{IsConfig}
 use Rattle.wh_host.specs.declared.config.Config.{Config}
-use Rattle.wh_command_line.specs.Lines.{value_named}
+use Rattle.wh_command_line.specs.Lines.{value_named, value_of}
 
 -- how large a host the numbers ask for
 abbrev pub config_of : (workers cache cache_events slots : ℕ) → Config
@@ -26,3 +27,22 @@ pub record GivesNumbers (rows : List Row) (workers cache cache_events slots : �
   pub gives_cache : value_named rows (codes "cache") ≡ Some cache
   pub gives_cache_events : value_named rows (codes "cache-events") ≡ Some cache_events
   pub gives_slots : value_named rows (codes "slots") ≡ Some slots
+
+-- the text is a number, which a plus may precede
+abbrev pub IsNumber : Text → Type 0
+IsNumber text = IsNumeral 10 (without_leading_plus text)
+
+-- the rows give a number under a name, from the least to the most
+pub record GivesWithin (rows : List Row) (name : Text) (least most : ℕ) : Type 0 where
+  pub text : Text
+  pub given : first_of name rows ≡ Some text
+  pub number : IsNumber text
+  pub at_least : least ≤ value_of text
+  pub at_most : value_of text ≤ most
+
+-- the rows give a number within its limits under each name
+pub record GivesAllWithin (rows : List Row) : Type 0 where
+  pub workers : GivesWithin rows (codes "workers") 1 64
+  pub cache : GivesWithin rows (codes "cache") 0 10000
+  pub cache_events : GivesWithin rows (codes "cache-events") 0 512000000
+  pub slots : GivesWithin rows (codes "slots") 1 1000

@@ -1,8 +1,10 @@
 -- What a command line asks for.
-use Rattle.std.specs.Prelude.{◌≡◌, ℕ, ◌≤◌, ◌<◌, Bool, true, false, List, ◌∷◌, codes, Some, None}
-use Rattle.clap.specs.Words.{Row, Text, all_of, first_of, one_of, subcommand_of}
+use Rattle.std.specs.Prelude.{◌≡◌, ◌≢◌, ◌⊎◌, ℕ, ◌≤◌, ◌<◌, Bool, true, false, List, [], ◌∷◌, codes, Some, None}
+use Rattle.clap.specs.Words.{IsAmong, Kinds, Row, Text, all_of, fault_of, first_of, one_of, subcommand_of}
+use Rattle.clap.specs.declared.error.kind.ErrorKind.{ErrorKind}
+use Rattle.clap.specs.declared.error.kind.ErrorKind.TheVariants.{DisplayHelp, DisplayVersion, OutOfMemory}
 use Rattle.wh_command_line.specs.Lines.{program}
-use Rattle.wh_command_line.specs.Options.{AreWithinLimits, GivesNumbers}
+use Rattle.wh_command_line.specs.Options.{AreWithinLimits, GivesNumbers, GivesAllWithin}
 use Rattle.wh_command_line.specs.declared.command_line.Plan.{Plan}
 use Rattle.wh_command_line.specs.declared.options.ServeOptions.{ServeOptions}
 use Rattle.wh_command_line.specs.declared.command_line.Plan.TheVariants.{Replay, Explain, Serve, Help}
@@ -54,13 +56,41 @@ IsGiven name rows (Serve dir workers cache cache_events slots) = (name ≡ codes
     × GivesNumbers rows workers cache cache_events slots
 IsGiven name rows (Help text) = ⊥
 
--- the words name the subcommand, and give it these rows
-abbrev pub Names : List Text → Text → List Row → Type 0
-Names words name rows = subcommand_of program words ≡ Some (name, rows)
+-- clap's answer is a text that was asked for: the help or the version
+abbrev pub IsRequest : ErrorKind → Type 0
+IsRequest kind = (kind ≡ DisplayHelp) ⊎ (kind ≡ DisplayVersion)
 
--- the plan is what the subcommand of the words asks for, or to print a text
+-- clap's answer is a mistake in the words
+abbrev pub IsMistake : ErrorKind → Type 0
+IsMistake kind = (kind ≢ DisplayHelp) × (kind ≢ DisplayVersion) × (kind ≢ OutOfMemory)
+
+-- what kinds of answer clap may give for the words in place of a reading, none where it reads them
+unfoldable pub kinds_of : List Text → Kinds
+kinds_of words = fault_of program words
+
+-- clap reads the words
+abbrev pub IsRead : List Text → Type 0
+IsRead words = kinds_of words ≡ []
+
+-- clap reads the words; they name the subcommand, and give it these rows
+abbrev pub Names : List Text → Text → List Row → Type 0
+Names words name rows = IsRead words × (subcommand_of program words ≡ Some (name, rows))
+
+-- clap reads the words, and they name no subcommand
+abbrev pub NamesNone : List Text → Type 0
+NamesNone words = IsRead words × (subcommand_of program words ≡ None)
+
+-- the words ask for the help or the version
+abbrev pub AsksText : List Text → Type 0
+AsksText words = (kind : ErrorKind) × IsAmong kind (kinds_of words) × IsRequest kind
+
+-- the words have a mistake that clap finds
+abbrev pub HasMistake : List Text → Type 0
+HasMistake words = (kind : ErrorKind) × IsAmong kind (kinds_of words) × IsMistake kind
+
+-- the plan is what the subcommand of the words asks for, or to print a text that they ask for
 abbrev pub IsAskedBy : List Text → Plan → Type 0
-IsAskedBy words (Help text) = Unit {0}
+IsAskedBy words (Help text) = AsksText words
 IsAskedBy words plan = (name : Text) × (rows : List Row) × Names words name rows × IsGiven name rows plan
 
 -- the rows give numbers within their limits, with fewer slots than workers
@@ -80,3 +110,29 @@ AsksFewSlots name rows = (name ≡ codes "serve") × GivesFewSlots rows
 -- the words ask to serve, with fewer slots than workers
 abbrev pub HasFewSlots : List Text → Type 0
 HasFewSlots words = (rows : List Row) × Names words (codes "serve") rows × GivesFewSlots rows
+
+-- the rows give no path under a name
+abbrev pub LacksPath : Text → List Row → Type 0
+LacksPath name rows = first_of name rows ≡ None
+
+-- the rows give no folder to serve, or a number that is none or not within its limits
+abbrev pub LacksService : List Row → Type 0
+LacksService rows = LacksPath (codes "DIR") rows ⊎ ¬ (GivesAllWithin rows)
+
+-- the subcommand of a name is none of the program's
+abbrev pub IsNoCommand : Text → Type 0
+IsNoCommand name = (name ≢ codes "replay") × (name ≢ codes "explain") × (name ≢ codes "serve")
+
+-- the subcommand of a name can't do with its rows: it lacks its path, or a number within its limits
+abbrev pub IsBadGiven : Text → List Row → Type 0
+IsBadGiven name rows =
+    ((name ≡ codes "replay") × LacksPath (codes "DIR") rows)
+    ⊎ (((name ≡ codes "explain") × LacksPath (codes "FILE") rows)
+    ⊎ (((name ≡ codes "serve") × LacksService rows) ⊎ IsNoCommand name))
+
+-- the words are none of the program's: clap finds a mistake, or it reads them, and there is no
+-- subcommand, or that can't do with what it is given
+abbrev pub IsBadLine : List Text → Type 0
+IsBadLine words =
+    HasMistake words ⊎ (NamesNone words
+    ⊎ ((name : Text) × (rows : List Row) × Names words name rows × IsBadGiven name rows))

@@ -2,13 +2,15 @@
 
 ghost use Rattle.std.specs.Prelude.{◌≡◌, ◌≢◌, ◌↔◌, ◌<◌, false, codes, Err, IfOk, IfErr, IfSome, map};
 ghost use Rattle.std.specs.Prelude.{string_bytes};
-ghost use Rattle.clap.specs.Words.{app_of, new_app, found_of, rows_of, rule_of};
+ghost use Rattle.clap.specs.Words.{app_of, new_app, found_of, rows_of, rule_of, kind_of};
 ghost use Rattle.clap.specs.declared.builder.Command.TheViews.{out-Command as fields_of};
 ghost use Rattle.wh_command_line.specs.Lines.{program, replay, explain, serve, needed, folder, paths, flag, number};
 ghost use Rattle.wh_command_line.specs.Lines.{with_value_name, with_version};
 ghost use Rattle.wh_command_line.specs.Plans.{IsWithinLimits, IsHelp, IsServe, IsGiven, IsAskedBy};
 ghost use Rattle.wh_command_line.specs.Plans.{GivesPath, GivesPaths, GivesFlag, GivesFewSlots};
 ghost use Rattle.wh_command_line.specs.Plans.{AsksFewSlots, HasFewSlots};
+ghost use Rattle.wh_command_line.specs.Plans.{IsRequest, IsMistake, LacksPath, IsBadGiven, IsBadLine};
+ghost use Rattle.wh_command_line.specs.Refusals.{IfBad};
 
 use crate::options::{CACHE, CACHE_EVENTS, Helps, NumberOption, SLOTS, ServeOptions, WORKERS};
 use clap::error::ErrorKind;
@@ -116,7 +118,9 @@ pub(crate) fn bad_line(text: Result<String, AllocError>) -> Refusal
 /// What clap refused, or the help or the version that was asked for.
 fn refused(alloc: Global, error: &Error) -> Result<Plan, Refusal>
     ensures help { IfOk result IsHelp }
+    ensures asked { IfOk result (λ _. IsRequest (kind_of error.now)) }
     ensures slots { result ≢ Err Refusal.FewSlots }
+    ensures bad { IfErr result (IfBad (IsMistake (kind_of error.now))) }
 {
     let text = Text::new(error.to_string(alloc)?);
     match error.kind() {
@@ -269,6 +273,7 @@ fn serve_plan(dir: Text, options: ServeOptions) -> Result<Plan, Refusal>
     ensures limits { IfOk result IsWithinLimits }
     ensures kept { IfOk result (IsServe dir options) }
     ensures few { (result ≡ Err Refusal.FewSlots) ↔ (options.slots < options.workers) }
+    ensures err { IfErr result (λ e. e ≡ Refusal.FewSlots) }
 {
     let ServeOptions {
         workers,
@@ -292,6 +297,7 @@ fn serve_plan(dir: Text, options: ServeOptions) -> Result<Plan, Refusal>
 fn path_given(alloc: Global, given: &ArgMatches<'_>, name: &str) -> Result<Text, Refusal>
     ensures given { IfOk result (λ path. GivesPath name.now (rows_of (found_of given.now)) path) }
     ensures slots { result ≢ Err Refusal.FewSlots }
+    ensures bad { IfErr result (IfBad (LacksPath name.now (rows_of (found_of given.now)))) }
 {
     let Some(path) = given.get_str(name) else {
         return Err(bad_line(format!(in alloc; "error: {name} is needed\n")));
@@ -302,7 +308,7 @@ fn path_given(alloc: Global, given: &ArgMatches<'_>, name: &str) -> Result<Text,
 /// Copies of texts, in their order.
 fn text_copies(alloc: Global, texts: &[&str]) -> Result<Vec<Text>, Refusal>
     ensures ok { IfOk result (λ copies. copies.items ≡ map (λ text. text.now) texts.now) }
-    ensures slots { result ≢ Err Refusal.FewSlots }
+    ensures err { IfErr result (λ e. e ≡ Refusal.OutOfMemory) }
 {
     let mut copies = Vec::new(alloc);
     for text in texts {
@@ -313,16 +319,27 @@ fn text_copies(alloc: Global, texts: &[&str]) -> Result<Vec<Text>, Refusal>
     Ok(copies)
 }
 
+/// The refusal of a line that lacks its path.
+fn no_path(alloc: Global) -> Refusal
+    ensures { result ≢ Refusal.FewSlots }
+{
+    bad_line(String::from_str(alloc, "error: a path is needed\n"))
+}
+
 /// The paths that a subcommand is given: the first, and the others in their order.
 fn paths_given(alloc: Global, given: &ArgMatches<'_>) -> Result<(Text, Vec<Text>), Refusal>
     ensures given { IfOk result (λ paths. GivesPaths (rows_of (found_of given.now)) paths.0 paths.1.items) }
     ensures slots { result ≢ Err Refusal.FewSlots }
+    ensures bad { IfErr result (IfBad (LacksPath (codes "DIR") (rows_of (found_of given.now)))) }
 {
-    if let Some([first, others @ ..]) = given.get_strs("DIR") {
-        let more = text_copies(alloc, others)?;
-        return Ok((text_copy(alloc, first)?, more));
-    }
-    Err(bad_line(String::from_str(alloc, "error: a path is needed\n")))
+    let Some(paths) = given.get_strs("DIR") else {
+        return Err(no_path(alloc));
+    };
+    let [first, others @ ..] = paths else {
+        return Err(no_path(alloc));
+    };
+    let more = text_copies(alloc, others)?;
+    Ok((text_copy(alloc, first)?, more))
 }
 
 /// Whether a subcommand is given a flag.
@@ -337,6 +354,7 @@ fn asked(alloc: Global, name: &str, given: &ArgMatches<'_>) -> Result<Plan, Refu
     ensures limits { IfOk result IsWithinLimits }
     ensures given { IfOk result (IsGiven name.now (rows_of (found_of given.now))) }
     ensures few { result ≡ Err Refusal.FewSlots → AsksFewSlots name.now (rows_of (found_of given.now)) }
+    ensures bad { IfErr result (IfBad (IsBadGiven name.now (rows_of (found_of given.now)))) }
 {
     match name {
         "replay" => {
@@ -355,14 +373,18 @@ fn asked(alloc: Global, name: &str, given: &ArgMatches<'_>) -> Result<Plan, Refu
     }
 }
 
-/// The plan of a command line, whose first word is the program's name. `BadLine` holds what is
-/// wrong with the line, as it is shown. `FewSlots` comes only where the line names numbers within
-/// their limits, with fewer slots than workers. `OutOfMemory` comes where there is no memory to
-/// read it.
+/// The plan of a command line, whose first word is the program's name. `Help` comes only where the
+/// line asks for a text, every other plan only where `clap` reads the line.
+///
+/// `BadLine` holds what is wrong with the line, as it is shown. It comes only where `clap` finds a
+/// mistake, where the line names no subcommand, and where what it gives is no number or one that is
+/// not within its limits. `FewSlots` comes only where the line names numbers within their limits,
+/// with fewer slots than workers. `OutOfMemory` comes where there is no memory to read it.
 pub fn parse<'a>(alloc: Global, words: &'a [String]) -> Result<Plan, Refusal>
     ensures limits { IfOk result IsWithinLimits }
     ensures asked { IfOk result (IsAskedBy (map string_bytes words.entry.now)) }
     ensures few { result ≡ Err Refusal.FewSlots → HasFewSlots (map string_bytes words.entry.now) }
+    ensures bad { IfErr result (IfBad (IsBadLine (map string_bytes words.entry.now))) }
 {
     let helps = Helps::new(alloc)?;
     let command = command(alloc, &helps)?;

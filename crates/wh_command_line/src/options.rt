@@ -1,10 +1,12 @@
 //! The options of `serve`: their names, their limits, and the sizes of a host that they stand for.
 
-ghost use Rattle.std.specs.Prelude.{◌≡◌, ◌≢◌, ◌≤◌, Some, Err, IfOk, IfSome};
+ghost use Rattle.std.specs.Prelude.{◌≡◌, ◌≢◌, ◌≤◌, ◌<◌, ◌^◌, ℕ, Some, None, Err, IfOk, IfErr, IfSome};
 ghost use Rattle.clap.specs.Words.{found_of, rows_of};
 ghost use Rattle.wh_host.specs.Machine.{IsConfig};
 ghost use Rattle.wh_command_line.specs.Lines.{value_of, value_named};
 ghost use Rattle.wh_command_line.specs.Options.{AreWithinLimits, GivesNumbers, config_of};
+ghost use Rattle.wh_command_line.specs.Options.{IsNumber, GivesWithin, GivesAllWithin};
+ghost use Rattle.wh_command_line.specs.Refusals.{IfBad};
 
 use crate::command_line::{Refusal, bad_line};
 use clap::ArgMatches;
@@ -81,17 +83,19 @@ impl NumberOption {
         ensures least { IfOk result (λ n. self.now.least ≤ n) }
         ensures most { IfOk result (λ n. n ≤ self.now.most) }
         ensures slots { result ≢ Err Refusal.FewSlots }
+        ensures bad { IfErr result (IfBad
+            (¬ (GivesWithin (rows_of (found_of given.now)) self.now.name.now self.now.least self.now.most))) }
     {
         let NumberOption {
             name,
             least,
             most,
             ..
-        } = self;
+        } = *self;
         let Some(number) = value_named(given, name) else {
             return Err(bad_line(format!(in alloc; "error: {name} must be a number\n")));
         };
-        if number < self.least || self.most < number {
+        if number < least || most < number {
             return Err(bad_line(format!(in alloc; "error: {name} must be {least} to {most}\n")));
         }
         Ok(number)
@@ -100,14 +104,17 @@ impl NumberOption {
 
 /// The number that a text stands for.
 fn number_of(text: &str) -> Option<u64>
-    ensures { IfSome result (λ n. n ≡ value_of text.now) }
+    ensures value { IfSome result (λ n. n ≡ value_of text.now) }
+    ensures none { result ≡ None → IsNumber text.now → ¬ (value_of text.now < 2 ^ 64) }
 {
     text.parse::<u64>().ok()
 }
 
 /// The number of a name, among what was found.
 fn value_named(given: &ArgMatches<'_>, name: &str) -> Option<u64>
-    ensures { IfSome result (λ n. value_named (rows_of (found_of given.now)) name.now ≡ Some n) }
+    ensures value { IfSome result (λ n. value_named (rows_of (found_of given.now)) name.now ≡ Some n) }
+    ensures none { (least most : ℕ) → most < 2 ^ 64 → result ≡ None
+        → ¬ (GivesWithin (rows_of (found_of given.now)) name.now least most) }
 {
     number_of(given.get_str(name)?)
 }
@@ -168,6 +175,7 @@ impl ServeOptions {
         ensures given { IfOk result (λ o.
             GivesNumbers (rows_of (found_of given.now)) o.workers o.cache o.cache_events o.slots) }
         ensures slots { result ≢ Err Refusal.FewSlots }
+        ensures bad { IfErr result (IfBad (¬ (GivesAllWithin (rows_of (found_of given.now))))) }
     {
         Ok(ServeOptions {
             workers: WORKERS.number(alloc, given)?,

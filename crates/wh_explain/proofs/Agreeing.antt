@@ -28,7 +28,7 @@ use Rattle.wh_explain.specs.declared.explanation.ExplainedTask.{ExplainedTask}
 use Rattle.wh_explain.specs.declared.explanation.RecordedEvent.{RecordedEvent}
 use Rattle.wh_explain.specs.declared.explanation.Pairing.{Pairing}
 use Rattle.wh_explain.specs.declared.explanation.Pairing.TheVariants.{Alike, Different}
-use Rattle.wh_explain.specs.Pairings.{pairings, recorded_event, differs}
+use Rattle.wh_explain.specs.Pairings.{pairings, recorded_event, differs, difference_from}
 use Rattle.wh_explain.specs.Explaining.{in_place, sent_ending, unless_refused, stops, IsTask, AreTasks, all, stopped, passed, AreTasksIf, AreTasksPlaced}
 use Rattle.wh_explain.specs.Laws.{EndAs, EndsAsReplay}
 use Rattle.wh_explain.proofs.Tasks.{told_plain}
@@ -46,6 +46,20 @@ differ_is history index [] (event ∷ events) = refl
 differ_is history index (command ∷ commands) [] = refl
 differ_is history index (command ∷ commands) (event ∷ events) =
     differ_by (names history command event.body) command (recorded_event history event) (pairings history commands events) (mismatch_from history (index + 1) commands events) (DifferentEvent event.number) (differ_is history (index + 1) commands events)
+
+-- the same of the first difference itself
+shown_by : (alike : Bool) (index : ℕ) (command : Command) (event : RecordedEvent) (rest : List Pairing) (next : Option Mismatch) → difference_from (index + 1) rest ≡ next
+    → difference_from index (cond alike (Alike command event) (Different command event) ∷ cond alike rest []) ≡ cond alike next (Some (DifferentEvent event.number))
+shown_by true index command event rest next later = later
+shown_by false index command event rest next later = refl
+
+-- the first difference that is shown is the mismatch
+shown_is : (history : List Event) (index : ℕ) (commands : List Command) (events : List Event) → difference_from index (pairings history commands events) ≡ mismatch_from history index commands events
+shown_is history index [] [] = refl
+shown_is history index [] (event ∷ events) = refl
+shown_is history index (command ∷ commands) [] = refl
+shown_is history index (command ∷ commands) (event ∷ events) =
+    shown_by (names history command event.body) index command (recorded_event history event) (pairings history commands events) (mismatch_from history (index + 1) commands events) (shown_is history (index + 1) commands events)
 
 abbrev top : ℕ
 top = 0xffff_ffff_ffff_ffff
@@ -87,13 +101,14 @@ module _ {S : Type 0} (program : Program S) (lawful : IsLawful program) (events 
   closes last number current task progress None named below state settled is ending = inl (reached progress (reduced (standpoint_after events last number) progress.script.issued), is, ap stops ending, state, settled, below)
   closes last number current task progress (Some recorded) named below state settled is ending =
       let sent = reduced (standpoint_after events last number) progress.script.issued in
-      by (mismatch events sent recorded) is (ap stops ending ∙ differ_is events 1 sent recorded)
+      by (mismatch events sent recorded) is (ap stops ending ∙ differ_is events 1 sent recorded) (shown_is events 1 sent recorded)
     where
-      by : (difference : Option Mismatch) → task_at program events last number current ≡ unless_mismatch number difference (reached progress []) → stops task.ending ≡ is_some difference → TaskEnds program events last number current task
-      by None is stop = inl (reached progress [], is, stop, state, settled, below)
-      by (Some difference) is stop =
+      by : (difference : Option Mismatch) → task_at program events last number current ≡ unless_mismatch number difference (reached progress []) → stops task.ending ≡ is_some difference
+          → difference_from 1 (pairings events (reduced (standpoint_after events last number) progress.script.issued) recorded) ≡ difference → TaskEnds program events last number current task
+      by None is stop same = inl (reached progress [], is, stop, state, settled, below)
+      by (Some difference) is stop same =
           let shown = pairings events (reduced (standpoint_after events last number) progress.script.issued) recorded in
-          inr (Mismatched number difference, is, stop, λ front. (front, task, shown, refl, named, ending, sym (ap stops ending) ∙ stop))
+          inr (Mismatched number difference, is, stop, λ front. (front, task, shown, refl, named, ending, same))
 
   -- what the steps of a task leave
   abbrev left_of : (last number : ℕ) → Upshot S → ExplainedTask → Progress S

@@ -1,8 +1,9 @@
 -- What holds of every explanation.
-use Rattle.std.specs.Prelude.{◌≡◌, ℕ, Bool, ◌&&◌, nat_le, true, false, List, [], ◌∷◌, ◌++◌, None, Result, Ok, Err}
+use Rattle.std.specs.Prelude.{◌≡◌, ℕ, Bool, ◌&&◌, nat_le, true, false, List, [], ◌∷◌, ◌++◌, Some, None, Result, Ok, Err}
 use Rattle.std.specs.List.{list_all, list_any}
 use Rattle.wh_events.specs.declared.event.Event.{Event}
 use Rattle.wh_events.specs.Places.{history_fault}
+use Rattle.wh_workflow.specs.declared.fault.Mismatch.{Mismatch as Difference}
 use Rattle.wh_workflow.specs.Law.{Program}
 use Rattle.wh_replay.specs.declared.fault.Fault.{Fault}
 use Rattle.wh_replay.specs.declared.fault.Fault.TheVariants.{NotATask, Place, Workflow, Mismatch}
@@ -11,7 +12,7 @@ use Rattle.wh_tester.specs.Report.{shown}
 use Rattle.wh_explain.specs.declared.explanation.Ending.TheVariants.{Refused, Recorded}
 use Rattle.wh_explain.specs.declared.explanation.Pairing.{Pairing}
 use Rattle.wh_explain.specs.declared.explanation.ExplainedTask.{ExplainedTask}
-use Rattle.wh_explain.specs.Pairings.{differs}
+use Rattle.wh_explain.specs.Pairings.{difference_from}
 use Rattle.wh_explain.specs.Explaining.{stops, AreTasksOf}
 
 -- the last of the tasks is that of the number, and a command of it is refused
@@ -20,11 +21,12 @@ EndsRefused at tasks =
     (front : List ExplainedTask) × (task : ExplainedTask) × (tasks ≡ front ++ task ∷ []) × (task.at ≡ at)
     × (task.ending ≡ Refused)
 
--- the last of the tasks is that of the number, and what it sends differs from what is recorded
-abbrev pub EndsDifferent : ℕ → List ExplainedTask → Type 0
-EndsDifferent at tasks =
+-- the last of the tasks is that of the number, and the first difference that it shows between what is
+-- sent and what is recorded is the mismatch
+abbrev pub EndsDifferent : ℕ → Difference → List ExplainedTask → Type 0
+EndsDifferent at mismatch tasks =
     (front : List ExplainedTask) × (task : ExplainedTask) × (pairings : List Pairing) × (tasks ≡ front ++ task ∷ [])
-    × (task.at ≡ at) × (task.ending ≡ Recorded pairings) × (list_any differs pairings ≡ true)
+    × (task.at ≡ at) × (task.ending ≡ Recorded pairings) × (difference_from 1 pairings ≡ Some mismatch)
 
 -- from the space to the tilde
 abbrev pub is_printable : ℕ → Bool
@@ -40,7 +42,7 @@ module _ {S : Type 0} where
   abbrev pub EndAs : Result (Upshot S) Fault → List ExplainedTask → Type 0
   EndAs (Ok left) tasks = list_any (λ task. stops task.ending) tasks ≡ false
   EndAs (Err (Workflow at fault)) tasks = EndsRefused at tasks
-  EndAs (Err (Mismatch at mismatch)) tasks = EndsDifferent at tasks
+  EndAs (Err (Mismatch at mismatch)) tasks = EndsDifferent at mismatch tasks
   EndAs (Err (Place at fault)) tasks = ⊥
   EndAs (Err NotATask) tasks = ⊥
 

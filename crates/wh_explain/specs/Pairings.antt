@@ -1,9 +1,11 @@
 -- What is sent beside what is recorded, up to the first difference.
-use Rattle.std.specs.Prelude.{ℕ, Bool, true, false, List, [], ◌∷◌, if◌then◌else◌}
+use Rattle.std.specs.Prelude.{ℕ, ◌+◌, Bool, true, false, List, [], ◌∷◌, Option, Some, None, if◌then◌else◌}
 use Rattle.wh_events.specs.declared.event.Event.{Event}
 use Rattle.wh_events.specs.Kinds.{Role, role_of}
 use Rattle.wh_events.specs.Kinds.Role.{Refers}
 use Rattle.wh_workflow.specs.declared.command.Command.{Command}
+use Rattle.wh_workflow.specs.declared.fault.Mismatch.{Mismatch}
+use Rattle.wh_workflow.specs.declared.fault.Mismatch.TheVariants as mismatches
 use Rattle.wh_workflow.specs.Jobs.{id_at}
 use Rattle.wh_workflow.specs.Names.{names}
 use Rattle.wh_explain.specs.declared.explanation.RecordedEvent.{RecordedEvent}
@@ -42,3 +44,11 @@ pairings history (command ∷ commands) (event ∷ events) =
 abbrev pub differs : Pairing → Bool
 differs (Alike _ _) = false
 differs _ = true
+
+-- the first difference among pairs, where the command of the first pair has this place
+abbrev pub difference_from : ℕ → List Pairing → Option Mismatch
+difference_from index [] = None
+difference_from index (Alike _ _ ∷ rest) = difference_from (index + 1) rest
+difference_from index (Different _ event ∷ _) = Some (mismatches.Different event.number)
+difference_from index (CommandMissing event ∷ _) = Some (mismatches.CommandMissing event.number)
+difference_from index (CommandExtra _ ∷ _) = Some (mismatches.CommandExtra index)

@@ -9,7 +9,8 @@ pub fn one_explains<W: Workflow>()
 {}
 
 /// The explanation of a history in place, for whose workflow type there is code, ends as its replay
-/// does: at the task of the fault, if there is one, refused or different as the fault says.
+/// does: at the task of the fault, if there is one. That task is refused where a command can't
+/// stand; else the first difference that it shows is the one of the fault.
 pub fn ends_as_replay<W: Workflow>()
     ensures { EndsAsReplay W.program }
 {}

@@ -1,12 +1,13 @@
-use Rattle.std.proofs.Common.{◌≡◌, ◌∙◌, List, ap, ap₂, sym, refl, true, Option, Some, None}
-use Rattle.std.proofs.lemmas.Result.{IfOk-weaker}
+use Rattle.std.proofs.Common.{◌≡◌, ◌∙◌, inl, inr, List, ap, ap₂, sym, refl, true, Option, Some, None}
+use Rattle.std.proofs.lemmas.Result.{IfOk-weaker, IfErr-weaker}
 use Rattle.std.specs.Prelude.{map, option_map, codes, string_bytes}
-use Rattle.clap.specs.Words.{Row, Text, is_simple, subcommand_of}
+use Rattle.clap.specs.Words.{Row, Text, is_simple, is_simple_and_free, subcommand_of}
 use Rattle.clap.proofs.OnLiterals.{clap_on_literals}
 use Rattle.wh_command_line.specs.Lines.{program}
-use Rattle.wh_command_line.specs.Plans.{Names, IsGiven, IsAskedBy, GivesFewSlots, HasFewSlots}
+use Rattle.wh_command_line.specs.Plans.{IsRead, Names, IsGiven, IsAskedBy, GivesFewSlots, HasFewSlots}
 use Rattle.wh_command_line.specs.declared.command_line.Plan.{Plan}
 use Rattle.wh_command_line.specs.declared.command_line.Plan.TheVariants.{Replay, Explain, Serve, Help}
+use Rattle.wh_command_line.proofs.Reasons.{if_bad, if_bad_then, program_is_free, kinds_by, read_by, help_by, mistaken_by, none_found}
 use Rattle.wh_command_line.proofs.command_line.parse.Goals as goal
 
 program_is_simple : is_simple program ≡ true
@@ -20,36 +21,63 @@ first_made None f g = refl
 first_made (Some b) f g = refl
 
 -- a name and rows that were found are those that the words name
-named_by : (words : List Text) (name : Text) (rows : List Row) (found : Option (Text × List Row))
+named_by : (words : List Text) (name : Text) (rows : List Row) (found : Option (Text × List Row)) → IsRead words
     → Some name ≡ option_map (λ (p : Text × List Row). p.0) found → Some rows ≡ option_map (λ (p : Text × List Row). p.1) found
     → found ≡ subcommand_of program words → Names words name rows
-named_by words name rows None of_name of_rows is_found = cc
-named_by words name rows (Some p) of_name of_rows is_found =
+named_by words name rows None read of_name of_rows is_found = absurd cc
+named_by words name rows (Some p) read of_name of_rows is_found =
     let same_name : p.0 ≡ name = cc in
     let same_rows : p.1 ≡ rows = cc in
-    sym is_found ∙ ap₂ (λ (a : Text) (b : List Row). Some (a, b)) same_name same_rows
+    (read, sym is_found ∙ ap₂ (λ (a : Text) (b : List Row). Some (a, b)) same_name same_rows)
 
 -- what a subcommand asks for is what the words ask for
 asked_by : (words : List Text) (name : Text) (rows : List Row) (plan : Plan) → Names words name rows → IsGiven name rows plan → IsAskedBy words plan
 asked_by words name rows (Replay dir more json) named given = (name, rows, named, given)
 asked_by words name rows (Explain file) named given = (name, rows, named, given)
 asked_by words name rows (Serve dir workers cache cache_events slots) named given = (name, rows, named, given)
-asked_by words name rows (Help text) named given = tt
+asked_by words name rows (Help text) named given = absurd given
 
 -- few slots of the subcommand `serve` are those of the words
 few_by : (words : List Text) (name : Text) (rows : List Row) → Names words name rows → (name ≡ codes "serve") × GivesFewSlots rows → HasFewSlots words
-few_by words name rows named given = (rows, named ∙ ap (λ (n : Text). Some (n, rows)) given.0, given.1)
+few_by words name rows named given = (rows, (named.0, named.1 ∙ ap (λ (n : Text). Some (n, rows)) given.0), given.1)
 
 pub returns-clause-asked : goal.returns-clause-asked
 returns-clause-asked c =
     let matched = c.in-Ok.ensures.matches (ap is_simple c.in_ok-command.ensures ∙ program_is_simple) in
     let found = matched.1 ∙ ap (λ app. subcommand_of app (map string_bytes c.args.words.now)) c.in_ok-command.ensures in
-    let named = named_by _ _ _ _ (c.in-Some.ensures.name ∙ first_made _ _ _) c.in-Some.ensures.rows found in
+    let read = read_by _ _ c.in_ok-command.ensures (c.in-Ok.ensures.kinds (ap is_simple_and_free c.in_ok-command.ensures ∙ program_is_free)) in
+    let named = named_by _ _ _ _ read (c.in-Some.ensures.name ∙ first_made _ _ _) c.in-Some.ensures.rows found in
     IfOk-weaker c.asked.result _ _ (λ plan given. asked_by _ _ _ plan named given) c.asked.ensures.given
 
 pub returns-clause-few : goal.returns-clause-few
 returns-clause-few c = λ few.
     let matched = c.in-Ok.ensures.matches (ap is_simple c.in_ok-command.ensures ∙ program_is_simple) in
     let found = matched.1 ∙ ap (λ app. subcommand_of app (map string_bytes c.args.words.now)) c.in_ok-command.ensures in
-    let named = named_by _ _ _ _ (c.in-Some.ensures.name ∙ first_made _ _ _) c.in-Some.ensures.rows found in
+    let read = read_by _ _ c.in_ok-command.ensures (c.in-Ok.ensures.kinds (ap is_simple_and_free c.in_ok-command.ensures ∙ program_is_free)) in
+    let named = named_by _ _ _ _ read (c.in-Some.ensures.name ∙ first_made _ _ _) c.in-Some.ensures.rows found in
     few_by _ _ _ named (c.asked.ensures.few few)
+
+pub returns-in-Err-clause-asked : goal.returns-in-Err-clause-asked
+returns-in-Err-clause-asked c =
+    let has = kinds_by _ _ c.in-Err.error c.in_ok-command.ensures (c.in-Err.ensures.kinds (ap is_simple_and_free c.in_ok-command.ensures ∙ program_is_free)) in
+    help_by _ _ has c.refused.result c.refused.ensures.help c.refused.ensures.asked
+
+pub returns-in-Err-clause-bad : goal.returns-in-Err-clause-bad
+returns-in-Err-clause-bad c =
+    let has = kinds_by _ _ c.in-Err.error c.in_ok-command.ensures (c.in-Err.ensures.kinds (ap is_simple_and_free c.in_ok-command.ensures ∙ program_is_free)) in
+    IfErr-weaker c.refused.result _ _ (if_bad_then _ _ (λ mistake. inl (mistaken_by _ _ has mistake))) c.refused.ensures.bad
+
+pub returns-in_default-clause-bad : goal.returns-in_default-clause-bad
+returns-in_default-clause-bad c =
+    let matched = c.in-Ok.ensures.matches (ap is_simple c.in_ok-command.ensures ∙ program_is_simple) in
+    let found = matched.1 ∙ ap (λ app. subcommand_of app (map string_bytes c.args.words.now)) c.in_ok-command.ensures in
+    let read = read_by _ _ c.in_ok-command.ensures (c.in-Ok.ensures.kinds (ap is_simple_and_free c.in_ok-command.ensures ∙ program_is_free)) in
+    if_bad _ c.bad_line.result (inr (inl (read, sym found ∙ none_found _ c.in_default.ensures.rows)))
+
+pub returns-clause-bad : goal.returns-clause-bad
+returns-clause-bad c =
+    let matched = c.in-Ok.ensures.matches (ap is_simple c.in_ok-command.ensures ∙ program_is_simple) in
+    let found = matched.1 ∙ ap (λ app. subcommand_of app (map string_bytes c.args.words.now)) c.in_ok-command.ensures in
+    let read = read_by _ _ c.in_ok-command.ensures (c.in-Ok.ensures.kinds (ap is_simple_and_free c.in_ok-command.ensures ∙ program_is_free)) in
+    let named = named_by _ _ _ _ read (c.in-Some.ensures.name ∙ first_made _ _ _) c.in-Some.ensures.rows found in
+    IfErr-weaker c.asked.result _ _ (if_bad_then _ _ (λ bad. inr (inr (_, _, named, bad)))) c.asked.ensures.bad

@@ -1,5 +1,4 @@
 use Rattle.std.proofs.Common.{◌∙◌, ap}
-use Rattle.clap.specs.Words.{App}
 use Rattle.clap.specs.Simple.{app_of_fields}
 use Rattle.wh_command_line.specs.Lines.{with_version}
 use Rattle.wh_command_line.proofs.command_line.program_alone.Goals as goal
