@@ -1,5 +1,4 @@
-use Rattle.std.proofs.Common.{rules, arith, ◌≡◌, ◌<◌, ◌+◌, [], ◌∷◌, ◌++◌, length}
-use Rattle.wh_poll.specs.Turns.{IsTurn, at_first}
+use Rattle.std.proofs.Common.{rules, arith, ◌<◌, [], ◌∷◌, ◌++◌}
 use Rattle.wh_poll.specs.Stations.{left_at}
 use Rattle.wh_poll.proofs.Turns.{leads_on, turn_more, rose_kept}
 use Rattle.wh_poll.proofs.workers.work_at.Goals as goal
