@@ -1,5 +1,5 @@
 //! The posts of an open host, and a host in one call.
-ghost use Rattle.std.specs.Prelude.{◌≡◌, ◌≤◌, ◌+◌, ◌↔◌, IfOk, Err, length, map, replicate, vec_len};
+ghost use Rattle.std.specs.Prelude.{◌≡◌, ◌≤◌, ◌+◌, ◌↔◌, IfOk, Err, OnErr, length, map, replicate, vec_len};
 ghost use Rattle.std.specs.List.{AllZip};
 ghost use Rattle.wh_ledger.specs.Shares.{no_shares, sums_of};
 ghost use Rattle.wh_host.specs.Machine.{IsConfig, totals_of};
@@ -65,10 +65,10 @@ pub fn run_posts<
     ensures told { IfOk result (λ ended.
         AllZip (IsLedBy W.program S.tells S.delivers S.answers A.may O.hears no_shares) posts.items ended.1.items) }
 {
-    let (seats_back, left) = room_for(alloc, posts.len())?;
     let jobs = zipped(alloc, seats, posts)?;
+    let room = room_for(alloc, jobs.len())?;
     let ended = run_jobs(rt, alloc, host, gate, jobs)?;
-    Ok(unzipped(ended, seats_back, left))
+    Ok(unzipped(ended, room))
 }
 
 /// What is left of a host whose workers have ended.
@@ -173,7 +173,7 @@ fn run_with<
         end.totals.taken ≡ end.totals.completed + end.totals.failed + end.totals.in_hand) }
 {
     let (host, seats) = Host::<W, T, C, F>::open(alloc, config, taken, completed, failed)?;
-    Ok(run_open(rt, alloc, host, seats, posts, gate)?)
+    run_open(rt, alloc, host, seats, posts, gate)
 }
 
 /// Runs the workers of a host that has just opened, and closes it.
@@ -194,9 +194,10 @@ fn run_open<
     seats: Vec<Seat<T, C, F>>,
     posts: Vec<Post<S, A, O>>,
     gate: &G,
-) -> Result<HostEnd<S, A, O>, OutOfMemory>
+) -> Result<HostEnd<S, A, O>, OpenFault>
     requires seats { seats.items ≡ replicate (vec_len posts) no_shares }
     requires parts { T.parts ≡ vec_len posts }
+    ensures fault { OnErr result (result ≡ Err OpenFault.OutOfMemory) }
     ensures left { IfOk result (λ end. AreLeft W.program S.tells S.delivers S.answers S.failures S.comes_from
         A.may O.hears posts.items end.workers.items) }
     ensures gathered { IfOk result (λ end.

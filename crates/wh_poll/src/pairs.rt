@@ -32,8 +32,8 @@ pub(crate) fn room_for<A: Drop, B: Drop>(
     alloc: Global,
     count: usize,
 ) -> Result<(Vec<A>, Vec<B>), OutOfMemory>
-    ensures firsts { IfOk result (λ rooms. (rooms.0.items ≡ []) × (count ≤ vec_capacity rooms.0)) }
-    ensures seconds { IfOk result (λ rooms. (rooms.1.items ≡ []) × (count ≤ vec_capacity rooms.1)) }
+    ensures firsts { IfOk result (λ room. (room.0.items ≡ []) × (count ≤ vec_capacity room.0)) }
+    ensures seconds { IfOk result (λ room. (room.1.items ≡ []) × (count ≤ vec_capacity room.1)) }
 {
     let mut firsts = Vec::new(alloc);
     firsts.reserve(count)?;
@@ -42,17 +42,17 @@ pub(crate) fn room_for<A: Drop, B: Drop>(
     Ok((firsts, seconds))
 }
 
-/// The firsts of the pairs and their seconds, in lists with room for them.
+/// The firsts of the pairs and their seconds, in two empty lists with room for them.
 pub(crate) fn unzipped<A: Drop, B: Drop>(
     mut pairs: Vec<(A, B)>,
-    mut firsts: Vec<A>,
-    mut seconds: Vec<B>,
+    room: (Vec<A>, Vec<B>),
 ) -> (Vec<A>, Vec<B>)
-    requires firsts { (firsts.items ≡ []) × (vec_len pairs ≤ vec_capacity firsts) }
-    requires seconds { (seconds.items ≡ []) × (vec_len pairs ≤ vec_capacity seconds) }
+    requires firsts { (room.0.items ≡ []) × (vec_len pairs ≤ vec_capacity room.0) }
+    requires seconds { (room.1.items ≡ []) × (vec_len pairs ≤ vec_capacity room.1) }
     ensures firsts { result.0.items ≡ map (λ pair. pair.0) pairs.items }
     ensures seconds { result.1.items ≡ map (λ pair. pair.1) pairs.items }
 {
+    let (mut firsts, mut seconds) = room;
     while let Some((first, second)) = pairs.pop() {
         firsts.push_reserved(first);
         seconds.push_reserved(second);

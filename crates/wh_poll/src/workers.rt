@@ -1,5 +1,5 @@
 //! Workers, one thread for each seat.
-ghost use Rattle.std.specs.Prelude.{◌≡◌, ◌≤◌, ◌<◌, ◌+◌, ℕ, [], None, IfOk, not, length, map, vec_len, slice_index_or};
+ghost use Rattle.std.specs.Prelude.{◌≡◌, ◌≤◌, ◌<◌, ◌+◌, ℕ, [], None, IfOk, not, length, map, vec_capacity, vec_len, slice_index_or};
 ghost use Rattle.std.specs.Bool.{OnTrue};
 ghost use denote.Param.Send.{IsSend};
 ghost use Rattle.wh_tasks.specs.Source.{KeepsOrigin, SameTasks, FailsOnly, RoseIfFailed};
@@ -333,30 +333,30 @@ pub fn run_workers<
         AllAnsweredWithin (map (λ source. length (S.answers source)) sources.items) seats.items
         (map (λ worker. length (S.answers worker.source)) workers.items) (map (λ worker. worker.seat) workers.items)) }
 {
-    let mut workers = Vec::new(alloc);
-    workers.reserve(seats.len())?;
     let posts = posts_of(alloc, sources, handlers, turns)?;
     let jobs = zipped(alloc, seats, posts)?;
-    workers_of(run_jobs(rt, alloc, host, gate, jobs)?, workers)
+    let mut room = Vec::new(alloc);
+    room.reserve(jobs.len())?;
+    let ended = run_jobs(rt, alloc, host, gate, jobs)?;
+    Ok(workers_of(ended, room))
 }
 
-/// The workers that come back from their posts, in a list with room for them.
+/// The workers that come back from their posts, in an empty list with room for them.
 fn workers_of<T: Ledger, C: Ledger, F: Ledger, S: Drop, A: Drop>(
-    ended: Vec<Ended<T, C, F, S, A, NoObserver>>,
+    mut ended: Vec<Ended<T, C, F, S, A, NoObserver>>,
     mut workers: Vec<Worker<T, C, F, S>>,
-) -> Result<Vec<Worker<T, C, F, S>>, OutOfMemory>
-    requires { workers.items ≡ [] }
-    ensures seats { IfOk result (λ workers.
-        map (λ worker. worker.seat) workers.items ≡ map (λ end. end.0) ended.items) }
-    ensures sources { IfOk result (λ workers.
-        map (λ worker. worker.source) workers.items ≡ map (λ end. end.1.source) ended.items) }
-    ensures faults { IfOk result (λ workers.
-        map (λ worker. worker.fault) workers.items ≡ map (λ end. end.1.fault) ended.items) }
+) -> Vec<Worker<T, C, F, S>>
+    requires empty { workers.items ≡ [] }
+    requires room { vec_len ended ≤ vec_capacity workers }
+    ensures seats { map (λ worker. worker.seat) result.items ≡ map (λ end. end.0) ended.items }
+    ensures sources { map (λ worker. worker.source) result.items ≡ map (λ end. end.1.source) ended.items }
+    ensures faults { map (λ worker. worker.fault) result.items ≡ map (λ end. end.1.fault) ended.items }
 {
-    for end in ended {
-        workers.push(worker_of(end))?;
+    while let Some(end) = ended.pop() {
+        workers.push_reserved(worker_of(end));
     }
-    Ok(workers)
+    workers.reverse();
+    workers
 }
 
 /// Runs a worker in a thread of its own for each job.
