@@ -3,6 +3,7 @@
 #![tactic(auto)]
 
 mod histories;
+mod hits;
 mod judging;
 mod same;
 mod soak;

@@ -1,8 +1,9 @@
 //! A soak: workers with a thread each serve tasks while another thread evicts runs at random.
-ghost use Rattle.std.specs.Prelude.{◌≡◌, ◌<◌, length};
+ghost use Rattle.std.specs.Prelude.{◌≡◌, IfOk, replicate, vec_len};
 ghost use denote.Param.Send.{IsSend};
-ghost use Rattle.wh_host.specs.Machine.{IsConfig};
+ghost use Rattle.wh_ledger.specs.Shares.{no_shares};
 
+use crate::hits::HitCount;
 use rand_core::utils::NextWord;
 use rand_pcg::Pcg32;
 use std::alloc::{AllocError, Global};
@@ -14,10 +15,10 @@ use std::sync::ledger::{Blank, Ledger};
 use std::thread::Threads;
 use std::time::{Clock, Duration, Instant};
 use std::{io, thread};
-use wh_events::RunKey;
+use wh_events::{OutOfMemory, RunKey};
 use wh_host::{Config, Evict, Host, Totals};
 use wh_ledger::Seat;
-use wh_poll::{NoActivities, OpenGate, Served, TaskSource, serve_one};
+use wh_poll::{Left, NoActivities, OpenGate, Post, TaskSource, run_posts};
 use wh_slots::{ReserveFault, SlotKind};
 use wh_workflow::Workflow;
 
@@ -61,82 +62,33 @@ pub struct Findings<S> {
     pub sources: Vec<S>,
 }
 
-/// What a worker begins with, and what it hands back, with the hits and the misses that it counted.
-#[derive(Drop)]
-struct Job<T: Ledger, C: Ledger, F: Ledger, S> {
-    seat: Seat<T, C, F>,
-    source: S,
-    hits: u64,
-    misses: u64,
-}
+/// What a worker begins with.
+type SoakPost<S> = Post<S, NoActivities, HitCount>;
 
-/// What is served with which keys to be evicted, and how many turns a worker has at most.
-#[derive(Clone, Copy)]
-struct Load<'a> {
-    keys: &'a [RunKey],
-    turns: u64,
-}
+/// What a worker leaves.
+type SoakLeft<S> = Left<S, NoActivities, HitCount>;
 
-/// A job for each seat and source.
-fn jobs_of<T: Ledger, C: Ledger, F: Ledger, S: Drop>(
+/// The seats that come back, and what their workers leave.
+type Ended<T, C, F, S> = (Vec<Seat<T, C, F>>, Vec<SoakLeft<S>>);
+
+/// A post for each source, with so many turns at most.
+fn posts_of<S: Drop>(
     alloc: Global,
-    seats: Vec<Seat<T, C, F>>,
     sources: Vec<S>,
-) -> Result<Vec<Job<T, C, F, S>>, AllocError> {
-    let mut jobs = Vec::new(alloc);
-    for (seat, source) in seats.into_iter().zip(sources) {
-        jobs.push(Job {
-            seat,
+    turns: u64,
+) -> Result<Vec<SoakPost<S>>, AllocError>
+    ensures { IfOk result (λ posts. vec_len posts ≡ vec_len sources) }
+{
+    let mut posts = Vec::new(alloc);
+    for source in sources {
+        posts.push(Post {
             source,
-            hits: 0,
-            misses: 0,
+            handler: NoActivities { alloc },
+            observer: HitCount { hits: 0, misses: 0 },
+            turns,
         })?;
     }
-    Ok(jobs)
-}
-
-/// Serves a workflow task of the job's source, if it has one. Says whether the source is closed.
-fn serve<R: Wait, W: Workflow, T: Ledger, C: Ledger, F: Ledger, S: TaskSource>(
-    rt: &R,
-    alloc: Global,
-    host: &Host<W, T, C, F>,
-    job: &mut Job<T, C, F, S>,
-) -> bool {
-    let served = serve_one(
-        rt,
-        alloc,
-        host,
-        &mut job.seat,
-        &mut job.source,
-        &mut NoActivities { alloc },
-        &OpenGate,
-        SlotKind::Workflow,
-    );
-    if let Ok(Served::Workflow { hit, .. }) = served {
-        if hit {
-            job.hits = job.hits.saturating_add(1);
-        } else {
-            job.misses = job.misses.saturating_add(1);
-        }
-    }
-    matches!(served, Ok(Served::Closed))
-}
-
-/// Serves the workflow tasks of the job's source until it is closed.
-fn work<R: Wait, W: Workflow, T: Ledger, C: Ledger, F: Ledger, S: TaskSource>(
-    rt: &R,
-    alloc: Global,
-    host: &Host<W, T, C, F>,
-    turns: u64,
-    job: Job<T, C, F, S>,
-) -> Job<T, C, F, S> {
-    let mut job = job;
-    for _turn in 0..turns {
-        if serve(rt, alloc, host, &mut job) {
-            break;
-        }
-    }
-    job
+    Ok(posts)
 }
 
 /// Evicts a run, and says whether it was cached.
@@ -181,33 +133,8 @@ fn evict_all<R: Wait + Clock, W: Workflow, T: Ledger, C: Ledger, F: Ledger>(
     evicted
 }
 
-/// Runs each job in a thread of its own.
-fn run_jobs<
-    R: Threads + Wait + Sync,
-    W: Workflow + Send,
-    T: Ledger + Send,
-    C: Ledger + Send,
-    F: Ledger + Send,
-    S: TaskSource + Send + Drop,
->(
-    rt: &R,
-    alloc: Global,
-    host: &Host<W, T, C, F>,
-    turns: u64,
-    jobs: Vec<Job<T, C, F, S>>,
-) -> Result<Vec<Job<T, C, F, S>>, AllocError> {
-    thread::map_vec(
-        rt,
-        jobs,
-        &|job: Job<T, C, F, S>| -> Job<T, C, F, S>
-            requires workflow { IsSend W.row }
-            requires state { IsSend W.State.row }
-        { work(rt, alloc, host, turns, job) },
-    )
-}
-
-/// Runs the jobs, and beside them evicts runs.
-fn serve_jobs<
+/// Runs the posts, and beside them evicts runs. Says also how many of these were cached.
+fn serve_posts<
     R: Threads + Wait + Clock + Sync,
     W: Workflow + Send,
     T: Ledger + Send,
@@ -218,22 +145,66 @@ fn serve_jobs<
     rt: &R,
     alloc: Global,
     host: &Host<W, T, C, F>,
-    load: Load,
-    jobs: Vec<Job<T, C, F, S>>,
-) -> (Result<Vec<Job<T, C, F, S>>, AllocError>, u64) {
+    seats: Vec<Seat<T, C, F>>,
+    posts: Vec<SoakPost<S>>,
+    keys: &[RunKey],
+) -> (Result<Ended<T, C, F, S>, OutOfMemory>, u64)
+    requires { seats.items ≡ replicate (vec_len posts) no_shares }
+{
     let have_ended = AtomicBool::new(false);
     thread::join(
         rt,
-        || -> Result<Vec<Job<T, C, F, S>>, AllocError>
+        || -> Result<Ended<T, C, F, S>, OutOfMemory>
             requires workflow { IsSend W.row }
             requires state { IsSend W.State.row }
+            requires seats { seats.items ≡ replicate (vec_len posts) no_shares }
         {
-            let done = run_jobs(rt, alloc, host, load.turns, jobs);
+            let ended = run_posts(rt, alloc, host, seats, posts, &OpenGate);
             have_ended.store(true, Ordering::SeqCst);
-            done
+            ended
         },
-        || evict_all(rt, host, load.keys, &have_ended),
+        || evict_all(rt, host, keys, &have_ended),
     )
+}
+
+/// What happened while the posts ran.
+#[derive(Clone, Copy)]
+struct Run {
+    /// How many runs were cached when they were evicted.
+    evicted: u64,
+    /// For how many microseconds the workers served.
+    micros: u64,
+}
+
+/// Runs the posts while runs are evicted, and measures the time.
+fn serve_timed<
+    R: Threads + Wait + Clock + Sync,
+    W: Workflow + Send,
+    T: Ledger + Send,
+    C: Ledger + Send,
+    F: Ledger + Send,
+    S: TaskSource + Send + Drop,
+>(
+    rt: &R,
+    alloc: Global,
+    host: &Host<W, T, C, F>,
+    seats: Vec<Seat<T, C, F>>,
+    posts: Vec<SoakPost<S>>,
+    keys: &[RunKey],
+) -> io::Result<(Ended<T, C, F, S>, Run)>
+    requires { seats.items ≡ replicate (vec_len posts) no_shares }
+{
+    let begun = Instant::now(rt)?;
+    let (ended, evicted) = serve_posts(rt, alloc, host, seats, posts, keys);
+    let elapsed = begun.elapsed(rt)?;
+    let run = Run {
+        evicted,
+        micros: u64::try_from(elapsed.as_micros()).unwrap_or(u64::MAX),
+    };
+    match ended {
+        Ok(ended) => Ok((ended, run)),
+        Err(OutOfMemory) => Err(ErrorKind::OutOfMemory.into()),
+    }
 }
 
 /// Drains the host, and says whether no slot of either kind can be reserved then.
@@ -248,23 +219,23 @@ fn drain<R: Wait, W: Workflow, T: Ledger, C: Ledger, F: Ledger>(
         && matches!(activity, Err(ReserveFault::Draining))
 }
 
-/// Appends the seat and the source of a job.
-fn take_apart<T: Ledger, C: Ledger, F: Ledger, S: Drop>(
-    job: Job<T, C, F, S>,
-    seats: &mut Vec<Seat<T, C, F>>,
-    sources: &mut Vec<S>,
-) -> Result<(), AllocError> {
-    seats.push(job.seat)?;
-    sources.push(job.source)?;
-    Ok(())
+/// Closes the host.
+fn close<W: Workflow, T: Ledger, C: Ledger, F: Ledger>(
+    host: Host<W, T, C, F>,
+    seats: Vec<Seat<T, C, F>>,
+) -> io::Result<Totals> {
+    match host.close(seats) {
+        Ok(totals) => Ok(totals),
+        Err(_) => Err(ErrorKind::Other.into()),
+    }
 }
 
-/// What the workers of the jobs counted, where their sources had so many tasks.
-fn tally_of<T: Ledger, C: Ledger, F: Ledger, S>(jobs: &[Job<T, C, F, S>], tasks: u64) -> Tally {
+/// What the workers counted, where their sources had so many tasks.
+fn tally_of<S>(left: &[SoakLeft<S>], tasks: u64) -> Tally {
     let (mut hits, mut misses) = (0u64, 0u64);
-    for job in jobs {
-        hits = hits.saturating_add(job.hits);
-        misses = misses.saturating_add(job.misses);
+    for worker in left {
+        hits = hits.saturating_add(worker.observer.hits);
+        misses = misses.saturating_add(worker.observer.misses);
     }
     Tally {
         tasks,
@@ -273,7 +244,16 @@ fn tally_of<T: Ledger, C: Ledger, F: Ledger, S>(jobs: &[Job<T, C, F, S>], tasks:
     }
 }
 
-/// Opens a host, serves the tasks, drains the host and closes it.
+/// The sources that the workers leave.
+fn sources_left<S: Drop>(alloc: Global, left: Vec<SoakLeft<S>>) -> Result<Vec<S>, AllocError> {
+    let mut sources = Vec::new(alloc);
+    for worker in left {
+        sources.push(worker.source)?;
+    }
+    Ok(sources)
+}
+
+/// Opens a host, runs the posts, drains the host and closes it.
 fn soak_with<
     R: Threads + Wait + Clock + Sync,
     W: Workflow + Send,
@@ -284,7 +264,7 @@ fn soak_with<
 >(
     rt: &R,
     alloc: Global,
-    sources: Vec<S>,
+    posts: Vec<SoakPost<S>>,
     tasks: u64,
     keys: &[RunKey],
     config: Config,
@@ -292,6 +272,7 @@ fn soak_with<
     completed: Blank,
     failed: Blank,
 ) -> io::Result<Findings<S>>
+    requires seats { config.seats ≡ vec_len posts }
     requires taken { (taken.name ≡ T.name) × (taken.parts ≡ T.parts) × (taken.parts ≡ config.seats) }
     requires completed { (completed.name ≡ C.name) × (completed.parts ≡ C.parts) × (completed.parts ≡ config.seats) }
     requires failed { (failed.name ≡ F.name) × (failed.parts ≡ F.parts) × (failed.parts ≡ config.seats) }
@@ -299,37 +280,22 @@ fn soak_with<
     let Ok((host, seats)) = Host::<W, T, C, F>::open(alloc, config, taken, completed, failed) else {
         return Err(ErrorKind::InvalidInput.into());
     };
-    let jobs = jobs_of(alloc, seats, sources)?;
-    let begun = Instant::now(rt)?;
-    let load = Load {
-        keys,
-        turns: tasks.saturating_add(1),
-    };
-    let (done, evicted) = serve_jobs(rt, alloc, &host, load, jobs);
-    let elapsed = begun.elapsed(rt)?;
+    let ((seats, left), run) = serve_timed(rt, alloc, &host, seats, posts, keys)?;
     let is_drained = drain(rt, &host);
-    let done = done?;
-    let tally = tally_of(done.as_slice(), tasks);
-    let mut seats = Vec::new(alloc);
-    let mut sources = Vec::new(alloc);
-    for job in done {
-        take_apart(job, &mut seats, &mut sources)?;
-    }
-    let Ok(totals) = host.close(seats) else {
-        return Err(ErrorKind::Other.into());
-    };
+    let totals = close(host, seats)?;
     Ok(Findings {
         totals,
-        tally,
-        evicted,
+        tally: tally_of(left.as_slice(), tasks),
+        evicted: run.evicted,
         is_drained,
-        micros: u64::try_from(elapsed.as_micros()).unwrap_or(u64::MAX),
-        sources,
+        micros: run.micros,
+        sources: sources_left(alloc, left)?,
     })
 }
 
 /// Serves so many tasks of the sources, each by a worker, with a cache of so many runs, while the
-/// runs of the keys are evicted.
+/// runs of the keys are evicted. A worker serves each kind of tasks by turns, so it has two turns
+/// for each task, and two by which it learns that there are no more.
 pub fn soak<W: Workflow + Send, S: TaskSource + Send + Drop, R: Threads + Wait + Clock + Sync>(
     rt: &R,
     alloc: Global,
@@ -338,18 +304,20 @@ pub fn soak<W: Workflow + Send, S: TaskSource + Send + Drop, R: Threads + Wait +
     keys: &[RunKey],
     cache: usize,
 ) -> io::Result<Findings<S>> {
+    let turns = tasks.saturating_mul(2).saturating_add(2);
+    let posts = posts_of(alloc, sources, turns)?;
     let config = Config {
         workflow_slots: SLOTS,
         activity_slots: SLOTS,
         cache,
         cache_events: 0,
-        seats: sources.len(),
+        seats: posts.len(),
     };
-    let seats = sources.len() as u64;
+    let seats = posts.len() as u64;
     soak_with::<R, W, Brand, Brand, Brand, S>(
         rt,
         alloc,
-        sources,
+        posts,
         tasks,
         keys,
         config,

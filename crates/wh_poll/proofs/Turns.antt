@@ -1,6 +1,6 @@
 -- What turns of a worker have done.
 use Rattle.std.proofs.Common.{◌≡◌, ◌≤◌, inl, inr, arith, ℕ, Bool, List, [], ◌∷◌, ◌++◌, Option, Some, None, ap, subst, ◌∙◌, refl}
-use Rattle.std.specs.Prelude.{Result, Ok, Err, IfSome, ◌+◌, length}
+use Rattle.std.specs.Prelude.{Result, Ok, Err, ◌+◌, length}
 use Rattle.std.proofs.lemmas.List.{length-append}
 use Rattle.wh_slots.specs.declared.TaskName.{TaskName}
 use Rattle.wh_events.specs.declared.event.Event.{Event}

@@ -1,5 +1,5 @@
 -- What one turn of a worker does.
-use Rattle.std.specs.Prelude.{◌≡◌, ◌⊎◌, ℕ, ◌+◌, ◌≤◌, Bool, List, [], ◌∷◌, ◌++◌, Option, Some, None, Result, Ok, Err, IfSome}
+use Rattle.std.specs.Prelude.{◌≡◌, ◌⊎◌, ℕ, ◌+◌, ◌≤◌, Bool, List, [], ◌∷◌, ◌++◌, Option, Result, Ok, Err, IfSome}
 use Rattle.wh_slots.specs.declared.SlotKind.{SlotKind}
 use Rattle.wh_slots.specs.declared.SlotKind.TheVariants.{Workflow as WorkflowKind, Activity as ActivityKind}
 use Rattle.wh_slots.specs.declared.TaskName.{TaskName}
@@ -24,7 +24,6 @@ use Rattle.wh_tasks.specs.declared.task.StepFault.TheVariants.{Source, OutOfMemo
 use Rattle.wh_poll.specs.declared.answer.Reply.{Reply}
 use Rattle.wh_poll.specs.declared.serve.Served.{Served}
 use Rattle.wh_poll.specs.declared.serve.Served.TheVariants.{Workflow, Activity, NoMemory, Repeated, Idle, Closed, NoSlot, Draining, NumbersSpent}
-use Rattle.wh_tasks.specs.declared.source.Sent.{Sent}
 use Rattle.wh_tasks.specs.declared.source.Sent.TheVariants.{Workflow as OfWorkflow, Activity as OfActivity}
 use Rattle.wh_tasks.specs.Source.{Delivers, Tells, Answerable, Answers, Workflow as WorkflowDelivery, Activity as ActivityDelivery, RoseIfFailed}
 use Rattle.wh_tasks.specs.Tasks.{Steps, IsAnswer}

@@ -1,13 +1,11 @@
 -- The turns of a worker, one after the other.
-use Rattle.std.specs.Prelude.{◌≡◌, ℕ, ◌+◌, ◌≤◌, List, [], ◌∷◌, length, map, None, Result}
+use Rattle.std.specs.Prelude.{◌≡◌, ℕ, ◌+◌, ◌≤◌, List, [], ◌∷◌, length, None, Result}
 use Rattle.std.specs.List.{AllZip}
 use Rattle.wh_workflow.specs.Law.{Program}
 use Rattle.wh_ledger.specs.declared.Shares.{Shares}
 use Rattle.wh_tasks.specs.declared.source.SourceFault.{SourceFault}
-use Rattle.wh_ledger.specs.Shares.{no_shares, sums_of}
-use Rattle.wh_host.specs.declared.reply.Totals.{Totals}
-use Rattle.wh_host.specs.Machine.{totals_of}
-use Rattle.wh_tasks.specs.Source.{Answers, Answerable, Delivers, Tells, KeepsOrigin, RoseIfFailed}
+use Rattle.wh_ledger.specs.Shares.{no_shares}
+use Rattle.wh_tasks.specs.Source.{Answers, Answerable, Delivers, Tells, KeepsOrigin, RoseIfFailed, SameTasks}
 use Rattle.wh_poll.specs.declared.serve.Served.{Served}
 use Rattle.wh_poll.specs.declared.post.Post.{Post}
 use Rattle.wh_poll.specs.declared.post.Left.{Left}
@@ -51,10 +49,22 @@ pub record IsLedBy {P S A O : Type 0} (program : Program P) (tells : S → Tells
   pub within : length turns ≤ post.turns
   pub led : Leads (IsTurn program tells delivers answers may hears) (at_first counted post) turns left
 
--- what the workers of a host leave of their posts, and what all of them counted
+-- what a worker's job, a seat with a post, has become: the seat, and what is left of the post
+pub record IsWorked {P S A O : Type 0} (program : Program P) (tells : S → Tells) (delivers : S → Delivers)
+    (answers : S → Answers) (failures : S → ℕ) (comes_from : S → S → Type 0) (may : A → Answerable) (hears : Hears O)
+    (job : Shares × Post S A O) (ended : Shares × Left S A O) : Type 0 where
+  pub seat : ended.0 ≡ ended.1.counted
+  pub taken : ended.0.taken ≤ job.0.taken + job.1.turns
+  pub fault : RoseIfFailed ended.1.fault (failures job.1.source) (failures ended.1.source)
+  pub same : SameTasks (delivers job.1.source) (tells job.1.source) (delivers ended.1.source) (tells ended.1.source)
+  pub origin : KeepsOrigin comes_from job.1.source ended.1.source
+  pub answered : length (answers ended.1.source) + job.0.taken ≤ length (answers job.1.source) + ended.0.taken
+  pub told : IsLedBy program tells delivers answers may hears job.0 job.1 ended.1
+
+-- what workers leave of their posts, whose seats had counted nothing
 pub record AreLeft {P S A O : Type 0} (program : Program P) (tells : S → Tells) (delivers : S → Delivers)
     (answers : S → Answers) (failures : S → ℕ) (comes_from : S → S → Type 0) (may : A → Answerable) (hears : Hears O)
-    (posts : List (Post S A O)) (lefts : List (Left S A O)) (totals : Totals) : Type 0 where
+    (posts : List (Post S A O)) (lefts : List (Left S A O)) : Type 0 where
   pub count : length lefts ≡ length posts
   pub turns : AllZip (λ post left. left.counted.taken ≤ post.turns) posts lefts
   pub faults : AllZip (λ post left. RoseIfFailed left.fault (failures post.source) (failures left.source)) posts lefts
@@ -62,5 +72,3 @@ pub record AreLeft {P S A O : Type 0} (program : Program P) (tells : S → Tells
   pub answered : AllZip (λ post left. length (answers left.source) ≤ length (answers post.source) + left.counted.taken)
       posts lefts
   pub told : AllZip (IsLedBy program tells delivers answers may hears no_shares) posts lefts
-  pub gathered : totals ≡ totals_of (sums_of (map (λ left. left.counted) lefts))
-  pub balanced : totals.taken ≡ totals.completed + totals.failed + totals.in_hand

@@ -1,15 +1,15 @@
-//! A host in one call.
-ghost use Rattle.std.specs.Prelude.{◌≡◌, ◌≤◌, ◌+◌, ◌↔◌, [], IfOk, Err, length, map, replicate, vec_len};
+//! The posts of an open host, and a host in one call.
+ghost use Rattle.std.specs.Prelude.{◌≡◌, ◌≤◌, ◌+◌, ◌↔◌, IfOk, Err, OnErr, length, map, replicate, vec_len};
 ghost use Rattle.std.specs.List.{AllZip};
 ghost use Rattle.wh_ledger.specs.Shares.{no_shares, sums_of};
 ghost use Rattle.wh_host.specs.Machine.{IsConfig, totals_of};
 ghost use Rattle.wh_tasks.specs.Source.{KeepsOrigin, RoseIfFailed};
 ghost use Rattle.wh_poll.specs.Turns.{AreLeft, IsLedBy};
-ghost use Rattle.wh_poll.specs.Stations.{left_at};
 
 use crate::observer::Observer;
+use crate::pairs::{room_for, unzipped, zipped};
 use crate::post::{Left, Post};
-use crate::workers::{Station, jobs_of, run_jobs};
+use crate::workers::run_jobs;
 use std::alloc::Global;
 use std::marker::Brand;
 use std::sync::Wait;
@@ -20,6 +20,56 @@ use wh_host::{Config, Host, OpenFault, Totals};
 use wh_ledger::Seat;
 use wh_tasks::{ActivityHandler, Gate, TaskSource};
 use wh_workflow::Workflow;
+
+/// Runs a worker in a thread of its own for each post, on a host that stays the caller's: another
+/// thread may lock it meanwhile, to evict runs or to drain it, and it is closed with the seats that
+/// come back. There is a seat for each post, in their order, and none has counted anything yet.
+///
+/// The seats and what the workers leave come back in the order of the posts. Each worker leaves its
+/// post as its turns led to it, with its handler and its observer, which was told of each turn; its
+/// source comes from the one of the post, and was sent at most as many answers as the worker took
+/// tasks. `OutOfMemory` where no room was found. Then the seats and the posts are given up, so the
+/// host can't be closed any more, and what workers did until then they have done.
+pub fn run_posts<
+    R: Threads + Wait + Sync,
+    W: Workflow + Send,
+    T: Ledger + Send,
+    C: Ledger + Send,
+    F: Ledger + Send,
+    S: TaskSource + Send + Drop,
+    A: ActivityHandler + Send + Drop,
+    O: Observer + Send + Drop,
+    G: Gate + Sync,
+>(
+    rt: &R,
+    alloc: Global,
+    host: &Host<W, T, C, F>,
+    seats: Vec<Seat<T, C, F>>,
+    posts: Vec<Post<S, A, O>>,
+    gate: &G,
+) -> Result<(Vec<Seat<T, C, F>>, Vec<Left<S, A, O>>), OutOfMemory>
+    requires seats { seats.items ≡ replicate (vec_len posts) no_shares }
+    ensures seats { IfOk result (λ ended. vec_len ended.0 ≡ vec_len posts) }
+    ensures count { IfOk result (λ ended. vec_len ended.1 ≡ vec_len posts) }
+    ensures counted { IfOk result (λ ended. ended.0.items ≡ map (λ left. left.counted) ended.1.items) }
+    ensures turns { IfOk result (λ ended.
+        AllZip (λ post left. left.counted.taken ≤ post.turns) posts.items ended.1.items) }
+    ensures faults { IfOk result (λ ended.
+        AllZip (λ post left. RoseIfFailed left.fault (S.failures post.source) (S.failures left.source))
+        posts.items ended.1.items) }
+    ensures origins { IfOk result (λ ended.
+        AllZip (λ post left. KeepsOrigin S.comes_from post.source left.source) posts.items ended.1.items) }
+    ensures answered { IfOk result (λ ended.
+        AllZip (λ post left. length (S.answers left.source) ≤ length (S.answers post.source) + left.counted.taken)
+        posts.items ended.1.items) }
+    ensures told { IfOk result (λ ended.
+        AllZip (IsLedBy W.program S.tells S.delivers S.answers A.may O.hears no_shares) posts.items ended.1.items) }
+{
+    let jobs = zipped(alloc, seats, posts)?;
+    let room = room_for(alloc, jobs.len())?;
+    let ended = run_jobs(rt, alloc, host, gate, jobs)?;
+    Ok(unzipped(ended, room))
+}
 
 /// What is left of a host whose workers have ended.
 #[derive(Drop)]
@@ -116,10 +166,14 @@ fn run_with<
     requires failed { (failed.name ≡ F.name) × (failed.parts ≡ F.parts) × (failed.parts ≡ config.seats) }
     ensures bad { (result ≡ Err OpenFault.BadConfig) ↔ (¬ IsConfig config) }
     ensures left { IfOk result (λ end. AreLeft W.program S.tells S.delivers S.answers S.failures S.comes_from
-        A.may O.hears posts.items end.workers.items end.totals) }
+        A.may O.hears posts.items end.workers.items) }
+    ensures gathered { IfOk result (λ end.
+        end.totals ≡ totals_of (sums_of (map (λ left. left.counted) end.workers.items))) }
+    ensures balanced { IfOk result (λ end.
+        end.totals.taken ≡ end.totals.completed + end.totals.failed + end.totals.in_hand) }
 {
     let (host, seats) = Host::<W, T, C, F>::open(alloc, config, taken, completed, failed)?;
-    Ok(run_open(rt, alloc, host, seats, posts, gate)?)
+    run_open(rt, alloc, host, seats, posts, gate)
 }
 
 /// Runs the workers of a host that has just opened, and closes it.
@@ -140,82 +194,33 @@ fn run_open<
     seats: Vec<Seat<T, C, F>>,
     posts: Vec<Post<S, A, O>>,
     gate: &G,
-) -> Result<HostEnd<S, A, O>, OutOfMemory>
+) -> Result<HostEnd<S, A, O>, OpenFault>
     requires seats { seats.items ≡ replicate (vec_len posts) no_shares }
     requires parts { T.parts ≡ vec_len posts }
-    ensures { IfOk result (λ end. AreLeft W.program S.tells S.delivers S.answers S.failures S.comes_from
-        A.may O.hears posts.items end.workers.items end.totals) }
+    ensures fault { OnErr result (result ≡ Err OpenFault.OutOfMemory) }
+    ensures left { IfOk result (λ end. AreLeft W.program S.tells S.delivers S.answers S.failures S.comes_from
+        A.may O.hears posts.items end.workers.items) }
+    ensures gathered { IfOk result (λ end.
+        end.totals ≡ totals_of (sums_of (map (λ left. left.counted) end.workers.items))) }
+    ensures balanced { IfOk result (λ end.
+        end.totals.taken ≡ end.totals.completed + end.totals.failed + end.totals.in_hand) }
 {
-    let mut back = Vec::new(alloc);
-    back.reserve(seats.len())?;
-    let mut left = Vec::new(alloc);
-    left.reserve(seats.len())?;
-    let jobs = jobs_of(alloc, seats, posts)?;
-    let stations = run_jobs(rt, alloc, &host, gate, jobs)?;
-    close(host, stations, back, left)
-}
-
-/// Closes a host whose workers have ended, by lists with room for their seats and what they leave.
-fn close<W: Workflow, T: Ledger, C: Ledger, F: Ledger, S: Drop, A: Drop, O: Drop>(
-    host: Host<W, T, C, F>,
-    stations: Vec<Station<T, C, F, S, A, O>>,
-    seats: Vec<Seat<T, C, F>>,
-    left: Vec<Left<S, A, O>>,
-) -> Result<HostEnd<S, A, O>, OutOfMemory>
-    requires seats { seats.items ≡ [] }
-    requires left { left.items ≡ [] }
-    requires all { T.parts ≡ vec_len stations }
-    ensures { IfOk result (λ end. (end.workers.items ≡ map left_at stations.items)
-        × (end.totals ≡ totals_of (sums_of (map (λ station. station.seat) stations.items)))
-        × (end.totals.taken ≡ end.totals.completed + end.totals.failed + end.totals.in_hand)) }
-{
-    let (seats, workers) = leave_all(stations, seats, left)?;
-    let Ok(totals) = host.close(seats) else {
-        unreachable!()
-    };
+    let (seats, workers) = run_posts(rt, alloc, &host, seats, posts, gate)?;
+    let totals = close(host, seats);
     Ok(HostEnd { workers, totals })
 }
 
-/// The seats of the workers, and what these leave, in lists with room for them.
-fn leave_all<T: Ledger, C: Ledger, F: Ledger, S: Drop, A: Drop, O: Drop>(
-    stations: Vec<Station<T, C, F, S, A, O>>,
-    mut seats: Vec<Seat<T, C, F>>,
-    mut left: Vec<Left<S, A, O>>,
-) -> Result<(Vec<Seat<T, C, F>>, Vec<Left<S, A, O>>), OutOfMemory>
-    requires seats { seats.items ≡ [] }
-    requires left { left.items ≡ [] }
-    ensures count { IfOk result (λ all. vec_len all.0 ≡ vec_len stations) }
-    ensures seats { IfOk result (λ all. all.0.items ≡ map (λ station. station.seat) stations.items) }
-    ensures left { IfOk result (λ all. all.1.items ≡ map left_at stations.items) }
+/// Closes a host with all of its seats.
+fn close<W: Workflow, T: Ledger, C: Ledger, F: Ledger>(
+    host: Host<W, T, C, F>,
+    seats: Vec<Seat<T, C, F>>,
+) -> Totals
+    requires { T.parts ≡ vec_len seats }
+    ensures gathered { result ≡ totals_of (sums_of seats.items) }
+    ensures balanced { result.taken ≡ result.completed + result.failed + result.in_hand }
 {
-    for station in stations {
-        let (seat, worker) = leave(station);
-        seats.push(seat)?;
-        left.push(worker)?;
-    }
-    Ok((seats, left))
-}
-
-/// The seat of a worker, and what it leaves.
-fn leave<T: Ledger, C: Ledger, F: Ledger, S, A, O>(
-    station: Station<T, C, F, S, A, O>,
-) -> (Seat<T, C, F>, Left<S, A, O>)
-    ensures { result ≡ (station.seat, left_at station) }
-{
-    let counted = station.seat.share();
-    let Station {
-        seat,
-        source,
-        handler,
-        observer,
-        fault,
-    } = station;
-    let left = Left {
-        counted,
-        source,
-        handler,
-        observer,
-        fault,
+    let Ok(totals) = host.close(seats) else {
+        unreachable!()
     };
-    (seat, left)
+    totals
 }

@@ -1,16 +1,17 @@
 //! Workers, one thread for each seat.
-ghost use Rattle.std.specs.Prelude.{◌≡◌, ◌≤◌, ◌<◌, ◌+◌, ℕ, [], None, IfOk, not, length, map, vec_len, slice_index_or};
+ghost use Rattle.std.specs.Prelude.{◌≡◌, ◌≤◌, ◌<◌, ◌+◌, ℕ, [], None, IfOk, not, length, map, vec_capacity, vec_len, slice_index_or};
 ghost use Rattle.std.specs.Bool.{OnTrue};
 ghost use denote.Param.Send.{IsSend};
 ghost use Rattle.wh_tasks.specs.Source.{KeepsOrigin, SameTasks, FailsOnly, RoseIfFailed};
 ghost use Rattle.wh_poll.specs.Workers.{first_fault, other, is_last, next_rota};
 ghost use Rattle.wh_poll.specs.Serve.{WithinTurns, AllRoseIfFailed, AllAnsweredWithin};
-ghost use Rattle.wh_poll.specs.Turns.{IsTurn, IsLedBy};
+ghost use Rattle.wh_poll.specs.Turns.{IsTurn, IsLedBy, IsWorked};
 ghost use Rattle.wh_poll.specs.Stations.{left_at};
 ghost use Rattle.std.specs.List.{AllZip};
 
 use crate::observer::{NoObserver, Observer};
-use crate::post::Post;
+use crate::pairs::zipped;
+use crate::post::{Left, Post};
 use crate::serve::{Served, serve_one};
 use std::alloc::{AllocError, Global};
 use std::sync::Wait;
@@ -36,13 +37,12 @@ pub struct Worker<T: Ledger, C: Ledger, F: Ledger, S> {
 }
 
 /// A worker at its post: its seat, and what it leaves but for the count.
-#[derive(Drop)]
-pub(crate) struct Station<T: Ledger, C: Ledger, F: Ledger, S, A, O> {
-    pub(crate) seat: Seat<T, C, F>,
-    pub(crate) source: S,
-    pub(crate) handler: A,
-    pub(crate) observer: O,
-    pub(crate) fault: Option<SourceFault>,
+struct Station<T: Ledger, C: Ledger, F: Ledger, S, A, O> {
+    seat: Seat<T, C, F>,
+    source: S,
+    handler: A,
+    observer: O,
+    fault: Option<SourceFault>,
 }
 
 impl<T: Ledger, C: Ledger, F: Ledger, S: TaskSource, A: ActivityHandler, O: Observer> Station<
@@ -97,11 +97,10 @@ fn first_fault(
 }
 
 /// A seat with the post of its worker.
-#[derive(Drop)]
-pub(crate) struct Job<T: Ledger, C: Ledger, F: Ledger, S, A, O> {
-    pub(crate) seat: Seat<T, C, F>,
-    pub(crate) post: Post<S, A, O>,
-}
+pub(crate) type Job<T, C, F, S, A, O> = (Seat<T, C, F>, Post<S, A, O>);
+
+/// A seat with what its worker leaves.
+pub(crate) type Ended<T, C, F, S, A, O> = (Seat<T, C, F>, Left<S, A, O>);
 
 /// Which kind a worker serves next, and whether the other one is closed.
 #[derive(Clone, Copy)]
@@ -139,9 +138,9 @@ fn other(kind: SlotKind) -> SlotKind
     }
 }
 
-/// Serves tasks for a job, at most one a turn.
+/// Serves tasks at a post, at most one a turn.
 #[tactic(auto, using(crate::proofs::Turns::rose_kept))]
-fn work_job<
+fn work_at<
     R: Wait,
     W: Workflow,
     T: Ledger,
@@ -156,19 +155,18 @@ fn work_job<
     alloc: Global,
     host: &Host<W, T, C, F>,
     gate: &G,
-    job: Job<T, C, F, S, A, O>,
+    seat: Seat<T, C, F>,
+    post: Post<S, A, O>,
 ) -> Station<T, C, F, S, A, O>
-    ensures taken { result.seat.taken ≤ job.seat.taken + job.post.turns }
-    ensures fault { RoseIfFailed result.fault (S.failures job.post.source) (S.failures result.source) }
-    ensures same { SameTasks (S.delivers job.post.source) (S.tells job.post.source)
+    ensures taken { result.seat.taken ≤ seat.taken + post.turns }
+    ensures fault { RoseIfFailed result.fault (S.failures post.source) (S.failures result.source) }
+    ensures same { SameTasks (S.delivers post.source) (S.tells post.source)
         (S.delivers result.source) (S.tells result.source) }
-    ensures origin { KeepsOrigin S.comes_from job.post.source result.source }
-    ensures answered { length (S.answers result.source) + job.seat.taken
-        ≤ length (S.answers job.post.source) + result.seat.taken }
-    ensures turns { IsLedBy W.program S.tells S.delivers S.answers A.may O.hears
-        job.seat job.post (left_at result) }
+    ensures origin { KeepsOrigin S.comes_from post.source result.source }
+    ensures answered { length (S.answers result.source) + seat.taken
+        ≤ length (S.answers post.source) + result.seat.taken }
+    ensures turns { IsLedBy W.program S.tells S.delivers S.answers A.may O.hears seat post (left_at result) }
 {
-    let Job { seat, post } = job;
     let Post {
         source,
         handler,
@@ -193,6 +191,54 @@ fn work_job<
         }
     }
     station
+}
+
+/// Does a job.
+fn work_job<
+    R: Wait,
+    W: Workflow,
+    T: Ledger,
+    C: Ledger,
+    F: Ledger,
+    S: TaskSource,
+    A: ActivityHandler,
+    O: Observer,
+    G: Gate,
+>(
+    rt: &R,
+    alloc: Global,
+    host: &Host<W, T, C, F>,
+    gate: &G,
+    job: Job<T, C, F, S, A, O>,
+) -> Ended<T, C, F, S, A, O>
+    ensures { IsWorked W.program S.tells S.delivers S.answers S.failures S.comes_from A.may O.hears job result }
+{
+    let (seat, post) = job;
+    leave(work_at(rt, alloc, host, gate, seat, post))
+}
+
+/// The seat of a worker, and what it leaves.
+fn leave<T: Ledger, C: Ledger, F: Ledger, S, A, O>(
+    station: Station<T, C, F, S, A, O>,
+) -> Ended<T, C, F, S, A, O>
+    ensures { result ≡ (station.seat, left_at station) }
+{
+    let counted = station.seat.share();
+    let Station {
+        seat,
+        source,
+        handler,
+        observer,
+        fault,
+    } = station;
+    let left = Left {
+        counted,
+        source,
+        handler,
+        observer,
+        fault,
+    };
+    (seat, left)
 }
 
 /// Serves tasks, at most one a turn: workflow and activity tasks by turns, workflow tasks first. A
@@ -231,21 +277,17 @@ pub fn work<
         observer: NoObserver,
         turns,
     };
-    worker_of(work_job(rt, alloc, host, gate, Job { seat, post }))
+    worker_of(work_job(rt, alloc, host, gate, (seat, post)))
 }
 
 /// The worker that comes back from its post.
 fn worker_of<T: Ledger, C: Ledger, F: Ledger, S, A: Drop>(
-    station: Station<T, C, F, S, A, NoObserver>,
+    ended: Ended<T, C, F, S, A, NoObserver>,
 ) -> Worker<T, C, F, S>
-    ensures { result ≡ record { seat = station.seat; source = station.source; fault = station.fault } }
+    ensures { result ≡ record { seat = ended.0; source = ended.1.source; fault = ended.1.fault } }
 {
-    let Station {
-        seat,
-        source,
-        fault,
-        ..
-    } = station;
+    let (seat, left) = ended;
+    let Left { source, fault, .. } = left;
     Worker {
         seat,
         source,
@@ -291,30 +333,30 @@ pub fn run_workers<
         AllAnsweredWithin (map (λ source. length (S.answers source)) sources.items) seats.items
         (map (λ worker. length (S.answers worker.source)) workers.items) (map (λ worker. worker.seat) workers.items)) }
 {
-    let mut workers = Vec::new(alloc);
-    workers.reserve(seats.len())?;
     let posts = posts_of(alloc, sources, handlers, turns)?;
-    let jobs = jobs_of(alloc, seats, posts)?;
-    workers_of(run_jobs(rt, alloc, host, gate, jobs)?, workers)
+    let jobs = zipped(alloc, seats, posts)?;
+    let mut room = Vec::new(alloc);
+    room.reserve(jobs.len())?;
+    let ended = run_jobs(rt, alloc, host, gate, jobs)?;
+    Ok(workers_of(ended, room))
 }
 
-/// The workers that come back from their posts, in a list with room for them.
+/// The workers that come back from their posts, in an empty list with room for them.
 fn workers_of<T: Ledger, C: Ledger, F: Ledger, S: Drop, A: Drop>(
-    stations: Vec<Station<T, C, F, S, A, NoObserver>>,
+    mut ended: Vec<Ended<T, C, F, S, A, NoObserver>>,
     mut workers: Vec<Worker<T, C, F, S>>,
-) -> Result<Vec<Worker<T, C, F, S>>, OutOfMemory>
-    requires { workers.items ≡ [] }
-    ensures seats { IfOk result (λ workers.
-        map (λ worker. worker.seat) workers.items ≡ map (λ station. station.seat) stations.items) }
-    ensures sources { IfOk result (λ workers.
-        map (λ worker. worker.source) workers.items ≡ map (λ station. station.source) stations.items) }
-    ensures faults { IfOk result (λ workers.
-        map (λ worker. worker.fault) workers.items ≡ map (λ station. station.fault) stations.items) }
+) -> Vec<Worker<T, C, F, S>>
+    requires empty { workers.items ≡ [] }
+    requires room { vec_len ended ≤ vec_capacity workers }
+    ensures seats { map (λ worker. worker.seat) result.items ≡ map (λ end. end.0) ended.items }
+    ensures sources { map (λ worker. worker.source) result.items ≡ map (λ end. end.1.source) ended.items }
+    ensures faults { map (λ worker. worker.fault) result.items ≡ map (λ end. end.1.fault) ended.items }
 {
-    for station in stations {
-        workers.push(worker_of(station))?;
+    while let Some(end) = ended.pop() {
+        workers.push_reserved(worker_of(end));
     }
-    Ok(workers)
+    workers.reverse();
+    workers
 }
 
 /// Runs a worker in a thread of its own for each job.
@@ -334,36 +376,20 @@ pub(crate) fn run_jobs<
     host: &Host<W, T, C, F>,
     gate: &G,
     jobs: Vec<Job<T, C, F, S, A, O>>,
-) -> Result<Vec<Station<T, C, F, S, A, O>>, AllocError>
-    ensures count { IfOk result (λ stations. vec_len stations ≡ vec_len jobs) }
-    ensures turns { IfOk result (λ stations. (i : ℕ) (j : _) (w : _) → i < vec_len jobs →
-        (slice_index_or stations.items i w).seat.taken
-        ≤ (slice_index_or jobs.items i j).seat.taken + (slice_index_or jobs.items i j).post.turns) }
-    ensures faults { IfOk result (λ stations. (i : ℕ) (j : _) (w : _) → i < vec_len jobs →
-        RoseIfFailed (slice_index_or stations.items i w).fault
-        (S.failures (slice_index_or jobs.items i j).post.source) (S.failures (slice_index_or stations.items i w).source)) }
-    ensures origins { IfOk result (λ stations. (i : ℕ) (j : _) (w : _) → i < vec_len jobs →
-        KeepsOrigin S.comes_from (slice_index_or jobs.items i j).post.source (slice_index_or stations.items i w).source) }
-    ensures answered { IfOk result (λ stations. (i : ℕ) (j : _) (w : _) → i < vec_len jobs →
-        length (S.answers (slice_index_or stations.items i w).source) + (slice_index_or jobs.items i j).seat.taken
-        ≤ length (S.answers (slice_index_or jobs.items i j).post.source) + (slice_index_or stations.items i w).seat.taken) }
-    ensures told { IfOk result (λ stations. (i : ℕ) (j : _) (w : _) → i < vec_len jobs →
-        IsLedBy W.program S.tells S.delivers S.answers A.may O.hears (slice_index_or jobs.items i j).seat
-        (slice_index_or jobs.items i j).post (left_at (slice_index_or stations.items i w))) }
+) -> Result<Vec<Ended<T, C, F, S, A, O>>, AllocError>
+    ensures count { IfOk result (λ ended. vec_len ended ≡ vec_len jobs) }
+    ensures each { IfOk result (λ ended. (i : ℕ) (job : _) (end : _) → i < vec_len jobs →
+        IsWorked W.program S.tells S.delivers S.answers S.failures S.comes_from A.may O.hears
+        (slice_index_or jobs.items i job) (slice_index_or ended.items i end)) }
 {
     thread::map_vec(
         rt,
         jobs,
-        &|job: Job<T, C, F, S, A, O>| -> Station<T, C, F, S, A, O>
+        &|job: Job<T, C, F, S, A, O>| -> Ended<T, C, F, S, A, O>
             requires workflow { IsSend W.row }
             requires state { IsSend W.State.row }
-            ensures turns { result.seat.taken ≤ job.seat.taken + job.post.turns }
-            ensures fault { RoseIfFailed result.fault (S.failures job.post.source) (S.failures result.source) }
-            ensures origin { KeepsOrigin S.comes_from job.post.source result.source }
-            ensures answered { length (S.answers result.source) + job.seat.taken
-                ≤ length (S.answers job.post.source) + result.seat.taken }
-            ensures told { IsLedBy W.program S.tells S.delivers S.answers A.may O.hears
-                job.seat job.post (left_at result) }
+            ensures { IsWorked W.program S.tells S.delivers S.answers S.failures S.comes_from A.may O.hears
+                job result }
         { work_job(rt, alloc, host, gate, job) },
     )
 }
@@ -399,27 +425,4 @@ fn posts_of<S: Drop, A: Drop>(
     }
     posts.reverse();
     Ok(posts)
-}
-
-/// One job for each seat, in their order.
-pub(crate) fn jobs_of<T: Ledger, C: Ledger, F: Ledger, S: Drop, A: Drop, O: Drop>(
-    alloc: Global,
-    mut seats: Vec<Seat<T, C, F>>,
-    mut posts: Vec<Post<S, A, O>>,
-) -> Result<Vec<Job<T, C, F, S, A, O>>, OutOfMemory>
-    requires { vec_len posts ≡ vec_len seats }
-    ensures count { IfOk result (λ jobs. vec_len jobs ≡ vec_len posts) }
-    ensures seats { IfOk result (λ jobs. map (λ job. job.seat) jobs.items ≡ seats.items) }
-    ensures posts { IfOk result (λ jobs. map (λ job. job.post) jobs.items ≡ posts.items) }
-{
-    let mut jobs = Vec::new(alloc);
-    jobs.reserve(seats.len())?;
-    while let Some(seat) = seats.pop() {
-        let Some(post) = posts.pop() else {
-            unreachable!()
-        };
-        jobs.push_reserved(Job { seat, post });
-    }
-    jobs.reverse();
-    Ok(jobs)
 }

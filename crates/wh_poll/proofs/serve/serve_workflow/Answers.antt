@@ -1,6 +1,6 @@
-use Rattle.std.proofs.Common.{◌≡◌, sym, subst, rules}
+use Rattle.std.proofs.Common.{◌≡◌, rules}
 use Rattle.wh_tasks.specs.Source.{Workflow, SameTelling}
-use Rattle.wh_poll.specs.Serve.{ServesWorkflow, Sends}
+use Rattle.wh_poll.specs.Serve.{Sends}
 use Rattle.wh_poll.proofs.Turns.{serves_sent}
 use Rattle.wh_poll.proofs.serve.serve_workflow.Goals as goal
 
