@@ -465,6 +465,15 @@ fn hold_activity<R: Wait + Abort, T: Ledger, C: Ledger, F: Ledger>(
     tasks.push_reserved(held);
 }
 
+/// Ends the task that was taken in hand last, and says whether it could be.
+fn finish_text<R: Wait + Abort, T: Ledger, C: Ledger, F: Ledger>(
+    book: &Notebook<'_, '_, R, T, C, F>,
+    seat: &mut Seat<T, C, F>,
+    tasks: &mut Vec<Held>,
+) -> String {
+    shown(book.rt, book.alloc, &finish(book, seat, tasks))
+}
+
 /// Ends the task that was taken in hand last.
 fn finish<R: Wait + Abort, T: Ledger, C: Ledger, F: Ledger>(
     book: &Notebook<'_, '_, R, T, C, F>,
@@ -497,6 +506,45 @@ fn name_of(rt: &impl Abort, word: &'static str) -> TaskName {
     TaskName(u128::from(word.parse::<u64>().expect(rt, word)))
 }
 
+/// What is counted, in words.
+fn counts_text<R: Wait + Abort, T: Ledger, C: Ledger, F: Ledger>(
+    book: &Notebook<'_, '_, R, T, C, F>,
+    seat: &mut Seat<T, C, F>,
+) -> String {
+    let counts = book.host.lock(book.rt).counts(seat);
+    shown(book.rt, book.alloc, &counts)
+}
+
+/// Takes a workflow task in hand, by its name and its run, and says whether the run was cached.
+fn hold_text<R: Wait + Abort, T: Ledger, C: Ledger, F: Ledger>(
+    book: &Notebook<'_, '_, R, T, C, F>,
+    seat: &mut Seat<T, C, F>,
+    tasks: &mut Vec<Held>,
+    task: &'static str,
+) -> String {
+    let (name, run) = task.split_once(' ').expect(book.rt, task);
+    let run = hold(book, seat, tasks, name_of(book.rt, name), run);
+    shown(book.rt, book.alloc, &run.is_some())
+}
+
+/// Takes an activity task in hand, by its name.
+fn hold_activity_text<R: Wait + Abort, T: Ledger, C: Ledger, F: Ledger>(
+    book: &Notebook<'_, '_, R, T, C, F>,
+    seat: &mut Seat<T, C, F>,
+    tasks: &mut Vec<Held>,
+    task: &'static str,
+) -> String {
+    hold_activity(book, seat, tasks, name_of(book.rt, task));
+    shown(book.rt, book.alloc, &true)
+}
+
+/// Drains the host.
+fn drain_text<R: Wait + Abort, T: Ledger, C: Ledger, F: Ledger>(
+    book: &Notebook<'_, '_, R, T, C, F>,
+) -> String {
+    shown(book.rt, book.alloc, &book.host.lock(book.rt).drain())
+}
+
 /// What a step answers: a word, and most often what it is about.
 fn answered<R: Wait + Abort, T: Ledger, C: Ledger, F: Ledger>(
     book: &Notebook<'_, '_, R, T, C, F>,
@@ -505,29 +553,31 @@ fn answered<R: Wait + Abort, T: Ledger, C: Ledger, F: Ledger>(
     tasks: &mut Vec<Held>,
     step: &'static str,
 ) -> String {
-    let (rt, alloc) = (book.rt, book.alloc);
     let (word, rest) = step.split_once(' ').unwrap_or((step, ""));
     match word {
         "workflow" => turn(book, seat, source, SlotKind::Workflow),
         "activity" => turn(book, seat, source, SlotKind::Activity),
-        "counts" => {
-            let counts = book.host.lock(rt).counts(seat);
-            shown(rt, alloc, &counts)
-        }
+        "counts" => counts_text(book, seat),
         "advance" => advance(book, seat, tasks, rest),
-        "hold" => {
-            let (name, run) = rest.split_once(' ').expect(rt, step);
-            let run = hold(book, seat, tasks, name_of(rt, name), run);
-            shown(rt, alloc, &run.is_some())
-        }
-        "hold_activity" => {
-            hold_activity(book, seat, tasks, name_of(rt, rest));
-            shown(rt, alloc, &true)
-        }
-        "finish" => shown(rt, alloc, &finish(book, seat, tasks)),
-        "drain" => shown(rt, alloc, &book.host.lock(rt).drain()),
-        _ => panic!(rt; "no step: {step}"),
+        "hold" => hold_text(book, seat, tasks, rest),
+        "hold_activity" => hold_activity_text(book, seat, tasks, rest),
+        "finish" => finish_text(book, seat, tasks),
+        "drain" => drain_text(book),
+        _ => panic!(book.rt; "no step: {step}"),
     }
+}
+
+/// Takes a step, and compares what it answers.
+fn take_step<R: Wait + Abort, T: Ledger, C: Ledger, F: Ledger>(
+    book: &Notebook<'_, '_, R, T, C, F>,
+    seat: &mut Seat<T, C, F>,
+    source: &mut FaultySource<Desk<'_, '_, '_, R, T, C, F>>,
+    tasks: &mut Vec<Held>,
+    line: &'static str,
+) {
+    let (step, wanted) = row(book.rt, line);
+    let text = answered(book, seat, source, tasks, step);
+    wants(book.rt, step, text, wanted);
 }
 
 /// Takes the steps of a day, and compares what each of them answers.
@@ -540,9 +590,7 @@ fn take_steps<R: Wait + Abort, T: Ledger, C: Ledger, F: Ledger>(
     let mut source = desk(book, setting);
     let mut tasks = Vec::new(book.alloc);
     for line in steps.lines() {
-        let (step, wanted) = row(book.rt, line);
-        let text = answered(book, seat, &mut source, &mut tasks, step);
-        wants(book.rt, step, text, wanted);
+        take_step(book, seat, &mut source, &mut tasks, line);
     }
 }
 
