@@ -1,36 +1,32 @@
 -- Files that were read.
-use Rattle.std.proofs.Common.{◌≡◌, ◌∙◌, ◌||◌, Bool, true, false, List, [], ◌∷◌, map, refl, sym, ap}
-use Rattle.std.specs.Prelude.{Result, Ok, Err, String, Vec, string_bytes}
-use Rattle.std.specs.List.{AllZip, list_any}
+use Rattle.std.proofs.Common.{◌≡◌, List, [], ◌∷◌, map, refl, ap, sym}
+use Rattle.std.specs.Prelude.{◌≢◌, Result, Ok, Err, Vec}
+use Rattle.std.specs.List.{AllZip}
 use Rattle.std.specs.declared.alloc.Global.{Global}
 use Rattle.wh_events.specs.declared.event.Event.{Event}
+use Rattle.wh_files.specs.declared.Input.{Input}
 use Rattle.wh_json.specs.Outcome.{Gives}
 use Rattle.wh_json.specs.declared.fault.ReadFault.{ReadFault}
 use Rattle.wh_json.specs.declared.fault.ReadFault.TheVariants as faults
-use Rattle.wh_cli.specs.declared.dealing.ReadFile.{ReadFile}
+use Rattle.wh_cli.specs.declared.reading.ReadFile.{ReadFile}
 use Rattle.wh_cli.specs.Services.{File, reading_of}
-use Rattle.wh_cli.specs.Readings.{plain, reading, lacks_room, is_short, IsReadOf}
+use Rattle.wh_cli.specs.Readings.{plain, reading, IsReadingOfInput}
 
 -- where room was found, what was read is the history or its fault
-plain_is : (outcome : Result (Vec Event Global) ReadFault) (read : Result (List Event) ReadFault) → lacks_room outcome ≡ false → Gives (λ events. events.items) outcome read → plain outcome ≡ read
+pub plain_is : (outcome : Result (Vec Event Global) ReadFault) (read : Result (List Event) ReadFault) → outcome ≢ Err faults.OutOfMemory → Gives (λ events. events.items) outcome read → plain outcome ≡ read
 plain_is (Ok events) read room gives = sym gives
-plain_is (Err fault) read room gives = sym (gives (λ e. let wrong : true ≡ false = ap (λ f. lacks_room (Err f)) (sym e) ∙ room in cc))
+plain_is (Err fault) read room gives = sym (gives (λ e. room (ap Err e)))
 
-reading_is : (file : File) (read : ReadFile) → is_short read ≡ false → IsReadOf file read → reading read ≡ reading_of file
-reading_is file read room is =
-    let name = ap string_bytes is.0 in
-    let outcome = plain_is read.outcome _ room is.1 in
-    ap (λ n. (n, plain read.outcome)) name ∙ ap (λ o. (string_bytes file.0, o)) outcome
+-- so it is with all files
+pub readings_are : (files : List File) (read : List ReadFile) → AllZip (λ file read. reading read ≡ reading_of file) files read → map reading read ≡ map reading_of files
+readings_are [] [] zip = refl
+readings_are (f ∷ fs) (r ∷ rs) zip = rw (zip.0, readings_are fs rs zip.1) refl
+readings_are [] (r ∷ rs) zip = absurd zip
+readings_are (f ∷ fs) [] zip = absurd zip
 
-first_false : (a b : Bool) → (a || b) ≡ false → (a ≡ false) × (b ≡ false)
-first_false true b none = let wrong : true ≡ false = none in cc
-first_false false b none = (refl, none)
-
--- so it is with all files, where room was found for each
-pub readings_are : (files : List File) (read : List ReadFile) → list_any is_short read ≡ false → AllZip IsReadOf files read → map reading read ≡ map reading_of files
-readings_are [] [] room zip = refl
-readings_are (f ∷ fs) (r ∷ rs) room zip =
-    let both = first_false (is_short r) (list_any is_short rs) room in
-    ap (λ x. x ∷ map reading rs) (reading_is f r both.0 zip.0) ∙ ap (λ l. reading_of f ∷ l) (readings_are fs rs both.1 zip.1)
-readings_are [] (r ∷ rs) room zip = absurd zip
-readings_are (f ∷ fs) [] room zip = absurd zip
+-- and with all inputs
+pub inputs_are : (inputs : List Input) (read : List ReadFile) → AllZip (λ input read. IsReadingOfInput input (reading read)) inputs read → AllZip IsReadingOfInput inputs (map reading read)
+inputs_are [] [] zip = tt
+inputs_are (i ∷ is) (r ∷ rs) zip = (zip.0, inputs_are is rs zip.1)
+inputs_are [] (r ∷ rs) zip = absurd zip
+inputs_are (i ∷ is) [] zip = absurd zip

@@ -6,6 +6,7 @@ mod dealing;
 mod explaining;
 mod gathering;
 mod program;
+mod reading;
 mod replaying;
 mod service_report;
 mod serving;

@@ -5,7 +5,7 @@ ghost use Rattle.wh_command_line.specs.Plans.{IsWithinLimits, IsAskedBy, HasFewS
 
 use crate::explaining::explain_command;
 use crate::replaying::{CommandFault, lines_of, report};
-use crate::serving::{ServiceEnd, serve_with_failures};
+use crate::serving::{ServiceEnd, serve_inputs};
 use std::alloc::Global;
 use std::io::{BufWriter, ErrorKind, Printer, Write};
 use std::process::ExitCode;
@@ -16,7 +16,7 @@ use std::{env, io};
 use thiserror::Error;
 use wh_command_line::{Plan, Refusal, parse};
 use wh_events::Text;
-use wh_files::{FolderFault, Input, InputFault, input_at, inputs_at, read_files, read_input};
+use wh_files::{FolderFault, Input, InputFault, folder_inputs, input_at, inputs_at, read_input};
 use wh_tester::Shown;
 use wh_workflow::Workflow;
 
@@ -115,19 +115,16 @@ fn tell_empty<R: Runtime>(rt: &R, dir: &str) {
     let _ = eprintln!(rt; "wfhost: no .json file in {dir}");
 }
 
-/// The files of a folder. Where there is none, the standard error says so.
-fn files_of<R: Runtime + AllocGlobal>(
-    rt: &R,
-    dir: Text,
-) -> Result<Vec<(String, Vec<u8>)>, Failure> {
-    let files = match read_files(rt, dir.get()) {
-        Ok(files) => files,
+/// The files of a folder that are to be read. Where there is none, the standard error says so.
+fn folder_of<R: Runtime + AllocGlobal>(rt: &R, dir: Text) -> Result<Vec<Input>, Failure> {
+    let inputs = match folder_inputs(rt, dir.get(), false) {
+        Ok(inputs) => inputs,
         Err(fault) => return Err(unreadable(dir, fault)),
     };
-    if files.is_empty() {
+    if inputs.is_empty() {
         tell_empty(rt, dir.get());
     }
-    Ok(files)
+    Ok(inputs)
 }
 
 /// What is to be read at a path. Where it is a folder without a file that is read, the standard
@@ -264,18 +261,17 @@ where
             cache_events,
             slots,
         } => {
-            let files = files_of(rt, dir)?;
+            let inputs = folder_of(rt, dir)?;
             let mut writer = output(rt)?;
-            let answer = serve_with_failures::<W, _, _>(
+            let answer = serve_inputs::<W, R, _>(
                 rt,
-                alloc,
-                files,
+                inputs,
                 workers,
                 cache,
                 cache_events,
                 slots,
                 &mut writer,
-            );
+            )?;
             served(rt, answer, &mut writer)
         }
         Plan::Help { text } => print(rt, text.get()),
