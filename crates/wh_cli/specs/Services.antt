@@ -18,6 +18,7 @@ use Rattle.wh_tester.specs.Faults.{replay_fault_text}
 use Rattle.wh_tester.specs.Report.{shown, line_text}
 use Rattle.wh_tester.specs.declared.line.Verdict.TheVariants.{Unreadable}
 use Rattle.wh_cli.specs.declared.dealing.Dealt.{Dealt}
+use Rattle.wh_cli.specs.declared.json_faults.JsonFault.{JsonFault}
 use Rattle.wh_cli.specs.declared.service_report.Tally.{Tally}
 use Rattle.wh_cli.specs.declared.service_report.Row.{Row}
 use Rattle.wh_cli.specs.declared.service_report.FileFailure.{FileFailure}
@@ -208,3 +209,9 @@ why_text at (Some fault) = if names_task fault at then replay_fault_text fault e
 -- `<name>: task at <event>: <fault>`
 abbrev pub failure_text : FileFailure → List ℕ
 failure_text failure = shown failure.name ++ (codes ": " ++ why_text failure.task.at failure.task.fault)
+
+-- `<name>: not JSON at line <line> column <column>`
+abbrev pub json_fault_text : JsonFault → List ℕ
+json_fault_text fault =
+    shown fault.name ++ (codes ": not JSON at line "
+    ++ (decimal fault.position.line ++ (codes " column " ++ decimal fault.position.column)))

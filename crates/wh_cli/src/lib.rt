@@ -5,6 +5,8 @@
 mod dealing;
 mod explaining;
 mod gathering;
+mod json_faults;
+mod position;
 mod program;
 mod reading;
 mod replaying;
@@ -12,6 +14,8 @@ mod service_report;
 mod serving;
 
 pub use explaining::explain_command;
+pub use json_faults::JsonFault;
+pub use position::Position;
 pub use program::run;
 pub use replaying::{CommandFault, replay_command};
 pub use service_report::FileFailure;

@@ -4,6 +4,7 @@ ghost use Rattle.std.specs.Prelude.{◌≡◌, ◌≢◌, Err, IfOk, map, string
 ghost use Rattle.wh_command_line.specs.Plans.{IsWithinLimits, IsAskedBy, HasFewSlots};
 
 use crate::explaining::explain_command;
+use crate::json_faults::{JsonFault, json_fault};
 use crate::replaying::{CommandFault, lines_of, report};
 use crate::serving::{ServiceEnd, serve_inputs};
 use std::alloc::Global;
@@ -199,9 +200,25 @@ fn print<R: Runtime>(rt: &R, text: &str) -> Result<u8, Failure> {
     }
 }
 
-/// Says on the standard error why tasks failed, a line for each, and then in a line where `serve`
-/// did not compare all that is recorded.
+/// Says on the standard error where a file is no JSON, if it is none.
+fn tell_json_fault<R: Runtime + AllocGlobal>(rt: &R, name: &str, bytes: &[u8]) {
+    if let Some(fault) = json_fault(rt.alloc(), name, bytes) {
+        let _ = eprintln!(rt; "wfhost: {fault}");
+    }
+}
+
+/// Says on the standard error where files are no JSON, a line for each.
+fn tell_json_faults<R: Runtime>(rt: &R, faults: Vec<JsonFault>) -> io::Result<()> {
+    for fault in faults {
+        eprintln!(rt; "wfhost: {fault}")?;
+    }
+    Ok(())
+}
+
+/// Says on the standard error where files are no JSON and why tasks failed, a line for each, and
+/// then in a line where `serve` did not compare all that is recorded.
 fn tell_service<R: Runtime>(rt: &R, end: ServiceEnd) -> io::Result<()> {
+    tell_json_faults(rt, end.json_faults)?;
     for failure in end.failures {
         eprintln!(rt; "wfhost: {failure}")?;
     }
@@ -229,6 +246,43 @@ fn served<R: Runtime, O: Write>(
     }
 }
 
+/// Replays inputs, and gives the status once the report is out and the rest is told.
+fn replay<W: Workflow + Send, R: Runtime + AllocGlobal + Threads + Sync>(
+    rt: &R,
+    inputs: Vec<Input>,
+    json: bool,
+) -> Result<u8, Failure>
+where
+    R::File: Send,
+    R::Dir: Send,
+{
+    let (lines, faults) = lines_of::<W, R>(rt, inputs)?;
+    let mut writer = output(rt)?;
+    let answer = report(lines.as_slice(), json, &mut writer);
+    let status = flushed(answer, &mut writer)?;
+    let _ = tell_json_faults(rt, faults);
+    Ok(status)
+}
+
+/// Explains a file, and gives the status once the report is out and the rest is told.
+fn explain<W: Workflow, R: Runtime + AllocGlobal>(
+    rt: &R,
+    name: String,
+    bytes: &[u8],
+) -> Result<u8, Failure> {
+    let alloc = rt.alloc();
+    let Ok(called) = String::from_str(alloc, name.as_str()) else {
+        return Err(Failure::OutOfMemory);
+    };
+    let mut writer = output(rt)?;
+    let answer = explain_command::<W, _>(alloc, name, bytes, &mut writer);
+    let status = flushed(answer, &mut writer)?;
+    if status != 0 {
+        tell_json_fault(rt, called.as_str(), bytes);
+    }
+    Ok(status)
+}
+
 /// Does what is asked for, and gives the status.
 fn obey<W: Workflow + Send, R: Runtime + AllocGlobal + Threads + Wait + Sync>(
     rt: &R,
@@ -243,16 +297,11 @@ where
     match plan {
         Plan::Replay { dir, more, json } => {
             let inputs = all_inputs(rt, dir, more)?;
-            let lines = lines_of::<W, R>(rt, inputs)?;
-            let mut writer = output(rt)?;
-            let answer = report(lines.as_slice(), json, &mut writer);
-            flushed(answer, &mut writer)
+            replay::<W, R>(rt, inputs, json)
         }
         Plan::Explain { file } => {
             let (name, bytes) = file_of(rt, file)?;
-            let mut writer = output(rt)?;
-            let answer = explain_command::<W, _>(alloc, name, bytes.as_slice(), &mut writer);
-            flushed(answer, &mut writer)
+            explain::<W, R>(rt, name, bytes.as_slice())
         }
         Plan::Serve {
             dir,

@@ -12,6 +12,7 @@ ghost use Rattle.wh_cli.specs.declared.service_report.Row.{Row};
 
 use crate::dealing::deal_sources;
 use crate::gathering::{Service, gather};
+use crate::json_faults::JsonFault;
 use crate::reading::{ReadFile, read_all, read_inputs};
 use crate::replaying::CommandFault;
 use crate::service_report::{FileFailure, all_served, write_service};
@@ -92,10 +93,16 @@ pub struct ServiceEnd {
     /// history. A task is compared with its record where the next one is replayed, so this record
     /// was compared with nothing, whether a task failed or not.
     pub uncompared: bool,
+    /// Where files are no JSON, in the order of the files.
+    pub json_faults: Vec<JsonFault>,
 }
 
 /// Writes the report of a service, and gives what else is told of it.
-fn report<O: Write>(service: Service, writer: &mut O) -> Result<ServiceEnd, CommandFault>
+fn report<O: Write>(
+    service: Service,
+    json_faults: Vec<JsonFault>,
+    writer: &mut O,
+) -> Result<ServiceEnd, CommandFault>
     ensures written { IfOk result (λ end.
         Appends (O.contents writer.old) (O.contents writer.new) (service_text service.rows.items service.totals)
         × (end.status ≡ status_of service.faultless service.rows.items service.totals)
@@ -115,31 +122,33 @@ fn report<O: Write>(service: Service, writer: &mut O) -> Result<ServiceEnd, Comm
             status,
             failures,
             uncompared,
+            json_faults,
         }),
         Err(_) => Err(CommandFault::Output),
     }
 }
 
-/// Serves the tasks of files that were read, and writes the report. Nothing is written where the
-/// answer is `OutOfMemory`.
+/// Serves the tasks of files that were read, some of which may be no JSON, and writes the report.
+/// Nothing is written where the answer is `OutOfMemory`.
 fn serve_read<W: Workflow + Send, R: Threads + Wait + Sync, O: Write>(
     rt: &R,
     alloc: Global,
-    files: Vec<ReadFile>,
+    read: (Vec<ReadFile>, Vec<JsonFault>),
     options: ServeOptions,
     writer: &mut O,
 ) -> Result<ServiceEnd, CommandFault>
     ensures report { IfOk result (λ end. (rows : List Row) × (totals : Totals) × (faultless : Bool)
-        × IsToldService (map reading files.items) options.workers rows totals faultless
+        × IsToldService (map reading read.0.items) options.workers rows totals faultless
         end.failures.items end.uncompared
         × Appends (O.contents writer.old) (O.contents writer.new) (service_text rows totals)
         × (end.status ≡ status_of faultless rows totals)) }
     ensures unwritten { result ≡ Err CommandFault.OutOfMemory → writer.new ≡ writer.old }
 {
+    let (files, json_faults) = read;
     let Ok(service) = serve_all::<W, R>(rt, alloc, files, options) else {
         return Err(CommandFault::OutOfMemory);
     };
-    report(service, writer)
+    report(service, json_faults, writer)
 }
 
 /// Serves the tasks of the files by workers with a thread each, and writes the report: a line for
@@ -166,10 +175,10 @@ pub fn serve_with_failures<W: Workflow + Send, R: Threads + Wait + Sync, O: Writ
     ensures unwritten { result ≡ Err CommandFault.OutOfMemory → writer.new ≡ writer.old }
 {
     let options = ServeOptions::new(workers, cache, cache_events, slots);
-    let Ok(files) = read_all(rt, alloc, files) else {
+    let Ok(read) = read_all(rt, alloc, files) else {
         return Err(CommandFault::OutOfMemory);
     };
-    serve_read::<W, R, O>(rt, alloc, files, options, writer)
+    serve_read::<W, R, O>(rt, alloc, read, options, writer)
 }
 
 /// Reads inputs, serves their tasks and writes the report, as `serve_with_failures` does with files
@@ -201,8 +210,8 @@ where
     ensures unwritten { result ≡ Ok (Err CommandFault.OutOfMemory) → writer.new ≡ writer.old }
 {
     let options = ServeOptions::new(workers, cache, cache_events, slots);
-    let files = read_inputs(rt, inputs)?;
-    Ok(serve_read::<W, R, O>(rt, rt.alloc(), files, options, writer))
+    let read = read_inputs(rt, inputs)?;
+    Ok(serve_read::<W, R, O>(rt, rt.alloc(), read, options, writer))
 }
 
 /// Serves the tasks of the files and writes the report, as `serve_with_failures` does, and gives

@@ -1,18 +1,6 @@
-use Rattle.std.proofs.Common.{◌∙◌, subst}
-use Rattle.std.specs.Prelude.{IfOk}
-use Rattle.std.specs.List.{AllZip}
-use Rattle.wh_cli.specs.declared.reading.ReadFile.{ReadFile}
-use Rattle.wh_files.specs.declared.Input.{Input}
-use Rattle.wh_cli.specs.Readings.{IsReadingOfInput, reading}
-use Rattle.wh_cli.proofs.Collected.{collected, all_ok}
 use Rattle.wh_cli.proofs.Readings.{inputs_are}
 use Rattle.wh_cli.proofs.reading.read_inputs.Goals as goal
 
--- the chain goes over the inputs in their order
+-- what is apart from them changes no readings
 pub returns : goal.returns
-returns g c =
-    let h = c.in-Ok.ensures in
-    let Is : Input → ReadFile → Type 0 = λ input read. IsReadingOfInput input (reading read) in
-    let chain = rw (c.map.ensures.base, c.map.ensures.f, c.with_min_len.ensures.base) at h.1 in
-    let zipped = subst (λ inputs. AllZip (λ input given. IfOk given (Is input)) inputs h.0) (chain.1 ∙ c.into_par_iter.ensures) chain.2 in
-    all_ok c.in-Ok.read (λ read. inputs_are c.args.inputs.items read.items) (collected Is c.args.inputs.items h.0 c.in-Ok.read zipped h.2)
+returns g c = inputs_are c.args.inputs.items c.in_ok-told.told.items c.in-Ok.parts.0.items c.in_ok-told.ensures c.in-Ok.ensures
