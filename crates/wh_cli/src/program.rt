@@ -18,6 +18,7 @@ use thiserror::Error;
 use wh_command_line::{Plan, Refusal, parse};
 use wh_events::Text;
 use wh_files::{FolderFault, Input, InputFault, folder_inputs, input_at, inputs_at, read_input};
+use wh_json::{ReadFault, read_events};
 use wh_tester::Shown;
 use wh_workflow::Workflow;
 
@@ -200,8 +201,16 @@ fn print<R: Runtime>(rt: &R, text: &str) -> Result<u8, Failure> {
     }
 }
 
-/// Says on the standard error where a file is no JSON, if it is none.
+/// Whether that is why bytes are not read: that they are no JSON.
+fn is_bad_json(alloc: Global, bytes: &[u8]) -> bool {
+    matches!(read_events(alloc, bytes), Err(ReadFault::BadJson))
+}
+
+/// Says on the standard error where a file is no JSON, if that is why it is not read.
 fn tell_json_fault<R: Runtime + AllocGlobal>(rt: &R, name: &str, bytes: &[u8]) {
+    if !is_bad_json(rt.alloc(), bytes) {
+        return;
+    }
     if let Some(fault) = json_fault(rt.alloc(), name, bytes) {
         let _ = eprintln!(rt; "wfhost: {fault}");
     }
