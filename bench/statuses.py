@@ -20,6 +20,8 @@ LARGE_FILE = b'{"events":[' + b'"' + b"x" * (60 << 20) + b'"]}'
 SERVED = "nap.json: 2 tasks, 2 completed, 0 failed\ntaken 2, completed 2, failed 0, in hand 0\n"
 SERVED_LIVE = "nap.json: 1 tasks, 1 completed, 0 failed\ntaken 1, completed 1, failed 0, in hand 0\n"
 UNREAD = "nap.json: unreadable, not JSON\n"
+STOPPED = "wfhost: nap.json: not JSON at line 1 column 1\n"
+EMPTY = "wfhost: -: not JSON at line 1 column 0\n"
 AS_JSON = '{"file":"nap.json","verdict":"ok","tasks":2,"live":false}\n{"files":1,"ok":1}\n'
 HELP = """Usage: wfhost [COMMAND]
 
@@ -97,6 +99,8 @@ def cases(room):
     well = folder_with(room, "well", {"nap.json": NAP})
     empty = folder_with(room, "empty", {})
     bad = folder_with(room, "bad", {"nap.json": b"{"})
+    stopped = f"wfhost: {bad}/nap.json: not JSON at line 1 column 1\n"
+    second = folder_with(room, "second", {"nap.json": b'{"events":\n[ ,]}'})
     strange = folder_with(room, "strange", {"nap.json": NAP.replace(b'"timerId":"nap"', b'"timerId":"nip"')})
     live = folder_with(room, "live", {"nap.json": up_to(NAP, 3)})
     large = folder_with(room, "large", {"large.json": LARGE_FILE})
@@ -126,17 +130,18 @@ def cases(room):
         (["replay", "-"], 0, "-: ok, 2 tasks\n1 files, 1 ok\n", "", {"given": NAP}),
         (["replay", *paths], 0, several, none, {"given": NAP}),
         (["replay", empty, empty], 0, "0 files, 0 ok\n", none + none, {}),
-        (["replay", "-", bad], 1, f"-: unreadable, not JSON\n{bad}/{UNREAD}2 files, 0 ok\n", "", {}),
+        (["replay", "-", bad], 1, f"-: unreadable, not JSON\n{bad}/{UNREAD}2 files, 0 ok\n", EMPTY + stopped, {}),
         (["explain", "-"], 0, EXPLAINED.replace("nap.json", "-"), "", {"given": NAP}),
-        (["explain", "-"], 1, "-: unreadable, not JSON\n", "", {}),
+        (["explain", "-"], 1, "-: unreadable, not JSON\n", EMPTY, {}),
         (["--help"], 0, HELP, "", {}),
         (["--version"], 0, VERSION, "", {}),
         (["explain", str(Path(well, "nap.json"))], 0, EXPLAINED, "", {}),
-        (["explain", str(Path(bad, "nap.json"))], 1, UNREAD, "", {}),
+        (["explain", str(Path(bad, "nap.json"))], 1, UNREAD, STOPPED, {}),
         (["replay", empty], 0, "0 files, 0 ok\n", f"wfhost: no .json file in {empty}\n", {}),
         (["serve", empty], 0, "taken 0, completed 0, failed 0, in hand 0\n", f"wfhost: no .json file in {empty}\n", {}),
-        (["replay", bad], 1, UNREAD + "1 files, 0 ok\n", "", {}),
-        (["serve", bad], 1, UNREAD + "taken 0, completed 0, failed 0, in hand 0\n", "", {}),
+        (["replay", bad], 1, UNREAD + "1 files, 0 ok\n", STOPPED, {}),
+        (["serve", bad], 1, UNREAD + "taken 0, completed 0, failed 0, in hand 0\n", STOPPED, {}),
+        (["replay", second], 1, UNREAD + "1 files, 0 ok\n", "wfhost: nap.json: not JSON at line 2 column 3\n", {}),
         ([], 2, "", "error: a command is needed\n\nUsage: wfhost [COMMAND]\n", {}),
         (["explain"], 2, "", "error: ", {}),
         (["explain", missing], 2, "", f"{cannot}{missing}\n", {}),

@@ -13,7 +13,7 @@ use Rattle.wh_recorded.specs.Rounds.{Stage, ComesFrom, opening_stage, has_last_r
 use Rattle.wh_cli.specs.declared.dealing.Dealt.{Dealt}
 use Rattle.wh_cli.specs.declared.service_report.Row.{Row}
 use Rattle.wh_cli.specs.declared.service_report.FileFailure.{FileFailure}
-use Rattle.wh_cli.specs.Services.{rows_from, failures_from, File, Left, none_left, left_of, no_source, dealt_of, hand_of, IsGathered, IsService, IsToldService}
+use Rattle.wh_cli.specs.Services.{rows_from, failures_from, Reading, Left, none_left, left_of, no_source, dealt_as, hand_in, IsGathered, IsService, IsToldService}
 
 -- what follows of five facts of a value
 pub all_five : {X E : Type 0} {P Q R S T U : X → Type 0} (r : Result X E) → ((x : X) → P x → Q x → R x → S x → T x → U x) → IfOk r P → IfOk r Q → IfOk r R → IfOk r S → IfOk r T → IfOk r U
@@ -64,26 +64,26 @@ gathered_of counted source fault workers dealt rows totals faultless told total 
     }
 
 -- workers whose posts had sources over what they were dealt did the service, and the sources that they leave tell the rest
-pub service_is : {P W : Type 0} (opened : P → Stage) (counted : W → Shares) (source : W → Stage) (fault : W → Option SourceFault) (posts : List P) (workers : List W) (files : List File) (count : ℕ) (sources : List Stage) (rows : List Row) (totals : Totals) (faultless : Bool) (failures : List FileFailure) (uncompared : Bool)
+pub service_is : {P W : Type 0} (opened : P → Stage) (counted : W → Shares) (source : W → Stage) (fault : W → Option SourceFault) (posts : List P) (workers : List W) (readings : List Reading) (count : ℕ) (sources : List Stage) (rows : List Row) (totals : Totals) (faultless : Bool) (failures : List FileFailure) (uncompared : Bool)
     → length sources ≡ count → map opened posts ≡ sources
-    → ((worker : ℕ) → worker < count → get_or sources worker no_source ≡ opening_stage (hand_of count worker files))
+    → ((worker : ℕ) → worker < count → get_or sources worker no_source ≡ opening_stage (hand_in count worker readings))
     → AllZip (λ post left. KeepsOrigin ComesFrom (opened post) (source left)) posts workers
     → AllZip (λ post left. length (source left).answers ≤ length (opened post).answers + (counted left).taken) posts workers
-    → rows ≡ rows_from (map source workers) 0 (map dealt_of files) → totals ≡ totals_of (sums_of (map counted workers)) → faultless ≡ list_all (λ worker. is_none (fault worker)) workers → totals.taken ≡ totals.completed + totals.failed + totals.in_hand
-    → failures ≡ failures_from (map source workers) 0 (map dealt_of files) → uncompared ≡ list_any (λ worker. has_last_record (source worker)) workers
-    → IsToldService files count rows totals faultless failures uncompared
-service_is opened counted source fault posts workers files count sources rows totals faultless failures uncompared given opens dealt origins answered told total none even failed last =
+    → rows ≡ rows_from (map source workers) 0 (map dealt_as readings) → totals ≡ totals_of (sums_of (map counted workers)) → faultless ≡ list_all (λ worker. is_none (fault worker)) workers → totals.taken ≡ totals.completed + totals.failed + totals.in_hand
+    → failures ≡ failures_from (map source workers) 0 (map dealt_as readings) → uncompared ≡ list_any (λ worker. has_last_record (source worker)) workers
+    → IsToldService readings count rows totals faultless failures uncompared
+service_is opened counted source fault posts workers readings count sources rows totals faultless failures uncompared given opens dealt origins answered told total none even failed last =
     let leave : _ → Left = λ worker. left_of (counted worker) (source worker) (fault worker) in
     let left = map leave workers in
     let posted : length posts ≡ count = sym (map-length opened posts) ∙ ap length opens ∙ given in
     let long : length left ≡ count = map-length leave workers ∙ zip_length _ posts workers origins ∙ posted in
     let came = subst (λ l. AllZip (λ s l. KeepsOrigin ComesFrom s l.source) l left) opens (zip_mapped (λ s l. KeepsOrigin ComesFrom s l.source) opened leave posts workers origins) in
     let sent = subst (λ l. AllZip (λ s l. length l.source.answers ≤ length s.answers + l.counted.taken) l left) opens (zip_mapped (λ s l. length l.source.answers ≤ length s.answers + l.counted.taken) opened leave posts workers answered) in
-    let service : IsService files count rows totals faultless = record {
+    let service : IsService readings count rows totals faultless = record {
       left = left;
       workers = long;
       own = λ worker below.
-          let opening = opening_stage (hand_of count worker files) in
+          let opening = opening_stage (hand_in count worker readings) in
           let itself : ComesFrom opening opening = record { histories = refl; more = []; answers = refl } in
           let within : worker < length sources = omega (arith, below, given) in
           zip_at (λ s l. KeepsOrigin ComesFrom s l.source) sources left worker no_source none_left came within opening (subst (λ s. ComesFrom s opening) (sym (dealt worker below)) itself);
@@ -92,10 +92,10 @@ service_is opened counted source fault posts workers files count sources rows to
           let at = zip_at (λ s l. length l.source.answers ≤ length s.answers + l.counted.taken) sources left worker no_source none_left sent within in
           let none_sent : length (get_or sources worker no_source).answers ≡ 0 = ap (λ s. length s.answers) (dealt worker below) in
           omega (arith, at, none_sent);
-      gathered = gathered_of counted source fault workers (map dealt_of files) rows totals faultless told total none even;
+      gathered = gathered_of counted source fault workers (map dealt_as readings) rows totals faultless told total none even;
     } in
     record {
       service = service;
-      failed = failed ∙ ap (λ l. failures_from l 0 (map dealt_of files)) (sym (map-twice leave (λ worker. worker.source) workers));
+      failed = failed ∙ ap (λ l. failures_from l 0 (map dealt_as readings)) (sym (map-twice leave (λ worker. worker.source) workers));
       last = last ∙ sym (any-map (λ worker. has_last_record worker.source) leave workers);
     }

@@ -18,6 +18,7 @@ use Rattle.wh_tester.specs.Faults.{replay_fault_text}
 use Rattle.wh_tester.specs.Report.{shown, line_text}
 use Rattle.wh_tester.specs.declared.line.Verdict.TheVariants.{Unreadable}
 use Rattle.wh_cli.specs.declared.dealing.Dealt.{Dealt}
+use Rattle.wh_cli.specs.declared.json_faults.JsonFault.{JsonFault}
 use Rattle.wh_cli.specs.declared.service_report.Tally.{Tally}
 use Rattle.wh_cli.specs.declared.service_report.Row.{Row}
 use Rattle.wh_cli.specs.declared.service_report.FileFailure.{FileFailure}
@@ -42,9 +43,6 @@ reading_of file = (string_bytes file.0, history file.1.items)
 abbrev pub dealt_as : Reading → Dealt
 dealt_as reading = record { name = reading.0; fault = fault_of reading.1 }
 
-abbrev pub dealt_of : File → Dealt
-dealt_of file = dealt_as (reading_of file)
-
 -- the history of a file, under the index and the name of the file, where it can be read
 abbrev pub read_as : ℕ → List ℕ → Result (List Event) ReadFault → List Scripted
 read_as index name (Ok events) = record { index = index; name = name; events = events } ∷ []
@@ -62,9 +60,6 @@ hand_from count worker before (reading ∷ rest) =
 -- what a worker is dealt of all files
 abbrev pub hand_in : (count worker : ℕ) → List Reading → List Scripted
 hand_in count worker readings = hand_from count worker 0 readings
-
-abbrev pub hand_of : (count worker : ℕ) → List File → List Scripted
-hand_of count worker files = hand_in count worker (map reading_of files)
 
 -- a hand as contracts see it
 abbrev pub hand_seen : Vec (ℕ × String Global × Vec Event Global) Global → List Scripted
@@ -137,26 +132,26 @@ pub record IsGathered (left : List Left) (dealt : List Dealt) (rows : List Row) 
   pub balanced : totals.taken ≡ totals.completed + totals.failed + totals.in_hand
   pub no_fault : faultless ≡ list_all (λ worker. is_none worker.fault) left
 
--- what so many workers did with files: each had a source over the histories that it was dealt, and
--- no others; the source that it leaves comes from that one, and was sent at most as many answers as
--- the worker's seat took tasks
-pub record IsService (files : List File) (count : ℕ) (rows : List Row) (totals : Totals)
+-- what so many workers did with files, by what was read of these: each had a source over the
+-- histories that it was dealt, and no others; the source that it leaves comes from that one, and was
+-- sent at most as many answers as the worker's seat took tasks
+pub record IsService (readings : List Reading) (count : ℕ) (rows : List Row) (totals : Totals)
     (faultless : Bool) : Type 0 where
   pub left : List Left
   pub workers : length left ≡ count
   pub own : (worker : ℕ) → worker < count
-      → ComesFrom (get_or left worker none_left).source (opening_stage (hand_of count worker files))
+      → ComesFrom (get_or left worker none_left).source (opening_stage (hand_in count worker readings))
   pub answered : (worker : ℕ) → worker < count
       → length (get_or left worker none_left).source.answers ≤ (get_or left worker none_left).counted.taken
-  pub gathered : IsGathered left (map dealt_of files) rows totals faultless
+  pub gathered : IsGathered left (map dealt_as readings) rows totals faultless
 
 -- a service with what is told of it beside its report: by the sources that the workers leave, the
 -- failed tasks of the files, and whether the last task of a history has a record, which it was not
 -- compared with
-pub record IsToldService (files : List File) (count : ℕ) (rows : List Row) (totals : Totals) (faultless : Bool)
+pub record IsToldService (readings : List Reading) (count : ℕ) (rows : List Row) (totals : Totals) (faultless : Bool)
     (failures : List FileFailure) (uncompared : Bool) : Type 0 where
-  pub service : IsService files count rows totals faultless
-  pub failed : failures ≡ failures_from (map (λ worker. worker.source) service.left) 0 (map dealt_of files)
+  pub service : IsService readings count rows totals faultless
+  pub failed : failures ≡ failures_from (map (λ worker. worker.source) service.left) 0 (map dealt_as readings)
   pub last : uncompared ≡ list_any (λ worker. has_last_record worker.source) service.left
 
 -- `<tasks> tasks, <completed> completed, <failed> failed`
@@ -214,3 +209,9 @@ why_text at (Some fault) = if names_task fault at then replay_fault_text fault e
 -- `<name>: task at <event>: <fault>`
 abbrev pub failure_text : FileFailure → List ℕ
 failure_text failure = shown failure.name ++ (codes ": " ++ why_text failure.task.at failure.task.fault)
+
+-- `<name>: not JSON at line <line> column <column>`
+abbrev pub json_fault_text : JsonFault → List ℕ
+json_fault_text fault =
+    shown fault.name ++ (codes ": not JSON at line "
+    ++ (decimal fault.position.line ++ (codes " column " ++ decimal fault.position.column)))

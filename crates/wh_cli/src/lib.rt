@@ -5,12 +5,17 @@
 mod dealing;
 mod explaining;
 mod gathering;
+mod json_faults;
+mod position;
 mod program;
+mod reading;
 mod replaying;
 mod service_report;
 mod serving;
 
 pub use explaining::explain_command;
+pub use json_faults::JsonFault;
+pub use position::Position;
 pub use program::run;
 pub use replaying::{CommandFault, replay_command};
 pub use service_report::FileFailure;

@@ -4,8 +4,9 @@ ghost use Rattle.std.specs.Prelude.{◌≡◌, ◌≢◌, Err, IfOk, map, string
 ghost use Rattle.wh_command_line.specs.Plans.{IsWithinLimits, IsAskedBy, HasFewSlots};
 
 use crate::explaining::explain_command;
+use crate::json_faults::{JsonFault, json_fault};
 use crate::replaying::{CommandFault, lines_of, report};
-use crate::serving::{ServiceEnd, serve_with_failures};
+use crate::serving::{ServiceEnd, serve_inputs};
 use std::alloc::Global;
 use std::io::{BufWriter, ErrorKind, Printer, Write};
 use std::process::ExitCode;
@@ -16,7 +17,8 @@ use std::{env, io};
 use thiserror::Error;
 use wh_command_line::{Plan, Refusal, parse};
 use wh_events::Text;
-use wh_files::{FolderFault, Input, InputFault, input_at, inputs_at, read_files, read_input};
+use wh_files::{FolderFault, Input, InputFault, folder_inputs, input_at, inputs_at, read_input};
+use wh_json::{ReadFault, read_events};
 use wh_tester::Shown;
 use wh_workflow::Workflow;
 
@@ -115,19 +117,16 @@ fn tell_empty<R: Runtime>(rt: &R, dir: &str) {
     let _ = eprintln!(rt; "wfhost: no .json file in {dir}");
 }
 
-/// The files of a folder. Where there is none, the standard error says so.
-fn files_of<R: Runtime + AllocGlobal>(
-    rt: &R,
-    dir: Text,
-) -> Result<Vec<(String, Vec<u8>)>, Failure> {
-    let files = match read_files(rt, dir.get()) {
-        Ok(files) => files,
+/// The files of a folder that are to be read. Where there is none, the standard error says so.
+fn folder_of<R: Runtime + AllocGlobal>(rt: &R, dir: Text) -> Result<Vec<Input>, Failure> {
+    let inputs = match folder_inputs(rt, dir.get(), false) {
+        Ok(inputs) => inputs,
         Err(fault) => return Err(unreadable(dir, fault)),
     };
-    if files.is_empty() {
+    if inputs.is_empty() {
         tell_empty(rt, dir.get());
     }
-    Ok(files)
+    Ok(inputs)
 }
 
 /// What is to be read at a path. Where it is a folder without a file that is read, the standard
@@ -202,9 +201,33 @@ fn print<R: Runtime>(rt: &R, text: &str) -> Result<u8, Failure> {
     }
 }
 
-/// Says on the standard error why tasks failed, a line for each, and then in a line where `serve`
-/// did not compare all that is recorded.
+/// Whether that is why bytes are not read: that they are no JSON.
+fn is_bad_json(alloc: Global, bytes: &[u8]) -> bool {
+    matches!(read_events(alloc, bytes), Err(ReadFault::BadJson))
+}
+
+/// Says on the standard error where a file is no JSON, if that is why it is not read.
+fn tell_json_fault<R: Runtime + AllocGlobal>(rt: &R, name: &str, bytes: &[u8]) {
+    if !is_bad_json(rt.alloc(), bytes) {
+        return;
+    }
+    if let Some(fault) = json_fault(rt.alloc(), name, bytes) {
+        let _ = eprintln!(rt; "wfhost: {fault}");
+    }
+}
+
+/// Says on the standard error where files are no JSON, a line for each.
+fn tell_json_faults<R: Runtime>(rt: &R, faults: Vec<JsonFault>) -> io::Result<()> {
+    for fault in faults {
+        eprintln!(rt; "wfhost: {fault}")?;
+    }
+    Ok(())
+}
+
+/// Says on the standard error where files are no JSON and why tasks failed, a line for each, and
+/// then in a line where `serve` did not compare all that is recorded.
 fn tell_service<R: Runtime>(rt: &R, end: ServiceEnd) -> io::Result<()> {
+    tell_json_faults(rt, end.json_faults)?;
     for failure in end.failures {
         eprintln!(rt; "wfhost: {failure}")?;
     }
@@ -232,6 +255,43 @@ fn served<R: Runtime, O: Write>(
     }
 }
 
+/// Replays inputs, and gives the status once the report is out and the rest is told.
+fn replay<W: Workflow + Send, R: Runtime + AllocGlobal + Threads + Sync>(
+    rt: &R,
+    inputs: Vec<Input>,
+    json: bool,
+) -> Result<u8, Failure>
+where
+    R::File: Send,
+    R::Dir: Send,
+{
+    let (lines, faults) = lines_of::<W, R>(rt, inputs)?;
+    let mut writer = output(rt)?;
+    let answer = report(lines.as_slice(), json, &mut writer);
+    let status = flushed(answer, &mut writer)?;
+    let _ = tell_json_faults(rt, faults);
+    Ok(status)
+}
+
+/// Explains a file, and gives the status once the report is out and the rest is told.
+fn explain<W: Workflow, R: Runtime + AllocGlobal>(
+    rt: &R,
+    name: String,
+    bytes: &[u8],
+) -> Result<u8, Failure> {
+    let alloc = rt.alloc();
+    let Ok(called) = String::from_str(alloc, name.as_str()) else {
+        return Err(Failure::OutOfMemory);
+    };
+    let mut writer = output(rt)?;
+    let answer = explain_command::<W, _>(alloc, name, bytes, &mut writer);
+    let status = flushed(answer, &mut writer)?;
+    if status != 0 {
+        tell_json_fault(rt, called.as_str(), bytes);
+    }
+    Ok(status)
+}
+
 /// Does what is asked for, and gives the status.
 fn obey<W: Workflow + Send, R: Runtime + AllocGlobal + Threads + Wait + Sync>(
     rt: &R,
@@ -246,16 +306,11 @@ where
     match plan {
         Plan::Replay { dir, more, json } => {
             let inputs = all_inputs(rt, dir, more)?;
-            let lines = lines_of::<W, R>(rt, inputs)?;
-            let mut writer = output(rt)?;
-            let answer = report(lines.as_slice(), json, &mut writer);
-            flushed(answer, &mut writer)
+            replay::<W, R>(rt, inputs, json)
         }
         Plan::Explain { file } => {
             let (name, bytes) = file_of(rt, file)?;
-            let mut writer = output(rt)?;
-            let answer = explain_command::<W, _>(alloc, name, bytes.as_slice(), &mut writer);
-            flushed(answer, &mut writer)
+            explain::<W, R>(rt, name, bytes.as_slice())
         }
         Plan::Serve {
             dir,
@@ -264,18 +319,17 @@ where
             cache_events,
             slots,
         } => {
-            let files = files_of(rt, dir)?;
+            let inputs = folder_of(rt, dir)?;
             let mut writer = output(rt)?;
-            let answer = serve_with_failures::<W, _, _>(
+            let answer = serve_inputs::<W, R, _>(
                 rt,
-                alloc,
-                files,
+                inputs,
                 workers,
                 cache,
                 cache_events,
                 slots,
                 &mut writer,
-            );
+            )?;
             served(rt, answer, &mut writer)
         }
         Plan::Help { text } => print(rt, text.get()),

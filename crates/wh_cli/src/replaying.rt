@@ -10,6 +10,7 @@ ghost use Rattle.wh_cli.specs.Statuses.{status_of};
 ghost use Rattle.wh_tester.specs.Verdicts.{IsLineOf};
 ghost use Rattle.wh_tester.specs.declared.line.Line.{Line};
 
+use crate::json_faults::{JsonFault, json_fault, parted};
 use rayon::prelude::*;
 use std::alloc::Global;
 use std::io;
@@ -19,7 +20,8 @@ use std::thread::Threads;
 use thiserror::Error;
 use wh_events::Text;
 use wh_files::{Input, InputFault, read_input};
-use wh_tester::{Line, all_good, check_all, verdict, write_json_report, write_report};
+use wh_json::ReadFault;
+use wh_tester::{Line, Verdict, all_good, check_all, verdict, write_json_report, write_report};
 use wh_workflow::Workflow;
 
 /// Why a command has no status.
@@ -69,47 +71,76 @@ pub(crate) fn report<O: Write>(
     Ok(status_of(lines))
 }
 
-/// The line of an input: its name, with the verdict on its bytes, which are kept no longer.
-fn line_of<W: Workflow, R: Files + AllocGlobal>(rt: &R, input: Input) -> Result<Line, InputFault>
-    ensures { IfOk result (IsLineOfInput W.program input) }
+/// Whether a file is no JSON.
+fn is_bad_json(verdict: &Verdict) -> bool {
+    matches!(verdict, Verdict::Unreadable(ReadFault::BadJson))
+}
+
+/// The line of an input: its name, with the verdict on its bytes, which are kept no longer. Beside
+/// it where the input is no JSON, if that is the verdict.
+fn line_of<W: Workflow, R: Files + AllocGlobal>(
+    rt: &R,
+    input: Input,
+) -> Result<(Line, Option<JsonFault>), InputFault>
+    ensures { IfOk result (λ told. IsLineOfInput W.program input told.0) }
 {
     let Input { name, origin } = input;
     let bytes = read_input(rt, origin)?;
     let verdict = verdict::<W>(rt.alloc(), bytes.as_slice());
-    Ok(Line {
-        name: Text::new(name),
-        verdict,
-    })
+    let fault = if is_bad_json(&verdict) {
+        json_fault(rt.alloc(), name.as_str(), bytes.as_slice())
+    } else {
+        None
+    };
+    let name = Text::new(name);
+    Ok((Line { name, verdict }, fault))
 }
 
 /// Replays inputs with the code of `W`. `rayon` spreads them over threads, down to one each, and
 /// each is read where it is replayed: so the bytes of no more files are there at once than there
 /// are threads. The lines come in the order of the inputs, whichever is done first, and so does the
-/// fault of the first that cannot be read.
-pub(crate) fn lines_of<W: Workflow + Send, R: Files + AllocGlobal + Threads + Sync>(
+/// fault of the first that cannot be read. Beside each is where the input is no JSON, if so.
+fn told_of<W: Workflow + Send, R: Files + AllocGlobal + Threads + Sync>(
     rt: &R,
     inputs: Vec<Input>,
-) -> Result<Vec<Line>, InputFault>
+) -> Result<Vec<(Line, Option<JsonFault>)>, InputFault>
 where
     R::File: Send,
     R::Dir: Send,
-    ensures { IfOk result (λ lines. AllZip (IsLineOfInput W.program) inputs.items lines.items) }
+    ensures { IfOk result (λ told. AllZip (λ input both. IsLineOfInput W.program input both.0) inputs.items told.items) }
 {
-    let Ok(lines) = inputs
+    let Ok(told) = inputs
         .into_par_iter()
         .with_min_len(1)
         .map(
-            |input: Input| -> Result<Line, InputFault>
+            |input: Input| -> Result<(Line, Option<JsonFault>), InputFault>
                 requires file { IsSend R.File.row }
                 requires dir { IsSend R.Dir.row }
-                ensures { IfOk result (IsLineOfInput W.program input) }
+                ensures { IfOk result (λ told. IsLineOfInput W.program input told.0) }
             { line_of::<W, R>(rt, input) },
         )
-        .collect::<Result<Vec<Line>, InputFault>>(rt, rt.alloc())
+        .collect::<Result<Vec<(Line, Option<JsonFault>)>, InputFault>>(rt, rt.alloc())
     else {
         return Err(InputFault::OutOfMemory);
     };
-    lines
+    told
+}
+
+/// The lines of inputs, in their order, and apart from these where inputs are no JSON.
+pub(crate) fn lines_of<W: Workflow + Send, R: Files + AllocGlobal + Threads + Sync>(
+    rt: &R,
+    inputs: Vec<Input>,
+) -> Result<(Vec<Line>, Vec<JsonFault>), InputFault>
+where
+    R::File: Send,
+    R::Dir: Send,
+    ensures { IfOk result (λ told. AllZip (IsLineOfInput W.program) inputs.items told.0.items) }
+{
+    let told = told_of::<W, R>(rt, inputs)?;
+    let Ok(parts) = parted(rt.alloc(), told) else {
+        return Err(InputFault::OutOfMemory);
+    };
+    Ok(parts)
 }
 
 /// Writes the report of the files. The status is 0 where each file is good, and else 1. Nothing is

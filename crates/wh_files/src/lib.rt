@@ -186,8 +186,9 @@ fn entry_input(alloc: Global, dir: &str, name: String, by_path: bool) -> Result<
     })
 }
 
-/// The files of a folder whose names end in `.json`, in the order of the bytes of their names.
-fn folder_inputs<R: Files + AllocGlobal + Clone + Drop>(
+/// The files of a folder whose names end in `.json`, in the order of the bytes of their names. What
+/// is no folder cannot be read. Whether its files can be is seen when they are.
+pub fn folder_inputs<R: Files + AllocGlobal + Clone + Drop>(
     rt: &R,
     dir: &str,
     by_path: bool,

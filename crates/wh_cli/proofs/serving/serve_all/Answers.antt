@@ -1,6 +1,6 @@
-use Rattle.std.proofs.Common.{◌≡◌, ◌∙◌, ◌+◌, ap, sym, subst, length, map, rules}
-use Rattle.std.specs.List.{AllZip}
-use Rattle.wh_cli.specs.Services.{dealt_of, rows_from, failures_from}
+use Rattle.std.proofs.Common.{◌≡◌, ◌∙◌, ◌+◌, sym, subst, length, map, rules}
+use Rattle.wh_cli.specs.Services.{rows_from, failures_from}
+use Rattle.wh_cli.specs.Readings.{reading}
 use Rattle.wh_cli.proofs.Workers.{all_five, service_is}
 use Rattle.wh_cli.proofs.serving.serve_all.Goals as goal
 
@@ -9,12 +9,12 @@ pub returns : goal.returns
 returns g c =
     let end = c.in-Ok.end in
     let sources = c.in_ok-dealt.sources.items in
-    let files = c.args.files.items in
+    let readings = map reading c.args.files.items in
     let count = c.args.options.workers in
     let given : length sources ≡ count = search rules in
     all_five c.gather.result
     (λ service rows totals faultless failures uncompared.
-    service_is (λ post. post.source) (λ left. left.counted) (λ left. left.source) (λ left. left.fault) c.in_ok-posts.posts.items end.workers.items files count sources service.rows.items service.totals service.faultless service.failures.items service.uncompared
+    service_is (λ post. post.source) (λ left. left.counted) (λ left. left.source) (λ left. left.fault) c.in_ok-posts.posts.items end.workers.items readings count sources service.rows.items service.totals service.faultless service.failures.items service.uncompared
     given c.in_ok-posts.ensures
     (search rules)
     c.in-Ok.ensures.origins c.in-Ok.ensures.answered

@@ -1,0 +1,18 @@
+use Rattle.std.proofs.Common.{◌∙◌, subst}
+use Rattle.std.specs.Prelude.{IfOk, Option}
+use Rattle.std.specs.List.{AllZip}
+use Rattle.wh_files.specs.declared.Input.{Input}
+use Rattle.wh_tester.specs.declared.line.Line.{Line}
+use Rattle.wh_cli.specs.declared.json_faults.JsonFault.{JsonFault}
+use Rattle.wh_cli.specs.Replays.{IsLineOfInput}
+use Rattle.wh_cli.proofs.Collected.{collected}
+use Rattle.wh_cli.proofs.replaying.told_of.Goals as goal
+
+-- the chain goes over the inputs in their order
+pub returns : goal.returns
+returns g c =
+    let h = c.in-Ok.ensures in
+    let Is : Input → Line × Option JsonFault → Type 0 = λ input both. IsLineOfInput g.W.Workflow.program input both.0 in
+    let chain = rw (c.map.ensures.base, c.map.ensures.f, c.with_min_len.ensures.base) at h.1 in
+    let zipped = subst (λ inputs. AllZip (λ input given. IfOk given (Is input)) inputs h.0) (chain.1 ∙ c.into_par_iter.ensures) chain.2 in
+    collected Is c.args.inputs.items h.0 c.in-Ok.told zipped h.2

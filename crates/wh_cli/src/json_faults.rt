@@ -1,0 +1,65 @@
+//! Files that are no JSON, and where.
+
+ghost use Rattle.std.specs.Prelude.{◌≡◌, IfOk, IfSome, None, Some, map};
+ghost use Rattle.wh_json.specs.Fields.{document};
+ghost use Rattle.wh_cli.specs.Services.{json_fault_text};
+
+use crate::position::{Position, position_of};
+use std::alloc::Global;
+use std::fmt;
+use wh_events::{OutOfMemory, Text};
+use wh_tester::Shown;
+
+/// A file that is no JSON, and where the reader stops. As a text: the name of the file as the report
+/// shows it, and the place.
+#[derive(Drop)]
+pub struct JsonFault {
+    /// The name of the file.
+    pub name: Text,
+    /// Where the reader stops.
+    pub position: Position,
+}
+
+impl fmt::Display for JsonFault {
+    ghost output = { λ fault. Some (json_fault_text fault) };
+
+    fn fmt<W: fmt::Write>(&self, f: &mut fmt::Formatter<W>) -> fmt::Result {
+        let name = Shown(self.name.get());
+        let Position { line, column } = self.position;
+        write!(f, "{name}: not JSON at line {line} column {column}")
+    }
+}
+
+/// Where a file is no JSON, if it is none. Nothing is told where memory for that is refused.
+pub(crate) fn json_fault(alloc: Global, name: &str, bytes: &[u8]) -> Option<JsonFault>
+    ensures { IfSome result (λ fault. (fault.name ≡ name.now) × (document bytes.now ≡ None)) }
+{
+    let Ok(Some(position)) = position_of(alloc, bytes) else {
+        return None;
+    };
+    let Ok(name) = String::from_str(alloc, name) else {
+        return None;
+    };
+    Some(JsonFault {
+        name: Text::new(name),
+        position,
+    })
+}
+
+/// What was made of files, and apart from it the faults of those that are no JSON.
+pub(crate) fn parted<T: Drop>(
+    alloc: Global,
+    told: Vec<(T, Option<JsonFault>)>,
+) -> Result<(Vec<T>, Vec<JsonFault>), OutOfMemory>
+    ensures { IfOk result (λ parts. parts.0.items ≡ map (λ both. both.0) told.items) }
+{
+    let mut made = Vec::new(alloc);
+    let mut faults = Vec::new(alloc);
+    for (one, fault) in told {
+        made.push(one)?;
+        if let Some(fault) = fault {
+            faults.push(fault)?;
+        }
+    }
+    Ok((made, faults))
+}
