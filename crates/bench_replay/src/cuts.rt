@@ -11,6 +11,11 @@ fn next_core(rest: &[Event]) -> Option<&Event> {
     None
 }
 
+/// Whether the event completes a task.
+fn completes(event: &Event) -> bool {
+    matches!(event.body, EventKind::WorkflowTaskCompleted)
+}
+
 /// Whether the event is a cut of a history that goes on with the rest: the first of the rest that
 /// is not inert completes the task, or there is none.
 pub(crate) fn is_cut(event: &Event, rest: &[Event]) -> bool {
@@ -18,23 +23,23 @@ pub(crate) fn is_cut(event: &Event, rest: &[Event]) -> bool {
         return false;
     }
     match next_core(rest) {
-        Some(next) => matches!(next.body, EventKind::WorkflowTaskCompleted),
+        Some(next) => completes(next),
         None => true,
     }
 }
 
 /// Whether a cut before the rest is recorded.
 pub(crate) fn is_recorded(rest: &[Event]) -> bool {
-    let Some(next) = next_core(rest) else {
-        return false;
-    };
-    matches!(next.body, EventKind::WorkflowTaskCompleted)
+    match next_core(rest) {
+        Some(next) => completes(next),
+        None => false,
+    }
 }
 
 /// What stands before the next completed task, or the end.
 pub(crate) fn until_completed(events: &[Event]) -> &[Event] {
     for (place, event) in events.iter().enumerate() {
-        if matches!(event.body, EventKind::WorkflowTaskCompleted) {
+        if completes(event) {
             return &events[..place];
         }
     }
@@ -44,7 +49,7 @@ pub(crate) fn until_completed(events: &[Event]) -> &[Event] {
 /// What stands behind the next completed task.
 pub(crate) fn after_completed(events: &[Event]) -> &[Event] {
     for (place, event) in events.iter().enumerate() {
-        if matches!(event.body, EventKind::WorkflowTaskCompleted) {
+        if completes(event) {
             return &events[place + 1..];
         }
     }

@@ -2,10 +2,12 @@
 //! the list of events anew for each place, each task and each look-up, in quadratic time. Of
 //! `Run::advance` the steps and the time of calls on a long run are told, and by the peak of the
 //! process's memory whether a call steps its task alone. bench/growths.py counts the growths of
-//! memory and the instructions of one call, and refuses single growths.
+//! memory and the instructions of one call, and refuses single growths. Calls of the other libraries
+//! are made by their names, for bench/refusals.py.
 #![tactic(auto)]
 
 mod blink;
+mod calls;
 mod comparing;
 mod cuts;
 mod generated;
@@ -24,10 +26,13 @@ use crate::growing::Plan;
 use std::env;
 use std::process::ExitCode;
 use std::rt::Runtime;
+use std::sync::Wait;
+use std::thread::Threads;
+use wh_sample_workflows::Nap;
 
 /// How the program is called.
 const USAGE: &str =
-    "bench_replay [TASKS CALLS]: 1 to 650 completed tasks before the calls, 0 to 100 calls, or none for all that is tried";
+    "bench_replay [NAME | TASKS CALLS]: the name of one call, or 1 to 650 completed tasks before 0 to 100 calls, or none for all that is tried";
 
 /// The calls that are made where all is tried.
 const FEW: Plan = Plan {
@@ -37,10 +42,12 @@ const FEW: Plan = Plan {
 
 /// What is tried.
 #[derive(Clone, Copy)]
-enum Request {
+enum Request<'a> {
+    /// The call of a name.
+    Named(&'a str),
     /// The calls of a plan.
     Calls(Plan),
-    /// Those of a small plan, the peak of memory, and the comparison.
+    /// Those of a small plan, the peak of memory, the comparison, and each call that has a name.
     All,
 }
 
@@ -56,9 +63,12 @@ fn count_of(text: &str, least: u64, most: u64) -> Option<u64> {
 }
 
 /// What the words of the command line ask for.
-fn asked_by(words: &[String]) -> Option<Request> {
+fn asked_by(words: &[String]) -> Option<Request<'_>> {
     if words.len() <= 1 {
         return Some(Request::All);
+    }
+    if words.len() == 2 {
+        return Some(Request::Named(words[1].as_str()));
     }
     if words.len() != 3 {
         return None;
@@ -68,30 +78,47 @@ fn asked_by(words: &[String]) -> Option<Request> {
     Some(Request::Calls(Plan { tasks, calls }))
 }
 
-/// What the command line asks for.
-fn asked<R: Runtime + AllocGlobal>(rt: &R) -> Option<Request> {
-    let words: Vec<String> = env::args(rt).ok()?.collect(rt.alloc()).ok()?;
-    asked_by(words.as_slice())
+/// The words of the command line.
+fn words_of<R: Runtime + AllocGlobal>(rt: &R) -> Option<Vec<String>> {
+    env::args(rt).ok()?.collect(rt.alloc()).ok()
 }
 
-/// Tries what is asked for, and says whether all of it holds. `None` where it can't be tried.
-fn run<R: Runtime + AllocGlobal>(rt: &R, asked: Request) -> Option<bool> {
-    if let Request::Calls(plan) = asked {
-        growing::tell(rt, plan)?;
-        return Some(true);
-    }
+/// Tries all there is, and says whether all of it holds. `None` where it can't be tried.
+fn try_all<R: Runtime + AllocGlobal + Threads + Wait + Sync>(rt: &R) -> Option<bool> {
     let is_alone = peak::tell(rt)?;
     growing::tell(rt, FEW)?;
     let is_same = samples::tell(rt).ok()?;
+    calls::call_all::<R, Nap>(rt, "")?;
     Some(is_alone && is_same)
+}
+
+/// Tries what is asked for, and says whether all of it holds. `None` where it can't be tried.
+fn run<R: Runtime + AllocGlobal + Threads + Wait + Sync>(
+    rt: &R,
+    asked: Request<'_>,
+) -> Option<bool> {
+    match asked {
+        Request::Named(name) => calls::call_all::<R, Nap>(rt, name)?,
+        Request::Calls(plan) => growing::tell(rt, plan)?,
+        Request::All => return try_all(rt),
+    }
+    Some(true)
+}
+
+/// Tells how the program is called.
+fn tell_usage<R: Runtime>(rt: &R) -> ExitCode {
+    let _ = eprintln!(rt; "{USAGE}");
+    ExitCode::from(2)
 }
 
 /// The status is 0 where all that was tried holds, 1 where some of it does not, and 2 where it could
 /// not be tried, by a bad command line, or for want of the histories, a clock or memory.
 fn main(rt: HostRuntime) -> ExitCode {
-    let Some(asked) = asked(&rt) else {
-        let _ = eprintln!(&rt; "{USAGE}");
-        return ExitCode::from(2);
+    let Some(words) = words_of(&rt) else {
+        return tell_usage(&rt);
+    };
+    let Some(asked) = asked_by(words.as_slice()) else {
+        return tell_usage(&rt);
     };
     let Some(holds) = run(&rt, asked) else {
         let _ = eprintln!(&rt; "bench_replay: could not be tried");

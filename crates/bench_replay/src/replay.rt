@@ -1,11 +1,14 @@
 //! Replay as its definition computes it: each task goes over the history anew, up to the end of its
 //! own record. What a workflow is told, which commands can stand and whether a record matches them
 //! is asked of the crates that say so.
+ghost use Rattle.std.specs.Prelude.{◌≡◌, false};
+ghost use Rattle.wh_workflow.specs.Law.{is_ask, is_marker};
+
 use crate::cuts::{after_completed, is_cut, is_recorded, until_completed};
 use crate::places::history_fault;
 use std::alloc::Global;
 use wh_activation::jobs;
-use wh_events::{Event, EventKind, EventNo, OutOfMemory};
+use wh_events::{Event, EventKind, EventNo, OutOfMemory, Text};
 use wh_machines::Track;
 use wh_match::{Script, ScriptFault, Versions, matches};
 use wh_replay::{Checked, Fault, RunFault};
@@ -81,6 +84,32 @@ impl<'a> Task<'a> {
         })
     }
 
+    /// Asks for the version of a change, and answers by the job that has to be next.
+    fn ask(
+        &mut self,
+        versions: &mut Versions,
+        change_id: Text,
+        min: i32,
+        max: i32,
+    ) -> Result<Option<Job>, ScriptFault> {
+        let id = change_id.get();
+        match self.script.ask(self.record, versions, id, min, max) {
+            Ok(version) => Ok(Some(Job::Version { change_id, version })),
+            Err(fault) => Err(fault),
+        }
+    }
+
+    /// Issues a command that asks nothing.
+    fn issue_plain(&mut self, command: Command) -> Result<Option<Job>, ScriptFault>
+        requires not_ask { is_ask command ≡ false }
+        requires not_marker { is_marker command ≡ false }
+    {
+        match self.script.issue(&self.track, command) {
+            Ok(()) => Ok(None),
+            Err(fault) => Err(fault),
+        }
+    }
+
     /// Issues a command, and answers what it asks by the job that has to be next.
     fn issue(
         &mut self,
@@ -92,18 +121,10 @@ impl<'a> Task<'a> {
                 change_id,
                 min,
                 max,
-            } => {
-                let version = self
-                    .script
-                    .ask(self.record, versions, change_id.get(), min, max)?;
-                Ok(Some(Job::Version { change_id, version }))
-            }
+            } => self.ask(versions, change_id, min, max),
             // No workflow gives a marker.
             Command::Marker { .. } => Ok(None),
-            command => {
-                self.script.issue(&self.track, command)?;
-                Ok(None)
-            }
+            command => self.issue_plain(command),
         }
     }
 

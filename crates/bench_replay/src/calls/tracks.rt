@@ -1,13 +1,13 @@
 //! Calls on a track: of its events, of a script over it, and of its jobs.
 
-use crate::saying::{say, text, track_of};
+use crate::calls::saying::{say, track_of};
 use std::rt::Runtime;
 use wh_activation::jobs;
 use wh_events::{Event, EventNo, OpenKind, Status};
 use wh_histories::events_behind;
 use wh_machines::Track;
 use wh_match::{Script, Versions};
-use wh_workflow::Command;
+use wh_workflow::{Command, text_of};
 
 /// The names of the calls.
 const NAMES: [&str; 5] = ["push", "issue", "ask", "reduced", "jobs"];
@@ -40,7 +40,7 @@ fn issue<R: Runtime + AllocGlobal>(rt: &R, name: &str) -> Option<()> {
     let track = track_of(rt.alloc(), STARTED)?;
     let cut = EventNo::new(track.len() as u64)?;
     let mut script = Script::new(rt.alloc(), 0, cut);
-    let id = text(rt.alloc(), "nap")?;
+    let id = text_of(rt.alloc(), "nap").ok()?;
     say(rt, name, "before", &script);
     let answer = script.issue(&track, Command::StartTimer { id, seconds: 60 });
     say(rt, name, "answer", &answer);
@@ -95,7 +95,7 @@ fn call<R: Runtime + AllocGlobal>(rt: &R, name: &str) -> Option<()> {
 }
 
 /// Makes each of these calls that has this name, or all where it is "".
-pub fn call_all<R: Runtime + AllocGlobal>(rt: &R, named: &str) -> Option<()> {
+pub(crate) fn call_all<R: Runtime + AllocGlobal>(rt: &R, named: &str) -> Option<()> {
     for name in &NAMES {
         if named.is_empty() || *name == named {
             call(rt, name)?;

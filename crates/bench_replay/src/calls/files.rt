@@ -1,6 +1,6 @@
 //! Calls on files: reading one, and checking some.
 
-use crate::saying::say;
+use crate::calls::saying::say;
 use std::alloc::Global;
 use std::rt::Runtime;
 use std::thread::Threads;
@@ -22,10 +22,26 @@ fn read<R: Runtime + AllocGlobal>(rt: &R, name: &str) -> Option<()> {
     Some(())
 }
 
-/// A file of a history.
-fn file(alloc: Global, name: &str, history: &'static str) -> Option<(String, Vec<u8>)> {
+/// Adds the file of a history.
+fn push_file(
+    alloc: Global,
+    files: &mut Vec<(String, Vec<u8>)>,
+    name: &str,
+    history: &'static str,
+) -> Option<()> {
+    files.reserve(1).ok()?;
     let name = String::from_str(alloc, name).ok()?;
-    Some((name, json(alloc, history).ok()?.into_bytes()))
+    let text = json(alloc, history).ok()?;
+    files.push_reserved((name, text.into_bytes()));
+    Some(())
+}
+
+/// Two files.
+fn two_files(alloc: Global) -> Option<Vec<(String, Vec<u8>)>> {
+    let mut files = Vec::new(alloc);
+    push_file(alloc, &mut files, "nap", "nap")?;
+    push_file(alloc, &mut files, "live", "nap/8")?;
+    Some(files)
 }
 
 /// Checks two files.
@@ -33,9 +49,7 @@ fn check<R: Runtime + AllocGlobal + Threads + Sync, W: Workflow + Send>(
     rt: &R,
     name: &str,
 ) -> Option<()> {
-    let mut files: Vec<(String, Vec<u8>)> = Vec::new(rt.alloc());
-    files.push(file(rt.alloc(), "nap", "nap")?).ok()?;
-    files.push(file(rt.alloc(), "live", "nap/8")?).ok()?;
+    let files = two_files(rt.alloc())?;
     say(rt, name, "before", &());
     let answer = check_all::<W>(rt, rt.alloc(), files);
     say(rt, name, "answer", &answer);
@@ -56,7 +70,7 @@ fn call<R: Runtime + AllocGlobal + Threads + Sync, W: Workflow + Send>(
 }
 
 /// Makes each of these calls that has this name, or all where it is "".
-pub fn call_all<R: Runtime + AllocGlobal + Threads + Sync, W: Workflow + Send>(
+pub(crate) fn call_all<R: Runtime + AllocGlobal + Threads + Sync, W: Workflow + Send>(
     rt: &R,
     named: &str,
 ) -> Option<()> {

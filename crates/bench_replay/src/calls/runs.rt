@@ -2,17 +2,17 @@
 
 ghost use Rattle.std.specs.Prelude.{◌≡◌, IfSome};
 
-use crate::saying::{run_of, say, seen, text};
+use crate::calls::saying::{run_of, say, seen};
 use std::alloc::Global;
 use std::fmt::Debug;
 use std::rt::Runtime;
 use wh_cache::{Put, Sticky};
-use wh_events::{Event, Items, RunKey};
+use wh_events::{Event, RunKey};
 use wh_histories::{events, events_behind, key};
 use wh_poll::{StepFault, Stepped, replay_task};
 use wh_recorded::ScriptSource;
 use wh_replay::{AdvanceFault, Run, check};
-use wh_workflow::{Command, Job, Meter, Workflow};
+use wh_workflow::{Command, Job, Meter, Workflow, no_payloads, text_of};
 
 /// The names of the calls.
 const NAMES: [&str; 11] = [
@@ -65,8 +65,8 @@ fn step<R: Runtime + AllocGlobal, W: Workflow>(rt: &R, name: &str) -> Option<()>
         return None;
     }
     let mut state = W::begin(rt.alloc(), KIND).ok()?;
-    let workflow = text(rt.alloc(), KIND)?;
-    let input = Items::new(Vec::new(rt.alloc()));
+    let workflow = text_of(rt.alloc(), KIND).ok()?;
+    let input = no_payloads(rt.alloc());
     let start = Job::Start { workflow, input };
     let mut out: Vec<Command> = Vec::new(rt.alloc());
     say(rt, name, "before", &out);
@@ -133,7 +133,7 @@ fn advance<R: Runtime + AllocGlobal, W: Workflow>(
 
 /// What became of a run that was put into a cache, and how many events the run holds that came
 /// back, if one did.
-pub fn put_seen<W: Workflow>(put: &Put<W>) -> (&'static str, Option<usize>) {
+pub(crate) fn put_seen<W: Workflow>(put: &Put<W>) -> (&'static str, Option<usize>) {
     match put {
         Put::Kept => ("Kept", None),
         Put::PushedOut(_) => ("PushedOut", None),
@@ -198,11 +198,11 @@ fn run_under<W: Workflow>(
 }
 
 /// A source over a nap.
-pub fn source_of(alloc: Global, history: &'static str) -> Option<ScriptSource> {
+pub(crate) fn source_of(alloc: Global, history: &'static str) -> Option<ScriptSource> {
     let mut histories: Vec<(u64, String, Vec<Event>)> = Vec::new(alloc);
+    histories.reserve(1).ok()?;
     let name = String::from_str(alloc, ID).ok()?;
-    let events = events(alloc, history).ok()?;
-    histories.push((0, name, events)).ok()?;
+    histories.push_reserved((0, name, events(alloc, history).ok()?));
     ScriptSource::new(alloc, histories).ok()
 }
 
@@ -272,7 +272,7 @@ fn call<R: Runtime + AllocGlobal, W: Workflow>(rt: &R, name: &str) -> Option<()>
 }
 
 /// Makes each of these calls that has this name, or all where it is "".
-pub fn call_all<R: Runtime + AllocGlobal, W: Workflow>(rt: &R, named: &str) -> Option<()> {
+pub(crate) fn call_all<R: Runtime + AllocGlobal, W: Workflow>(rt: &R, named: &str) -> Option<()> {
     for name in &NAMES {
         if named.is_empty() || *name == named {
             call::<R, W>(rt, name)?;

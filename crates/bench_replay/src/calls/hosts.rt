@@ -2,8 +2,8 @@
 
 ghost use Rattle.std.specs.Prelude.{◌≡◌};
 
-use crate::runs::{put_seen, source_of};
-use crate::saying::{run_of, say};
+use crate::calls::runs::{put_seen, source_of};
+use crate::calls::saying::{run_of, say};
 use std::marker::Brand;
 use std::rt::Runtime;
 use std::sync::Wait;
@@ -345,7 +345,10 @@ fn call<R: Runtime + AllocGlobal + Wait, W: Workflow>(
 }
 
 /// Makes each of these calls that has this name, or all where it is "".
-pub fn call_all<R: Runtime + AllocGlobal + Wait, W: Workflow>(rt: &R, named: &str) -> Option<()> {
+pub(crate) fn call_all<R: Runtime + AllocGlobal + Wait, W: Workflow>(
+    rt: &R,
+    named: &str,
+) -> Option<()> {
     for (place, name) in NAMES.iter().enumerate() {
         if named.is_empty() || *name == named {
             call::<R, W>(rt, name, place)?;

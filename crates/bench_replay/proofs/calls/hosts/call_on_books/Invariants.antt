@@ -1,4 +1,4 @@
-use Rattle.bench_calls.proofs.hosts.call_on_books.Given as goal
+use Rattle.bench_replay.proofs.calls.hosts.call_on_books.Given as goal
 
 abbrev pub ghosts-call_over-T-Ledger : goal.ghosts-call_over-T-Ledger
 ghosts-call_over-T-Ledger g a = record { name = a.taken.name; parts = a.taken.parts }
