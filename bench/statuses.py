@@ -1,6 +1,6 @@
 #!/usr/bin/env python3
 """Starts the built program in each way that ends with another status, and compares the status and both streams with what
-README's table of statuses says. It is no part of the gate. It ends with status 1 where something differs."""
+docs/USAGE.md says of statuses and complaints. It is no part of the gate. It ends with status 1 where something differs."""
 
 import json
 import resource
