@@ -1,5 +1,5 @@
--- What an input is called.
-use Rattle.std.specs.Prelude.{◌≡◌, Bool, true, false, List, ℕ, ◌++◌, drop, codes, string_bytes, Vec}
+-- What an input is called, and where it comes from.
+use Rattle.std.specs.Prelude.{◌≡◌, ◌≢◌, Bool, true, false, List, ℕ, ◌++◌, drop, codes, string_bytes, Vec}
 use Rattle.std.specs.declared.alloc.Global.{Global}
 use Rattle.wh_files.specs.declared.Input.{Input}
 use Rattle.wh_files.specs.declared.Origin.{Origin}
@@ -20,6 +20,17 @@ IsNameOf by_path (StandardInput bytes) name = name ≡ codes "-"
 -- the input is called so
 abbrev pub IsCalled : Bool → Input → Type 0
 IsCalled by_path input = IsNameOf by_path input.origin (string_bytes input.name)
+
+-- what was named by the path: its file, a file of its folder, or the standard input, which `-` alone names
+abbrev pub IsOf : List ℕ → Origin → Type 0
+IsOf path (File own) = (string_bytes own ≡ path) × (path ≢ codes "-")
+IsOf path (Entry dir entry) = string_bytes dir ≡ path
+IsOf path (StandardInput bytes) = path ≡ codes "-"
+
+-- it is no file of a folder
+abbrev pub IsSingle : Origin → Type 0
+IsSingle (Entry dir entry) = ⊥
+IsSingle _ = Unit {0}
 
 -- the bytes are those of an input from somewhere: those that the standard input had, or some that
 -- its file has

@@ -1,8 +1,8 @@
 //! Files, those of a folder, and the standard input.
 #![tactic(auto)]
 
-ghost use Rattle.std.specs.Prelude.{◌≡◌, All, Bool, IfOk};
-ghost use Rattle.wh_files.specs.Inputs.{IsCalled, IsEndOf, IsReadFrom};
+ghost use Rattle.std.specs.Prelude.{◌≡◌, All, Bool, IfOk, codes};
+ghost use Rattle.wh_files.specs.Inputs.{IsCalled, IsEndOf, IsOf, IsReadFrom, IsSingle};
 
 use std::alloc::{AllocError, Global};
 use std::fs::File;
@@ -172,7 +172,8 @@ fn read_standard_input<R: io::Input + AllocGlobal>(rt: &R) -> Result<Vec<u8>, Fo
 
 /// A file of a folder, called by its name alone, or by its path.
 fn entry_input(alloc: Global, dir: &str, name: String, by_path: bool) -> Result<Input, AllocError>
-    ensures { IfOk result (IsCalled by_path) }
+    ensures called { IfOk result (IsCalled by_path) }
+    ensures from { IfOk result (λ input. IsOf dir.now input.origin) }
 {
     let called = if by_path {
         format!(in alloc; "{dir}/{name}")?
@@ -193,7 +194,8 @@ pub fn folder_inputs<R: Files + AllocGlobal + Clone + Drop>(
     dir: &str,
     by_path: bool,
 ) -> Result<Vec<Input>, FolderFault>
-    ensures { IfOk result (λ inputs. All (IsCalled by_path) inputs.items) }
+    ensures called { IfOk result (λ inputs. All (IsCalled by_path) inputs.items) }
+    ensures from { IfOk result (λ inputs. All (λ input. IsOf dir.now input.origin) inputs.items) }
 {
     let mut inputs = Vec::new(rt.alloc());
     for name in names_in(rt, dir)? {
@@ -217,7 +219,9 @@ fn file_name(path: &str) -> &str
 
 /// The standard input, which is read at once.
 fn standard_input<R: io::Input + AllocGlobal>(rt: &R) -> Result<Input, FolderFault>
-    ensures { IfOk result (λ input. (by_path : Bool) → IsCalled by_path input) }
+    ensures called { IfOk result (λ input. (by_path : Bool) → IsCalled by_path input) }
+    ensures from { IfOk result (λ input. IsOf (codes "-") input.origin) }
+    ensures single { IfOk result (λ input. IsSingle input.origin) }
 {
     let bytes = read_standard_input(rt)?;
     Ok(Input {
@@ -233,7 +237,9 @@ pub fn input_at<R: io::Input + AllocGlobal>(
     path: &str,
     by_path: bool,
 ) -> Result<Input, FolderFault>
-    ensures { IfOk result (IsCalled by_path) }
+    ensures called { IfOk result (IsCalled by_path) }
+    ensures from { IfOk result (λ input. IsOf path.now input.origin) }
+    ensures single { IfOk result (λ input. IsSingle input.origin) }
 {
     if path == "-" {
         return standard_input(rt);
@@ -255,7 +261,8 @@ pub fn inputs_at<R: Files + io::Input + AllocGlobal + Clone + Drop>(
     path: &str,
     by_path: bool,
 ) -> Result<Vec<Input>, FolderFault>
-    ensures { IfOk result (λ inputs. All (IsCalled by_path) inputs.items) }
+    ensures called { IfOk result (λ inputs. All (IsCalled by_path) inputs.items) }
+    ensures from { IfOk result (λ inputs. All (λ input. IsOf path.now input.origin) inputs.items) }
 {
     if path != "-" && fs::metadata(rt, path)?.is_dir() {
         return folder_inputs(rt, path, by_path);

@@ -1,7 +1,8 @@
 use Rattle.std.specs.Prelude.{All}
-use Rattle.wh_files.specs.Inputs.{IsCalled}
+use Rattle.wh_files.specs.Inputs.{IsCalled, IsOf}
 use Rattle.wh_files.proofs.folder_inputs.Given as goal
 
--- the inputs so far are called as they should be
+-- the inputs so far are called as they should be, and are files of the folder
 abbrev pub invariant-loop-name : goal.invariant-loop-name
-invariant-loop-name g l = All (IsCalled l.by_path) l.inputs.items
+invariant-loop-name g l =
+    All (IsCalled l.by_path) l.inputs.items × All (λ input. IsOf l.dir input.origin) l.inputs.items
