@@ -1,4 +1,4 @@
-use Rattle.std.proofs.Common.{◌≡◌, refl}
+use Rattle.std.proofs.Common.{refl}
 use Rattle.wh_files.proofs.file_name.Goals as goal
 
 pub returns-in-Some : goal.returns-in-Some
