@@ -6,4 +6,5 @@ use Rattle.wh_cli.specs.Services.{Reading, IsToldService}
 -- its rows, its totals, whether it is faultless, and what else is told of it are those of so many workers
 abbrev pub IsServiceOf : List Reading → ℕ → Service → Type 0
 IsServiceOf readings count service =
-    IsToldService readings count service.rows.items service.totals service.faultless service.failures.items service.uncompared
+    IsToldService readings count service.rows.items service.totals service.faultless
+    service.failures.items service.uncompared

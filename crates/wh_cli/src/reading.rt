@@ -115,7 +115,8 @@ fn all_inputs<R: Files + AllocGlobal + Threads + Sync>(
 where
     R::File: Send,
     R::Dir: Send,
-    ensures { IfOk result (λ told. AllZip (λ input both. IsReadingOfInput input (reading both.0)) inputs.items told.items) }
+    ensures { IfOk result (λ told. AllZip (λ input both. IsReadingOfInput input (reading both.0))
+        inputs.items told.items) }
 {
     let Ok(told) = inputs
         .into_par_iter()

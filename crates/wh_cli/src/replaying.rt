@@ -107,7 +107,8 @@ fn told_of<W: Workflow + Send, R: Files + AllocGlobal + Threads + Sync>(
 where
     R::File: Send,
     R::Dir: Send,
-    ensures { IfOk result (λ told. AllZip (λ input both. IsLineOfInput W.program input both.0) inputs.items told.items) }
+    ensures { IfOk result (λ told. AllZip (λ input both. IsLineOfInput W.program input both.0)
+        inputs.items told.items) }
 {
     let Ok(told) = inputs
         .into_par_iter()
