@@ -4,7 +4,8 @@ until a run meets no refusal. The requests are counted and refused by a few line
 
 Each run of `wfhost replay` and `wfhost serve` has to end in one of these ways: what it prints with ample memory; status 2 with
 `wfhost: out of memory` and nothing on standard output; or status 1 with a whole report, in which the lines that differ say
-`out of memory` (replay), or the totals balance with nothing in hand (serve).
+`out of memory` (replay), or the totals balance with nothing in hand (serve). Beside a whole report of serve, standard error has a
+line for each failed task, and the hint that is there with ample memory.
 
 Of the calls that bench_replay makes, only the requests of the call itself are refused: those between the line on what stands before it
 and the line with its answer. Each run has to print what it prints with ample memory, or want of memory and what may stand after it,
@@ -28,6 +29,7 @@ LAST = 2**63
 OUT_OF_MEMORY = "wfhost: out of memory\n"
 TOTALS = re.compile(r"taken (\d+), completed (\d+), failed (\d+), in hand 0")
 TALLY = re.compile(r"(.+): (\d+) tasks, (\d+) completed, (\d+) failed")
+FAILURE = re.compile(r"wfhost: (.+): task at \d+: .+")
 COMMANDS = [
     ["replay", EXAMPLES],
     *(
@@ -125,6 +127,21 @@ def is_replay_report(out, ample):
     return lines[-1] == f"{len(lines) - 1} files, {good} ok"
 
 
+def is_replay(out, error, ample):
+    """Whether the report is one of replay, and standard error says what it says with ample memory."""
+    return is_replay_report(out, ample[1]) and error == ample[2]
+
+
+def is_service(out, error, ample):
+    """Whether the report is one of serve, and standard error has a line for each failed task, file by file, before what it says with
+    ample memory."""
+    if not is_service_report(out, ample[1]) or not error.endswith(ample[2]):
+        return False
+    tallies = [TALLY.fullmatch(line) for line in out.splitlines()[:-1]]
+    told = [FAILURE.fullmatch(line) for line in error.removesuffix(ample[2]).splitlines()]
+    return all(told) and [it[1] for it in told] == [it[1] for it in tallies for _ in range(int(it[4]))]
+
+
 def is_service_report(out, ample):
     """Whether each file has its line, the lines' numbers add up, and the totals balance with nothing in hand."""
     lines, wanted = out.splitlines(), ample.splitlines()
@@ -143,8 +160,8 @@ def why_wrong(words, ran, ample):
     status, out, error = ran
     if ran == ample or ran == (2, "", OUT_OF_MEMORY):
         return ""
-    is_report = is_replay_report if words[0] == "replay" else is_service_report
-    if status == 1 and error == "" and is_report(out, ample[1]):
+    is_whole = is_replay if words[0] == "replay" else is_service
+    if status == 1 and is_whole(out, error, ample):
         return ""
     return f"status {status}, standard output {out!r}, standard error {error!r}"
 
