@@ -4,7 +4,7 @@ ghost use Rattle.std.specs.Prelude.{option_map, slice_get, replicate, IsTrue, If
 ghost use Rattle.std.specs.Prelude.{IsErr, Err, MatchOption, MatchResult, vec_len};
 ghost use Rattle.std.specs.Map.{lookup_entry, remove_entry};
 ghost use Rattle.wh_events.specs.Keys.{same_key};
-ghost use Rattle.wh_cache.specs.Cache.{held_of};
+ghost use Rattle.wh_cache.specs.Cache.{held_of, Puts, put_reply_of};
 ghost use Rattle.wh_ledger.specs.Shares.{no_shares, sums_of, IsWithin};
 ghost use Rattle.wh_host.specs.Machine.{IsConfig, IsHost, in_hand, totals_of, opening_of, step};
 ghost use Rattle.wh_host.specs.Machine.{with_taken, with_outcome, books_of, give_reply_of, evicted_for};
@@ -17,7 +17,7 @@ use crate::reply::{Counts, Evict, Given, Outcome, Totals};
 use std::alloc::Global;
 use std::marker::Model;
 use std::sync::ledger::{Blank, Ledger};
-use wh_cache::Sticky;
+use wh_cache::{Put, Sticky};
 use wh_events::{OutOfMemory, RunKey};
 use wh_ledger::{Books, Seat, SeatsMissing};
 use wh_replay::Run;
@@ -193,7 +193,7 @@ impl<W: Workflow, T: Ledger, C: Ledger, F: Ledger> HostState<W, T, C, F> {
         if evicted {
             return Given::Marked(run);
         }
-        let put = self.cache.put(run);
+        let put = put_back(&mut self.cache, run);
         // The cache answers here for the runs that it holds.
         self.cache.len();
         Given::Put(put)
@@ -342,6 +342,13 @@ fn hand_out<W: Workflow>(cache: &mut Sticky<W>, key: &RunKey) -> Option<Run<W>>
     ensures runs { cache.new ≡ record cache.old { runs = remove_entry (same_key key.now) cache.old.runs } }
 {
     cache.take(key)
+}
+
+/// Puts a run into the cache, from which its task took it.
+fn put_back<W: Workflow>(cache: &mut Sticky<W>, run: Run<W>) -> Put<W>
+    ensures { Puts cache.old run cache.new (put_reply_of result) }
+{
+    cache.put(run)
 }
 
 /// Adds one to the book of the outcome and to the seat's share of it.
