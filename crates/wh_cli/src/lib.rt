@@ -6,6 +6,7 @@ mod dealing;
 mod explaining;
 mod gathering;
 mod json_faults;
+mod parallel;
 mod position;
 mod program;
 mod reading;

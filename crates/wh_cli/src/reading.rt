@@ -6,8 +6,8 @@ ghost use Rattle.std.specs.List.{AllZip};
 ghost use Rattle.wh_cli.specs.Services.{reading_of};
 ghost use Rattle.wh_cli.specs.Readings.{IsReadingOfInput, reading};
 
-use crate::json_faults::{JsonFault, json_fault, parted};
-use rayon::prelude::*;
+use crate::json_faults::{JsonFault, json_fault};
+use crate::parallel::all_made;
 use std::alloc::Global;
 use std::rt::Files;
 use std::thread::Threads;
@@ -53,30 +53,8 @@ fn read_file(
     }
 }
 
-/// Parses the files, in the threads of `rayon`, which spreads them down to one file each.
-fn all_read<R: Threads + Sync>(
-    rt: &R,
-    alloc: Global,
-    files: Vec<(String, Vec<u8>)>,
-) -> Result<Vec<(ReadFile, Option<JsonFault>)>, OutOfMemory>
-    ensures { IfOk result (λ told. AllZip (λ file both. reading both.0 ≡ reading_of file) files.items told.items) }
-{
-    let Ok(told) = files
-        .into_par_iter()
-        .with_min_len(1)
-        .map(
-            |file: (String, Vec<u8>)| -> Result<(ReadFile, Option<JsonFault>), OutOfMemory>
-                ensures { IfOk result (λ told. reading told.0 ≡ reading_of file) }
-            { read_file(alloc, file) },
-        )
-        .collect::<Result<Vec<(ReadFile, Option<JsonFault>)>, OutOfMemory>>(rt, alloc)
-    else {
-        return Err(OutOfMemory);
-    };
-    told
-}
-
-/// What was read of the files, in their order, and apart from it where files are no JSON.
+/// What was read of the files, each parsed in a thread, in their order, and apart from it where files
+/// are no JSON.
 pub(crate) fn read_all<R: Threads + Sync>(
     rt: &R,
     alloc: Global,
@@ -84,8 +62,14 @@ pub(crate) fn read_all<R: Threads + Sync>(
 ) -> Result<(Vec<ReadFile>, Vec<JsonFault>), OutOfMemory>
     ensures { IfOk result (λ parts. map reading parts.0.items ≡ map reading_of files.items) }
 {
-    let told = all_read(rt, alloc, files)?;
-    parted(alloc, told)
+    all_made(
+        rt,
+        alloc,
+        files,
+        |file: (String, Vec<u8>)| -> Result<(ReadFile, Option<JsonFault>), OutOfMemory>
+            ensures { IfOk result (λ told. reading told.0 ≡ reading_of file) }
+        { read_file(alloc, file) },
+    )?
 }
 
 /// Reads an input and parses it. Its bytes are dropped then. Beside it is where it is no JSON, if
@@ -104,38 +88,9 @@ fn read_from<R: Files + AllocGlobal>(
     Ok(told)
 }
 
-/// Reads inputs and parses them. `rayon` spreads them over threads, down to one each, and each is
-/// read where it is parsed: so the bytes of no more files are there at once than there are threads,
-/// and only histories are held. They come in the order of the inputs, whichever is done first, and
-/// so does the fault of the first that cannot be read.
-fn all_inputs<R: Files + AllocGlobal + Threads + Sync>(
-    rt: &R,
-    inputs: Vec<Input>,
-) -> Result<Vec<(ReadFile, Option<JsonFault>)>, InputFault>
-where
-    R::File: Send,
-    R::Dir: Send,
-    ensures { IfOk result (λ told. AllZip (λ input both. IsReadingOfInput input (reading both.0))
-        inputs.items told.items) }
-{
-    let Ok(told) = inputs
-        .into_par_iter()
-        .with_min_len(1)
-        .map(
-            |input: Input| -> Result<(ReadFile, Option<JsonFault>), InputFault>
-                requires file { IsSend R.File.row }
-                requires dir { IsSend R.Dir.row }
-                ensures { IfOk result (λ told. IsReadingOfInput input (reading told.0)) }
-            { read_from(rt, input) },
-        )
-        .collect::<Result<Vec<(ReadFile, Option<JsonFault>)>, InputFault>>(rt, rt.alloc())
-    else {
-        return Err(InputFault::OutOfMemory);
-    };
-    told
-}
-
-/// What was read of inputs, in their order, and apart from it where inputs are no JSON.
+/// Reads inputs and parses them, in their order, and tells apart where inputs are no JSON. Each is
+/// read in the thread that parses it: so the bytes of no more files are there at once than there are
+/// threads, and only histories are held. The fault is that of the first that cannot be read.
 pub(crate) fn read_inputs<R: Files + AllocGlobal + Threads + Sync>(
     rt: &R,
     inputs: Vec<Input>,
@@ -145,9 +100,17 @@ where
     R::Dir: Send,
     ensures { IfOk result (λ parts. AllZip IsReadingOfInput inputs.items (map reading parts.0.items)) }
 {
-    let told = all_inputs(rt, inputs)?;
-    let Ok(parts) = parted(rt.alloc(), told) else {
+    let Ok(parts) = all_made(
+        rt,
+        rt.alloc(),
+        inputs,
+        |input: Input| -> Result<(ReadFile, Option<JsonFault>), InputFault>
+            requires file { IsSend R.File.row }
+            requires dir { IsSend R.Dir.row }
+            ensures { IfOk result (λ told. IsReadingOfInput input (reading told.0)) }
+        { read_from(rt, input) },
+    ) else {
         return Err(InputFault::OutOfMemory);
     };
-    Ok(parts)
+    parts
 }

@@ -10,8 +10,8 @@ ghost use Rattle.wh_cli.specs.Statuses.{status_of};
 ghost use Rattle.wh_tester.specs.Verdicts.{IsLineOf};
 ghost use Rattle.wh_tester.specs.declared.line.Line.{Line};
 
-use crate::json_faults::{JsonFault, json_fault, parted};
-use rayon::prelude::*;
+use crate::json_faults::{JsonFault, json_fault};
+use crate::parallel::all_made;
 use std::alloc::Global;
 use std::io;
 use std::io::Write;
@@ -96,38 +96,9 @@ fn line_of<W: Workflow, R: Files + AllocGlobal>(
     Ok((Line { name, verdict }, fault))
 }
 
-/// Replays inputs with the code of `W`. `rayon` spreads them over threads, down to one each, and
-/// each is read where it is replayed: so the bytes of no more files are there at once than there
-/// are threads. The lines come in the order of the inputs, whichever is done first, and so does the
-/// fault of the first that cannot be read. Beside each is where the input is no JSON, if so.
-fn told_of<W: Workflow + Send, R: Files + AllocGlobal + Threads + Sync>(
-    rt: &R,
-    inputs: Vec<Input>,
-) -> Result<Vec<(Line, Option<JsonFault>)>, InputFault>
-where
-    R::File: Send,
-    R::Dir: Send,
-    ensures { IfOk result (λ told. AllZip (λ input both. IsLineOfInput W.program input both.0)
-        inputs.items told.items) }
-{
-    let Ok(told) = inputs
-        .into_par_iter()
-        .with_min_len(1)
-        .map(
-            |input: Input| -> Result<(Line, Option<JsonFault>), InputFault>
-                requires file { IsSend R.File.row }
-                requires dir { IsSend R.Dir.row }
-                ensures { IfOk result (λ told. IsLineOfInput W.program input told.0) }
-            { line_of::<W, R>(rt, input) },
-        )
-        .collect::<Result<Vec<(Line, Option<JsonFault>)>, InputFault>>(rt, rt.alloc())
-    else {
-        return Err(InputFault::OutOfMemory);
-    };
-    told
-}
-
-/// The lines of inputs, in their order, and apart from these where inputs are no JSON.
+/// The lines of inputs that are replayed with the code of `W`, in their order, and apart from these
+/// where inputs are no JSON. Each is read in the thread that replays it: so the bytes of no more files
+/// are there at once than there are threads. The fault is that of the first that cannot be read.
 pub(crate) fn lines_of<W: Workflow + Send, R: Files + AllocGlobal + Threads + Sync>(
     rt: &R,
     inputs: Vec<Input>,
@@ -137,11 +108,19 @@ where
     R::Dir: Send,
     ensures { IfOk result (λ told. AllZip (IsLineOfInput W.program) inputs.items told.0.items) }
 {
-    let told = told_of::<W, R>(rt, inputs)?;
-    let Ok(parts) = parted(rt.alloc(), told) else {
+    let Ok(told) = all_made(
+        rt,
+        rt.alloc(),
+        inputs,
+        |input: Input| -> Result<(Line, Option<JsonFault>), InputFault>
+            requires file { IsSend R.File.row }
+            requires dir { IsSend R.Dir.row }
+            ensures { IfOk result (λ told. IsLineOfInput W.program input told.0) }
+        { line_of::<W, R>(rt, input) },
+    ) else {
         return Err(InputFault::OutOfMemory);
     };
-    Ok(parts)
+    told
 }
 
 /// Writes the report of the files. The status is 0 where each file is good, and else 1. Nothing is

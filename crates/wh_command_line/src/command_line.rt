@@ -2,10 +2,11 @@
 
 ghost use Rattle.std.specs.Prelude.{◌≡◌, ◌≢◌, ◌↔◌, ◌<◌, false, codes, Err, IfOk, IfErr, IfSome, map};
 ghost use Rattle.std.specs.Prelude.{string_bytes};
-ghost use Rattle.clap.specs.Words.{app_of, new_app, found_of, rows_of, rule_of, kind_of};
+ghost use Rattle.clap.specs.Words.{App, app_of, new_app, found_of, rows_of, rule_of, kind_of};
+ghost use Rattle.clap.specs.Words.{with_rule, with_subcommand};
 ghost use Rattle.clap.specs.declared.builder.Command.TheViews.{out-Command as fields_of};
 ghost use Rattle.wh_command_line.specs.Lines.{program, replay, explain, serve, needed, folder, paths, flag, number};
-ghost use Rattle.wh_command_line.specs.Lines.{with_value_name, with_version};
+ghost use Rattle.wh_command_line.specs.Lines.{StandsFor, with_value_name, with_version};
 ghost use Rattle.wh_command_line.specs.Plans.{IsWithinLimits, IsHelp, IsServe, IsGiven, IsAskedBy};
 ghost use Rattle.wh_command_line.specs.Plans.{GivesPath, GivesPaths, GivesFlag, GivesFewSlots};
 ghost use Rattle.wh_command_line.specs.Plans.{AsksFewSlots, HasFewSlots};
@@ -203,8 +204,7 @@ fn subcommand<'a>(alloc: Global, name: &'a str, about: &'a str) -> Command<'a>
 
 /// The subcommand `replay`.
 fn replay<'a>(alloc: Global) -> Result<Command<'a>, AllocError>
-    ensures app { IfOk result (λ c. app_of c ≡ replay) }
-    ensures local { IfOk result (λ c. (fields_of c).has_globals ≡ false) }
+    ensures { IfOk result (StandsFor replay) }
 {
     subcommand(
         alloc,
@@ -217,8 +217,7 @@ fn replay<'a>(alloc: Global) -> Result<Command<'a>, AllocError>
 
 /// The subcommand `explain`.
 fn explain<'a>(alloc: Global) -> Result<Command<'a>, AllocError>
-    ensures app { IfOk result (λ c. app_of c ≡ explain) }
-    ensures local { IfOk result (λ c. (fields_of c).has_globals ≡ false) }
+    ensures { IfOk result (StandsFor explain) }
 {
     subcommand(
         alloc,
@@ -232,21 +231,33 @@ fn explain<'a>(alloc: Global) -> Result<Command<'a>, AllocError>
     ))
 }
 
+/// A subcommand, if there is one, with an option of `serve` more.
+fn with_number<'a>(
+    alloc: Global,
+    command: Result<Command<'a>, AllocError>,
+    option: &NumberOption,
+    help: &'a str,
+) -> Result<Command<'a>, AllocError>
+    ensures { (app : App) → IfOk command.entry (StandsFor app)
+        → IfOk result (StandsFor (with_rule app (number option.now.name.now option.now.otherwise.now))) }
+{
+    command?.arg(number_argument(alloc, option, help))
+}
+
 /// The subcommand `serve`.
 fn serve<'a>(alloc: Global, helps: &'a Helps) -> Result<Command<'a>, AllocError>
-    ensures app { IfOk result (λ c. app_of c ≡ serve) }
-    ensures local { IfOk result (λ c. (fields_of c).has_globals ≡ false) }
+    ensures { IfOk result (StandsFor serve) }
 {
-    subcommand(
+    let command = subcommand(
         alloc,
         "serve",
         "Serves each history of a folder as workflow tasks, and prints how they ended",
-    )
-    .arg(folder_argument(alloc))?
-    .arg(number_argument(alloc, &WORKERS, helps.workers.as_str()))?
-    .arg(number_argument(alloc, &CACHE, helps.cache.as_str()))?
-    .arg(number_argument(alloc, &CACHE_EVENTS, helps.cache_events.as_str()))?
-    .arg(number_argument(alloc, &SLOTS, helps.slots.as_str()))
+    );
+    let command = command.arg(folder_argument(alloc));
+    let command = with_number(alloc, command, &WORKERS, helps.workers.as_str());
+    let command = with_number(alloc, command, &CACHE, helps.cache.as_str());
+    let command = with_number(alloc, command, &CACHE_EVENTS, helps.cache_events.as_str());
+    with_number(alloc, command, &SLOTS, helps.slots.as_str())
 }
 
 /// The program with nothing yet but its version and what its help ends with.
@@ -258,14 +269,24 @@ fn program_alone<'a>(alloc: Global) -> Command<'a>
         .after_help(STATUSES)
 }
 
+/// The program with one subcommand more, if there is one.
+fn with_subcommand<'a>(
+    program: Command<'a>,
+    subcommand: Result<Command<'a>, AllocError>,
+) -> Result<Command<'a>, AllocError>
+    ensures { (app : App) → IfOk subcommand.entry (StandsFor app)
+        → IfOk result (λ c. app_of c ≡ with_subcommand (app_of program.entry) app.top) }
+{
+    program.subcommand(subcommand?)
+}
+
 /// The program, with its subcommands.
 fn command<'a>(alloc: Global, helps: &'a Helps) -> Result<Command<'a>, AllocError>
     ensures { IfOk result (λ c. app_of c ≡ program) }
 {
-    program_alone(alloc)
-        .subcommand(replay(alloc)?)?
-        .subcommand(explain(alloc)?)?
-        .subcommand(serve(alloc, helps)?)
+    let program = with_subcommand(program_alone(alloc), replay(alloc))?;
+    let program = with_subcommand(program, explain(alloc))?;
+    with_subcommand(program, serve(alloc, helps))
 }
 
 /// The plan to serve with these options.

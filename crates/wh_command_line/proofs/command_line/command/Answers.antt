@@ -1,15 +1,12 @@
-use Rattle.std.proofs.Common.{◌∙◌, ap, ap₂}
+use Rattle.std.proofs.Common.{◌∙◌, ap}
 use Rattle.std.proofs.lemmas.Result.{IfOk-weaker}
 use Rattle.clap.specs.Words.{App, with_subcommand}
-use Rattle.wh_command_line.specs.Lines.{program}
+use Rattle.wh_command_line.specs.Lines.{program, replay, explain, serve}
 use Rattle.wh_command_line.proofs.command_line.command.Goals as goal
 
 pub returns : goal.returns
 unfolding program
 returns c =
-    let first = c.in_ok-subcommand.ensures.shape c.in_ok-replay.ensures.local
-    ∙ ap₂ with_subcommand c.program_alone.ensures (ap (λ (a : App). a.top) c.in_ok-replay.ensures.app) in
-    let second = c.in_ok-subcommand-2.ensures.shape c.in_ok-explain.ensures.local
-    ∙ ap₂ with_subcommand first (ap (λ (a : App). a.top) c.in_ok-explain.ensures.app) in
-    IfOk-weaker c.subcommand-3.result _ _ (λ r h. h.shape c.in_ok-serve.ensures.local
-    ∙ ap₂ with_subcommand second (ap (λ (a : App). a.top) c.in_ok-serve.ensures.app)) c.subcommand-3.ensures
+    let first = c.in_ok-program.ensures replay c.replay.ensures ∙ ap (λ (a : App). with_subcommand a replay.top) c.program_alone.ensures in
+    let second = c.in_ok-program-2.ensures explain c.explain.ensures ∙ ap (λ (a : App). with_subcommand a explain.top) first in
+    IfOk-weaker c.with_subcommand-3.result _ _ (λ r h. h ∙ ap (λ (a : App). with_subcommand a serve.top) second) (c.with_subcommand-3.ensures serve c.serve.ensures)

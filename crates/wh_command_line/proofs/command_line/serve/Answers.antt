@@ -3,18 +3,13 @@ use Rattle.std.proofs.lemmas.Result.{IfOk-weaker}
 use Rattle.clap.specs.Words.{with_rule}
 use Rattle.wh_command_line.proofs.command_line.serve.Goals as goal
 
-pub returns-clause-app : goal.returns-clause-app
-returns-clause-app c =
-    let folder = c.in_ok-arg.ensures.shape c.folder_argument.ensures.local ∙ ap₂ with_rule c.subcommand.ensures.app c.folder_argument.ensures.rule in
-    let workers = c.in_ok-arg-2.ensures.shape c.number_argument.ensures.local ∙ ap₂ with_rule folder c.number_argument.ensures.rule in
-    let cache = c.in_ok-arg-3.ensures.shape c.number_argument-2.ensures.local ∙ ap₂ with_rule workers c.number_argument-2.ensures.rule in
-    let cache_events = c.in_ok-arg-4.ensures.shape c.number_argument-3.ensures.local ∙ ap₂ with_rule cache c.number_argument-3.ensures.rule in
-    IfOk-weaker c.arg-5.result _ _ (λ r h. h.shape c.number_argument-4.ensures.local ∙ ap₂ with_rule cache_events c.number_argument-4.ensures.rule) c.arg-5.ensures
-
-pub returns-clause-local : goal.returns-clause-local
-returns-clause-local c =
-    let folder = c.in_ok-arg.ensures.globals ∙ ap₂ (λ a b. a || b) c.subcommand.ensures.local c.folder_argument.ensures.local in
-    let workers = c.in_ok-arg-2.ensures.globals ∙ ap₂ (λ a b. a || b) folder c.number_argument.ensures.local in
-    let cache = c.in_ok-arg-3.ensures.globals ∙ ap₂ (λ a b. a || b) workers c.number_argument-2.ensures.local in
-    let cache_events = c.in_ok-arg-4.ensures.globals ∙ ap₂ (λ a b. a || b) cache c.number_argument-3.ensures.local in
-    IfOk-weaker c.arg-5.result _ _ (λ r h. h.globals ∙ ap₂ (λ a b. a || b) cache_events c.number_argument-4.ensures.local) c.arg-5.ensures
+pub returns : goal.returns
+returns c =
+    let folder = IfOk-weaker c.arg-command.result _ _ (λ r h. (
+      h.shape c.folder_argument.ensures.local ∙ ap₂ with_rule c.subcommand-command.ensures.app c.folder_argument.ensures.rule,
+      h.globals ∙ ap₂ (λ a b. a || b) c.subcommand-command.ensures.local c.folder_argument.ensures.local,
+    )) c.arg-command.ensures in
+    let workers = c.with_number-command.ensures _ folder in
+    let cache = c.with_number-command-2.ensures _ workers in
+    let cache_events = c.with_number-command-3.ensures _ cache in
+    c.with_number.ensures _ cache_events

@@ -1,0 +1,44 @@
+//! Files are worked on in threads.
+
+ghost use Rattle.std.specs.Prelude.{Ok, IfOk, Option};
+ghost use Rattle.std.specs.List.{AllZip};
+ghost use Rattle.wh_cli.specs.declared.json_faults.JsonFault.{JsonFault};
+
+use crate::json_faults::{JsonFault, parted};
+use rayon::prelude::*;
+use std::alloc::Global;
+use std::thread::Threads;
+use wh_events::OutOfMemory;
+
+/// What is made of files, in their order, whichever is done first, and apart from it where files
+/// are no JSON, or the fault of the first of which nothing can be made. `rayon` spreads the files
+/// over threads, down to one file each.
+pub(crate) fn all_made<
+    T: Send + Drop,
+    U: Send + Drop,
+    E: Send + Drop,
+    F: Fn(T) -> Result<(U, Option<JsonFault>), E> + Copy + Send + Sync,
+    R: Threads + Sync,
+>(
+    rt: &R,
+    alloc: Global,
+    files: Vec<T>,
+    make: F,
+) -> Result<Result<(Vec<U>, Vec<JsonFault>), E>, OutOfMemory>
+    requires { F.IsAlwaysCallable make }
+    ensures { IfOk result (λ told. IfOk told (λ parts.
+        AllZip (λ file one. (fault : Option JsonFault) × F.post make file (Ok (one, fault))) files.items parts.0.items)) }
+{
+    let Ok(told) = files
+        .into_par_iter()
+        .with_min_len(1)
+        .map(make)
+        .collect::<Result<Vec<(U, Option<JsonFault>)>, E>>(rt, alloc)
+    else {
+        return Err(OutOfMemory);
+    };
+    match told {
+        Ok(told) => Ok(Ok(parted(alloc, told)?)),
+        Err(fault) => Ok(Err(fault)),
+    }
+}
