@@ -1,6 +1,7 @@
 //! The activation at a cut: its jobs, and the versions that they ask for, stepped one after
 //! another, with what the workflow gives at each.
-ghost use Rattle.std.specs.Prelude.{◌≡◌, ◌++◌, ◌∷◌, [], None, false, IfOk, OnOk};
+ghost use Rattle.std.specs.Prelude.{◌≡◌, ◌<◌, ◌++◌, ◌∷◌, [], None, false, vec_len, IfOk, OnOk};
+ghost use Rattle.std.specs.Vec.{vec_capacity};
 ghost use Rattle.wh_workflow.specs.Law.{IsAnswer, is_marker};
 ghost use Rattle.wh_workflow.specs.Scripts.{Settled, command_fault};
 ghost use Rattle.wh_workflow.specs.Activations.{issue_all, respond, turn};
@@ -56,6 +57,41 @@ fn issue_one(
     }
 }
 
+/// Adds a copy of a command to those given.
+fn show(command: &Command, given: &mut Vec<Command>) -> Result<(), OutOfMemory>
+    ensures { OnOk result (given.new.items ≡ given.old.items ++ command.now ∷ []) }
+{
+    given.push(command.try_copy()?)?;
+    Ok(())
+}
+
+/// Issues a command that does not ask, and adds a copy of it to those given. The answer is its
+/// fault, if it can't stand.
+fn issue_shown(
+    cut: &Cut,
+    script: &mut Script,
+    command: Command,
+    given: &mut Vec<Command>,
+) -> Result<Option<WorkflowFault>, OutOfMemory>
+    requires within { IsWithin cut.now }
+    requires script { IsOf cut.now script.old }
+    requires plain { IsPlain (command ∷ []) }
+    ensures fault { (settled : Settled) → let standpoint = standpoint_of cut.now in
+        IfOk result (λ fault. fault ≡ command_fault standpoint settled script.old.issued command) }
+    ensures issued { IfOk result
+        (λ fault. fault ≡ None → script.new.issued ≡ script.old.issued ++ command ∷ []) }
+    ensures given { OnOk result (given.new.items ≡ given.old.items ++ command ∷ []) }
+    ensures script { OnOk result (IsOf cut.now script.new) }
+{
+    match show(&command, given) {
+        Ok(()) => issue_one(cut, script, command),
+        Err(full) => {
+            drop(command);
+            Err(full)
+        }
+    }
+}
+
 /// Issues commands that don't ask, up to the first that can't stand, and adds copies of them to
 /// those given. The answer is its fault.
 fn issue_all(
@@ -76,8 +112,7 @@ fn issue_all(
     ensures script { OnOk result (IsOf cut.now script.new) }
 {
     for command in commands {
-        given.push(command.try_copy()?)?;
-        if let Some(fault) = issue_one(cut, script, command)? {
+        if let Some(fault) = issue_shown(cut, script, command, given)? {
             return Ok(Some(fault));
         }
     }
@@ -115,6 +150,31 @@ fn ask(
     }
 }
 
+/// Issues the last command of a step, adds a copy of it to those given, and answers what it asks.
+fn respond_last(
+    cut: &Cut,
+    script: &mut Script,
+    versions: &mut Versions,
+    last: Command,
+    given: &mut Vec<Command>,
+) -> Result<Turned, OutOfMemory>
+    requires within { IsWithin cut.now }
+    requires script { IsOf cut.now script.old }
+    requires not_marker { is_marker last ≡ false }
+    ensures issued { let reply = respond (standpoint_of cut.now) (script_of versions.old script.old) (last ∷ []) in
+        IfOk result (λ turned. comes_to turned (reply_of versions.new script.new) ≡ reply) }
+    ensures given { OnOk result (given.new.items ≡ given.old.items ++ last ∷ []) }
+    ensures script { OnOk result (IsOf cut.now script.new) }
+{
+    match show(&last, given) {
+        Ok(()) => ask(cut, script, versions, last),
+        Err(full) => {
+            drop(last);
+            Err(full)
+        }
+    }
+}
+
 /// Issues the commands of a step up to the first that can't stand, adds copies of them to those
 /// given, and answers what the last one asks.
 fn respond(
@@ -136,41 +196,76 @@ fn respond(
     let Some(last) = commands.pop() else {
         return Ok(Turned::Next(None));
     };
-    if let Some(fault) = issue_all(cut, script, commands, given)? {
-        return Ok(Turned::Refused(fault));
+    match issue_all(cut, script, commands, given) {
+        Ok(None) => respond_last(cut, script, versions, last, given),
+        Ok(Some(fault)) => {
+            drop(last);
+            Ok(Turned::Refused(fault))
+        }
+        Err(full) => {
+            drop(last);
+            Err(full)
+        }
     }
-    given.push(last.try_copy()?)?;
-    ask(cut, script, versions, last)
 }
 
 impl<W: Workflow> Activation<W> {
-    /// Steps the workflow by one job.
+    /// Steps the workflow by one job, and adds the commands up to the first that can't stand to
+    /// those given. There is room for one more step then.
+    fn tell(
+        &mut self,
+        alloc: Global,
+        cut: &Cut,
+        job: &Job,
+        given: &mut Vec<Command>,
+        steps: &mut Vec<Step>,
+        meter: &mut Meter,
+    ) -> Result<Turned, OutOfMemory>
+        requires within { IsWithin cut.now }
+        requires script { IsOf cut.now self.old.script }
+        ensures given { let step = step_of W.program (standpoint_of cut.now) (progress_of self.old meter.old) job.now in
+            OnOk result (given.new.items ≡ given.old.items ++ step.commands) }
+        ensures room { OnOk result (vec_len steps.new < vec_capacity steps.new) }
+        ensures steps { OnOk result (steps.new.items ≡ steps.old.items) }
+        ensures turned { let whole = turn W.program (standpoint_of cut.now) job.now (progress_of self.old meter.old) in
+            IfOk result (λ turned. comes_to turned (turn_of self.new meter.new) ≡ whole) }
+        ensures script { OnOk result (IsOf cut.now self.new.script) }
+    {
+        steps.reserve(1)?;
+        let mut commands = Vec::new(alloc);
+        W::step(alloc, &mut self.state, job, &mut commands, meter)?;
+        respond(cut, &mut self.script, &mut self.versions, commands, given)
+    }
+
+    /// Steps the workflow by one job, and adds the step to those before it. The answer is what
+    /// comes of its commands.
     fn turn(
         &mut self,
         alloc: Global,
         cut: &Cut,
         job: Job,
+        steps: &mut Vec<Step>,
         meter: &mut Meter,
-    ) -> Result<(Step, Turned), OutOfMemory>
+    ) -> Result<Turned, OutOfMemory>
         requires within { IsWithin cut.now }
         requires script { IsOf cut.now self.old.script }
-        ensures step { let before = progress_of self.old meter.old in
-            IfOk result (λ made. made.0 ≡ step_of W.program (standpoint_of cut.now) before job) }
+        ensures step { let step = step_of W.program (standpoint_of cut.now) (progress_of self.old meter.old) job in
+            OnOk result (steps.new.items ≡ steps.old.items ++ step ∷ []) }
         ensures turned { let whole = turn W.program (standpoint_of cut.now) job (progress_of self.old meter.old) in
-            IfOk result (λ made. comes_to made.1 (turn_of self.new meter.new) ≡ whole) }
+            IfOk result (λ turned. comes_to turned (turn_of self.new meter.new) ≡ whole) }
         ensures script { OnOk result (IsOf cut.now self.new.script) }
     {
-        let mut commands = Vec::new(alloc);
-        W::step(alloc, &mut self.state, &job, &mut commands, meter)?;
         let mut given = Vec::new(alloc);
-        let turned = respond(
-            cut,
-            &mut self.script,
-            &mut self.versions,
-            commands,
-            &mut given,
-        )?;
-        Ok((Step::new(job, given), turned))
+        match self.tell(alloc, cut, &job, &mut given, steps, meter) {
+            Ok(turned) => {
+                steps.push_reserved(Step::new(job, given));
+                Ok(turned)
+            }
+            Err(full) => {
+                drop(job);
+                Err(full)
+            }
+        }
     }
 
     /// Steps the workflow by jobs and by the versions that they lead to, up to the first step with
@@ -193,8 +288,7 @@ impl<W: Workflow> Activation<W> {
         let mut jobs = jobs.into_iter();
         let mut next = jobs.next();
         while let Some(job) = next {
-            let (step, turned) = self.turn(alloc, cut, job, meter)?;
-            steps.push(step)?;
+            let turned = self.turn(alloc, cut, job, &mut steps, meter)?;
             next = match turned {
                 Turned::Refused(fault) => return Ok((steps, Some(fault))),
                 Turned::Next(Some(version)) => Some(version),

@@ -1,5 +1,5 @@
 //! The tasks of a history, each with the steps of its activation and with its record.
-ghost use Rattle.std.specs.Prelude.{◌≡◌, ◌≤◌, [], None, length, IfOk, IfErr, string_bytes};
+ghost use Rattle.std.specs.Prelude.{◌≡◌, ◌≤◌, [], None, Some, length, IfOk, IfErr, string_bytes};
 ghost use Rattle.wh_events.specs.Cuts.{cuts};
 ghost use Rattle.wh_activation.specs.Cutting.{jobs_at};
 ghost use Rattle.wh_json.specs.Events.{history, longest};
@@ -8,7 +8,8 @@ ghost use Rattle.wh_workflow.specs.Scripts.{reduced};
 ghost use Rattle.wh_replay.specs.Replays.{workflow_of};
 ghost use Rattle.wh_tester.specs.Verdicts.{IsVerdict};
 ghost use Rattle.wh_explain.specs.Explaining.{unless_refused, sent_ending, stops, IsTaskAt};
-ghost use Rattle.wh_explain.specs.Explaining.{AreTasks, AreTasksOf, AreTasksIn, unknown_of, unknown_in};
+ghost use Rattle.wh_explain.specs.Explaining.{AreTasks, AreTasksPlaced, AreTasksOf, AreTasksIn};
+ghost use Rattle.wh_explain.specs.Explaining.{unknown_placed, unknown_of, unknown_in};
 ghost use Rattle.wh_explain.specs.Walking.{IsWithin, IsOf, Leaves, standpoint_of};
 
 use crate::activation::Activation;
@@ -169,15 +170,12 @@ fn workflow_of(events: &[Event]) -> &str
     ""
 }
 
-/// Explains a history: its tasks, of which there are none where its events are not in place, or
-/// where there is no code for its workflow type.
-fn explain_events<W: Workflow>(alloc: Global, events: Vec<Event>) -> Result<Told, OutOfMemory>
-    ensures tasks { IfOk result (λ told. AreTasksOf W.program events.items told.tasks.items) }
-    ensures unknown { IfOk result (λ told. told.unknown ≡ unknown_of W.program events.items) }
+/// Explains a history whose events are in place: its tasks, of which there are none where there is
+/// no code for its workflow type.
+fn explain_track<W: Workflow>(alloc: Global, track: &Track) -> Result<Told, OutOfMemory>
+    ensures tasks { IfOk result (λ told. AreTasksPlaced (Some track.now) W.program told.tasks.items) }
+    ensures unknown { IfOk result (λ told. told.unknown ≡ unknown_placed W.program (Some track.now)) }
 {
-    let Some(track) = track_of(alloc, events)? else {
-        return Ok(nothing(alloc));
-    };
     let kind = workflow_of(track.events());
     if !W::handles(kind) {
         return Ok(Told {
@@ -191,8 +189,20 @@ fn explain_events<W: Workflow>(alloc: Global, events: Vec<Event>) -> Result<Told
     };
     Ok(Told {
         unknown: None,
-        tasks: explain_tasks::<W>(alloc, &track, reached)?,
+        tasks: explain_tasks::<W>(alloc, track, reached)?,
     })
+}
+
+/// Explains a history: its tasks, of which there are none where its events are not in place, or
+/// where there is no code for its workflow type.
+fn explain_events<W: Workflow>(alloc: Global, events: Vec<Event>) -> Result<Told, OutOfMemory>
+    ensures tasks { IfOk result (λ told. AreTasksOf W.program events.items told.tasks.items) }
+    ensures unknown { IfOk result (λ told. told.unknown ≡ unknown_of W.program events.items) }
+{
+    match track_of(alloc, events)? {
+        Some(track) => explain_track::<W>(alloc, &track),
+        None => Ok(nothing(alloc)),
+    }
 }
 
 /// Explains the history of a file, of which there is nothing where it can't be read.

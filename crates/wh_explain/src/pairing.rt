@@ -27,10 +27,11 @@ fn recorded_event(
 ) -> Result<RecordedEvent, OutOfMemory>
     ensures { IfOk result (λ recorded. recorded ≡ recorded_event history.now event.now) }
 {
+    let id = Text::new(String::from_str(alloc, referred_id(history, event))?);
     Ok(RecordedEvent {
         number: event.number,
         kind: event.body.try_copy()?,
-        id: Text::new(String::from_str(alloc, referred_id(history, event))?),
+        id,
     })
 }
 
@@ -44,12 +45,19 @@ fn pair(
     ensures { IfOk result (λ pairing. pairing ≡ pairing_of history.now command.now event.now) }
 {
     let alike = command.names(history, &event.body);
-    let command = command.try_copy()?;
     let event = recorded_event(alloc, history, event)?;
-    if alike {
-        Ok(Pairing::Alike { command, event })
-    } else {
-        Ok(Pairing::Different { command, event })
+    match command.try_copy() {
+        Ok(command) => {
+            if alike {
+                Ok(Pairing::Alike { command, event })
+            } else {
+                Ok(Pairing::Different { command, event })
+            }
+        }
+        Err(full) => {
+            drop(event);
+            Err(full)
+        }
     }
 }
 

@@ -2,14 +2,16 @@
 
 ghost use Rattle.std.specs.Prelude.{◌≡◌, IsTrue, ◌-◌, ◌+◌, ◌<◌, ◌≤◌, ◌↔◌, ◌++◌, ◌∷◌, [], true, not};
 ghost use Rattle.std.specs.Prelude.{is_some, length, option_copied, slice_get, OnOk, OnErr, IfOk};
-ghost use Rattle.std.specs.Prelude.{IfSome, Option, vec_len};
+ghost use Rattle.std.specs.Prelude.{IfSome, Option, None, List, ℕ, vec_len};
 ghost use Rattle.std.specs.Vec.{vec_capacity};
 ghost use Rattle.wh_events.specs.Kinds.{role_of, role_seen};
 ghost use Rattle.wh_events.specs.Machines as machines;
 ghost use Rattle.wh_events.specs.Places as places;
 ghost use Rattle.wh_events.specs.declared.place.PlaceFault.{PlaceFault};
+ghost use Rattle.wh_machines.specs.Changes.{things_after, names_after};
 ghost use Rattle.wh_machines.specs.Jumps.{IsAlike};
 ghost use Rattle.wh_machines.specs.Lookups.{thing_of, last_at, events_between};
+ghost use Rattle.wh_machines.specs.Tables.{IsSound, opening_in, named_in};
 
 use crate::fault::PushFault;
 use crate::jumps::{Jump, NO_JUMP, jump_behind, step_back};
@@ -48,6 +50,36 @@ impl Model for Track {
     ghost invariant = { λ t. IsTracked t.events.items t.over t.openings t.names t.jumps.items };
 }
 
+/// Makes room for an event of that number and role, and notes it in the tables. Without memory
+/// nothing of it stays.
+fn admit(
+    alloc: Global,
+    events: &mut Vec<Event>,
+    jumps: &mut Vec<Jump>,
+    openings: &mut Openings,
+    names: &mut Names,
+    number: EventNo,
+    role: Role<'_>,
+) -> Result<(), OutOfMemory>
+    requires sound { IsSound openings.old }
+    requires unknown { opening_in openings.old number ≡ None }
+    ensures events { events.new.items ≡ events.old.items }
+    ensures jumps { jumps.new.items ≡ jumps.old.items }
+    ensures event_room { OnOk result (vec_len events.new < vec_capacity events.new) }
+    ensures jump_room { OnOk result (vec_len jumps.new < vec_capacity jumps.new) }
+    ensures sound { IsSound openings.new }
+    ensures opened { OnOk result ((opened : ℕ) → opening_in openings.new opened
+        ≡ things_after (role_seen role.entry) number (named_in names.old) (opening_in openings.old) opened) }
+    ensures named { OnOk result ((thing : Thing) (id : List ℕ) → named_in names.new thing id
+        ≡ names_after (role_seen role.entry) number (named_in names.old) thing id) }
+    ensures same_opened { OnErr result ((n : ℕ) → opening_in openings.new n ≡ opening_in openings.old n) }
+    ensures same_named { OnErr result ((t : Thing) (id : List ℕ) → named_in names.new t id ≡ named_in names.old t id) }
+{
+    events.reserve(1)?;
+    jumps.reserve(1)?;
+    note(alloc, openings, names, number, role)
+}
+
 impl Track {
     /// A track without events. It takes no memory until the first push.
     pub fn new(alloc: Global) -> Self
@@ -74,22 +106,31 @@ impl Track {
     {
         let role = event.role();
         if let Some(fault) = self.place_fault(&event, role) {
+            drop(event);
             return Err(PushFault::Place(fault));
         }
         let jump = self.jump_of(role);
-        self.events.reserve(1)?;
-        self.jumps.reserve(1)?;
-        note(
+        let noted = admit(
             self.alloc,
+            &mut self.events,
+            &mut self.jumps,
             &mut self.openings,
             &mut self.names,
             event.number,
             role,
-        )?;
-        self.over = event.closes_run();
-        self.events.push_reserved(event);
-        self.jumps.push_reserved(jump);
-        Ok(())
+        );
+        match noted {
+            Ok(()) => {
+                self.over = event.closes_run();
+                self.events.push_reserved(event);
+                self.jumps.push_reserved(jump);
+                Ok(())
+            }
+            Err(full) => {
+                drop(event);
+                Err(PushFault::from(full))
+            }
+        }
     }
 
     /// How many events are held, at most 51,200. They are in place.
@@ -182,13 +223,7 @@ impl Track {
         ensures { IfOk result (λ copy. copy ≡ self.now) }
     {
         let mut copy = Track::new(self.alloc);
-        for event in &self.events {
-            match copy.push(event.try_copy()?) {
-                Ok(()) => {}
-                Err(PushFault::OutOfMemory) => return Err(OutOfMemory),
-                Err(PushFault::Place(_)) => unreachable!(),
-            }
-        }
+        self.copy_into(&mut copy)?;
         Ok(copy)
     }
 
@@ -198,6 +233,21 @@ impl Track {
     {
         let Track { events, .. } = self;
         events
+    }
+
+    /// Pushes copies of the events onto a track without events.
+    fn copy_into(&self, copy: &mut Track) -> Result<(), OutOfMemory>
+        requires { copy.old ≡ [] }
+        ensures { OnOk result (copy.new ≡ self.now) }
+    {
+        for event in &self.events {
+            match copy.push(event.try_copy()?) {
+                Ok(()) => {}
+                Err(PushFault::OutOfMemory) => return Err(OutOfMemory),
+                Err(PushFault::Place(_)) => unreachable!(),
+            }
+        }
+        Ok(())
     }
 
     /// The number of the open thing of a kind and an id.

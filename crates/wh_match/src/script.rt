@@ -100,12 +100,13 @@ impl Script {
             OnOk result ((recorded : Option (List Event)) → self.new ≡ with_issued self.old command (late recorded)) }
         ensures err { OnErr result (self.new ≡ self.old) }
     {
-        let late = match self.judge(track, &command) {
-            Ok(late) => late,
-            Err(fault) => return Err(ScriptFault::Workflow(fault)),
-        };
-        self.push(command, late)?;
-        Ok(())
+        match self.judge(track, &command) {
+            Ok(late) => Ok(self.push(command, late)?),
+            Err(fault) => {
+                drop(command);
+                Err(ScriptFault::Workflow(fault))
+            }
+        }
     }
 
     /// Asks for the version of a change between `min` and `max`, where `recorded` is what stands in
@@ -168,13 +169,19 @@ impl Script {
         ensures ok { OnOk result (self.new ≡ with_issued self.old command late) }
         ensures err { OnErr result (self.new ≡ self.old) }
     {
-        self.issued.reserve(1)?;
-        self.late.reserve(1)?;
-        self.closed = closes(&command);
-        self.count += 1;
-        self.issued.push_reserved(command);
-        self.late.push_reserved(late);
-        Ok(())
+        match make_room(&mut self.issued, &mut self.late, 1) {
+            Ok(()) => {
+                self.closed = closes(&command);
+                self.count += 1;
+                self.issued.push_reserved(command);
+                self.late.push_reserved(late);
+                Ok(())
+            }
+            Err(full) => {
+                drop(command);
+                Err(full)
+            }
+        }
     }
 
     /// Answers a question by a version.
@@ -209,8 +216,7 @@ impl Script {
         if let Some(fault) = self.ask_fault(chosen, question) {
             return Err(ScriptFault::Workflow(fault));
         }
-        self.issued.reserve(2)?;
-        self.late.reserve(2)?;
+        make_room(&mut self.issued, &mut self.late, 2)?;
         let asked = settle_asked(self.alloc, versions, question, chosen)?;
         self.count += 1;
         append_reserved(&mut self.issued, asked);
@@ -288,6 +294,22 @@ impl Script {
             None => self.judge_act(track, command),
         }
     }
+}
+
+/// Makes room for so many more commands and their marks.
+fn make_room(
+    issued: &mut Vec<Command>,
+    late: &mut Vec<bool>,
+    more: usize,
+) -> Result<(), OutOfMemory>
+    ensures issued { issued.new.items ≡ issued.old.items }
+    ensures late { late.new.items ≡ late.old.items }
+    ensures issued_room { OnOk result (vec_len issued.new + more ≤ vec_capacity issued.new) }
+    ensures late_room { OnOk result (vec_len late.new + more ≤ vec_capacity late.new) }
+{
+    issued.reserve(more)?;
+    late.reserve(more)?;
+    Ok(())
 }
 
 /// Why this version of a change can't be asked for.

@@ -57,9 +57,9 @@ impl Versions {
         ensures err { OnErr result (self.new ≡ self.old) }
     {
         if self.get(change_id).is_none() {
+            self.entries.reserve(1)?;
             let text = Text::new(String::from_str(self.alloc, change_id)?);
             let key = String::from_str(self.alloc, change_id)?;
-            self.entries.reserve(1)?;
             self.by_change.insert(key, version)?;
             self.entries.push_reserved((text, version));
         }

@@ -16,7 +16,7 @@ loop-command-preserved c =
     let place = standpoint_of c.args.cut.now in
     let command = c.in-Some.command in
     let rest = into_iter_items c.next.new.self in
-    let more = c.issue_one.new.script.issued in
+    let more = c.issue_shown.new.script.issued in
     let steps : into_iter_items at.command-iterator ≡ command ∷ rest = c.in-Some.ensures.steps.0 in
     let plain : IsPlain (command ∷ rest) = rw steps at at.invariant.plain in
     let issued : more ≡ at.script.issued ++ command ∷ [] = c.in_ok-fault.ensures.issued c.in_default.is in
@@ -30,7 +30,7 @@ loop-command-preserved c =
           ∙ (ap (issue_all place (script settled at.script.issued)) (sym steps) ∙ at.invariant.left settled);
       shown = λ settled.
           let none : None ≡ command_fault place settled at.script.issued command = sym c.in_default.is ∙ c.in_ok-fault.ensures.fault settled in
-          ap (λ l. l ++ stood place settled more rest) (c.in_ok-push.ensures.items ∙ ap (λ x. at.given.items ++ x ∷ []) c.in_ok-try_copy.ensures)
+          ap (λ l. l ++ stood place settled more rest) c.in_ok-fault.ensures.given
           ∙ (append_assoc at.given.items (command ∷ []) (stood place settled more rest)
           ∙ (ap (λ l. at.given.items ++ l) (sym (stood_more place settled at.script.issued more rest command none issued))
           ∙ (ap (λ l. at.given.items ++ stood place settled at.script.issued l) (sym steps) ∙ at.invariant.shown settled)));

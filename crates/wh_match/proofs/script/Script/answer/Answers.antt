@@ -12,16 +12,10 @@ returns-in-Some-clause-fault c = λ seen between. asked_fault (record { seen = s
 pub returns-clause-fault : goal.returns-clause-fault
 returns-clause-fault c = λ seen between. asked_fault (record { seen = seen; between = between; recorded = option_map (λ events. commanded events.now) c.args.recorded }) c.args.versions.now c.args.self.now.issued c.args.question.change_id.now c.args.question.min c.args.question.max (record { version = c.choose-chosen.result.version; marked = c.choose-chosen.result.marked }) c.choose-chosen.ensures None c.in_default.ensures
 
-pub returns-in_err-reserve-clause-fault : goal.returns-in_err-reserve-clause-fault
-returns-in_err-reserve-clause-fault c =
+pub returns-in_err-make_room-clause-fault : goal.returns-in_err-make_room-clause-fault
+returns-in_err-make_room-clause-fault c =
     λ seen between.
     let refused = err_from_is_err_and c.from_residual.result c.from_residual.ensures.1 in
-    rw (refused.1, refused.2) (asked_fault (record { seen = seen; between = between; recorded = option_map (λ events. commanded events.now) c.args.recorded }) c.args.versions.now c.args.self.now.issued c.args.question.change_id.now c.args.question.min c.args.question.max (record { version = c.choose-chosen.result.version; marked = c.choose-chosen.result.marked }) c.choose-chosen.ensures None c.in_default.ensures)
-
-pub returns-in_err-reserve-2-clause-fault : goal.returns-in_err-reserve-2-clause-fault
-returns-in_err-reserve-2-clause-fault c =
-    λ seen between.
-    let refused = err_from_is_err_and c.from_residual-in_err-reserve-2.result c.from_residual-in_err-reserve-2.ensures.1 in
     rw (refused.1, refused.2) (asked_fault (record { seen = seen; between = between; recorded = option_map (λ events. commanded events.now) c.args.recorded }) c.args.versions.now c.args.self.now.issued c.args.question.change_id.now c.args.question.min c.args.question.max (record { version = c.choose-chosen.result.version; marked = c.choose-chosen.result.marked }) c.choose-chosen.ensures None c.in_default.ensures)
 
 pub returns-in_err-asked-clause-fault : goal.returns-in_err-asked-clause-fault
@@ -36,8 +30,8 @@ invariant_of-self-2 c =
     let chosen = c.choose-chosen.result in
     let change_id = c.args.question.change_id.now in
     let issued : c.append_reserved.new.items.items ≡ after_ask inside.issued.items change_id c.args.question.min c.args.question.max chosen.marked chosen.version =
-    c.append_reserved.ensures ∙ ap (λ l. l ++ c.in_ok-asked.asked.items) c.in_ok-reserve.ensures.items ∙ ap (λ l. inside.issued.items ++ l) c.in_ok-asked.ensures.items ∙ ask_joined inside.issued.items change_id c.args.question.min c.args.question.max chosen.marked chosen.version in
-    let late : c.push_marks.new.late.items ≡ (inside.late.items ++ false ∷ []) ++ unmarked_if chosen.marked = c.push_marks.ensures ∙ ap (λ l. (l ++ false ∷ []) ++ unmarked_if chosen.marked) c.in_ok-reserve-2.ensures.items in
+    c.append_reserved.ensures ∙ ap (λ l. l ++ c.in_ok-asked.asked.items) c.make_room.ensures.issued ∙ ap (λ l. inside.issued.items ++ l) c.in_ok-asked.ensures.items ∙ ask_joined inside.issued.items change_id c.args.question.min c.args.question.max chosen.marked chosen.version in
+    let late : c.push_marks.new.late.items ≡ (inside.late.items ++ false ∷ []) ++ unmarked_if chosen.marked = c.push_marks.ensures ∙ ap (λ l. (l ++ false ∷ []) ++ unmarked_if chosen.marked) c.make_room.ensures.late in
     record {
       each = rw (issued, late) (asked_each inside.issued.items change_id c.args.question.min c.args.question.max inside.late.items chosen.marked chosen.version c.self.invariant.each);
       counted = rw issued (asked_count inside.issued.items change_id c.args.question.min c.args.question.max inside.count chosen.marked chosen.version c.self.invariant.counted);
@@ -50,7 +44,7 @@ returns-clause-asked c =
     let chosen = c.choose-chosen.result in
     let change_id = c.args.question.change_id.now in
     let issued : c.append_reserved.new.items.items ≡ after_ask inside.issued.items change_id c.args.question.min c.args.question.max chosen.marked chosen.version =
-    c.append_reserved.ensures ∙ ap (λ l. l ++ c.in_ok-asked.asked.items) c.in_ok-reserve.ensures.items ∙ ap (λ l. inside.issued.items ++ l) c.in_ok-asked.ensures.items ∙ ask_joined inside.issued.items change_id c.args.question.min c.args.question.max chosen.marked chosen.version in
-    let late : c.push_marks.new.late.items ≡ (inside.late.items ++ false ∷ []) ++ unmarked_if chosen.marked = c.push_marks.ensures ∙ ap (λ l. (l ++ false ∷ []) ++ unmarked_if chosen.marked) c.in_ok-reserve-2.ensures.items in
+    c.append_reserved.ensures ∙ ap (λ l. l ++ c.in_ok-asked.asked.items) c.make_room.ensures.issued ∙ ap (λ l. inside.issued.items ++ l) c.in_ok-asked.ensures.items ∙ ask_joined inside.issued.items change_id c.args.question.min c.args.question.max chosen.marked chosen.version in
+    let late : c.push_marks.new.late.items ≡ (inside.late.items ++ false ∷ []) ++ unmarked_if chosen.marked = c.push_marks.ensures ∙ ap (λ l. (l ++ false ∷ []) ++ unmarked_if chosen.marked) c.make_room.ensures.late in
     asked_view (record { previous = inside.previous; cut = inside.cut; issued = inside.issued.items; late = inside.late.items }) _ _ change_id c.args.question.min c.args.question.max _ (record { version = chosen.version; marked = chosen.marked }) c.choose-chosen.ensures issued late
     ∙ ap (λ (s : Issuing). with_asked s change_id c.args.question.min c.args.question.max (choice_in (option_map (λ events. commanded events.now) c.args.recorded) c.args.versions.now change_id c.args.question.max)) c.self.view_is

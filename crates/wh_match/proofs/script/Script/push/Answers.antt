@@ -12,13 +12,13 @@ overflow_add-self c =
     let counted = c.self.invariant.counted in
     omega arith
 
-pub invariant_of-self-2 : goal.invariant_of-self-2
-invariant_of-self-2 c =
+pub invariant_of-self : goal.invariant_of-self
+invariant_of-self c =
     let inside = c.self.inside in
     let issued : c.args.self.now.issued ≡ inside.issued.items = ap (λ (s : Issuing). s.issued) (sym c.self.view_is) in
     let fits : early_fault inside.issued.items ≡ None = sym (ap early_fault issued) ∙ c.requires.unfaulted in
-    let more : c.push_reserved.new.self.items ≡ inside.issued.items ++ c.args.command ∷ [] = c.push_reserved.ensures.items ∙ ap (λ l. l ++ c.args.command ∷ []) c.in_ok-reserve.ensures.items in
-    let marks : c.push_reserved-2.new.self.items ≡ inside.late.items ++ c.args.late ∷ [] = c.push_reserved-2.ensures.items ∙ ap (λ l. l ++ c.args.late ∷ []) c.in_ok-reserve-2.ensures.items in
+    let more : c.push_reserved.new.self.items ≡ inside.issued.items ++ c.args.command ∷ [] = c.push_reserved.ensures.items ∙ ap (λ l. l ++ c.args.command ∷ []) c.make_room.ensures.issued in
+    let marks : c.push_reserved-in-Ok.new.self.items ≡ inside.late.items ++ c.args.late ∷ [] = c.push_reserved-in-Ok.ensures.items ∙ ap (λ l. l ++ c.args.late ∷ []) c.make_room.ensures.late in
     record {
       each = rw (more, marks) (each_more inside.late.items inside.issued.items c.args.late c.args.command c.self.invariant.each);
       counted = rw more (count_more inside.count inside.issued.items c.args.command c.requires.not_marker c.self.invariant.counted);
