@@ -13,11 +13,14 @@ fn below(random: &mut Pcg32, bound: usize) -> usize {
     random.next_word() as usize % bound.max(1)
 }
 
-/// A history of letters, most of which are those of tasks and timers, with small references.
-pub(crate) fn of_letters(alloc: Global, random: &mut Pcg32) -> Result<Vec<Event>, OutOfMemory> {
-    let mut events = Vec::new(alloc);
+/// Appends the start of a history of letters, and some events behind it.
+fn push_letters(
+    alloc: Global,
+    random: &mut Pcg32,
+    events: &mut Vec<Event>,
+) -> Result<(), OutOfMemory> {
     let first = if below(random, 4) == 0 { b'R' } else { b'B' };
-    push(alloc, &mut events, first, 0)?;
+    push(alloc, events, first, 0)?;
     for _event in 0..below(random, MOST_EVENTS) {
         let most = if below(random, 3) == 0 {
             LETTERS.len()
@@ -27,32 +30,49 @@ pub(crate) fn of_letters(alloc: Global, random: &mut Pcg32) -> Result<Vec<Event>
         let Some(letter) = LETTERS.get(below(random, most)) else {
             return Err(OutOfMemory);
         };
-        push(alloc, &mut events, *letter, below(random, 9) as u64)?;
+        push(alloc, events, *letter, below(random, 9) as u64)?;
     }
-    Ok(events)
+    Ok(())
 }
 
-/// A history with one event left out, with that of another place behind it, or with that in its
-/// place.
+/// A history of letters, most of which are those of tasks and timers, with small references.
+pub(crate) fn of_letters(alloc: Global, random: &mut Pcg32) -> Result<Vec<Event>, OutOfMemory> {
+    let mut events = Vec::new(alloc);
+    let pushed = push_letters(alloc, random, &mut events);
+    pushed.and(Ok(events))
+}
+
+/// Appends the events of a history, with one left out, with that of another place behind it, or
+/// with that in its place.
+fn push_changed(
+    random: &mut Pcg32,
+    events: &mut Vec<Event>,
+    history: &[Event],
+) -> Result<(), OutOfMemory> {
+    let at = below(random, history.len());
+    let from = below(random, history.len());
+    let change = below(random, 3);
+    for (place, event) in history.iter().enumerate() {
+        if place != at || change == 1 {
+            append(events, 0, event.body.try_copy()?)?;
+        }
+        if place == at
+            && change != 0
+            && let Some(other) = history.get(from)
+        {
+            append(events, 0, other.body.try_copy()?)?;
+        }
+    }
+    Ok(())
+}
+
+/// A history with a change.
 pub(crate) fn changed(
     alloc: Global,
     random: &mut Pcg32,
     history: &[Event],
 ) -> Result<Vec<Event>, OutOfMemory> {
     let mut events = Vec::new(alloc);
-    let at = below(random, history.len());
-    let from = below(random, history.len());
-    let change = below(random, 3);
-    for (place, event) in history.iter().enumerate() {
-        if place != at || change == 1 {
-            append(&mut events, 0, event.body.try_copy()?)?;
-        }
-        if place == at
-            && change != 0
-            && let Some(other) = history.get(from)
-        {
-            append(&mut events, 0, other.body.try_copy()?)?;
-        }
-    }
-    Ok(events)
+    let pushed = push_changed(random, &mut events, history);
+    pushed.and(Ok(events))
 }

@@ -4,6 +4,8 @@ ghost use Rattle.wh_replay.specs.Runs.{advance_steps};
 ghost use Rattle.wh_workflow.specs.Counting.{risen};
 
 use crate::long_run::LongRun;
+use std::alloc::Global;
+use std::io;
 use std::rt::Runtime;
 use std::time::{Duration, Instant};
 use wh_events::Event;
@@ -35,27 +37,40 @@ struct Measured {
     took: Duration,
 }
 
-/// Lets the run go on by one task, and adds how long the call took. `None` where the run can't go
-/// on, where it does not end with a task's timers to be sent, and where there is no clock.
-fn go_on_once<R: Runtime + AllocGlobal, W: Workflow>(
-    rt: &R,
+/// Lets the run go on by one task. `None` where it can't go on.
+fn go_on_once<W: Workflow>(
+    alloc: Global,
     run: Run<W>,
     more: Vec<Event>,
     meter: &mut Meter,
-    took: &mut Duration,
 ) -> Option<Run<W>>
     ensures run { IfSome result (λ next. next.events ≡ run.events ++ more.items) }
 
     // The meter has risen by the steps that `advance` takes for the new events.
     ensures meter { IfSome result (λ _. meter.new ≡ risen meter.old (advance_steps W.program run.events more.items)) }
 {
-    let start = Instant::now(rt).ok()?;
-    let run = run.advance(rt.alloc(), more, meter).ok()?;
-    *took = took.saturating_add(start.elapsed(rt).ok()?);
-    if run.commands().len() as u64 != LONG.timers {
-        return None;
-    }
-    Some(run)
+    run.advance(alloc, more, meter).ok()
+}
+
+/// How long it is since the clock told an instant. `None` where there is no clock.
+fn since<R: Runtime>(rt: &R, start: io::Result<Instant>) -> Option<Duration> {
+    start.ok()?.elapsed(rt).ok()
+}
+
+/// Lets the run go on by one task, and adds how long the call took, if there is a clock. `None`
+/// where the run can't go on, and where it does not end with a task's timers to be sent.
+fn go_on<R: Runtime + AllocGlobal, W: Workflow>(
+    rt: &R,
+    run: Run<W>,
+    more: Vec<Event>,
+    meter: &mut Meter,
+    took: &mut Option<Duration>,
+) -> Option<Run<W>> {
+    let start = Instant::now(rt);
+    let next = go_on_once(rt.alloc(), run, more, meter);
+    let call = since(rt, start);
+    *took = took.zip(call).map(|(took, call)| took.saturating_add(call));
+    next.filter(|run| run.commands().len() as u64 == LONG.timers)
 }
 
 /// Makes the calls of a plan. `None` where replay has a fault or no memory, and where there is no
@@ -63,13 +78,16 @@ fn go_on_once<R: Runtime + AllocGlobal, W: Workflow>(
 fn measure<R: Runtime + AllocGlobal, W: Workflow>(rt: &R, plan: Plan) -> Option<Measured> {
     let Plan { tasks, calls } = plan;
     let mut meter = Meter::new();
-    let mut run = LONG.replayed::<W>(rt.alloc(), tasks, &mut meter)?;
+    let mut run = LONG.replayed::<W>(rt.alloc(), tasks, &mut meter);
     let before = meter.count();
-    let mut took = Duration::ZERO;
+    let mut took = Some(Duration::ZERO);
     for completed in tasks..tasks.saturating_add(calls) {
-        let more = LONG.next_task(rt.alloc(), completed).ok()?;
-        run = go_on_once(rt, run, more, &mut meter, &mut took)?;
+        let more = LONG.next_task(rt.alloc(), completed).ok();
+        let (last, more) = run.zip(more)?;
+        run = go_on(rt, last, more, &mut meter, &mut took);
     }
+    let (last, took) = run.zip(took)?;
+    drop(last);
     let steps = meter.count().saturating_sub(before);
     Some(Measured { steps, took })
 }

@@ -39,18 +39,25 @@ fn same_things(track: &Track, events: &[Event], event: &Event) -> bool {
     true
 }
 
+/// Whether the status of each event, and the things of each id, are looked up alike.
+fn same_events(track: &Track, events: &[Event]) -> bool {
+    for event in events {
+        if track.status(event.number) != status_at(events, event.number)
+            || !same_things(track, events, event)
+        {
+            return false;
+        }
+    }
+    true
+}
+
 /// Whether all look-ups in a history are alike: the status of each event, and the things of each
 /// id.
 pub(crate) fn same_lookups(alloc: Global, events: &[Event]) -> bool {
     let Some(track) = track_of(alloc, events) else {
         return false;
     };
-    for event in events {
-        if track.status(event.number) != status_at(events, event.number)
-            || !same_things(&track, events, event)
-        {
-            return false;
-        }
-    }
-    true
+    let are_same = same_events(&track, events);
+    drop(track);
+    are_same
 }

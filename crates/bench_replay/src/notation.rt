@@ -100,11 +100,17 @@ pub(crate) fn append(
     Ok(())
 }
 
+/// Appends the events of a row.
+fn push_row(alloc: Global, events: &mut Vec<Event>, row: &[u8]) -> Result<(), OutOfMemory> {
+    for letter in row {
+        push(alloc, events, *letter, 6)?;
+    }
+    Ok(())
+}
+
 /// The events of a row.
 pub(crate) fn events_of(alloc: Global, row: &[u8]) -> Result<Vec<Event>, OutOfMemory> {
     let mut events = Vec::new(alloc);
-    for letter in row {
-        push(alloc, &mut events, *letter, 6)?;
-    }
-    Ok(events)
+    let pushed = push_row(alloc, &mut events, row);
+    pushed.and(Ok(events))
 }

@@ -2,9 +2,11 @@
 //! alone, told by the peak of the process's memory, which Linux keeps in a file.
 use crate::keeper::Keeper;
 use crate::long_run::LongRun;
+use std::alloc::Global;
 use std::rt::{Files, Runtime};
 use std::str;
 use wh_files::read_file;
+use wh_replay::Run;
 use wh_workflow::{Meter, Workflow};
 
 /// The run, whose workflow takes a block of memory by each signal.
@@ -22,10 +24,9 @@ const LEAST: u64 = TASKS * 896;
 /// How many KiB the call takes at most: 16 blocks.
 const MOST: u64 = 16 * 1024;
 
-/// The most memory, in KiB, that the process had up to now.
-fn peak<R: Files + AllocGlobal>(rt: &R) -> Option<u64> {
-    let status = read_file(rt, "/proc/self/status").ok()?;
-    for line in str::from_utf8(status.as_slice()).ok()?.lines() {
+/// The peak that the process's status names.
+fn peak_in(status: &[u8]) -> Option<u64> {
+    for line in str::from_utf8(status).ok()?.lines() {
         if let Some(size) = line.strip_prefix("VmHWM:") {
             return size.trim().strip_suffix(" kB")?.parse::<u64>().ok();
         }
@@ -33,16 +34,29 @@ fn peak<R: Files + AllocGlobal>(rt: &R) -> Option<u64> {
     None
 }
 
+/// The most memory, in KiB, that the process had up to now.
+fn peak<R: Files + AllocGlobal>(rt: &R) -> Option<u64> {
+    let status = read_file(rt, "/proc/self/status").ok()?;
+    let peak = peak_in(status.as_slice());
+    drop(status);
+    peak
+}
+
+/// Lets the run go on by one task more.
+fn go_on<W: Workflow>(alloc: Global, run: Run<W>) -> Option<()> {
+    let (run, more) = Some(run).zip(LONG.next_task(alloc, TASKS).ok())?;
+    drop(run.advance(alloc, more, &mut Meter::new()).ok()?);
+    Some(())
+}
+
 /// By how many KiB the peak rises in the replay of all tasks, and then in the call that goes on by
 /// one more. `None` where there is no run, or no peak.
 fn rises<R: Files + AllocGlobal, W: Workflow>(rt: &R) -> Option<(u64, u64)> {
-    let mut meter = Meter::new();
-    let more = LONG.next_task(rt.alloc(), TASKS).ok()?;
     let first = peak(rt)?;
-    let run = LONG.replayed::<W>(rt.alloc(), TASKS, &mut meter)?;
-    let before = peak(rt)?;
-    let _run = run.advance(rt.alloc(), more, &mut meter).ok()?;
-    let after = peak(rt)?;
+    let run = LONG.replayed::<W>(rt.alloc(), TASKS, &mut Meter::new())?;
+    let before = peak(rt);
+    go_on(rt.alloc(), run)?;
+    let (before, after) = before.zip(peak(rt))?;
     Some((before.saturating_sub(first), after.saturating_sub(before)))
 }
 

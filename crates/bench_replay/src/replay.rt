@@ -1,7 +1,7 @@
 //! Replay as its definition computes it: each task goes over the history anew, up to the end of its
 //! own record. What a workflow is told, which commands can stand and whether a record matches them
 //! is asked of the crates that say so.
-ghost use Rattle.std.specs.Prelude.{◌≡◌, false};
+ghost use Rattle.std.specs.Prelude.{◌≡◌, ◌<◌, ◌≤◌, ◌+◌, false, length};
 ghost use Rattle.wh_workflow.specs.Law.{is_ask, is_marker};
 
 use crate::cuts::{after_completed, is_cut, is_recorded, until_completed};
@@ -31,22 +31,34 @@ struct Task<'a> {
     script: Script,
 }
 
-/// A copy of the events.
-pub(crate) fn copy_of(alloc: Global, events: &[Event]) -> Result<Vec<Event>, OutOfMemory> {
-    let mut copies = Vec::new(alloc);
+/// Appends a copy of each event.
+fn push_copies(copies: &mut Vec<Event>, events: &[Event]) -> Result<(), OutOfMemory> {
     for event in events {
         copies.push(event.try_copy()?)?;
     }
-    Ok(copies)
+    Ok(())
+}
+
+/// A copy of the events.
+pub(crate) fn copy_of(alloc: Global, events: &[Event]) -> Result<Vec<Event>, OutOfMemory> {
+    let mut copies = Vec::new(alloc);
+    let pushed = push_copies(&mut copies, events);
+    pushed.and(Ok(copies))
+}
+
+/// Pushes a copy of each event. `None` where the track refuses one, or there is no memory.
+fn push_all(track: &mut Track, events: &[Event]) -> Option<()> {
+    for event in events {
+        track.push(event.try_copy().ok()?).ok()?;
+    }
+    Some(())
 }
 
 /// A track of the events. `None` where it refuses one of them, or there is no memory.
 pub(crate) fn track_of(alloc: Global, events: &[Event]) -> Option<Track> {
     let mut track = Track::new(alloc);
-    for event in events {
-        track.push(event.try_copy().ok()?).ok()?;
-    }
-    Some(track)
+    let pushed = push_all(&mut track, events);
+    pushed.and(Some(track))
 }
 
 /// The end of the record that a cut before the rest has, in the rest; 0 where it has none.
@@ -60,6 +72,42 @@ fn record_end(rest: &[Event]) -> usize {
         .saturating_add(until_completed(behind).len())
 }
 
+/// The commands that a workflow gives for a job.
+fn commands_of<W: Workflow>(
+    alloc: Global,
+    job: Job,
+    state: &mut W::State,
+) -> Result<Vec<Command>, OutOfMemory> {
+    let mut given = Vec::new(alloc);
+    let stepped = W::step(alloc, state, &job, &mut given, &mut Meter::new());
+    drop(job);
+    stepped.and(Ok(given))
+}
+
+/// Matches what is sent of the commands with the record of the cut, which stands between two
+/// numbers.
+fn match_record(
+    track: &Track,
+    cut: EventNo,
+    script: Script,
+    from: u64,
+    to: u64,
+) -> Result<(), RunFault>
+    requires rising { from < to }
+    requires within { to ≤ length track.now + 1 }
+{
+    let sent = script.reduced()?;
+    let matched = matches(sent.as_slice(), track, from, to);
+    drop(sent);
+    match matched {
+        Ok(()) => Ok(()),
+        Err(mismatch) => Err(RunFault::Fault(Fault::Mismatch {
+            at: cut.get(),
+            mismatch,
+        })),
+    }
+}
+
 impl<'a> Task<'a> {
     /// The task of the cut in a place, behind the last cut. `None` where the tables refuse the
     /// events.
@@ -67,7 +115,7 @@ impl<'a> Task<'a> {
         let after = place.saturating_add(1);
         let rest = events.get(after..)?;
         let end = record_end(rest);
-        let track = track_of(alloc, events.get(..after.saturating_add(end))?)?;
+        let held = events.get(..after.saturating_add(end))?;
         let cut = EventNo::new(after as u64)?;
         let previous = last as u64;
         let record = if is_recorded(rest) {
@@ -76,7 +124,7 @@ impl<'a> Task<'a> {
             None
         };
         Some(Task {
-            track,
+            track: track_of(alloc, held)?,
             previous,
             cut,
             record,
@@ -132,17 +180,17 @@ impl<'a> Task<'a> {
     fn step<W: Workflow>(
         &mut self,
         alloc: Global,
-        job: &Job,
+        job: Job,
         state: &mut W::State,
         versions: &mut Versions,
     ) -> Result<Option<Job>, ScriptFault> {
-        let mut given = Vec::new(alloc);
-        W::step(alloc, state, job, &mut given, &mut Meter::new())?;
-        let mut next = None;
-        for command in given {
-            next = self.issue(versions, command)?;
-        }
-        Ok(next)
+        let mut given = commands_of::<W>(alloc, job, state)?.into_iter();
+        let asked = given.try_fold(None, |last, command| {
+            drop(last);
+            self.issue(versions, command)
+        });
+        drop(given);
+        asked
     }
 
     /// Steps a workflow by a job and the versions that it leads to.
@@ -153,13 +201,14 @@ impl<'a> Task<'a> {
         state: &mut W::State,
         versions: &mut Versions,
     ) -> Result<(), ScriptFault> {
-        let mut job = job;
+        let mut next = Some(job);
         for _step in 0..MOST_STEPS {
-            match self.step::<W>(alloc, &job, state, versions)? {
-                Some(next) => job = next,
-                None => return Ok(()),
-            }
+            let Some(job) = next else {
+                return Ok(());
+            };
+            next = self.step::<W>(alloc, job, state, versions)?;
         }
+        drop(next);
         Ok(())
     }
 
@@ -170,10 +219,10 @@ impl<'a> Task<'a> {
         state: &mut W::State,
         versions: &mut Versions,
     ) -> Result<(), ScriptFault> {
-        for job in jobs(alloc, &self.track, self.previous, self.cut)? {
-            self.settle::<W>(alloc, job, state, versions)?;
-        }
-        Ok(())
+        let mut told = jobs(alloc, &self.track, self.previous, self.cut)?.into_iter();
+        let ran = told.try_for_each(|job| self.settle::<W>(alloc, job, state, versions));
+        drop(told);
+        ran
     }
 
     /// Matches what is sent of the commands with the record, if the cut is recorded.
@@ -185,19 +234,16 @@ impl<'a> Task<'a> {
             script,
             ..
         } = self;
-        let Some(record) = record else {
-            return Ok(());
-        };
-        let sent = script.reduced()?;
         let held = track.len() as u64;
-        let from = held.saturating_sub(record.len() as u64);
-        match matches(sent.as_slice(), &track, from, held + 1) {
-            Ok(()) => Ok(()),
-            Err(mismatch) => Err(RunFault::Fault(Fault::Mismatch {
-                at: cut.get(),
-                mismatch,
-            })),
-        }
+        let judged = match record {
+            Some(record) => {
+                let from = held.saturating_sub(record.len() as u64);
+                match_record(&track, cut, script, from, held + 1)
+            }
+            None => Ok(drop(script)),
+        };
+        drop(track);
+        judged
     }
 }
 
@@ -209,6 +255,17 @@ fn workflow_of(events: &[Event]) -> &str {
         return workflow.get();
     }
     ""
+}
+
+/// What a fault of a script is for the task of the cut in a place.
+fn fault_at(place: usize, fault: ScriptFault) -> RunFault {
+    match fault {
+        ScriptFault::OutOfMemory => RunFault::OutOfMemory,
+        ScriptFault::Workflow(fault) => RunFault::Fault(Fault::Workflow {
+            at: (place as u64).saturating_add(1),
+            fault,
+        }),
+    }
 }
 
 /// Runs the task of the cut in a place.
@@ -223,14 +280,35 @@ fn run_task<W: Workflow>(
     let Some(mut task) = Task::new(alloc, events, last, place) else {
         return Err(REFUSED);
     };
-    match task.run::<W>(alloc, state, versions) {
-        Ok(()) => task.judge(),
-        Err(ScriptFault::OutOfMemory) => Err(RunFault::OutOfMemory),
-        Err(ScriptFault::Workflow(fault)) => Err(RunFault::Fault(Fault::Workflow {
-            at: (place as u64).saturating_add(1),
-            fault,
-        })),
+    if let Err(fault) = task.run::<W>(alloc, state, versions) {
+        drop(task);
+        return Err(fault_at(place, fault));
     }
+    task.judge()
+}
+
+/// Runs each task of a history that is in place.
+fn run_tasks<W: Workflow>(
+    alloc: Global,
+    events: &[Event],
+    state: &mut W::State,
+    versions: &mut Versions,
+) -> Result<Checked, RunFault> {
+    let mut checked = Checked {
+        tasks: 0,
+        live: false,
+    };
+    let mut last = 0;
+    for place in 0..events.len() {
+        let rest = &events[place + 1..];
+        if is_cut(&events[place], rest) {
+            run_task::<W>(alloc, events, last, place, state, versions)?;
+            last = place + 1;
+            checked.tasks = checked.tasks.saturating_add(1);
+            checked.live = !is_recorded(rest);
+        }
+    }
+    Ok(checked)
 }
 
 /// Replays a history that is in place.
@@ -244,21 +322,10 @@ fn replay<W: Workflow>(alloc: Global, events: &[Event]) -> Result<Checked, RunFa
     }
     let mut state = W::begin(alloc, kind)?;
     let mut versions = Versions::new(alloc);
-    let mut checked = Checked {
-        tasks: 0,
-        live: false,
-    };
-    let mut last = 0;
-    for place in 0..events.len() {
-        let rest = &events[place + 1..];
-        if is_cut(&events[place], rest) {
-            run_task::<W>(alloc, events, last, place, &mut state, &mut versions)?;
-            last = place + 1;
-            checked.tasks = checked.tasks.saturating_add(1);
-            checked.live = !is_recorded(rest);
-        }
-    }
-    Ok(checked)
+    let checked = run_tasks::<W>(alloc, events, &mut state, &mut versions);
+    drop(versions);
+    drop(state);
+    checked
 }
 
 /// Replays a history that may end anywhere. Gives what `wh_replay::check` gives.

@@ -24,19 +24,30 @@ const OF_LETTERS: u32 = 4_000;
 /// How many changed ones are made of each example.
 const CHANGED: u32 = 200;
 
+/// Appends the histories that the bytes of the files are.
+fn push_histories(
+    alloc: Global,
+    histories: &mut Vec<Vec<Event>>,
+    files: &[(String, Vec<u8>)],
+) -> io::Result<()> {
+    for (_name, bytes) in files {
+        let Ok(events) = read_events(alloc, bytes.as_slice()) else {
+            return Err(ErrorKind::InvalidData.into());
+        };
+        histories.push(events)?;
+    }
+    Ok(())
+}
+
 /// The histories of the folder.
 fn read_histories<R: Files + AllocGlobal + Clone + Drop>(rt: &R) -> io::Result<Vec<Vec<Event>>> {
     let Ok(files) = read_files(rt, FOLDER) else {
         return Err(ErrorKind::NotFound.into());
     };
     let mut histories = Vec::new(rt.alloc());
-    for (_name, bytes) in &files {
-        let Ok(events) = read_events(rt.alloc(), bytes.as_slice()) else {
-            return Err(ErrorKind::InvalidData.into());
-        };
-        histories.push(events)?;
-    }
-    Ok(histories)
+    let pushed = push_histories(rt.alloc(), &mut histories, files.as_slice());
+    drop(files);
+    pushed.and(Ok(histories))
 }
 
 /// Compares both replays on each beginning of an example, and of the example with a change.
@@ -49,7 +60,9 @@ fn compare_example<W: Workflow>(
     let mut random = Pcg32::new(42, 54);
     for _history in 0..CHANGED {
         let events = changed(alloc, &mut random, history)?;
-        compare::<W>(alloc, events.as_slice(), counts)?;
+        let compared = compare::<W>(alloc, events.as_slice(), counts);
+        drop(events);
+        compared?;
     }
     Ok(())
 }
@@ -58,28 +71,42 @@ fn compare_example<W: Workflow>(
 fn compare_letters<W: Workflow>(alloc: Global, counts: &mut Counts) -> Result<(), OutOfMemory> {
     for row in ROWS {
         let events = events_of(alloc, row)?;
-        compare_all::<W>(alloc, events.as_slice(), counts)?;
+        let compared = compare_all::<W>(alloc, events.as_slice(), counts);
+        drop(events);
+        compared?;
     }
     let mut random = Pcg32::new(42, 54);
     for _history in 0..OF_LETTERS {
         let events = of_letters(alloc, &mut random)?;
-        compare::<W>(alloc, events.as_slice(), counts)?;
+        let compared = compare::<W>(alloc, events.as_slice(), counts);
+        drop(events);
+        compared?;
     }
     Ok(())
+}
+
+/// Compares both replays on the examples, and on the histories that are made.
+fn compare_each<W: Workflow>(
+    alloc: Global,
+    examples: &[Vec<Event>],
+    counts: &mut Counts,
+) -> Result<(), OutOfMemory> {
+    for history in examples {
+        compare_example::<W>(alloc, history.as_slice(), counts)?;
+    }
+    compare_letters::<W>(alloc, counts)
 }
 
 /// Compares both replays on all histories.
 fn compare_histories<R: Runtime + AllocGlobal, W: Workflow>(rt: &R) -> io::Result<Counts> {
     let mut counts = Counts::new();
-    for history in read_histories(rt)? {
-        let Ok(()) = compare_example::<W>(rt.alloc(), history.as_slice(), &mut counts) else {
-            return Err(ErrorKind::OutOfMemory.into());
-        };
+    let examples = read_histories(rt)?;
+    let compared = compare_each::<W>(rt.alloc(), examples.as_slice(), &mut counts);
+    drop(examples);
+    match compared {
+        Ok(()) => Ok(counts),
+        Err(OutOfMemory) => Err(ErrorKind::OutOfMemory.into()),
     }
-    let Ok(()) = compare_letters::<W>(rt.alloc(), &mut counts) else {
-        return Err(ErrorKind::OutOfMemory.into());
-    };
-    Ok(counts)
 }
 
 /// Tells how many histories were compared, what both replays say of how many, and whether they say

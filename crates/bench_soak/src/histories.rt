@@ -2,42 +2,57 @@
 ghost use Rattle.std.specs.Prelude.{◌<◌, length};
 
 use std::alloc::{AllocError, Global};
+use std::io;
 use std::io::ErrorKind;
-use std::rt::Files;
-use std::{fs, io};
-use wh_events::{RunKey, Text};
+use wh_events::{Event, RunKey, Text};
 use wh_json::read_events;
 use wh_samples::ScriptSource;
 
 /// The run id of each history's key.
 const RUN_ID: &str = "recorded";
 
-/// A file by its name without the end `.json`, with its bytes.
+/// A file by its name, with its bytes.
 pub type File = (String, Vec<u8>);
-
-/// The files of a folder whose names end in `.json`, in the order of their names.
-pub fn read_files<R: Files + AllocGlobal + Clone + Drop>(
-    rt: &R,
-    dir: &str,
-) -> io::Result<Vec<File>> {
-    let mut files: Vec<File> = Vec::new(rt.alloc());
-    for entry in fs::read_dir(rt, dir)? {
-        let entry = entry?;
-        if let Some(stem) = entry.file_name().strip_suffix(".json") {
-            let stem = String::from_str(rt.alloc(), stem)?;
-            files.push((stem, fs::read(rt, entry.path())?))?;
-        }
-    }
-    files.sort()?;
-    Ok(files)
-}
 
 /// The name and the bytes of the history of an index: `nap-17` is made of `nap.json`.
 fn history_at(alloc: Global, files: &[File], index: u64) -> Result<(String, &[u8]), AllocError>
     requires { 0 < length files.now }
 {
-    let (stem, bytes) = &files[(index % files.len() as u64) as usize];
+    let (name, bytes) = &files[(index % files.len() as u64) as usize];
+    let stem = name.strip_suffix(".json").unwrap_or(name.as_str());
     Ok((format!(in alloc; "{stem}-{index}")?, bytes.as_slice()))
+}
+
+/// The key of the run of the history of an index.
+fn key_of(alloc: Global, files: &[File], index: u64) -> Result<RunKey, AllocError>
+    requires { 0 < length files.now }
+{
+    let run_id = Text::new(String::from_str(alloc, RUN_ID)?);
+    match history_at(alloc, files, index) {
+        Ok((name, _)) => Ok(RunKey {
+            workflow_id: Text::new(name),
+            run_id,
+        }),
+        Err(error) => {
+            drop(run_id);
+            Err(error)
+        }
+    }
+}
+
+/// Adds the keys of the runs of so many histories.
+fn push_keys(
+    alloc: Global,
+    keys: &mut Vec<RunKey>,
+    files: &[File],
+    histories: u64,
+) -> Result<(), AllocError>
+    requires { 0 < length files.now }
+{
+    for index in 0..histories {
+        keys.push(key_of(alloc, files, index)?)?;
+    }
+    Ok(())
 }
 
 /// The keys of the runs of so many histories.
@@ -45,14 +60,46 @@ pub fn keys_of(alloc: Global, files: &[File], histories: u64) -> Result<Vec<RunK
     requires { 0 < length files.now }
 {
     let mut keys = Vec::new(alloc);
-    for index in 0..histories {
-        let (name, _) = history_at(alloc, files, index)?;
-        keys.push(RunKey {
-            workflow_id: Text::new(name),
-            run_id: Text::new(String::from_str(alloc, RUN_ID)?),
-        })?;
+    let pushed = push_keys(alloc, &mut keys, files, histories);
+    pushed.and(Ok(keys))
+}
+
+/// A history by its number and its name, with its events.
+type History = (u64, String, Vec<Event>);
+
+/// The history of an index.
+fn read_history(alloc: Global, files: &[File], index: u64) -> io::Result<History>
+    requires { 0 < length files.now }
+{
+    let (name, bytes) = history_at(alloc, files, index)?;
+    match read_events(alloc, bytes) {
+        Ok(events) => Ok((index, name, events)),
+        Err(fault) => {
+            drop(fault);
+            drop(name);
+            Err(ErrorKind::InvalidData.into())
+        }
     }
-    Ok(keys)
+}
+
+/// Adds those of so many histories that are dealt to a worker, where they are dealt in turn.
+fn deal(
+    alloc: Global,
+    dealt: &mut Vec<History>,
+    files: &[File],
+    histories: u64,
+    worker: u64,
+    workers: u64,
+) -> io::Result<()>
+    requires files { 0 < length files.now }
+    requires workers { 0 < workers }
+{
+    for index in 0..histories {
+        if index % workers == worker {
+            dealt.push(read_history(alloc, files, index)?)?;
+        }
+    }
+    Ok(())
 }
 
 /// The source of a worker, where so many histories are dealt to the workers in turn.
@@ -67,19 +114,27 @@ fn source_of(
     requires workers { 0 < workers }
 {
     let mut dealt = Vec::new(alloc);
-    for index in 0..histories {
-        if index % workers == worker {
-            let (name, bytes) = history_at(alloc, files, index)?;
-            let Ok(events) = read_events(alloc, bytes) else {
-                return Err(ErrorKind::InvalidData.into());
-            };
-            dealt.push((index, name, events))?;
-        }
-    }
-    match ScriptSource::new(alloc, dealt) {
+    let given = deal(alloc, &mut dealt, files, histories, worker, workers);
+    match ScriptSource::new(alloc, given.and(Ok(dealt))?) {
         Ok(source) => Ok(source),
         Err(_) => Err(ErrorKind::OutOfMemory.into()),
     }
+}
+
+/// Adds a source for each of so many workers, to whom so many histories are dealt in turn.
+fn push_sources(
+    alloc: Global,
+    sources: &mut Vec<ScriptSource>,
+    files: &[File],
+    histories: u64,
+    workers: u64,
+) -> io::Result<()>
+    requires { 0 < length files.now }
+{
+    for worker in 0..workers {
+        sources.push(source_of(alloc, files, histories, worker, workers)?)?;
+    }
+    Ok(())
 }
 
 /// A source for each of so many workers, to whom so many histories are dealt in turn.
@@ -92,10 +147,8 @@ pub fn sources_of(
     requires { 0 < length files.now }
 {
     let mut sources = Vec::new(alloc);
-    for worker in 0..workers {
-        sources.push(source_of(alloc, files, histories, worker, workers)?)?;
-    }
-    Ok(sources)
+    let pushed = push_sources(alloc, &mut sources, files, histories, workers);
+    pushed.and(Ok(sources))
 }
 
 /// How many tasks the sources have together.

@@ -2,13 +2,15 @@
 //! random. What they answer is compared with what as many workers answer without a cache.
 #![tactic(auto)]
 
+ghost use Rattle.std.specs.Prelude.{◌<◌, length};
+
 mod histories;
 mod hits;
 mod judging;
 mod same;
 mod soak;
 
-use crate::histories::{keys_of, read_files, sources_of, tasks_of};
+use crate::histories::{File, keys_of, sources_of, tasks_of};
 use crate::judging::judge;
 use crate::soak::{Findings, soak};
 use std::io::ErrorKind;
@@ -17,6 +19,8 @@ use std::rt::Runtime;
 use std::sync::Wait;
 use std::thread::Threads;
 use std::{env, io};
+use wh_events::RunKey;
+use wh_files::read_files;
 use wh_samples::{All, ScriptSource};
 
 /// How the program is called.
@@ -44,9 +48,8 @@ fn number_of(text: &str, least: u64, most: u64) -> Option<u64> {
     Some(number)
 }
 
-/// What the command line asks for.
-fn plan_of<R: Runtime + AllocGlobal>(rt: &R) -> Option<Plan> {
-    let mut words: Vec<String> = env::args(rt).ok()?.collect(rt.alloc()).ok()?;
+/// What the words of the command line ask for.
+fn plan_in(words: &mut Vec<String>) -> Option<Plan> {
     if words.len() != 5 {
         return None;
     }
@@ -59,6 +62,14 @@ fn plan_of<R: Runtime + AllocGlobal>(rt: &R) -> Option<Plan> {
         cache,
         histories,
     })
+}
+
+/// What the command line asks for.
+fn plan_of<R: Runtime + AllocGlobal>(rt: &R) -> Option<Plan> {
+    let mut words: Vec<String> = env::args(rt).ok()?.collect(rt.alloc()).ok()?;
+    let plan = plan_in(&mut words);
+    drop(words);
+    plan
 }
 
 /// Writes the figures, in which no two soaks agree, to the standard error, and what was checked to
@@ -77,35 +88,83 @@ fn print<R: Runtime, S>(rt: &R, found: &Findings<S>) -> io::Result<()> {
     )
 }
 
+/// Soaks the host once, on sources that are made anew, with a cache of so many runs, while the runs
+/// of the keys are evicted.
+fn soak_once<R: Runtime + AllocGlobal + Threads + Wait + Sync>(
+    rt: &R,
+    plan: &Plan,
+    files: &[File],
+    keys: &[RunKey],
+    cache: usize,
+) -> io::Result<Findings<ScriptSource>>
+    requires { 0 < length files.now }
+{
+    let sources = sources_of(rt.alloc(), files, plan.histories, plan.workers)?;
+    let tasks = tasks_of(sources.as_slice());
+    soak::<All, ScriptSource, R>(rt, rt.alloc(), sources, tasks, keys, cache)
+}
+
+/// Says what a soak refuted beside the plain one, if anything, and prints it else.
+fn judge_and_print<R: Runtime>(
+    rt: &R,
+    found: &Findings<ScriptSource>,
+    plain: &Findings<ScriptSource>,
+    cache: usize,
+) -> io::Result<Result<(), &'static str>> {
+    let judged = judge(found, plain, cache);
+    if judged.is_ok() {
+        print(rt, found)?;
+    }
+    Ok(judged)
+}
+
+/// Soaks the host as planned, after a plain soak without a cache, and says what the soak refuted,
+/// if anything.
+fn soak_beside<R: Runtime + AllocGlobal + Threads + Wait + Sync>(
+    rt: &R,
+    plan: &Plan,
+    files: &[File],
+    keys: &[RunKey],
+) -> io::Result<Result<(), &'static str>>
+    requires { 0 < length files.now }
+{
+    let plain = soak_once(rt, plan, files, &[], 0)?;
+    let found = soak_once(rt, plan, files, keys, plan.cache);
+    let judged = match &found {
+        Ok(found) => judge_and_print(rt, found, &plain, plan.cache),
+        Err(error) => Err(error.kind().into()),
+    };
+    drop(found);
+    drop(plain);
+    judged
+}
+
+/// Soaks the host on the files, of which there are some.
+fn soak_files<R: Runtime + AllocGlobal + Threads + Wait + Sync>(
+    rt: &R,
+    plan: &Plan,
+    files: &[File],
+) -> io::Result<Result<(), &'static str>> {
+    if files.is_empty() {
+        return Err(ErrorKind::NotFound.into());
+    }
+    let keys = keys_of(rt.alloc(), files, plan.histories)?;
+    let judged = soak_beside(rt, plan, files, keys.as_slice());
+    drop(keys);
+    judged
+}
+
 /// Soaks the host as planned, and says what the soak refuted, if anything.
 fn run<R: Runtime + AllocGlobal + Threads + Wait + Sync>(
     rt: &R,
     plan: &Plan,
 ) -> io::Result<Result<(), &'static str>> {
-    let alloc = rt.alloc();
-    let files = read_files(rt, plan.dir.as_str())?;
-    let files = files.as_slice();
-    if files.is_empty() {
+    let Ok(files) = read_files(rt, plan.dir.as_str()) else {
         return Err(ErrorKind::NotFound.into());
-    }
-    let keys = keys_of(alloc, files, plan.histories)?;
-    let sources = sources_of(alloc, files, plan.histories, plan.workers)?;
-    let tasks = tasks_of(sources.as_slice());
-    let plain = soak::<All, ScriptSource, R>(rt, alloc, sources, tasks, &[], 0)?;
-    let sources = sources_of(alloc, files, plan.histories, plan.workers)?;
-    let found = soak::<All, ScriptSource, R>(
-        rt,
-        alloc,
-        sources,
-        tasks,
-        keys.as_slice(),
-        plan.cache,
-    )?;
-    let judged = judge(&found, &plain, plan.cache);
-    if judged.is_ok() {
-        print(rt, &found)?;
-    }
-    Ok(judged)
+    };
+    let judged = soak_files(rt, plan, files.as_slice());
+    drop(files);
+    judged
 }
 
 /// The status is 0 where nothing was refuted, 1 where something was, and 2 where there was no soak.
@@ -114,7 +173,9 @@ fn main(rt: HostRuntime) -> ExitCode {
         let _ = eprintln!(&rt; "{USAGE}");
         return ExitCode::from(2);
     };
-    match run(&rt, &plan) {
+    let soaked = run(&rt, &plan);
+    drop(plan);
+    match soaked {
         Ok(Ok(())) => ExitCode::from(0),
         Ok(Err(refuted)) => {
             let _ = eprintln!(&rt; "bench_soak: {refuted}");

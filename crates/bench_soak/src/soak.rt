@@ -101,6 +101,40 @@ fn evict<R: Wait, W: Workflow, T: Ledger, C: Ledger, F: Ledger>(
     matches!(evicted, Evict::Evicted)
 }
 
+/// Evicts a few runs picked at random, and says how many of them were cached.
+fn evict_some<R: Wait, W: Workflow, T: Ledger, C: Ledger, F: Ledger>(
+    rt: &R,
+    host: &Host<W, T, C, F>,
+    keys: &[RunKey],
+    random: &mut Pcg32,
+) -> u64 {
+    let mut evicted: u64 = 0;
+    for _run in 0..ROUND {
+        let picked = keys.get(random.next_word() as usize % keys.len().max(1));
+        if let Some(key) = picked
+            && evict(rt, host, key)
+        {
+            evicted = evicted.saturating_add(1);
+        }
+    }
+    evicted
+}
+
+/// Evicts each run, and says how many of them were cached.
+fn evict_each<R: Wait, W: Workflow, T: Ledger, C: Ledger, F: Ledger>(
+    rt: &R,
+    host: &Host<W, T, C, F>,
+    keys: &[RunKey],
+) -> u64 {
+    let mut evicted: u64 = 0;
+    for key in keys {
+        if evict(rt, host, key) {
+            evicted = evicted.saturating_add(1);
+        }
+    }
+    evicted
+}
+
 /// Evicts runs picked at random, a few at a time, until the workers have ended, and at most
 /// `MOST_ROUNDS` times; then each run once. Says how many of them were cached.
 fn evict_all<R: Wait + Clock, W: Workflow, T: Ledger, C: Ledger, F: Ledger>(
@@ -115,22 +149,10 @@ fn evict_all<R: Wait + Clock, W: Workflow, T: Ledger, C: Ledger, F: Ledger>(
         if have_ended.load(Ordering::SeqCst) {
             break;
         }
-        for _run in 0..ROUND {
-            let picked = keys.get(random.next_word() as usize % keys.len().max(1));
-            if let Some(key) = picked
-                && evict(rt, host, key)
-            {
-                evicted = evicted.saturating_add(1);
-            }
-        }
+        evicted = evicted.saturating_add(evict_some(rt, host, keys, &mut random));
         thread::sleep(rt, Duration::from_micros(PAUSE));
     }
-    for key in keys {
-        if evict(rt, host, key) {
-            evicted = evicted.saturating_add(1);
-        }
-    }
-    evicted
+    evicted.saturating_add(evict_each(rt, host, keys))
 }
 
 /// Runs the posts, and beside them evicts runs. Says also how many of these were cached.
@@ -253,6 +275,35 @@ fn sources_left<S: Drop>(alloc: Global, left: Vec<SoakLeft<S>>) -> Result<Vec<S>
     Ok(sources)
 }
 
+/// Closes a host, and gives what its posts left with what the host has counted.
+fn end<W: Workflow, T: Ledger, C: Ledger, F: Ledger, S: Drop>(
+    alloc: Global,
+    host: Host<W, T, C, F>,
+    ended: Ended<T, C, F, S>,
+    run: Run,
+    is_drained: bool,
+    tasks: u64,
+) -> io::Result<Findings<S>> {
+    let (seats, left) = ended;
+    let totals = close(host, seats);
+    let tally = tally_of(left.as_slice(), tasks);
+    let sources = sources_left(alloc, left)?;
+    match totals {
+        Ok(totals) => Ok(Findings {
+            totals,
+            tally,
+            evicted: run.evicted,
+            is_drained,
+            micros: run.micros,
+            sources,
+        }),
+        Err(error) => {
+            drop(sources);
+            Err(error)
+        }
+    }
+}
+
 /// Opens a host, runs the posts, drains the host and closes it.
 fn soak_with<
     R: Threads + Wait + Clock + Sync,
@@ -280,17 +331,15 @@ fn soak_with<
     let Ok((host, seats)) = Host::<W, T, C, F>::open(alloc, config, taken, completed, failed) else {
         return Err(ErrorKind::InvalidInput.into());
     };
-    let ((seats, left), run) = serve_timed(rt, alloc, &host, seats, posts, keys)?;
+    let served = serve_timed(rt, alloc, &host, seats, posts, keys);
     let is_drained = drain(rt, &host);
-    let totals = close(host, seats)?;
-    Ok(Findings {
-        totals,
-        tally: tally_of(left.as_slice(), tasks),
-        evicted: run.evicted,
-        is_drained,
-        micros: run.micros,
-        sources: sources_left(alloc, left)?,
-    })
+    match served {
+        Ok((ended, run)) => end(alloc, host, ended, run, is_drained, tasks),
+        Err(error) => {
+            drop(host);
+            Err(error)
+        }
+    }
 }
 
 /// Serves so many tasks of the sources, each by a worker, with a cache of so many runs, while the

@@ -1,6 +1,6 @@
 //! Calls on files: reading one, and checking some.
 
-use crate::calls::saying::say;
+use crate::calls::saying::{is_asked, say, say_left};
 use std::alloc::Global;
 use std::rt::Runtime;
 use std::thread::Threads;
@@ -9,39 +9,29 @@ use wh_json::read_events;
 use wh_tester::check_all;
 use wh_workflow::Workflow;
 
-/// The names of the calls.
-const NAMES: [&str; 2] = ["read_events", "check_all"];
-
 /// Reads a history.
 fn read<R: Runtime + AllocGlobal>(rt: &R, name: &str) -> Option<()> {
     let text = json(rt.alloc(), "nap").ok()?;
     say(rt, name, "before", &text.len());
     let answer = read_events(rt.alloc(), text.as_bytes());
-    say(rt, name, "answer", &answer);
-    say(rt, name, "after", &text.len());
+    say_left(rt, name, &answer, &text.len());
+    drop(answer);
+    drop(text);
     Some(())
 }
 
-/// Adds the file of a history.
-fn push_file(
-    alloc: Global,
-    files: &mut Vec<(String, Vec<u8>)>,
-    name: &str,
-    history: &'static str,
-) -> Option<()> {
-    files.reserve(1).ok()?;
-    let name = String::from_str(alloc, name).ok()?;
-    let text = json(alloc, history).ok()?;
-    files.push_reserved((name, text.into_bytes()));
-    Some(())
+/// The file of a history, with its name.
+fn file_of(alloc: Global, name: &str, history: &'static str) -> Option<(String, Vec<u8>)> {
+    let name = String::from_str(alloc, name).ok();
+    let (name, text) = name.zip(json(alloc, history).ok())?;
+    Some((name, text.into_bytes()))
 }
 
 /// Two files.
 fn two_files(alloc: Global) -> Option<Vec<(String, Vec<u8>)>> {
-    let mut files = Vec::new(alloc);
-    push_file(alloc, &mut files, "nap", "nap")?;
-    push_file(alloc, &mut files, "live", "nap/8")?;
-    Some(files)
+    let nap = file_of(alloc, "nap", "nap");
+    let (nap, live) = nap.zip(file_of(alloc, "live", "nap/8"))?;
+    [nap, live].into_iter().collect(alloc).ok()
 }
 
 /// Checks two files.
@@ -52,21 +42,9 @@ fn check<R: Runtime + AllocGlobal + Threads + Sync, W: Workflow + Send>(
     let files = two_files(rt.alloc())?;
     say(rt, name, "before", &());
     let answer = check_all::<W>(rt, rt.alloc(), files);
-    say(rt, name, "answer", &answer);
-    say(rt, name, "after", &());
+    say_left(rt, name, &answer, &());
+    drop(answer);
     Some(())
-}
-
-/// Makes the call of a name.
-fn call<R: Runtime + AllocGlobal + Threads + Sync, W: Workflow + Send>(
-    rt: &R,
-    name: &str,
-) -> Option<()> {
-    match name {
-        "read_events" => read(rt, name),
-        "check_all" => check::<R, W>(rt, name),
-        _ => None,
-    }
 }
 
 /// Makes each of these calls that has this name, or all where it is "".
@@ -74,10 +52,11 @@ pub(crate) fn call_all<R: Runtime + AllocGlobal + Threads + Sync, W: Workflow + 
     rt: &R,
     named: &str,
 ) -> Option<()> {
-    for name in &NAMES {
-        if named.is_empty() || *name == named {
-            call::<R, W>(rt, name)?;
-        }
+    if is_asked("read_events", named) {
+        read(rt, "read_events")?;
+    }
+    if is_asked("check_all", named) {
+        check::<R, W>(rt, "check_all")?;
     }
     Some(())
 }

@@ -3,7 +3,7 @@
 ghost use Rattle.std.specs.Prelude.{◌≡◌};
 
 use crate::calls::runs::{put_seen, source_of};
-use crate::calls::saying::{run_of, say};
+use crate::calls::saying::{is_asked, run_of, say, say_left};
 use std::marker::Brand;
 use std::rt::Runtime;
 use std::sync::Wait;
@@ -50,29 +50,27 @@ const WITHOUT_SLOTS: Config = Config {
 };
 
 /// Opens slots.
-fn open_slots<R: Runtime + AllocGlobal>(rt: &R, name: &str) -> Option<()> {
+fn open_slots<R: Runtime + AllocGlobal>(rt: &R, name: &str) {
     say(rt, name, "before", &());
     let opened = Slots::open(rt.alloc(), SlotKind::Workflow, 3);
     let answer = match &opened {
         Ok(slots) => Ok(slots.count()),
         Err(fault) => Err(*fault),
     };
-    say(rt, name, "answer", &answer);
-    say(rt, name, "after", &());
-    Some(())
+    say_left(rt, name, &answer, &());
+    drop(opened);
 }
 
 /// Opens a cache.
-fn open_cache<R: Runtime + AllocGlobal, W: Workflow>(rt: &R, name: &str) -> Option<()> {
+fn open_cache<R: Runtime + AllocGlobal, W: Workflow>(rt: &R, name: &str) {
     say(rt, name, "before", &());
     let opened = Sticky::<W>::open(rt.alloc(), 3, 0);
     let answer = match &opened {
         Ok(cache) => Ok((cache.len(), cache.held())),
         Err(fault) => Err(*fault),
     };
-    say(rt, name, "answer", &answer);
-    say(rt, name, "after", &());
-    Some(())
+    say_left(rt, name, &answer, &());
+    drop(opened);
 }
 
 /// Opens books.
@@ -82,7 +80,7 @@ fn open_books<R: Runtime + AllocGlobal, T: Ledger, C: Ledger, F: Ledger>(
     taken: Blank,
     completed: Blank,
     failed: Blank,
-) -> Option<()>
+)
     requires taken { (taken.name ≡ T.name) × (taken.parts ≡ T.parts) × (taken.parts ≡ 1) }
     requires completed { (completed.name ≡ C.name) × (completed.parts ≡ C.parts) × (completed.parts ≡ 1) }
     requires failed { (failed.name ≡ F.name) × (failed.parts ≡ F.parts) × (failed.parts ≡ 1) }
@@ -93,8 +91,8 @@ fn open_books<R: Runtime + AllocGlobal, T: Ledger, C: Ledger, F: Ledger>(
         Ok((books, _)) => say(rt, name, "answer", &books.totals()),
         Err(fault) => say(rt, name, "answer", fault),
     }
+    drop(opened);
     say(rt, name, "after", &());
-    Some(())
 }
 
 /// Prints what the state of a host has counted.
@@ -118,9 +116,11 @@ fn say_opened<R: Runtime, W: Workflow, T: Ledger, C: Ledger, F: Ledger>(
 ) {
     let mut host = host;
     let mut seats = seats;
-    if let Some(mut seat) = seats.pop() {
-        say_counts(rt, name, "answer", &mut host, &mut seat);
+    if let Some(seat) = seats.as_mut_slice().first_mut() {
+        say_counts(rt, name, "answer", &mut host, seat);
     }
+    drop(seats);
+    drop(host);
 }
 
 /// Opens the state of a host.
@@ -131,7 +131,7 @@ fn open_state<R: Runtime + AllocGlobal, W: Workflow, T: Ledger, C: Ledger, F: Le
     taken: Blank,
     completed: Blank,
     failed: Blank,
-) -> Option<()>
+)
     requires taken { (taken.name ≡ T.name) × (taken.parts ≡ T.parts) × (taken.parts ≡ config.seats) }
     requires completed { (completed.name ≡ C.name) × (completed.parts ≡ C.parts) × (completed.parts ≡ config.seats) }
     requires failed { (failed.name ≡ F.name) × (failed.parts ≡ F.parts) × (failed.parts ≡ config.seats) }
@@ -142,7 +142,6 @@ fn open_state<R: Runtime + AllocGlobal, W: Workflow, T: Ledger, C: Ledger, F: Le
         Err(fault) => say(rt, name, "answer", &fault),
     }
     say(rt, name, "after", &());
-    Some(())
 }
 
 /// Prints what a host has counted.
@@ -161,13 +160,15 @@ fn say_shared<R: Runtime + Wait, W: Workflow, T: Ledger, C: Ledger, F: Ledger>(
 fn say_open<R: Runtime + Wait, W: Workflow, T: Ledger, C: Ledger, F: Ledger>(
     rt: &R,
     name: &str,
-    host: &Host<W, T, C, F>,
+    host: Host<W, T, C, F>,
     seats: Vec<Seat<T, C, F>>,
 ) {
     let mut seats = seats;
-    if let Some(mut seat) = seats.pop() {
-        say_shared(rt, name, "answer", host, &mut seat);
+    if let Some(seat) = seats.as_mut_slice().first_mut() {
+        say_shared(rt, name, "answer", &host, seat);
     }
+    drop(seats);
+    drop(host);
 }
 
 /// Opens a host.
@@ -177,18 +178,17 @@ fn open_host<R: Runtime + AllocGlobal + Wait, W: Workflow, T: Ledger, C: Ledger,
     taken: Blank,
     completed: Blank,
     failed: Blank,
-) -> Option<()>
+)
     requires taken { (taken.name ≡ T.name) × (taken.parts ≡ T.parts) × (taken.parts ≡ 1) }
     requires completed { (completed.name ≡ C.name) × (completed.parts ≡ C.parts) × (completed.parts ≡ 1) }
     requires failed { (failed.name ≡ F.name) × (failed.parts ≡ F.parts) × (failed.parts ≡ 1) }
 {
     say(rt, name, "before", &());
     match Host::<W, T, C, F>::open(rt.alloc(), SMALL, taken, completed, failed) {
-        Ok((host, seats)) => say_open(rt, name, &host, seats),
+        Ok((host, seats)) => say_open(rt, name, host, seats),
         Err(fault) => say(rt, name, "answer", &fault),
     }
     say(rt, name, "after", &());
-    Some(())
 }
 
 /// What became of a run that was given back, and how many events the run holds that came back, if
@@ -201,30 +201,49 @@ fn given_seen<W: Workflow>(given: &Given<W>) -> (&'static str, Option<usize>) {
     }
 }
 
+/// Takes a task of the key in hand.
+fn take<W: Workflow, T: Ledger, C: Ledger, F: Ledger>(
+    host: &mut HostState<W, T, C, F>,
+    seat: &mut Seat<T, C, F>,
+    key: RunKey,
+) -> Option<Held> {
+    let Ok(permit) = host.reserve(SlotKind::Workflow) else {
+        drop(key);
+        return None;
+    };
+    let (held, run) = host.use_workflow(permit, TaskName(7), key, seat).ok()?;
+    drop(run);
+    Some(held)
+}
+
 /// Gives a run back under its task in hand.
 fn give_back<R: Runtime, W: Workflow, T: Ledger, C: Ledger, F: Ledger>(
     rt: &R,
     name: &str,
     host: &mut HostState<W, T, C, F>,
+    seat: &mut Seat<T, C, F>,
     held: &Held,
     run: Run<W>,
 ) {
+    say_counts(rt, name, "before", host, seat);
     let given = host.give_run(held, run);
     say(rt, name, "answer", &given_seen(&given));
+    drop(given);
+    say_counts(rt, name, "after", host, seat);
 }
 
-/// Gives the run of a nap back under its task in hand.
+/// Takes a task in hand, and gives the run of a nap back under it.
 fn give_nap<R: Runtime + AllocGlobal, W: Workflow, T: Ledger, C: Ledger, F: Ledger>(
     rt: &R,
     name: &str,
     host: &mut HostState<W, T, C, F>,
     seat: &mut Seat<T, C, F>,
-    held: &Held,
 ) -> Option<()> {
-    let run = run_of::<W>(rt.alloc(), "nap", "nap/3")?;
-    say_counts(rt, name, "before", host, seat);
-    give_back(rt, name, host, held, run);
-    say_counts(rt, name, "after", host, seat);
+    let key = key(rt.alloc(), "nap").ok()?;
+    let held = take(host, seat, key);
+    let (held, run) = held.zip(run_of::<W>(rt.alloc(), "nap", "nap/3"))?;
+    give_back(rt, name, host, seat, &held, run);
+    drop(held);
     Some(())
 }
 
@@ -240,16 +259,15 @@ fn give_run<R: Runtime + AllocGlobal, W: Workflow, T: Ledger, C: Ledger, F: Ledg
     requires completed { (completed.name ≡ C.name) × (completed.parts ≡ C.parts) × (completed.parts ≡ 1) }
     requires failed { (failed.name ≡ F.name) × (failed.parts ≡ F.parts) × (failed.parts ≡ 1) }
 {
-    let key = key(rt.alloc(), "nap").ok()?;
     let opened = HostState::<W, T, C, F>::open(rt.alloc(), SMALL, taken, completed, failed);
-    let Ok((mut host, mut seats)) = opened else {
-        return None;
+    let (mut host, mut seats) = opened.ok()?;
+    let given = match seats.as_mut_slice().first_mut() {
+        Some(seat) => give_nap(rt, name, &mut host, seat),
+        None => None,
     };
-    let mut seat = seats.pop()?;
-    let permit = host.reserve(SlotKind::Workflow).ok()?;
-    let used = host.use_workflow(permit, TaskName(7), key, &mut seat);
-    let (held, _run) = used.ok()?;
-    give_nap(rt, name, &mut host, &mut seat, &held)
+    drop(seats);
+    drop(host);
+    given
 }
 
 /// Serves a task of a source.
@@ -260,6 +278,7 @@ fn serve_task<R: Runtime + AllocGlobal + Wait, W: Workflow, T: Ledger, C: Ledger
     seat: &mut Seat<T, C, F>,
     source: &mut ScriptSource,
 ) {
+    say_shared(rt, name, "before", host, seat);
     let served = serve_one(
         rt,
         rt.alloc(),
@@ -271,6 +290,8 @@ fn serve_task<R: Runtime + AllocGlobal + Wait, W: Workflow, T: Ledger, C: Ledger
         SlotKind::Workflow,
     );
     say(rt, name, "answer", &served);
+    drop(served);
+    say_shared(rt, name, "after", host, seat);
 }
 
 /// Opens a host, and serves the first task of a nap.
@@ -285,16 +306,16 @@ fn serve<R: Runtime + AllocGlobal + Wait, W: Workflow, T: Ledger, C: Ledger, F: 
     requires completed { (completed.name ≡ C.name) × (completed.parts ≡ C.parts) × (completed.parts ≡ 1) }
     requires failed { (failed.name ≡ F.name) × (failed.parts ≡ F.parts) × (failed.parts ≡ 1) }
 {
-    let mut source = source_of(rt.alloc(), "nap/3")?;
-    let opened = Host::<W, T, C, F>::open(rt.alloc(), SMALL, taken, completed, failed);
-    let Ok((host, mut seats)) = opened else {
-        return None;
+    let opened = Host::<W, T, C, F>::open(rt.alloc(), SMALL, taken, completed, failed).ok();
+    let ((host, mut seats), mut source) = opened.zip(source_of(rt.alloc(), "nap/3"))?;
+    let served = match seats.as_mut_slice().first_mut() {
+        Some(seat) => Some(serve_task(rt, name, &host, seat, &mut source)),
+        None => None,
     };
-    let mut seat = seats.pop()?;
-    say_shared(rt, name, "before", &host, &mut seat);
-    serve_task(rt, name, &host, &mut seat, &mut source);
-    say_shared(rt, name, "after", &host, &mut seat);
-    Some(())
+    drop(source);
+    drop(seats);
+    drop(host);
+    served
 }
 
 /// Makes the call of the name in a place over three ledgers.
@@ -309,21 +330,18 @@ fn call_over<R: Runtime + AllocGlobal + Wait, W: Workflow, T: Ledger, C: Ledger,
     requires completed { (completed.name ≡ C.name) × (completed.parts ≡ C.parts) × (completed.parts ≡ 1) }
     requires failed { (failed.name ≡ F.name) × (failed.parts ≡ F.parts) × (failed.parts ≡ 1) }
 {
-    let (small, without) = (SMALL, WITHOUT_SLOTS);
     let name = NAMES.get(place).copied()?;
     match name {
+        "give_run" => return give_run::<R, W, T, C, F>(rt, name, taken, completed, failed),
+        "serve_one" => return serve::<R, W, T, C, F>(rt, name, taken, completed, failed),
         "Books::open" => open_books::<R, T, C, F>(rt, name, taken, completed, failed),
-        "HostState::open" => {
-            open_state::<R, W, T, C, F>(rt, name, small, taken, completed, failed)
-        }
-        "HostState::open without workflow slots" => {
-            open_state::<R, W, T, C, F>(rt, name, without, taken, completed, failed)
-        }
         "Host::open" => open_host::<R, W, T, C, F>(rt, name, taken, completed, failed),
-        "give_run" => give_run::<R, W, T, C, F>(rt, name, taken, completed, failed),
-        "serve_one" => serve::<R, W, T, C, F>(rt, name, taken, completed, failed),
-        _ => None,
+        "HostState::open" => {
+            open_state::<R, W, T, C, F>(rt, name, SMALL, taken, completed, failed)
+        }
+        _ => open_state::<R, W, T, C, F>(rt, name, WITHOUT_SLOTS, taken, completed, failed),
     }
+    Some(())
 }
 
 /// Makes the call of the name in a place over three new ledgers.
@@ -340,8 +358,9 @@ fn call<R: Runtime + AllocGlobal + Wait, W: Workflow>(
     match name {
         "Slots::open" => open_slots(rt, name),
         "Sticky::open" => open_cache::<R, W>(rt, name),
-        _ => call_on_books::<R, W>(rt, place),
+        _ => return call_on_books::<R, W>(rt, place),
     }
+    Some(())
 }
 
 /// Makes each of these calls that has this name, or all where it is "".
@@ -350,7 +369,7 @@ pub(crate) fn call_all<R: Runtime + AllocGlobal + Wait, W: Workflow>(
     named: &str,
 ) -> Option<()> {
     for (place, name) in NAMES.iter().enumerate() {
-        if named.is_empty() || *name == named {
+        if is_asked(name, named) {
             call::<R, W>(rt, name, place)?;
         }
     }

@@ -2,32 +2,17 @@
 
 ghost use Rattle.std.specs.Prelude.{◌≡◌, IfSome};
 
-use crate::calls::saying::{run_of, say, seen};
+use crate::calls::saying::{is_asked, run_of, say, say_left, seen};
 use std::alloc::Global;
-use std::fmt::Debug;
+use std::iter::once;
 use std::rt::Runtime;
 use wh_cache::{Put, Sticky};
-use wh_events::{Event, RunKey};
+use wh_events::RunKey;
 use wh_histories::{events, events_behind, key};
 use wh_poll::{StepFault, Stepped, replay_task};
 use wh_recorded::ScriptSource;
 use wh_replay::{AdvanceFault, Run, check};
 use wh_workflow::{Command, Job, Meter, Workflow, no_payloads, text_of};
-
-/// The names of the calls.
-const NAMES: [&str; 11] = [
-    "step",
-    "from_first",
-    "check",
-    "answer",
-    "advance",
-    "advance by a gap",
-    "replay_task",
-    "replay_task from the first",
-    "replay_task as told",
-    "put",
-    "put of a longer run",
-];
 
 /// The id of the workflow of the runs.
 const ID: &str = "nap";
@@ -37,14 +22,15 @@ const KIND: &str = "Nap";
 
 /// Replays a history from its first event.
 fn from_first<R: Runtime + AllocGlobal, W: Workflow>(rt: &R, name: &str) -> Option<()> {
-    let key = key(rt.alloc(), ID).ok()?;
-    let events = events(rt.alloc(), "nap/8").ok()?;
+    let key = key(rt.alloc(), ID).ok();
+    let (key, events) = key.zip(events(rt.alloc(), "nap/8").ok())?;
     say(rt, name, "before", &());
     let run = Run::<W>::from_first(rt.alloc(), key, events, &mut Meter::new());
     match &run {
         Ok(run) => say(rt, name, "answer", &seen(run)),
         Err(fault) => say(rt, name, "answer", fault),
     }
+    drop(run);
     say(rt, name, "after", &());
     Some(())
 }
@@ -54,8 +40,7 @@ fn check_history<R: Runtime + AllocGlobal, W: Workflow>(rt: &R, name: &str) -> O
     let events = events(rt.alloc(), "nap").ok()?;
     say(rt, name, "before", &());
     let answer = check::<W>(rt.alloc(), events);
-    say(rt, name, "answer", &answer);
-    say(rt, name, "after", &());
+    say_left(rt, name, &answer, &());
     Some(())
 }
 
@@ -64,15 +49,17 @@ fn step<R: Runtime + AllocGlobal, W: Workflow>(rt: &R, name: &str) -> Option<()>
     if !W::handles(KIND) {
         return None;
     }
-    let mut state = W::begin(rt.alloc(), KIND).ok()?;
-    let workflow = text_of(rt.alloc(), KIND).ok()?;
+    let state = W::begin(rt.alloc(), KIND).ok();
+    let (mut state, workflow) = state.zip(text_of(rt.alloc(), KIND).ok())?;
     let input = no_payloads(rt.alloc());
     let start = Job::Start { workflow, input };
     let mut out: Vec<Command> = Vec::new(rt.alloc());
     say(rt, name, "before", &out);
     let answer = W::step(rt.alloc(), &mut state, &start, &mut out, &mut Meter::new());
-    say(rt, name, "answer", &answer);
-    say(rt, name, "after", &out);
+    say_left(rt, name, &answer, &out);
+    drop(out);
+    drop(start);
+    drop(state);
     Some(())
 }
 
@@ -81,15 +68,10 @@ fn answer<R: Runtime + AllocGlobal, W: Workflow>(rt: &R, name: &str) -> Option<(
     let run = run_of::<W>(rt.alloc(), ID, "nap/3")?;
     say(rt, name, "before", &seen(&run));
     let answer = run.answer(rt.alloc());
-    say(rt, name, "answer", &answer);
-    say(rt, name, "after", &seen(&run));
+    say_left(rt, name, &answer, &seen(&run));
+    drop(answer);
+    drop(run);
     Some(())
-}
-
-/// Prints an answer, and what is left after it.
-fn say_left<R: Runtime>(rt: &R, name: &str, answer: &str, left: &impl Debug) {
-    say(rt, name, "answer", &answer);
-    say(rt, name, "after", left);
 }
 
 /// Prints what became of a run that was to go on, and what is left of it.
@@ -99,23 +81,12 @@ fn say_advanced<R: Runtime, W: Workflow>(
     advanced: &Result<Run<W>, AdvanceFault<W>>,
 ) {
     match advanced {
-        Ok(run) => say_left(rt, name, "Ok", &seen(run)),
-        Err(AdvanceFault::NotATask(run)) => say_left(rt, name, "NotATask", &seen(run)),
-        Err(AdvanceFault::Gap(run)) => say_left(rt, name, "Gap", &seen(run)),
-        Err(AdvanceFault::Fault(_)) => say_left(rt, name, "Fault", &()),
-        Err(AdvanceFault::OutOfMemory) => say_left(rt, name, "OutOfMemory", &()),
+        Ok(run) => say_left(rt, name, &"Ok", &seen(run)),
+        Err(AdvanceFault::NotATask(run)) => say_left(rt, name, &"NotATask", &seen(run)),
+        Err(AdvanceFault::Gap(run)) => say_left(rt, name, &"Gap", &seen(run)),
+        Err(AdvanceFault::Fault(_)) => say_left(rt, name, &"Fault", &()),
+        Err(AdvanceFault::OutOfMemory) => say_left(rt, name, &"OutOfMemory", &()),
     }
-}
-
-/// Lets a run go on with later events.
-fn go_on<R: Runtime + AllocGlobal, W: Workflow>(
-    rt: &R,
-    name: &str,
-    run: Run<W>,
-    later: Vec<Event>,
-) {
-    let advanced = run.advance(rt.alloc(), later, &mut Meter::new());
-    say_advanced(rt, name, &advanced);
 }
 
 /// Lets a run go on with the later events of a history.
@@ -124,10 +95,12 @@ fn advance<R: Runtime + AllocGlobal, W: Workflow>(
     name: &str,
     later: &'static str,
 ) -> Option<()> {
-    let later = events_behind(rt.alloc(), later, 0).ok()?;
-    let run = run_of::<W>(rt.alloc(), ID, "nap/3")?;
+    let run = run_of::<W>(rt.alloc(), ID, "nap/3");
+    let (run, later) = run.zip(events_behind(rt.alloc(), later, 0).ok())?;
     say(rt, name, "before", &seen(&run));
-    go_on(rt, name, run, later);
+    let advanced = run.advance(rt.alloc(), later, &mut Meter::new());
+    say_advanced(rt, name, &advanced);
+    drop(advanced);
     Some(())
 }
 
@@ -158,26 +131,24 @@ fn say_cache<R: Runtime, W: Workflow>(
 
 /// A cache of one run, which it holds.
 fn cache_of<W: Workflow>(alloc: Global) -> Option<Sticky<W>> {
-    let run = run_of::<W>(alloc, ID, "nap/3")?;
-    let mut cache = Sticky::open(alloc, 1, 0).ok()?;
-    cache.put(run);
+    let run = run_of::<W>(alloc, ID, "nap/3");
+    let (run, mut cache) = run.zip(Sticky::open(alloc, 1, 0).ok())?;
+    drop(cache.put(run));
     Some(cache)
-}
-
-/// Puts a run into a cache.
-fn put_into<R: Runtime, W: Workflow>(rt: &R, name: &str, cache: &mut Sticky<W>, run: Run<W>) {
-    let put = cache.put(run);
-    say(rt, name, "answer", &put_seen(&put));
 }
 
 /// Puts the run of a history into a cache that holds one of three events, as many runs as it may.
 fn put<R: Runtime + AllocGlobal, W: Workflow>(rt: &R, name: &str, id: &str) -> Option<()> {
-    let run = run_of::<W>(rt.alloc(), id, "nap/8")?;
-    let key = key(rt.alloc(), id).ok()?;
-    let mut cache = cache_of::<W>(rt.alloc())?;
+    let run = run_of::<W>(rt.alloc(), id, "nap/8");
+    let cache = cache_of::<W>(rt.alloc()).zip(key(rt.alloc(), id).ok());
+    let (run, (mut cache, key)) = run.zip(cache)?;
     say_cache(rt, name, "before", &cache, &key);
-    put_into(rt, name, &mut cache, run);
+    let put = cache.put(run);
+    say(rt, name, "answer", &put_seen(&put));
+    drop(put);
     say_cache(rt, name, "after", &cache, &key);
+    drop(cache);
+    drop(key);
     Some(())
 }
 
@@ -192,17 +163,15 @@ fn run_under<W: Workflow>(
     if history.is_empty() {
         return Some(None);
     }
-    let key = key.try_copy().ok()?;
-    let events = events(alloc, history).ok()?;
+    let (key, events) = key.try_copy().ok().zip(events(alloc, history).ok())?;
     Some(Some(Run::from_first(alloc, key, events, &mut Meter::new()).ok()?))
 }
 
 /// A source over a nap.
 pub(crate) fn source_of(alloc: Global, history: &'static str) -> Option<ScriptSource> {
-    let mut histories: Vec<(u64, String, Vec<Event>)> = Vec::new(alloc);
-    histories.reserve(1).ok()?;
-    let name = String::from_str(alloc, ID).ok()?;
-    histories.push_reserved((0, name, events(alloc, history).ok()?));
+    let name = String::from_str(alloc, ID).ok();
+    let (name, events) = name.zip(events(alloc, history).ok())?;
+    let histories = once((0, name, events)).collect(alloc).ok()?;
     ScriptSource::new(alloc, histories).ok()
 }
 
@@ -222,19 +191,23 @@ fn say_stepped<R: Runtime, W: Workflow>(
     }
 }
 
-/// Replays a task from a run, if there is one, and later events.
-fn replay_from<R: Runtime + AllocGlobal, W: Workflow>(
+/// Replays a task of the key from the run of a history, or from none, and later events.
+fn replay_under<R: Runtime + AllocGlobal, W: Workflow>(
     rt: &R,
     name: &str,
-    run: Option<Run<W>>,
     key: &RunKey,
-    later: Vec<Event>,
-    source: &mut ScriptSource,
-)
-    requires { IfSome run (λ run. run.key ≡ key.now) }
-{
-    let stepped = replay_task(rt.alloc(), run, key, later, source, &mut Meter::new());
+    held: &'static str,
+    later: &'static str,
+) -> Option<()> {
+    let later = events_behind(rt.alloc(), later, 0).ok();
+    let given = later.zip(source_of(rt.alloc(), "nap"));
+    let (run, (later, mut source)) = run_under::<W>(rt.alloc(), key, held).zip(given)?;
+    say(rt, name, "before", &());
+    let stepped = replay_task(rt.alloc(), run, key, later, &mut source, &mut Meter::new());
     say_stepped(rt, name, &stepped);
+    drop(stepped);
+    drop(source);
+    Some(())
 }
 
 /// Replays a task from the run of a history, or from none, and later events.
@@ -244,39 +217,67 @@ fn replay<R: Runtime + AllocGlobal, W: Workflow>(
     held: &'static str,
     later: &'static str,
 ) -> Option<()> {
-    let later = events_behind(rt.alloc(), later, 0).ok()?;
     let key = key(rt.alloc(), ID).ok()?;
-    let mut source = source_of(rt.alloc(), "nap")?;
-    let run = run_under::<W>(rt.alloc(), &key, held)?;
-    say(rt, name, "before", &());
-    replay_from(rt, name, run, &key, later, &mut source);
+    let replayed = replay_under::<R, W>(rt, name, &key, held, later);
+    drop(key);
+    replayed
+}
+
+/// Makes each call of a cache that has this name, or all where it is "".
+fn call_caches<R: Runtime + AllocGlobal, W: Workflow>(rt: &R, named: &str) -> Option<()> {
+    if is_asked("put", named) {
+        put::<R, W>(rt, "put", "other")?;
+    }
+    let name = "put of a longer run";
+    if is_asked(name, named) {
+        put::<R, W>(rt, name, ID)?;
+    }
     Some(())
 }
 
-/// Makes the call of a name.
-fn call<R: Runtime + AllocGlobal, W: Workflow>(rt: &R, name: &str) -> Option<()> {
-    match name {
-        "step" => step::<R, W>(rt, name),
-        "from_first" => from_first::<R, W>(rt, name),
-        "check" => check_history::<R, W>(rt, name),
-        "answer" => answer::<R, W>(rt, name),
-        "advance" => advance::<R, W>(rt, name, "nap/8 behind 3"),
-        "advance by a gap" => advance::<R, W>(rt, name, "nap/3 behind 2"),
-        "replay_task" => replay::<R, W>(rt, name, "nap/3", "nap/8 behind 3"),
-        "replay_task from the first" => replay::<R, W>(rt, name, "", "nap/8"),
-        "replay_task as told" => replay::<R, W>(rt, name, "", "nap/8 behind 3"),
-        "put" => put::<R, W>(rt, name, "other"),
-        "put of a longer run" => put::<R, W>(rt, name, ID),
-        _ => None,
+/// Makes each call that replays a task and has this name, or all where it is "".
+fn call_replays<R: Runtime + AllocGlobal, W: Workflow>(rt: &R, named: &str) -> Option<()> {
+    if is_asked("replay_task", named) {
+        replay::<R, W>(rt, "replay_task", "nap/3", "nap/8 behind 3")?;
     }
+    let name = "replay_task from the first";
+    if is_asked(name, named) {
+        replay::<R, W>(rt, name, "", "nap/8")?;
+    }
+    let name = "replay_task as told";
+    if is_asked(name, named) {
+        replay::<R, W>(rt, name, "", "nap/8 behind 3")?;
+    }
+    Some(())
+}
+
+/// Makes each call of a run that has this name, or all where it is "".
+fn call_runs<R: Runtime + AllocGlobal, W: Workflow>(rt: &R, named: &str) -> Option<()> {
+    if is_asked("answer", named) {
+        answer::<R, W>(rt, "answer")?;
+    }
+    if is_asked("advance", named) {
+        advance::<R, W>(rt, "advance", "nap/8 behind 3")?;
+    }
+    let name = "advance by a gap";
+    if is_asked(name, named) {
+        advance::<R, W>(rt, name, "nap/3 behind 2")?;
+    }
+    Some(())
 }
 
 /// Makes each of these calls that has this name, or all where it is "".
 pub(crate) fn call_all<R: Runtime + AllocGlobal, W: Workflow>(rt: &R, named: &str) -> Option<()> {
-    for name in &NAMES {
-        if named.is_empty() || *name == named {
-            call::<R, W>(rt, name)?;
-        }
+    if is_asked("step", named) {
+        step::<R, W>(rt, "step")?;
     }
-    Some(())
+    if is_asked("from_first", named) {
+        from_first::<R, W>(rt, "from_first")?;
+    }
+    if is_asked("check", named) {
+        check_history::<R, W>(rt, "check")?;
+    }
+    call_runs::<R, W>(rt, named)?;
+    call_replays::<R, W>(rt, named)?;
+    call_caches::<R, W>(rt, named)
 }

@@ -9,15 +9,29 @@ use wh_machines::Track;
 use wh_replay::Run;
 use wh_workflow::{Command, Meter, Workflow};
 
+/// Whether the call of a name is asked for: the one that has it, or all where it is "".
+pub(crate) fn is_asked(name: &str, named: &str) -> bool {
+    named.is_empty() || name == named
+}
+
 /// Prints a line about a call: what stands before it, what it answers, or what stands after it.
 /// Where it can't be printed, the line is missing.
 pub(crate) fn say<R: Runtime>(rt: &R, call: &str, part: &str, value: &impl Debug) {
     let _ = println!(rt; "{call} {part}: {value:?}");
 }
 
+/// Prints what a call answers, and what stands after it.
+pub(crate) fn say_left<R: Runtime>(rt: &R, call: &str, answer: &impl Debug, left: &impl Debug) {
+    say(rt, call, "answer", answer);
+    say(rt, call, "after", left);
+}
+
 /// The track of a history.
 pub(crate) fn track_of(alloc: Global, history: &'static str) -> Option<Track> {
-    replay::track_of(alloc, events(alloc, history).ok()?.as_slice())
+    let events = events(alloc, history).ok()?;
+    let track = replay::track_of(alloc, events.as_slice());
+    drop(events);
+    track
 }
 
 /// The run of a history, by the id of its workflow.
@@ -26,8 +40,7 @@ pub(crate) fn run_of<W: Workflow>(
     id: &str,
     history: &'static str,
 ) -> Option<Run<W>> {
-    let key = key(alloc, id).ok()?;
-    let events = events(alloc, history).ok()?;
+    let (key, events) = key(alloc, id).ok().zip(events(alloc, history).ok())?;
     Run::from_first(alloc, key, events, &mut Meter::new()).ok()
 }
 

@@ -1,16 +1,14 @@
 //! Calls on a track: of its events, of a script over it, and of its jobs.
 
-use crate::calls::saying::{say, track_of};
+use crate::calls::saying::{is_asked, say, say_left, track_of};
+use std::alloc::Global;
 use std::rt::Runtime;
 use wh_activation::jobs;
 use wh_events::{Event, EventNo, OpenKind, Status};
-use wh_histories::events_behind;
+use wh_histories::events;
 use wh_machines::Track;
 use wh_match::{Script, Versions};
 use wh_workflow::{Command, text_of};
-
-/// The names of the calls.
-const NAMES: [&str; 5] = ["push", "issue", "ask", "reduced", "jobs"];
 
 /// A history whose last event starts a task.
 const STARTED: &str = "nap/3";
@@ -24,27 +22,33 @@ fn seen(track: &Track) -> (&[Event], Option<EventNo>, Option<Status>) {
     }
 }
 
+/// The last event of a history.
+fn last_of(alloc: Global, history: &'static str) -> Option<Event> {
+    events(alloc, history).ok()?.into_iter().last()
+}
+
 /// Pushes an event that opens a timer.
 fn push<R: Runtime + AllocGlobal>(rt: &R, name: &str) -> Option<()> {
-    let mut track = track_of(rt.alloc(), "nap/4")?;
-    let event = events_behind(rt.alloc(), "nap/5", 4).ok()?.pop()?;
+    let track = track_of(rt.alloc(), "nap/4");
+    let (mut track, event) = track.zip(last_of(rt.alloc(), "nap/5"))?;
     say(rt, name, "before", &seen(&track));
     let answer = track.push(event);
-    say(rt, name, "answer", &answer);
-    say(rt, name, "after", &seen(&track));
+    say_left(rt, name, &answer, &seen(&track));
+    drop(track);
     Some(())
 }
 
 /// Issues a command.
 fn issue<R: Runtime + AllocGlobal>(rt: &R, name: &str) -> Option<()> {
-    let track = track_of(rt.alloc(), STARTED)?;
-    let cut = EventNo::new(track.len() as u64)?;
+    let cut = EventNo::new(3)?;
+    let track = track_of(rt.alloc(), STARTED);
+    let (track, id) = track.zip(text_of(rt.alloc(), "nap").ok())?;
     let mut script = Script::new(rt.alloc(), 0, cut);
-    let id = text_of(rt.alloc(), "nap").ok()?;
     say(rt, name, "before", &script);
     let answer = script.issue(&track, Command::StartTimer { id, seconds: 60 });
-    say(rt, name, "answer", &answer);
-    say(rt, name, "after", &script);
+    say_left(rt, name, &answer, &script);
+    drop(track);
+    drop(script);
     Some(())
 }
 
@@ -54,52 +58,53 @@ fn ask<R: Runtime + AllocGlobal>(rt: &R, name: &str) -> Option<()> {
     let mut versions = Versions::new(rt.alloc());
     say(rt, name, "before", &(&script, &versions));
     let answer = script.ask(None, &mut versions, "change", -1, 1);
-    say(rt, name, "answer", &answer);
-    say(rt, name, "after", &(&script, &versions));
+    say_left(rt, name, &answer, &(&script, &versions));
+    drop(versions);
+    drop(script);
     Some(())
 }
 
-/// Asks for what is sent of a script.
+/// Asks for what is sent of a script with an issued marker.
 fn reduced<R: Runtime + AllocGlobal>(rt: &R, name: &str) -> Option<()> {
     let mut script = Script::new(rt.alloc(), 0, EventNo::new(3)?);
     let mut versions = Versions::new(rt.alloc());
-    script.ask(None, &mut versions, "change", -1, 1).ok()?;
+    let is_marked = script.ask(None, &mut versions, "change", -1, 1).is_ok();
+    drop(versions);
     say(rt, name, "before", &script);
     let answer = script.reduced();
-    say(rt, name, "answer", &answer);
-    say(rt, name, "after", &());
-    Some(())
+    say_left(rt, name, &answer, &());
+    drop(answer);
+    is_marked.then_some(())
 }
 
 /// Asks for what a task is told.
 fn tell<R: Runtime + AllocGlobal>(rt: &R, name: &str) -> Option<()> {
+    let cut = EventNo::new(3)?;
     let track = track_of(rt.alloc(), STARTED)?;
-    let cut = EventNo::new(track.len() as u64)?;
     say(rt, name, "before", &seen(&track));
     let answer = jobs(rt.alloc(), &track, 0, cut);
-    say(rt, name, "answer", &answer);
-    say(rt, name, "after", &seen(&track));
+    say_left(rt, name, &answer, &seen(&track));
+    drop(answer);
+    drop(track);
     Some(())
-}
-
-/// Makes the call of a name.
-fn call<R: Runtime + AllocGlobal>(rt: &R, name: &str) -> Option<()> {
-    match name {
-        "push" => push(rt, name),
-        "issue" => issue(rt, name),
-        "ask" => ask(rt, name),
-        "reduced" => reduced(rt, name),
-        "jobs" => tell(rt, name),
-        _ => None,
-    }
 }
 
 /// Makes each of these calls that has this name, or all where it is "".
 pub(crate) fn call_all<R: Runtime + AllocGlobal>(rt: &R, named: &str) -> Option<()> {
-    for name in &NAMES {
-        if named.is_empty() || *name == named {
-            call(rt, name)?;
-        }
+    if is_asked("push", named) {
+        push(rt, "push")?;
+    }
+    if is_asked("issue", named) {
+        issue(rt, "issue")?;
+    }
+    if is_asked("ask", named) {
+        ask(rt, "ask")?;
+    }
+    if is_asked("reduced", named) {
+        reduced(rt, "reduced")?;
+    }
+    if is_asked("jobs", named) {
+        tell(rt, "jobs")?;
     }
     Some(())
 }
