@@ -116,6 +116,13 @@ Serves program tells delivers may old new (Ok (Activity name outcome)) =
     AnswersActivity may delivers old new name outcome
 Serves program tells delivers may old new served = SendsNothing delivers old new served
 
+-- what a turn has served that got no slot
+abbrev pub HasNoSlot : Served → Type 0
+HasNoSlot NoSlot = Unit {0}
+HasNoSlot Draining = Unit {0}
+HasNoSlot NumbersSpent = Unit {0}
+HasNoSlot _ = ⊥
+
 -- what a turn has served whose poll gave no task
 abbrev pub HasNoTask : Result Served SourceFault → Type 0
 HasNoTask (Ok Idle) = Unit {0}

@@ -5,7 +5,7 @@ ghost use Rattle.wh_tasks.specs.Source.{Workflow as WorkflowDelivery};
 ghost use Rattle.wh_tasks.specs.Tasks.{FailsOnlySource};
 ghost use Rattle.wh_poll.specs.Serve.{Serves, ServesWorkflow, ServesActivity, Sends, IsOfKind};
 ghost use Rattle.wh_poll.specs.Serve.{Counts, MayCount, with_taken, ended, unanswered};
-ghost use Rattle.wh_poll.specs.Serve.{served_workflow, served_activity, HasNoTask, IsRefused};
+ghost use Rattle.wh_poll.specs.Serve.{served_workflow, served_activity, HasNoSlot, HasNoTask, IsRefused};
 
 use crate::answer::{Answered, Reply, answer_by_handler, answer_by_replay};
 use std::alloc::Global;
@@ -104,13 +104,22 @@ pub fn serve_one<
     let reserved = host.lock(rt).reserve(kind);
     let permit = match reserved {
         Ok(permit) => permit,
-        Err(ReserveFault::NoSlot) => return Ok(Served::NoSlot),
-        Err(ReserveFault::Draining) => return Ok(Served::Draining),
-        Err(ReserveFault::NumbersSpent) => return Ok(Served::NumbersSpent),
+        Err(fault) => return Ok(unreserved(fault)),
     };
     match kind {
         SlotKind::Workflow => serve_workflow(rt, alloc, host, seat, source, gate, permit),
         SlotKind::Activity => serve_activity(rt, host, seat, source, handler, permit),
+    }
+}
+
+/// What a turn has served that got no slot.
+fn unreserved(fault: ReserveFault) -> Served
+    ensures { HasNoSlot result }
+{
+    match fault {
+        ReserveFault::NoSlot => Served::NoSlot,
+        ReserveFault::Draining => Served::Draining,
+        ReserveFault::NumbersSpent => Served::NumbersSpent,
     }
 }
 
