@@ -1,13 +1,15 @@
 //! The program: it does what its command line asks for, and ends with a status.
 
 ghost use Rattle.std.specs.Prelude.{◌≡◌, ◌≢◌, Err, IfOk, map, string_bytes};
+ghost use Rattle.wh_command_line.specs.Options.{AreWithinLimits};
 ghost use Rattle.wh_command_line.specs.Plans.{IsWithinLimits, IsAskedBy, HasFewSlots};
 
 use crate::explaining::explain_command;
-use crate::json_faults::{JsonFault, json_fault};
+use crate::json_faults::json_fault;
 use crate::replaying::{CommandFault, lines_of, report};
 use crate::serving::{ServiceEnd, serve_inputs};
 use std::alloc::Global;
+use std::fmt::Display;
 use std::io::{BufWriter, ErrorKind, Printer, Write};
 use std::process::ExitCode;
 use std::rt::Runtime;
@@ -216,10 +218,10 @@ fn tell_json_fault<R: Runtime + AllocGlobal>(rt: &R, name: &str, bytes: &[u8]) {
     }
 }
 
-/// Says on the standard error where files are no JSON, a line for each.
-fn tell_json_faults<R: Runtime>(rt: &R, faults: Vec<JsonFault>) -> io::Result<()> {
-    for fault in faults {
-        eprintln!(rt; "wfhost: {fault}")?;
+/// Says on the standard error what is told, a line for each.
+fn tell_each<R: Runtime, T: Display + Drop>(rt: &R, told: Vec<T>) -> io::Result<()> {
+    for one in told {
+        eprintln!(rt; "wfhost: {one}")?;
     }
     Ok(())
 }
@@ -227,11 +229,15 @@ fn tell_json_faults<R: Runtime>(rt: &R, faults: Vec<JsonFault>) -> io::Result<()
 /// Says on the standard error where files are no JSON and why tasks failed, a line for each, and
 /// then in a line where `serve` did not compare all that is recorded.
 fn tell_service<R: Runtime>(rt: &R, end: ServiceEnd) -> io::Result<()> {
-    tell_json_faults(rt, end.json_faults)?;
-    for failure in end.failures {
-        eprintln!(rt; "wfhost: {failure}")?;
-    }
-    if end.uncompared {
+    let ServiceEnd {
+        failures,
+        uncompared,
+        json_faults,
+        ..
+    } = end;
+    tell_each(rt, json_faults)?;
+    tell_each(rt, failures)?;
+    if uncompared {
         eprintln!(rt;
             "wfhost: the last task of a recorded history is not compared with its record; replay does that"
         )?;
@@ -255,21 +261,23 @@ fn served<R: Runtime, O: Write>(
     }
 }
 
-/// Replays inputs, and gives the status once the report is out and the rest is told.
+/// Replays what is at paths, and gives the status once the report is out and the rest is told.
 fn replay<W: Workflow + Send, R: Runtime + AllocGlobal + Threads + Sync>(
     rt: &R,
-    inputs: Vec<Input>,
+    first: Text,
+    more: Vec<Text>,
     json: bool,
 ) -> Result<u8, Failure>
 where
     R::File: Send,
     R::Dir: Send,
 {
+    let inputs = all_inputs(rt, first, more)?;
     let (lines, faults) = lines_of::<W, R>(rt, inputs)?;
     let mut writer = output(rt)?;
     let answer = report(lines.as_slice(), json, &mut writer);
     let status = flushed(answer, &mut writer)?;
-    let _ = tell_json_faults(rt, faults);
+    let _ = tell_each(rt, faults);
     Ok(status)
 }
 
@@ -292,6 +300,34 @@ fn explain<W: Workflow, R: Runtime + AllocGlobal>(
     Ok(status)
 }
 
+/// Serves a folder, and gives the status once the report is out and the rest is told.
+fn serve<W: Workflow + Send, R: Runtime + AllocGlobal + Threads + Wait + Sync>(
+    rt: &R,
+    dir: Text,
+    workers: u64,
+    cache: u64,
+    cache_events: u64,
+    slots: u64,
+) -> Result<u8, Failure>
+where
+    R::File: Send,
+    R::Dir: Send,
+    requires { AreWithinLimits workers cache cache_events slots }
+{
+    let inputs = folder_of(rt, dir)?;
+    let mut writer = output(rt)?;
+    let answer = serve_inputs::<W, R, _>(
+        rt,
+        inputs,
+        workers,
+        cache,
+        cache_events,
+        slots,
+        &mut writer,
+    )?;
+    served(rt, answer, &mut writer)
+}
+
 /// Does what is asked for, and gives the status.
 fn obey<W: Workflow + Send, R: Runtime + AllocGlobal + Threads + Wait + Sync>(
     rt: &R,
@@ -302,12 +338,8 @@ where
     R::Dir: Send,
     requires { IsWithinLimits plan }
 {
-    let alloc = rt.alloc();
     match plan {
-        Plan::Replay { dir, more, json } => {
-            let inputs = all_inputs(rt, dir, more)?;
-            replay::<W, R>(rt, inputs, json)
-        }
+        Plan::Replay { dir, more, json } => replay::<W, R>(rt, dir, more, json),
         Plan::Explain { file } => {
             let (name, bytes) = file_of(rt, file)?;
             explain::<W, R>(rt, name, bytes.as_slice())
@@ -318,20 +350,7 @@ where
             cache,
             cache_events,
             slots,
-        } => {
-            let inputs = folder_of(rt, dir)?;
-            let mut writer = output(rt)?;
-            let answer = serve_inputs::<W, R, _>(
-                rt,
-                inputs,
-                workers,
-                cache,
-                cache_events,
-                slots,
-                &mut writer,
-            )?;
-            served(rt, answer, &mut writer)
-        }
+        } => serve::<W, R>(rt, dir, workers, cache, cache_events, slots),
         Plan::Help { text } => print(rt, text.get()),
     }
 }
@@ -351,24 +370,23 @@ where
 
 /// Says on the standard error what cannot be read: the folder or the file, and in another line the
 /// entry of the folder, where it is one.
-fn tell_unreadable<R: Runtime>(rt: &R, dir: Text, entry: Option<String>) -> io::Result<()> {
-    let dir = dir.get();
+fn tell_unreadable<R: Runtime>(rt: &R, dir: &str, entry: &Option<String>) -> io::Result<()> {
     eprintln!(rt; "wfhost: cannot read {dir}")?;
-    if let Some(name) = entry {
-        let name = Shown(name.as_str());
-        eprintln!(rt; "wfhost: cannot read {dir}/{name}")?;
-    }
-    Ok(())
+    let Some(name) = entry else {
+        return Ok(());
+    };
+    let name = Shown(name.as_str());
+    eprintln!(rt; "wfhost: cannot read {dir}/{name}")
 }
 
 /// Says on the standard error why a run has no full report.
-fn tell<R: Runtime>(rt: &R, failure: Failure) {
+fn tell<R: Runtime>(rt: &R, failure: &Failure) {
     let _ = match failure {
         Failure::BadLine { text } => {
             let text = text.get();
             eprint!(rt; "{text}")
         }
-        Failure::Unreadable { dir, entry } => tell_unreadable(rt, dir, entry),
+        Failure::Unreadable { dir, entry } => tell_unreadable(rt, dir.get(), entry),
         failure => eprintln!(rt; "wfhost: {failure}"),
     };
 }
@@ -384,7 +402,7 @@ where
     match answer::<W, R>(rt) {
         Ok(status) => ExitCode::from(status),
         Err(failure) => {
-            tell(rt, failure);
+            tell(rt, &failure);
             ExitCode::from(FAILED)
         }
     }

@@ -116,6 +116,26 @@ Serves program tells delivers may old new (Ok (Activity name outcome)) =
     AnswersActivity may delivers old new name outcome
 Serves program tells delivers may old new served = SendsNothing delivers old new served
 
+-- what a turn has served that got no slot
+abbrev pub HasNoSlot : Served → Type 0
+HasNoSlot NoSlot = Unit {0}
+HasNoSlot Draining = Unit {0}
+HasNoSlot NumbersSpent = Unit {0}
+HasNoSlot _ = ⊥
+
+-- what a turn has served whose poll gave no task
+abbrev pub HasNoTask : Result Served SourceFault → Type 0
+HasNoTask (Ok Idle) = Unit {0}
+HasNoTask (Ok Closed) = Unit {0}
+HasNoTask (Ok _) = ⊥
+HasNoTask (Err fault) = Unit {0}
+
+-- what a turn has served whose task of the name was not taken in hand
+abbrev pub IsRefused : TaskName → Served → Type 0
+IsRefused name (NoMemory own) = own ≡ name
+IsRefused name (Repeated own) = own ≡ name
+IsRefused name _ = ⊥
+
 -- a task that was answered is of the kind
 abbrev pub IsOfKind : SlotKind → Result Served SourceFault → Type 0
 IsOfKind kind (Ok (Workflow name hit steps outcome)) = kind ≡ WorkflowKind

@@ -1,16 +1,16 @@
 //! One turn of a worker.
-ghost use Rattle.std.specs.Prelude.{◌≡◌, IfSome, MatchOption};
+ghost use Rattle.std.specs.Prelude.{◌≡◌, ◌≤◌, IfErr, IfOk, IfSome, MatchOption, MatchResult};
 ghost use Rattle.wh_tasks.specs.Source.{KeepsOrigin, SameTasks, SameMay, FailsOnly};
+ghost use Rattle.wh_tasks.specs.Source.{Workflow as WorkflowDelivery};
 ghost use Rattle.wh_tasks.specs.Tasks.{FailsOnlySource};
 ghost use Rattle.wh_poll.specs.Serve.{Serves, ServesWorkflow, ServesActivity, Sends, IsOfKind};
 ghost use Rattle.wh_poll.specs.Serve.{Counts, MayCount, with_taken, ended, unanswered};
-ghost use Rattle.wh_poll.specs.Serve.{served_workflow, served_activity};
+ghost use Rattle.wh_poll.specs.Serve.{served_workflow, served_activity, HasNoSlot, HasNoTask, IsRefused};
 
 use crate::answer::{Answered, Reply, answer_by_handler, answer_by_replay};
 use std::alloc::Global;
 use std::sync::Wait;
 use std::sync::ledger::Ledger;
-use wh_events::RunKey;
 use wh_host::{Host, Outcome};
 use wh_ledger::Seat;
 use wh_replay::Run;
@@ -104,9 +104,7 @@ pub fn serve_one<
     let reserved = host.lock(rt).reserve(kind);
     let permit = match reserved {
         Ok(permit) => permit,
-        Err(ReserveFault::NoSlot) => return Ok(Served::NoSlot),
-        Err(ReserveFault::Draining) => return Ok(Served::Draining),
-        Err(ReserveFault::NumbersSpent) => return Ok(Served::NumbersSpent),
+        Err(fault) => return Ok(unreserved(fault)),
     };
     match kind {
         SlotKind::Workflow => serve_workflow(rt, alloc, host, seat, source, gate, permit),
@@ -114,8 +112,19 @@ pub fn serve_one<
     }
 }
 
+/// What a turn has served that got no slot.
+fn unreserved(fault: ReserveFault) -> Served
+    ensures { HasNoSlot result }
+{
+    match fault {
+        ReserveFault::NoSlot => Served::NoSlot,
+        ReserveFault::Draining => Served::Draining,
+        ReserveFault::NumbersSpent => Served::NumbersSpent,
+    }
+}
+
 /// Serves a workflow task under the permit.
-#[tactic(auto, using(crate::proofs::Turns::serves_sent, crate::proofs::Turns::counts_sent, crate::proofs::Turns::fails_sent))]
+#[tactic(auto, using(crate::proofs::Turns::counts_sent, crate::proofs::Turns::fails_sent))]
 fn serve_workflow<R: Wait, W: Workflow, T: Ledger, C: Ledger, F: Ledger, S: TaskSource, G: Gate>(
     rt: &R,
     alloc: Global,
@@ -132,23 +141,39 @@ fn serve_workflow<R: Wait, W: Workflow, T: Ledger, C: Ledger, F: Ledger, S: Task
     ensures same { SameTasks (S.delivers source.old) (S.tells source.old) (S.delivers source.new) (S.tells source.new) }
     ensures origin { KeepsOrigin S.comes_from source.old source.new }
 {
-    let task = match source.poll_workflow() {
-        Ok(Polled::Task(task)) => task,
-        Ok(Polled::Nothing) => return released(rt, host, permit, Ok(Served::Idle)),
-        Ok(Polled::Closed) => return released(rt, host, permit, Ok(Served::Closed)),
-        Err(fault) => return released(rt, host, permit, Err(fault)),
+    let task = match polled_workflow(source) {
+        Ok(task) => task,
+        Err(served) => return released(rt, host, permit, served),
     };
     let name = task.name;
-    let Ok(key) = task.run.try_copy() else {
-        return released(rt, host, permit, Ok(Served::NoMemory { name }));
-    };
-    let Some((held, cached)) = take_workflow(rt, host, permit, name, key, seat) else {
-        return Ok(Served::Repeated { name });
+    let (held, cached) = match take_workflow(rt, host, permit, &task, seat) {
+        Ok(taken) => taken,
+        Err(served) => return Ok(served),
     };
     gate.enter(rt, name);
     let sent = answer_held(rt, alloc, host, &held, cached, task, source);
     finish(rt, host, held, outcome_of(sent), seat);
     served_workflow(name, sent)
+}
+
+/// Polls a workflow task. Without one the turn has served what the poll says.
+fn polled_workflow<S: TaskSource>(
+    source: &mut S,
+) -> Result<WorkflowTask, Result<Served, SourceFault>>
+    ensures task { IfOk result (λ task. S.delivers source.old (WorkflowDelivery task)) }
+    ensures none { IfErr result HasNoTask }
+    ensures answers { S.answers source.new ≡ S.answers source.old }
+    ensures failures { MatchResult result (λ _. S.failures source.old ≤ S.failures source.new)
+        (λ served. FailsOnly served (S.failures source.old) (S.failures source.new)) }
+    ensures same { SameTasks (S.delivers source.old) (S.tells source.old) (S.delivers source.new) (S.tells source.new) }
+    ensures origin { KeepsOrigin S.comes_from source.old source.new }
+{
+    match source.poll_workflow() {
+        Ok(Polled::Task(task)) => Ok(task),
+        Ok(Polled::Nothing) => Err(Ok(Served::Idle)),
+        Ok(Polled::Closed) => Err(Ok(Served::Closed)),
+        Err(fault) => Err(Err(fault)),
+    }
 }
 
 /// Answers a workflow task from the run that was cached, if one was, and gives the run to the
@@ -260,25 +285,30 @@ fn outcome_of(sent: Result<Reply, StepFault>) -> Outcome
     }
 }
 
-/// Takes a workflow task in hand, with the run that is cached for its key, if one is. Where the
-/// host refuses, the permit is released.
+/// Takes a workflow task in hand, with the run that is cached for its key, if one is. Where no room
+/// is found for the key, or the host refuses, the permit is released, and the turn has served that.
 fn take_workflow<R: Wait, W: Workflow, T: Ledger, C: Ledger, F: Ledger>(
     rt: &R,
     host: &Host<W, T, C, F>,
     permit: Permit,
-    name: TaskName,
-    key: RunKey,
+    task: &WorkflowTask,
     seat: &mut Seat<T, C, F>,
-) -> Option<(Held, Option<Run<W>>)>
-    ensures own { IfSome result (λ taken. IfSome taken.1 (λ run. run.key ≡ key)) }
-    ensures seat { MatchOption result (seat.new ≡ seat.old) (λ _. seat.new ≡ with_taken seat.old) }
+) -> Result<(Held, Option<Run<W>>), Served>
+    ensures own { IfOk result (λ taken. IfSome taken.1 (λ run. run.key ≡ task.now.run)) }
+    ensures refused { IfErr result (IsRefused task.now.name) }
+    ensures seat { MatchResult result (λ _. seat.new ≡ with_taken seat.old) (λ _. seat.new ≡ seat.old) }
 {
+    let name = task.name;
+    let Ok(key) = task.run.try_copy() else {
+        release(rt, host, permit);
+        return Err(Served::NoMemory { name });
+    };
     let used = host.lock(rt).use_workflow(permit, name, key, seat);
     match used {
-        Ok(used) => Some(used),
+        Ok(used) => Ok(used),
         Err((permit, _key, _fault)) => {
             release(rt, host, permit);
-            None
+            Err(Served::Repeated { name })
         }
     }
 }
