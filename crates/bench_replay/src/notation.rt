@@ -42,33 +42,49 @@ pub(crate) fn signal(alloc: Global, name: &str) -> Result<EventKind, OutOfMemory
     })
 }
 
-/// The event that a letter stands for, which refers to the event of the number, if to any.
+/// The start of a timer.
+fn timer(alloc: Global, id: &str) -> Result<EventKind, OutOfMemory> {
+    Ok(EventKind::TimerStarted {
+        id: text_of(alloc, id)?,
+    })
+}
+
+/// The event without a text that a letter stands for, which refers to the event of the number, if
+/// to any.
 #[rattlefmt::skip]
-fn kind_of(alloc: Global, letter: u8, number: u64) -> Result<EventKind, OutOfMemory> {
-    Ok(match letter {
-        b'B' => start(alloc, "Blink")?,
-        b'R' => start(alloc, "Racer")?,
-        b'O' => start(alloc, "Other")?,
+fn plain_kind(letter: u8, number: u64) -> EventKind {
+    match letter {
         b'q' => EventKind::WorkflowTaskScheduled,
         b's' => EventKind::WorkflowTaskStarted,
         b'c' => EventKind::WorkflowTaskCompleted,
         b'f' => EventKind::WorkflowTaskFailed,
         b'n' => EventKind::WorkflowTaskTimedOut,
-        b'g' => signal(alloc, "stop")?,
-        b'T' => EventKind::TimerStarted { id: text_of(alloc, "t")? },
-        b'U' => EventKind::TimerStarted { id: text_of(alloc, "u")? },
         b'F' => EventKind::TimerFired { started: number },
         b'C' => EventKind::TimerCanceled { started: number },
-        b'A' => EventKind::ActivityTaskScheduled { id: text_of(alloc, "1")?, activity: text_of(alloc, "race")? },
         b'a' => EventKind::ActivityTaskStarted { scheduled: number },
         b'r' => EventKind::ActivityTaskCancelRequested { scheduled: number },
-        b'K' => EventKind::StartChildWorkflowExecutionInitiated { workflow_id: text_of(alloc, "1")?, workflow: text_of(alloc, "Nap")? },
-        b'k' => EventKind::RequestCancelExternalWorkflowExecutionInitiated { workflow_id: text_of(alloc, "1")? },
         b'x' => EventKind::ChildWorkflowExecutionCanceled { initiated: number },
-        b'm' => EventKind::MarkerRecorded { change_id: text_of(alloc, "a")?, version: 1 },
         b'D' => EventKind::WorkflowExecutionCompleted,
         _ => EventKind::Inert,
-    })
+    }
+}
+
+/// The event that a letter stands for, which refers to the event of the number, if to any.
+#[rattlefmt::skip]
+fn kind_of(alloc: Global, letter: u8, number: u64) -> Result<EventKind, OutOfMemory> {
+    match letter {
+        b'B' => start(alloc, "Blink"),
+        b'R' => start(alloc, "Racer"),
+        b'O' => start(alloc, "Other"),
+        b'g' => signal(alloc, "stop"),
+        b'T' => timer(alloc, "t"),
+        b'U' => timer(alloc, "u"),
+        b'A' => Ok(EventKind::ActivityTaskScheduled { id: text_of(alloc, "1")?, activity: text_of(alloc, "race")? }),
+        b'K' => Ok(EventKind::StartChildWorkflowExecutionInitiated { workflow_id: text_of(alloc, "1")?, workflow: text_of(alloc, "Nap")? }),
+        b'k' => Ok(EventKind::RequestCancelExternalWorkflowExecutionInitiated { workflow_id: text_of(alloc, "1")? }),
+        b'm' => Ok(EventKind::MarkerRecorded { change_id: text_of(alloc, "a")?, version: 1 }),
+        _ => Ok(plain_kind(letter, number)),
+    }
 }
 
 /// Appends the event that a letter stands for, which refers to the event of the number, if to any.

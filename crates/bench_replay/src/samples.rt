@@ -67,14 +67,19 @@ fn compare_example<W: Workflow>(
     Ok(())
 }
 
-/// Compares both replays on each beginning of the histories in letters, and on generated ones.
-fn compare_letters<W: Workflow>(alloc: Global, counts: &mut Counts) -> Result<(), OutOfMemory> {
+/// Compares both replays on each beginning of the histories in letters.
+fn compare_rows<W: Workflow>(alloc: Global, counts: &mut Counts) -> Result<(), OutOfMemory> {
     for row in ROWS {
         let events = events_of(alloc, row)?;
         let compared = compare_all::<W>(alloc, events.as_slice(), counts);
         drop(events);
         compared?;
     }
+    Ok(())
+}
+
+/// Compares both replays on generated histories of letters.
+fn compare_letters<W: Workflow>(alloc: Global, counts: &mut Counts) -> Result<(), OutOfMemory> {
     let mut random = Pcg32::new(42, 54);
     for _history in 0..OF_LETTERS {
         let events = of_letters(alloc, &mut random)?;
@@ -94,6 +99,7 @@ fn compare_each<W: Workflow>(
     for history in examples {
         compare_example::<W>(alloc, history.as_slice(), counts)?;
     }
+    compare_rows::<W>(alloc, counts)?;
     compare_letters::<W>(alloc, counts)
 }
 

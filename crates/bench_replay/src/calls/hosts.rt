@@ -40,15 +40,6 @@ const SMALL: Config = Config {
     seats: 1,
 };
 
-/// A host without a place for a workflow task, which is none.
-const WITHOUT_SLOTS: Config = Config {
-    workflow_slots: 0,
-    activity_slots: 1,
-    cache: 1,
-    cache_events: 0,
-    seats: 1,
-};
-
 /// Opens slots.
 fn open_slots<R: Runtime + AllocGlobal>(rt: &R, name: &str) {
     say(rt, name, "before", &());
@@ -123,19 +114,23 @@ fn say_opened<R: Runtime, W: Workflow, T: Ledger, C: Ledger, F: Ledger>(
     drop(host);
 }
 
-/// Opens the state of a host.
+/// Opens the state of a host with so many workflow slots, of which none has none.
 fn open_state<R: Runtime + AllocGlobal, W: Workflow, T: Ledger, C: Ledger, F: Ledger>(
     rt: &R,
     name: &str,
-    config: Config,
+    workflow_slots: usize,
     taken: Blank,
     completed: Blank,
     failed: Blank,
 )
-    requires taken { (taken.name ≡ T.name) × (taken.parts ≡ T.parts) × (taken.parts ≡ config.seats) }
-    requires completed { (completed.name ≡ C.name) × (completed.parts ≡ C.parts) × (completed.parts ≡ config.seats) }
-    requires failed { (failed.name ≡ F.name) × (failed.parts ≡ F.parts) × (failed.parts ≡ config.seats) }
+    requires taken { (taken.name ≡ T.name) × (taken.parts ≡ T.parts) × (taken.parts ≡ 1) }
+    requires completed { (completed.name ≡ C.name) × (completed.parts ≡ C.parts) × (completed.parts ≡ 1) }
+    requires failed { (failed.name ≡ F.name) × (failed.parts ≡ F.parts) × (failed.parts ≡ 1) }
 {
+    let config = Config {
+        workflow_slots,
+        ..SMALL
+    };
     say(rt, name, "before", &());
     match HostState::<W, T, C, F>::open(rt.alloc(), config, taken, completed, failed) {
         Ok((host, seats)) => say_opened(rt, name, host, seats),
@@ -294,6 +289,25 @@ fn serve_task<R: Runtime + AllocGlobal + Wait, W: Workflow, T: Ledger, C: Ledger
     say_shared(rt, name, "after", host, seat);
 }
 
+/// Serves a task of a source on an opened host.
+fn serve_on<R: Runtime + AllocGlobal + Wait, W: Workflow, T: Ledger, C: Ledger, F: Ledger>(
+    rt: &R,
+    name: &str,
+    host: Host<W, T, C, F>,
+    seats: Vec<Seat<T, C, F>>,
+    source: ScriptSource,
+) -> Option<()> {
+    let (mut seats, mut source) = (seats, source);
+    let served = match seats.as_mut_slice().first_mut() {
+        Some(seat) => Some(serve_task(rt, name, &host, seat, &mut source)),
+        None => None,
+    };
+    drop(source);
+    drop(seats);
+    drop(host);
+    served
+}
+
 /// Opens a host, and serves the first task of a nap.
 fn serve<R: Runtime + AllocGlobal + Wait, W: Workflow, T: Ledger, C: Ledger, F: Ledger>(
     rt: &R,
@@ -306,16 +320,14 @@ fn serve<R: Runtime + AllocGlobal + Wait, W: Workflow, T: Ledger, C: Ledger, F: 
     requires completed { (completed.name ≡ C.name) × (completed.parts ≡ C.parts) × (completed.parts ≡ 1) }
     requires failed { (failed.name ≡ F.name) × (failed.parts ≡ F.parts) × (failed.parts ≡ 1) }
 {
-    let opened = Host::<W, T, C, F>::open(rt.alloc(), SMALL, taken, completed, failed).ok();
-    let ((host, mut seats), mut source) = opened.zip(source_of(rt.alloc(), "nap/3"))?;
-    let served = match seats.as_mut_slice().first_mut() {
-        Some(seat) => Some(serve_task(rt, name, &host, seat, &mut source)),
-        None => None,
-    };
-    drop(source);
-    drop(seats);
-    drop(host);
-    served
+    let source = source_of(rt.alloc(), "nap/3")?;
+    match Host::<W, T, C, F>::open(rt.alloc(), SMALL, taken, completed, failed) {
+        Ok((host, seats)) => serve_on(rt, name, host, seats, source),
+        Err(_) => {
+            drop(source);
+            None
+        }
+    }
 }
 
 /// Makes the call of the name in a place over three ledgers.
@@ -336,10 +348,10 @@ fn call_over<R: Runtime + AllocGlobal + Wait, W: Workflow, T: Ledger, C: Ledger,
         "serve_one" => return serve::<R, W, T, C, F>(rt, name, taken, completed, failed),
         "Books::open" => open_books::<R, T, C, F>(rt, name, taken, completed, failed),
         "Host::open" => open_host::<R, W, T, C, F>(rt, name, taken, completed, failed),
-        "HostState::open" => {
-            open_state::<R, W, T, C, F>(rt, name, SMALL, taken, completed, failed)
+        _ => {
+            let slots = usize::from(name == "HostState::open");
+            open_state::<R, W, T, C, F>(rt, name, slots, taken, completed, failed)
         }
-        _ => open_state::<R, W, T, C, F>(rt, name, WITHOUT_SLOTS, taken, completed, failed),
     }
     Some(())
 }

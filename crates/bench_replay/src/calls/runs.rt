@@ -11,7 +11,7 @@ use wh_events::RunKey;
 use wh_histories::{events, events_behind, key};
 use wh_poll::{StepFault, Stepped, replay_task};
 use wh_recorded::ScriptSource;
-use wh_replay::{AdvanceFault, Run, check};
+use wh_replay::{AdvanceFault, Run, RunFault, check};
 use wh_workflow::{Command, Job, Meter, Workflow, no_payloads, text_of};
 
 /// The id of the workflow of the runs.
@@ -20,17 +20,22 @@ const ID: &str = "nap";
 /// The type of their workflow.
 const KIND: &str = "Nap";
 
+/// Prints what became of a history that was replayed, and lets it go.
+fn say_replayed<R: Runtime, W: Workflow>(rt: &R, name: &str, run: Result<Run<W>, RunFault>) {
+    match &run {
+        Ok(run) => say(rt, name, "answer", &seen(run)),
+        Err(fault) => say(rt, name, "answer", fault),
+    }
+    drop(run);
+}
+
 /// Replays a history from its first event.
 fn from_first<R: Runtime + AllocGlobal, W: Workflow>(rt: &R, name: &str) -> Option<()> {
     let key = key(rt.alloc(), ID).ok();
     let (key, events) = key.zip(events(rt.alloc(), "nap/8").ok())?;
     say(rt, name, "before", &());
     let run = Run::<W>::from_first(rt.alloc(), key, events, &mut Meter::new());
-    match &run {
-        Ok(run) => say(rt, name, "answer", &seen(run)),
-        Err(fault) => say(rt, name, "answer", fault),
-    }
-    drop(run);
+    say_replayed(rt, name, run);
     say(rt, name, "after", &());
     Some(())
 }
@@ -74,19 +79,24 @@ fn answer<R: Runtime + AllocGlobal, W: Workflow>(rt: &R, name: &str) -> Option<(
     Some(())
 }
 
-/// Prints what became of a run that was to go on, and what is left of it.
+/// Prints what became of a run that was to go on, and what is left of it, and lets it go.
 fn say_advanced<R: Runtime, W: Workflow>(
     rt: &R,
     name: &str,
-    advanced: &Result<Run<W>, AdvanceFault<W>>,
+    advanced: Result<Run<W>, AdvanceFault<W>>,
 ) {
-    match advanced {
-        Ok(run) => say_left(rt, name, &"Ok", &seen(run)),
-        Err(AdvanceFault::NotATask(run)) => say_left(rt, name, &"NotATask", &seen(run)),
-        Err(AdvanceFault::Gap(run)) => say_left(rt, name, &"Gap", &seen(run)),
-        Err(AdvanceFault::Fault(_)) => say_left(rt, name, &"Fault", &()),
-        Err(AdvanceFault::OutOfMemory) => say_left(rt, name, &"OutOfMemory", &()),
+    let (answer, run) = match &advanced {
+        Ok(run) => ("Ok", Some(run)),
+        Err(AdvanceFault::NotATask(run)) => ("NotATask", Some(run)),
+        Err(AdvanceFault::Gap(run)) => ("Gap", Some(run)),
+        Err(AdvanceFault::Fault(_)) => ("Fault", None),
+        Err(AdvanceFault::OutOfMemory) => ("OutOfMemory", None),
+    };
+    match run {
+        Some(run) => say_left(rt, name, &answer, &seen(run)),
+        None => say_left(rt, name, &answer, &()),
     }
+    drop(advanced);
 }
 
 /// Lets a run go on with the later events of a history.
@@ -98,9 +108,7 @@ fn advance<R: Runtime + AllocGlobal, W: Workflow>(
     let run = run_of::<W>(rt.alloc(), ID, "nap/3");
     let (run, later) = run.zip(events_behind(rt.alloc(), later, 0).ok())?;
     say(rt, name, "before", &seen(&run));
-    let advanced = run.advance(rt.alloc(), later, &mut Meter::new());
-    say_advanced(rt, name, &advanced);
-    drop(advanced);
+    say_advanced(rt, name, run.advance(rt.alloc(), later, &mut Meter::new()));
     Some(())
 }
 
@@ -137,19 +145,42 @@ fn cache_of<W: Workflow>(alloc: Global) -> Option<Sticky<W>> {
     Some(cache)
 }
 
-/// Puts the run of a history into a cache that holds one of three events, as many runs as it may.
-fn put<R: Runtime + AllocGlobal, W: Workflow>(rt: &R, name: &str, id: &str) -> Option<()> {
-    let run = run_of::<W>(rt.alloc(), id, "nap/8");
-    let cache = cache_of::<W>(rt.alloc()).zip(key(rt.alloc(), id).ok());
-    let (run, (mut cache, key)) = run.zip(cache)?;
-    say_cache(rt, name, "before", &cache, &key);
+/// Puts a run under a key into a cache.
+fn put_into<R: Runtime, W: Workflow>(
+    rt: &R,
+    name: &str,
+    cache: &mut Sticky<W>,
+    key: &RunKey,
+    run: Run<W>,
+) {
+    say_cache(rt, name, "before", cache, key);
     let put = cache.put(run);
     say(rt, name, "answer", &put_seen(&put));
     drop(put);
-    say_cache(rt, name, "after", &cache, &key);
+    say_cache(rt, name, "after", cache, key);
+}
+
+/// Puts the run of the key over a history into a cache that holds one of three events, as many
+/// runs as it may.
+fn put_under<R: Runtime + AllocGlobal, W: Workflow>(
+    rt: &R,
+    name: &str,
+    key: &RunKey,
+    id: &str,
+) -> Option<()> {
+    let cache = cache_of::<W>(rt.alloc());
+    let (mut cache, run) = cache.zip(run_of::<W>(rt.alloc(), id, "nap/8"))?;
+    put_into(rt, name, &mut cache, key, run);
     drop(cache);
-    drop(key);
     Some(())
+}
+
+/// Puts the run of an id into a cache.
+fn put<R: Runtime + AllocGlobal, W: Workflow>(rt: &R, name: &str, id: &str) -> Option<()> {
+    let key = key(rt.alloc(), id).ok()?;
+    let put = put_under::<R, W>(rt, name, &key, id);
+    drop(key);
+    put
 }
 
 /// The run of the key over a history, if one is given.
