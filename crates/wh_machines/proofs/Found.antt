@@ -7,7 +7,6 @@ use Rattle.std.proofs.lemmas.List.{take_all, take-take, length-take}
 use Rattle.wh_events.specs.declared.event.Event.{Event}
 use Rattle.wh_events.specs.declared.place.OpenKind.{OpenKind}
 use Rattle.wh_events.specs.declared.place.OpenKind.TheVariants.{Activity, Timer, Child}
-use Rattle.wh_events.specs.declared.place.Status.{Status}
 use Rattle.wh_events.specs.declared.place.Thing.{Thing}
 use Rattle.wh_events.specs.Kinds.{Role, role_of}
 use Rattle.wh_events.specs.Kinds.Role.{Opens, Refers, CancelsChild, Plain}

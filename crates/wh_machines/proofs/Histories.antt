@@ -4,7 +4,7 @@ use Rattle.std.proofs.lemmas.Bool.Decides.{nat_tests}
 use Rattle.wh_events.specs.declared.event.Event.{Event}
 use Rattle.wh_events.specs.declared.place.PlaceFault.{PlaceFault}
 use Rattle.wh_events.specs.declared.place.Thing.{Thing}
-use Rattle.wh_events.specs.Kinds.{closes_run_of, role_of}
+use Rattle.wh_events.specs.Kinds.{role_of}
 use Rattle.wh_events.specs.Machines.{or_else, opens, last_named}
 use Rattle.wh_events.specs.declared.place.PlaceFault.TheVariants.{TooManyEvents}
 use Rattle.wh_events.specs.Places.{place_fault, role_fault, fault_after, at_place, is_over, is_first, same_test, is_start, fault_if, most_events}

@@ -1,15 +1,14 @@
 -- What it says of an event to be in place after others.
-use Rattle.std.proofs.Common.{◌≡◌, ℕ, ◌+◌, ◌<◌, Bool, true, false, not, zero, suc, List, [], ◌∷◌, ◌++◌, length, take, get_or, Option, Some, None, is_none, is_some, eqb, ltb, ◌||◌, ◌∙◌, ap, sym, refl, append-nil, append_assoc, arith}
+use Rattle.std.proofs.Common.{◌≡◌, ℕ, ◌+◌, ◌<◌, Bool, true, false, not, zero, suc, List, [], ◌∷◌, ◌++◌, length, take, get_or, None, is_none, eqb, ltb, ◌||◌, refl, append-nil, append_assoc, arith}
 use Rattle.std.proofs.lemmas.Bool.{eqb-true}
 use Rattle.std.proofs.lemmas.List.{length_push}
 use Rattle.wh_events.specs.declared.event.Event.{Event}
-use Rattle.wh_events.specs.declared.place.PlaceFault.{PlaceFault}
 use Rattle.wh_events.specs.declared.place.Thing.{Thing}
 use Rattle.wh_events.specs.declared.place.Thing.TheVariants.{Child}
 use Rattle.wh_events.specs.Kinds.{role_of}
 use Rattle.wh_events.specs.Kinds.Role.{Opens, CancelsChild}
 use Rattle.wh_events.specs.Machines.{open_named}
-use Rattle.wh_events.specs.Places.{place_fault, fault_after, is_over, is_named, reference_fault, role_fault, opening_fault}
+use Rattle.wh_events.specs.Places.{place_fault, fault_after, is_over, is_named, reference_fault, role_fault}
 use Rattle.wh_machines.proofs.Options.{first_none, second_none, not_faulty, is_some_none}
 use Rattle.wh_machines.proofs.Histories.{place_none, later_none}
 
