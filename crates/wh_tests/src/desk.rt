@@ -217,7 +217,7 @@ impl<'b, 'r, 'h, R: Wait + Abort, T: Ledger, C: Ledger, F: Ledger> TaskSource
     fn poll_activity(&mut self) -> Result<Polled<ActivityTask>, SourceFault> {
         self.book.note("poll activities, ");
         match cut(&mut self.activity_polls, "; ") {
-            "" => self.script.poll_activity(),
+            "" | "next" => self.script.poll_activity(),
             "nothing" => Ok(Polled::Nothing),
             "closed" => Ok(Polled::Closed),
             word => Ok(Polled::Task(activity_task(self.book.rt, self.book.alloc, word))),
