@@ -1,6 +1,6 @@
 //! What the cache keeps, and what has to go.
 
-use crate::rows::{row, same, shown};
+use crate::rows::{add, cut, next_number, number, row, same, shown};
 use crate::workflows::Still;
 use std::alloc::Global;
 use std::process::Abort;
@@ -9,19 +9,10 @@ use wh_histories::{events, key};
 use wh_replay::Run;
 use wh_workflow::{Meter, Workflow};
 
-/// The bounds of a cache, what is done with it, and its answers, with how many events it then
-/// holds.
-struct Cache {
-    capacity: usize,
-    events: u64,
-    steps: &'static str,
-}
-
-static CACHES: [Cache; 4] = [
-    Cache {
-        capacity: 10,
-        events: 10,
-        steps: "\
+/// How many runs and events a cache may hold, and below it what is done with it, with its answers
+/// and how many events it then holds.
+const CACHES: &str = "\
+10 10
 put a start:Still S T => kept, holds 3
 put b start:Still S*4 T => kept, holds 9
 put c start:Still S T => gone a, holds 9
@@ -30,12 +21,8 @@ put e start:Still S*9 T => too large, holds 10
 put d start:Still S*9 T => too large, holds 10
 peek d => Some(10), holds 10
 take d => Some(10), holds 0
-",
-    },
-    Cache {
-        capacity: 2,
-        events: 0,
-        steps: "\
+
+2 0
 put a start:Still S T => kept, holds 3
 put b start:Still S T => kept, holds 6
 put c start:Still S T => gone a, holds 6
@@ -43,27 +30,16 @@ evict a => false, holds 6
 put d start:Still S T => gone b, holds 6
 evict c => true, holds 3
 len => 1, holds 3
-",
-    },
-    Cache {
-        capacity: 2,
-        events: 0,
-        steps: "\
+
+2 0
 put a start:Still S*4 T => kept, holds 6
 put a start:Still S T => shorter, holds 6
 put a start:Still S*4 T => shorter, holds 6
 peek a => Some(6), holds 6
 put a start:Still S*7 T => kept, holds 9
-",
-    },
-    Cache {
-        capacity: 0,
-        events: 10,
-        steps: "\
-put a start:Still S T => off, holds 0
-",
-    },
-];
+
+0 10
+put a start:Still S T => off, holds 0";
 
 /// A run by its name and its history.
 pub(crate) fn run_of<W: Workflow>(
@@ -84,10 +60,8 @@ pub(crate) fn run_of<W: Workflow>(
 fn gone<W: Workflow>(rt: &impl Abort, alloc: Global, runs: &[Run<W>]) -> String {
     let mut names = String::from_str(alloc, "gone").expect(rt, "memory");
     for run in runs {
-        names.push_str(" ").expect(rt, "memory");
-        names
-            .push_str(run.key().workflow_id.get())
-            .expect(rt, "memory");
+        add(rt, &mut names, " ");
+        add(rt, &mut names, run.key().workflow_id.get());
     }
     names
 }
@@ -114,7 +88,9 @@ fn put<W: Workflow>(
 ) -> String {
     let (name, history) = run.split_once(' ').expect(rt, run);
     let put = cache.put(run_of(rt, alloc, name, history));
-    put_word(rt, alloc, &put)
+    let word = put_word(rt, alloc, &put);
+    drop(put);
+    word
 }
 
 /// How many events the run of a name holds that is taken out of a cache.
@@ -125,8 +101,10 @@ fn take<W: Workflow>(
     name: &str,
 ) -> Option<usize> {
     let key = key(alloc, name).expect(rt, "memory");
-    let run = cache.take(&key)?;
-    Some(run.held_len())
+    let run = cache.take(&key);
+    let length = run.as_ref().map(|run| run.held_len());
+    drop(run);
+    length
 }
 
 fn peek<W: Workflow>(
@@ -159,22 +137,40 @@ fn answered<W: Workflow>(
     }
 }
 
-/// Opens a cache, and compares what it answers.
-fn answers<W: Workflow>(rt: &impl Abort, alloc: Global, given: &Cache) {
-    assert!(rt; given.capacity <= MOST_RUNS && given.events <= MOST_CACHED_EVENTS);
-    let mut cache = Sticky::<W>::open(alloc, given.capacity, given.events).expect(rt, "memory");
-    for line in given.steps.lines() {
+/// Takes a step, and tells the answer and how many events the cache then holds.
+fn step_text<W: Workflow>(
+    rt: &impl Abort,
+    alloc: Global,
+    cache: &mut Sticky<W>,
+    step: &'static str,
+) -> String {
+    let answer = answered(rt, alloc, cache, step);
+    let held = cache.held();
+    format!(in alloc; "{answer}, holds {held}").expect(rt, "memory")
+}
+
+/// Takes the steps, and compares what a cache answers.
+fn follows<W: Workflow>(rt: &impl Abort, alloc: Global, mut cache: Sticky<W>, steps: &'static str) {
+    for line in steps.lines() {
         let (step, wanted) = row(rt, line);
-        let answer = answered(rt, alloc, &mut cache, step);
-        let held = cache.held();
-        let text = format!(in alloc; "{answer}, holds {held}").expect(rt, "memory");
+        let text = step_text(rt, alloc, &mut cache, step);
         same(rt, step, text.as_str(), wanted);
     }
 }
 
+/// Opens a cache, and compares what it answers.
+fn answers<W: Workflow>(rt: &impl Abort, alloc: Global, given: &'static str) {
+    let mut steps = given;
+    let runs = next_number(rt, &mut steps) as usize;
+    let events = number(rt, cut(&mut steps, "\n"));
+    assert!(rt; runs <= MOST_RUNS && events <= MOST_CACHED_EVENTS);
+    let cache = Sticky::<W>::open(alloc, runs, events).expect(rt, "memory");
+    follows(rt, alloc, cache, steps);
+}
+
 #[test]
 fn caches_answer(rt: HostRuntime) {
-    for cache in &CACHES {
-        answers::<Still>(&rt, rt.alloc(), cache);
+    for given in CACHES.split("\n\n") {
+        answers::<Still>(&rt, rt.alloc(), given);
     }
 }

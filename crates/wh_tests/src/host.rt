@@ -3,7 +3,7 @@
 ghost use Rattle.std.specs.Prelude.{◌≡◌};
 
 use crate::cache::{put_word, run_of};
-use crate::rows::{row, same, shown, wants};
+use crate::rows::{next_number, row, same, shown, wants};
 use crate::workflows::Still;
 use std::alloc::Global;
 use std::marker::Brand;
@@ -17,30 +17,14 @@ use wh_replay::Run;
 use wh_slots::{Held, Permit, SlotKind, TaskName, UseFault};
 use wh_workflow::Workflow;
 
-const SMALL: Config = Config {
-    workflow_slots: 2,
-    activity_slots: 1,
-    cache: 2,
-    cache_events: 0,
-    seats: 3,
-};
-
-/// What is done with a host before it is closed, what its cache then holds of run `c`, and what it
-/// has counted.
-struct Day {
-    config: Config,
-    steps: &'static str,
-    cached: usize,
-    totals: Totals,
-}
-
-static DAYS: [Day; 2] = [
-    Day {
-        config: SMALL,
-        // Of two tasks of one run the longer run stays. A cached run is evicted, one in hand is
-        // marked, and a run of another key is not the task's. The least recently used run goes. A
-        // name is in hand once. A task stays in hand.
-        steps: "\
+/// Days of a host: its sizes, and below them what is done with it before it is closed. The end is
+/// how many events its cache then holds of run `c`, and what it has counted.
+///
+/// On the first day, of two tasks of one run the longer run stays. A cached run is evicted, one in
+/// hand is marked, and a run of another key is not the task's. The least recently used run goes. A
+/// name is in hand once. A task stays in hand.
+const DAYS: &str = "\
+2 1 2 0 3
 hold 1 a => 0
 hold 2 a => 0
 give 1 a start:Still S*4 T => kept
@@ -81,24 +65,9 @@ hold 7 a => 3
 repeat 7 b => TaskInHand
 finish 7 => true
 hold 9 h => 0
-",
-        cached: 3,
-        totals: Totals {
-            taken: 13,
-            completed: 11,
-            failed: 1,
-            in_hand: 1,
-        },
-    },
-    Day {
-        config: Config {
-            workflow_slots: 2,
-            activity_slots: 1,
-            cache: 0,
-            cache_events: 0,
-            seats: 1,
-        },
-        steps: "\
+end => 3 events, Totals taken: 13, completed: 11, failed: 1, in_hand: 1
+
+2 1 0 0 1
 hold 1 a => 0
 give 1 a start:Still S T => off
 finish 1 => true
@@ -109,16 +78,24 @@ hold 1 a => 0
 give 1 a start:Still S*4 T => off
 finish 1 => true
 counts => taken 3, completed 3, cached 0, cached events 0
-",
-        cached: 0,
-        totals: Totals {
-            taken: 4,
-            completed: 4,
-            failed: 0,
-            in_hand: 0,
-        },
-    },
-];
+end => 0 events, Totals taken: 4, completed: 4, failed: 0, in_hand: 0";
+
+/// The sizes of a host: its places for workflow tasks and for activity tasks, how many runs and how
+/// many events its cache holds, and its seats. What stands behind them is left.
+pub(crate) fn sizes(rt: &impl Abort, words: &mut &'static str) -> Config {
+    let workflow_slots = next_number(rt, words) as usize;
+    let activity_slots = next_number(rt, words) as usize;
+    let cache = next_number(rt, words) as usize;
+    let cache_events = next_number(rt, words);
+    let seats = next_number(rt, words) as usize;
+    Config {
+        workflow_slots,
+        activity_slots,
+        cache,
+        cache_events,
+        seats,
+    }
+}
 
 /// A task in hand.
 #[derive(Drop)]
@@ -127,11 +104,9 @@ struct Task {
     held: Held,
 }
 
-/// The name of a task, and what stands behind it in a step.
-fn named(rt: &impl Abort, step: &'static str) -> (TaskName, &'static str) {
-    let (name, rest) = step.split_once(' ').unwrap_or((step, ""));
-    let number = name.parse::<u64>().expect(rt, step);
-    (TaskName(u128::from(number)), rest)
+/// The name of a task in a step. What stands behind it is left.
+pub(crate) fn next_name(rt: &impl Abort, words: &mut &'static str) -> TaskName {
+    TaskName(u128::from(next_number(rt, words)))
 }
 
 /// The place of the task of a name among those in hand.
@@ -142,12 +117,14 @@ fn place_of(rt: &impl Abort, tasks: &[Task], name: TaskName) -> usize {
     place
 }
 
-/// How many events a run holds, 0 where there is none.
-fn held_len<W: Workflow>(run: &Option<Run<W>>) -> usize {
-    match run {
+/// How many events a run held that is let go, 0 where there was none.
+fn held_len<W: Workflow>(run: Option<Run<W>>) -> usize {
+    let length = match &run {
         Some(run) => run.held_len(),
         None => 0,
-    }
+    };
+    drop(run);
+    length
 }
 
 /// The answer to a run that is given back.
@@ -190,7 +167,7 @@ fn use_place<W: Workflow, T: Ledger, C: Ledger, F: Ledger>(
 ) -> Result<(Held, usize), (Permit, UseFault)> {
     let key = key(alloc, run).expect(rt, "memory");
     match state.use_workflow(permit, name, key, seat) {
-        Ok((held, run)) => Ok((held, held_len(&run))),
+        Ok((held, run)) => Ok((held, held_len(run))),
         Err((permit, _key, fault)) => Err((permit, fault)),
     }
 }
@@ -247,7 +224,9 @@ fn give_back<W: Workflow, T: Ledger, C: Ledger, F: Ledger>(
     run: Run<W>,
 ) -> String {
     let given = state.give_run(held, run);
-    given_word(rt, alloc, &given)
+    let word = given_word(rt, alloc, &given);
+    drop(given);
+    word
 }
 
 /// Gives a run back under the task of a name.
@@ -327,7 +306,8 @@ fn task_step<W: Workflow, T: Ledger, C: Ledger, F: Ledger>(
     word: &str,
     rest: &'static str,
 ) -> String {
-    let (name, run) = named(rt, rest);
+    let mut run = rest;
+    let name = next_name(rt, &mut run);
     if word == "give" {
         return give(rt, alloc, state, tasks.as_slice(), name, run);
     }
@@ -402,8 +382,8 @@ fn places_are_numbered<W: Workflow, T: Ledger, C: Ledger, F: Ledger>(
     );
 }
 
-/// The last task, of run `c`, at a place that was reserved before the host drained: its run holds
-/// so many events.
+/// How many events the run of the last task holds, of run `c`, at a place that was reserved before
+/// the host drained.
 fn last_task<R: Wait + Abort, W: Workflow, T: Ledger, C: Ledger, F: Ledger>(
     rt: &R,
     alloc: Global,
@@ -411,14 +391,13 @@ fn last_task<R: Wait + Abort, W: Workflow, T: Ledger, C: Ledger, F: Ledger>(
     seat: &mut Seat<T, C, F>,
     tasks: &mut Vec<Task>,
     permit: Permit,
-    cached: usize,
-) {
+) -> usize {
     let mut guard = host.lock(rt);
     let state = &mut *guard;
     let name = TaskName(10);
     let found = hold(rt, alloc, state, seat, tasks, permit, name, "c");
-    assert!(rt; found == cached);
     assert!(rt; finish(rt, state, seat, tasks, name, Outcome::Completed));
+    found
 }
 
 /// Follows the steps of a day, and then numbers places. One place stays reserved.
@@ -451,7 +430,7 @@ fn not_closed<W: Workflow, T: Ledger, C: Ledger, F: Ledger>(
 }
 
 /// What a host has counted when it is closed with all seats.
-fn closed<W: Workflow, T: Ledger, C: Ledger, F: Ledger>(
+pub(crate) fn closed<W: Workflow, T: Ledger, C: Ledger, F: Ledger>(
     rt: &impl Abort,
     host: Host<W, T, C, F>,
     mut seats: Vec<Seat<T, C, F>>,
@@ -464,44 +443,75 @@ fn closed<W: Workflow, T: Ledger, C: Ledger, F: Ledger>(
     }
 }
 
-/// What a host has counted at the end of a day. It is closed twice, first with a seat missing: the
-/// host that comes back serves one more task, of a run that it may still cache.
-fn totals<R: Wait + Abort, W: Workflow, T: Ledger, C: Ledger, F: Ledger>(
+/// Opens a host with its seats.
+pub(crate) fn open<R: Abort, W: Workflow, T: Ledger, C: Ledger, F: Ledger>(
+    rt: &R,
+    alloc: Global,
+    config: Config,
+    taken: Blank,
+    completed: Blank,
+    failed: Blank,
+) -> (Host<W, T, C, F>, Vec<Seat<T, C, F>>)
+    requires taken { (taken.name ≡ T.name) × (taken.parts ≡ T.parts) × (taken.parts ≡ config.seats) }
+    requires completed { (completed.name ≡ C.name) × (completed.parts ≡ C.parts) × (completed.parts ≡ config.seats) }
+    requires failed { (failed.name ≡ F.name) × (failed.parts ≡ F.parts) × (failed.parts ≡ config.seats) }
+{
+    match Host::open(alloc, config, taken, completed, failed) {
+        Ok(opened) => opened,
+        Err(_) => panic!(rt; "open"),
+    }
+}
+
+/// The sizes of a host, and what is done with it.
+#[derive(Drop)]
+struct Day {
+    config: Config,
+    steps: &'static str,
+}
+
+/// How a day ends: how many events the cache holds of run `c`, and what the host has counted. It is
+/// closed twice, first with a seat missing: the host that comes back serves one more task, of a run
+/// that it may still cache.
+fn day_text<R: Wait + Abort, W: Workflow, T: Ledger, C: Ledger, F: Ledger>(
     rt: &R,
     alloc: Global,
     day: &Day,
     taken: Blank,
     completed: Blank,
     failed: Blank,
-) -> Totals
+) -> String
     requires taken { (taken.name ≡ T.name) × (taken.parts ≡ T.parts) × (taken.parts ≡ day.now.config.seats) }
     requires completed { (completed.name ≡ C.name) × (completed.parts ≡ C.parts)
         × (completed.parts ≡ day.now.config.seats) }
     requires failed { (failed.name ≡ F.name) × (failed.parts ≡ F.parts) × (failed.parts ≡ day.now.config.seats) }
 {
-    let opened = Host::<W, T, C, F>::open(alloc, day.config, taken, completed, failed);
-    let (host, mut seats) = opened.expect(rt, "open");
+    let (host, mut seats) = open::<R, W, T, C, F>(rt, alloc, day.config, taken, completed, failed);
     let mut seat = seats.pop().expect(rt, "seat");
     let mut tasks = Vec::new(alloc);
     let permit = works(rt, alloc, &host, &mut seat, &mut tasks, day.steps);
     let (host, seats) = not_closed(rt, host, seats);
-    last_task(rt, alloc, &host, &mut seat, &mut tasks, permit, day.cached);
-    closed(rt, host, seats, seat)
+    let found = last_task(rt, alloc, &host, &mut seat, &mut tasks, permit);
+    let totals = shown(rt, alloc, &closed(rt, host, seats, seat));
+    format!(in alloc; "{found} events, {totals}").expect(rt, "memory")
 }
 
 #[test]
 fn days_of_a_host(rt: HostRuntime) {
-    for day in &DAYS {
+    for line in DAYS.split("\n\n") {
+        let (given, wanted) = line.split_once("\nend => ").expect(&rt, line);
+        let (mut words, steps) = given.split_once("\n").expect(&rt, line);
+        let config = sizes(&rt, &mut words);
+        let day = Day { config, steps };
         let seats = day.config.seats as u64;
-        let totals = totals::<HostRuntime, Still, Brand, Brand, Brand>(
+        let text = day_text::<HostRuntime, Still, Brand, Brand, Brand>(
             &rt,
             rt.alloc(),
-            day,
+            &day,
             Blank::new(seats),
             Blank::new(seats),
             Blank::new(seats),
         );
-        assert!(rt; totals == day.totals);
+        same(&rt, given, text.as_str(), wanted);
     }
 }
 
@@ -520,44 +530,19 @@ fn fault_of<W: Workflow, T: Ledger, C: Ledger, F: Ledger>(
     HostState::<W, T, C, F>::open(alloc, config, taken, completed, failed).err()
 }
 
-/// Sizes of a host, and why it is not opened.
-struct Sizes {
-    config: Config,
-    fault: &'static str,
-}
-
-/// Sizes within their limits, too many seats, and no place for a workflow task.
-static SIZES: [Sizes; 3] = [
-    Sizes {
-        config: SMALL,
-        fault: "None",
-    },
-    Sizes {
-        config: Config {
-            workflow_slots: 2,
-            activity_slots: 1,
-            cache: 2,
-            cache_events: 0,
-            seats: 65,
-        },
-        fault: "Some(BadConfig)",
-    },
-    Sizes {
-        config: Config {
-            workflow_slots: 0,
-            activity_slots: 1,
-            cache: 2,
-            cache_events: 0,
-            seats: 3,
-        },
-        fault: "Some(BadConfig)",
-    },
-];
+/// Sizes of a host, and why it is not opened: within their limits, too many seats, and no place for
+/// a workflow task.
+const SIZES: &str = "\
+2 1 2 0 3 => None
+2 1 2 0 65 => Some(BadConfig)
+0 1 2 0 3 => Some(BadConfig)
+";
 
 #[test]
 fn sizes_are_judged(rt: HostRuntime) {
-    for sizes in &SIZES {
-        let config = sizes.config;
+    for line in SIZES.lines() {
+        let (mut words, wanted) = row(&rt, line);
+        let config = sizes(&rt, &mut words);
         let seats = config.seats as u64;
         let fault = fault_of::<Still, Brand, Brand, Brand>(
             rt.alloc(),
@@ -566,6 +551,6 @@ fn sizes_are_judged(rt: HostRuntime) {
             Blank::new(seats),
             Blank::new(seats),
         );
-        wants(&rt, rt.alloc(), "sizes", fault, sizes.fault);
+        wants(&rt, rt.alloc(), "sizes", fault, wanted);
     }
 }

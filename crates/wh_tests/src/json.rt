@@ -1,6 +1,6 @@
 //! What texts are read as.
 
-use crate::rows::{row, same, shown, wants};
+use crate::rows::{add, number, row, same, shown, wants};
 use std::alloc::Global;
 use std::process::Abort;
 use wh_json::read_events;
@@ -388,33 +388,28 @@ fn refuses_other_bytes(rt: HostRuntime) {
     refuses_others(&rt, rt.alloc(), NAP);
 }
 
-/// As many lists within one another, and what is answered.
-struct Depth {
-    depth: usize,
-    answer: &'static str,
-}
-
-#[rattlefmt::skip]
-static DEPTHS: [Depth; 4] = [
-    Depth { depth: 100, answer: "BadNumber at: 1" },
-    Depth { depth: 127, answer: "BadNumber at: 1" },
-    Depth { depth: 128, answer: "BadJson" },
-    Depth { depth: 1000, answer: "BadJson" },
-];
+/// How many lists stand within one another, and what is answered.
+const DEPTHS: &str = "\
+100 => BadNumber at: 1
+127 => BadNumber at: 1
+128 => BadJson
+1000 => BadJson
+";
 
 /// As many lists within one another.
 fn nested(rt: &impl Abort, alloc: Global, depth: usize) -> String {
     let mut text = "[".repeat(alloc, depth).expect(rt, "memory");
     let close = "]".repeat(alloc, depth).expect(rt, "memory");
-    text.push_str(close.as_str()).expect(rt, "memory");
+    add(rt, &mut text, close.as_str());
     text
 }
 
 #[test]
 fn bounds_the_nesting(rt: HostRuntime) {
-    for row in &DEPTHS {
-        let text = nested(&rt, rt.alloc(), row.depth);
-        answers(&rt, rt.alloc(), text.as_bytes(), row.answer);
+    for line in DEPTHS.lines() {
+        let (depth, wanted) = row(&rt, line);
+        let text = nested(&rt, rt.alloc(), number(&rt, depth) as usize);
+        answers(&rt, rt.alloc(), text.as_bytes(), wanted);
     }
 }
 

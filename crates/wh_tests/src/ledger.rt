@@ -6,7 +6,31 @@ use std::alloc::Global;
 use std::marker::Brand;
 use std::process::Abort;
 use std::sync::ledger::{Blank, Ledger};
-use wh_ledger::{Books, SeatsMissing, Shares};
+use wh_ledger::{Books, Seat, SeatsMissing, Shares};
+
+/// With a seat missing the books come back, with the seats that are there.
+fn not_gathered<T: Ledger, C: Ledger, F: Ledger>(
+    rt: &impl Abort,
+    books: Books<T, C, F>,
+    seats: Vec<Seat<T, C, F>>,
+) -> (Books<T, C, F>, Vec<Seat<T, C, F>>) {
+    match books.gather(seats) {
+        Ok(_) => panic!(rt; "gathered with a seat missing"),
+        Err((books, seats, SeatsMissing)) => (books, seats),
+    }
+}
+
+/// The sums of all seats.
+fn gathered<T: Ledger, C: Ledger, F: Ledger>(
+    rt: &impl Abort,
+    books: Books<T, C, F>,
+    seats: Vec<Seat<T, C, F>>,
+) -> Shares {
+    match books.gather(seats) {
+        Ok(sums) => sums,
+        Err(_) => panic!(rt; "not gathered"),
+    }
+}
 
 /// Three seats count. With two of them nothing is gathered, with all three their sums are.
 fn day<T: Ledger, C: Ledger, F: Ledger>(
@@ -31,14 +55,9 @@ fn day<T: Ledger, C: Ledger, F: Ledger>(
     books.add_failed(&mut second);
     let totals = books.totals();
     assert!(rt; seats.push(second).is_ok());
-    let Err((books, mut seats, SeatsMissing)) = books.gather(seats) else {
-        panic!(rt; "gathered with a seat missing")
-    };
+    let (books, mut seats) = not_gathered(rt, books, seats);
     assert!(rt; seats.push(first).is_ok());
-    match books.gather(seats) {
-        Ok(sums) => (totals, sums),
-        Err(_) => panic!(rt; "not gathered"),
-    }
+    (totals, gathered(rt, books, seats))
 }
 
 #[test]

@@ -1,4 +1,4 @@
-//! Tests of the libraries, each through its public calls: what no contract says.
+//! Tests of the libraries and of the program, each through its public calls: what no contract says.
 #![tactic(auto)]
 
 #[cfg(test)]
@@ -6,11 +6,25 @@ mod activation;
 #[cfg(test)]
 mod cache;
 #[cfg(test)]
+mod command_lines;
+#[cfg(test)]
+mod cuts;
+#[cfg(test)]
+mod desk;
+#[cfg(test)]
 mod events;
+#[cfg(test)]
+mod explaining;
 #[cfg(test)]
 mod host;
 #[cfg(test)]
+mod hosting;
+#[cfg(test)]
+mod jobs;
+#[cfg(test)]
 mod json;
+#[cfg(test)]
+mod judging;
 #[cfg(test)]
 mod ledger;
 #[cfg(test)]
@@ -18,9 +32,25 @@ mod machines;
 #[cfg(test)]
 mod matching;
 #[cfg(test)]
+mod places;
+#[cfg(test)]
+mod reading;
+#[cfg(test)]
 mod replay;
 #[cfg(test)]
+mod replaying;
+#[cfg(test)]
+mod reports;
+#[cfg(test)]
 mod rows;
+#[cfg(test)]
+mod runs;
+#[cfg(test)]
+mod scripted;
+#[cfg(test)]
+mod scripts;
+#[cfg(test)]
+mod serve;
 #[cfg(test)]
 mod slots;
 #[cfg(test)]
@@ -31,3 +61,5 @@ mod tester;
 mod workflow;
 #[cfg(test)]
 mod workflows;
+#[cfg(test)]
+mod working;

@@ -84,6 +84,7 @@ fn copies(rt: &impl Abort, track: &Track) {
     let mut copy = track.try_copy().expect(rt, "memory");
     assert!(rt; push(rt, &mut copy, EventKind::WorkflowTaskScheduled).is_ok());
     assert!(rt; copy.len() == 7 && track.len() == 6);
+    drop(copy);
 }
 
 #[test]

@@ -1,70 +1,59 @@
 //! What a task may command, which versions it is told, and whether commands match their record.
 
-use crate::rows::{numbered, row, same, shown, text, track_of, wants};
+use crate::rows::{add, cut, number, numbered, row, same, shown, text, track_of, wants};
 use std::alloc::Global;
 use std::process::Abort;
-use wh_events::{Event, Items};
+use wh_events::{Event, EventNo, Items};
 use wh_machines::Track;
 use wh_match::{Script, ScriptFault, Versions, matches};
 use wh_workflow::{Command, WorkflowFault};
 
-/// A history, two numbers of tasks, what the code of the second commands or asks, by short words,
-/// and the answer to each of these, with what is settled after an ask.
-struct Row {
-    history: &'static str,
-    previous: u64,
-    cut: u64,
-    given: &'static str,
-    answers: &'static str,
-    sent: &'static str,
-}
+/// A history, two numbers of tasks, and what the code of the second commands or asks, by short
+/// words: the answer to each of these, with what is settled after an ask, and then what is sent.
+const ROWS: &str = "\
+start:Racer S T from 0 to 3 gives timer:t cancel_timer:t timer:t cancel_timer:t => None None Some(IdReused) Some(NotOpen) sends []
+start:Racer S T from 0 to 3 gives activity:9:race cancel_activity:9 cancel_activity:9 => None None Some(NotOpen) sends []
+start:Racer S T C timer:t S T from 3 to 7 gives timer:t cancel_timer:t timer:t => Some(IdInUse) None None sends [CancelTimer id: t, StartTimer id: t, seconds: 30]
+late from 3 to 11 gives cancel_activity:1 timer:u => None None sends [StartTimer id: u, seconds: 30]
+start:Racer S T C timer:t timer_canceled:5 S T from 3 to 8 gives cancel_timer:t => Some(NotOpen) sends []
+greet/5 S T C activity_failed:5 from 3 to 7 gives cancel_activity:1 cancel_activity:1 cancel_activity:9 complete timer:t => None Some(AlreadyCancelling) Some(NotOpen) None Some(AfterClosing) sends [CancelActivity id: 1, Complete result: []]
+greet/5 activity_cancel:5 S T from 3 to 8 gives cancel_activity:1 => Some(AlreadyCancelling) sends []
+start:Racer S T from 0 to 3 gives ask:-1:1 ask:-1:5 => Ok(1) Some(1) Ok(1) Some(1) sends [Marker change_id: chg, version: 1]
+branch/5 from 0 to 3 gives recall:-1:1 => Ok(-1) Some(-1) sends []
+start:Branch S T C chg_marker:NQ== from 0 to 3 gives ask:2:1 recall:-1:3 recall:-1:5 => Err(Workflow(BadRange)) None Err(Workflow(VersionOutOfRange)) None Ok(5) Some(5) sends [Marker change_id: chg, version: 5]
+start:Racer S T task_timed_out S T from 0 to 6 gives ask:-1:1 activity:1:new => Ok(1) Some(1) None sends [Marker change_id: chg, version: 1, StartActivity id: 1, activity: new, input: []]
+late from 11 to 8 gives cancel_timer:t cancel_activity:1 => Some(NotOpen) None sends [CancelActivity id: 1]
+late from 3 to 20 gives cancel_activity:1 timer:t => None None sends [StartTimer id: t, seconds: 30]
+";
 
-#[rattlefmt::skip]
-static ROWS: [Row; 13] = [
-    Row { history: "start:Racer S T", previous: 0, cut: 3, given: "timer:t cancel_timer:t timer:t cancel_timer:t",
-        answers: "None None Some(IdReused) Some(NotOpen) ", sent: "[]" },
-    Row { history: "start:Racer S T", previous: 0, cut: 3, given: "activity:9:race cancel_activity:9 cancel_activity:9",
-        answers: "None None Some(NotOpen) ", sent: "[]" },
-    Row { history: "start:Racer S T C timer:t S T", previous: 3, cut: 7, given: "timer:t cancel_timer:t timer:t",
-        answers: "Some(IdInUse) None None ", sent: "[CancelTimer id: t, StartTimer id: t, seconds: 30]" },
-    Row { history: "late", previous: 3, cut: 11, given: "cancel_activity:1 timer:u",
-        answers: "None None ", sent: "[StartTimer id: u, seconds: 30]" },
-    Row { history: "start:Racer S T C timer:t timer_canceled:5 S T", previous: 3, cut: 8, given: "cancel_timer:t",
-        answers: "Some(NotOpen) ", sent: "[]" },
-    Row { history: "greet/5 S T C activity_failed:5", previous: 3, cut: 7, given: "cancel_activity:1 cancel_activity:1 cancel_activity:9 complete timer:t",
-        answers: "None Some(AlreadyCancelling) Some(NotOpen) None Some(AfterClosing) ", sent: "[CancelActivity id: 1, Complete result: []]" },
-    Row { history: "greet/5 activity_cancel:5 S T", previous: 3, cut: 8, given: "cancel_activity:1",
-        answers: "Some(AlreadyCancelling) ", sent: "[]" },
-    Row { history: "start:Racer S T", previous: 0, cut: 3, given: "ask:-1:1 ask:-1:5",
-        answers: "Ok(1) Some(1) Ok(1) Some(1) ", sent: "[Marker change_id: chg, version: 1]" },
-    Row { history: "branch/5", previous: 0, cut: 3, given: "recall:-1:1",
-        answers: "Ok(-1) Some(-1) ", sent: "[]" },
-    Row { history: "start:Branch S T C chg_marker:NQ==", previous: 0, cut: 3, given: "ask:2:1 recall:-1:3 recall:-1:5",
-        answers: "Err(Workflow(BadRange)) None Err(Workflow(VersionOutOfRange)) None Ok(5) Some(5) ", sent: "[Marker change_id: chg, version: 5]" },
-    Row { history: "start:Racer S T task_timed_out S T", previous: 0, cut: 6, given: "ask:-1:1 activity:1:new",
-        answers: "Ok(1) Some(1) None ", sent: "[Marker change_id: chg, version: 1, StartActivity id: 1, activity: new, input: []]" },
-    Row { history: "late", previous: 11, cut: 8, given: "cancel_timer:t cancel_activity:1",
-        answers: "Some(NotOpen) None ", sent: "[CancelActivity id: 1]" },
-    Row { history: "late", previous: 3, cut: 20, given: "cancel_activity:1 timer:t",
-        answers: "None None ", sent: "[StartTimer id: t, seconds: 30]" },
-];
+/// The command to start an activity.
+fn start_activity(rt: &impl Abort, alloc: Global, id: &str, activity: &str) -> Command {
+    Command::StartActivity {
+        id: text(rt, alloc, id),
+        activity: text(rt, alloc, activity),
+        input: Items::new(Vec::new(alloc)),
+    }
+}
 
 /// A command by a short word: what it does, and what it names.
 fn command(rt: &impl Abort, alloc: Global, word: &str) -> Command {
     let (deed, names) = word.split_once(':').unwrap_or((word, ""));
     let (name, second) = names.split_once(':').unwrap_or((names, ""));
-    let id = text(rt, alloc, name);
-    let input = Items::new(Vec::new(alloc));
     match deed {
-        "activity" => Command::StartActivity {
-            id,
-            activity: text(rt, alloc, second),
-            input,
+        "activity" => start_activity(rt, alloc, name, second),
+        "cancel_activity" => Command::CancelActivity {
+            id: text(rt, alloc, name),
         },
-        "cancel_activity" => Command::CancelActivity { id },
-        "timer" => Command::StartTimer { id, seconds: 30 },
-        "cancel_timer" => Command::CancelTimer { id },
-        _ => Command::Complete { result: input },
+        "timer" => Command::StartTimer {
+            id: text(rt, alloc, name),
+            seconds: 30,
+        },
+        "cancel_timer" => Command::CancelTimer {
+            id: text(rt, alloc, name),
+        },
+        _ => Command::Complete {
+            result: Items::new(Vec::new(alloc)),
+        },
     }
 }
 
@@ -120,34 +109,51 @@ fn answered(
     shown(rt, alloc, &give(rt, script, track, command))
 }
 
-/// The answers to the words of a row over its history, and then what is sent. What is recorded of a
-/// task stands behind its completion, which is the event after the cut.
-fn answers(rt: &impl Abort, alloc: Global, row: &Row, track: &Track) {
-    let cut = numbered(rt, row.cut);
-    let behind = cut.get().saturating_add(1) as usize;
+/// What is sent of the commands of a script.
+fn sent_text(rt: &impl Abort, alloc: Global, script: Script) -> String {
+    shown(rt, alloc, &script.reduced().expect(rt, "memory"))
+}
+
+/// The answers of a script to words, and then what is sent. What is recorded of a task stands
+/// behind its completion, which is the event after the task.
+fn answers_text(
+    rt: &impl Abort,
+    alloc: Global,
+    track: &Track,
+    previous: u64,
+    task: EventNo,
+    words: &str,
+) -> String {
+    let behind = task.get().saturating_add(1) as usize;
     let recorded = &track.events()[behind.min(track.len())..];
     let mut versions = Versions::new(alloc);
-    let mut script = Script::new(alloc, row.previous, cut);
+    let mut script = Script::new(alloc, previous, task);
     let mut all = String::new(alloc);
-    for word in row.given.split_whitespace() {
+    for word in words.split_whitespace() {
         let answer = answered(rt, alloc, &mut script, track, recorded, &mut versions, word);
-        all.push_str(answer.as_str()).expect(rt, "memory");
-        all.push_str(" ").expect(rt, "memory");
+        add(rt, &mut all, answer.as_str());
+        add(rt, &mut all, " ");
     }
-    same(rt, row.history, all.as_str(), row.answers);
-    let sent = script.reduced().expect(rt, "memory");
-    wants(rt, alloc, row.history, sent, row.sent);
+    add(rt, &mut all, "sends ");
+    add(rt, &mut all, sent_text(rt, alloc, script).as_str());
+    all
+}
+
+/// The answers to what is given in a row are what is wanted.
+fn answers(rt: &impl Abort, alloc: Global, given: &'static str, wanted: &str) {
+    let mut words = given;
+    let track = track_of(rt, alloc, cut(&mut words, " from "));
+    let previous = number(rt, cut(&mut words, " to "));
+    let task = numbered(rt, number(rt, cut(&mut words, " gives ")));
+    let text = answers_text(rt, alloc, &track, previous, task, words);
+    same(rt, given, text.as_str(), wanted);
 }
 
 #[test]
 fn answers_commands(rt: HostRuntime) {
-    for row in &ROWS {
-        answers(
-            &rt,
-            rt.alloc(),
-            row,
-            &track_of(&rt, rt.alloc(), row.history),
-        );
+    for line in ROWS.lines() {
+        let (given, wanted) = row(&rt, line);
+        answers(&rt, rt.alloc(), given, wanted);
     }
 }
 
@@ -179,15 +185,16 @@ start:Racer S T C activity:1:greets => Err(Different event: 5)
 ";
 
 /// Adds a command by its short word.
-fn add(rt: &impl Abort, alloc: Global, commands: &mut Vec<Command>, word: &str) {
-    assert!(rt; commands.push(command(rt, alloc, word)).is_ok());
+fn push(rt: &impl Abort, alloc: Global, commands: &mut Vec<Command>, word: &str) {
+    commands.reserve(1).expect(rt, "memory");
+    commands.push_reserved(command(rt, alloc, word));
 }
 
 /// The commands to race, which a run that begins gives.
 fn race(rt: &impl Abort, alloc: Global) -> Vec<Command> {
     let mut commands = Vec::new(alloc);
-    add(rt, alloc, &mut commands, "activity:1:race");
-    add(rt, alloc, &mut commands, "timer:t");
+    push(rt, alloc, &mut commands, "activity:1:race");
+    push(rt, alloc, &mut commands, "timer:t");
     commands
 }
 

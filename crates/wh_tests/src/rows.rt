@@ -3,13 +3,31 @@
 use std::alloc::Global;
 use std::fmt::Debug;
 use std::process::Abort;
-use wh_events::{EventNo, Text};
-use wh_histories::events;
+use wh_events::{Event, EventNo, Text};
+use wh_histories::{events, events_behind};
 use wh_machines::Track;
 
 /// What is given in a row, and what is wanted of it.
 pub(crate) fn row(rt: &impl Abort, line: &'static str) -> (&'static str, &'static str) {
     line.split_once(" => ").expect(rt, line)
+}
+
+/// The text in front of a sign, or the whole where the sign is not there. What stands behind the
+/// sign is left.
+pub(crate) fn cut(text: &mut &'static str, sign: &str) -> &'static str {
+    let (front, rest) = text.split_once(sign).unwrap_or((text, ""));
+    *text = rest;
+    front
+}
+
+/// The number that a word says.
+pub(crate) fn number(rt: &impl Abort, word: &'static str) -> u64 {
+    word.parse::<u64>().expect(rt, word)
+}
+
+/// The number in front of a blank. What stands behind the blank is left.
+pub(crate) fn next_number(rt: &impl Abort, text: &mut &'static str) -> u64 {
+    number(rt, cut(text, " "))
 }
 
 /// What a derived text has around its names and numbers.
@@ -53,8 +71,24 @@ pub(crate) fn numbered(rt: &impl Abort, number: u64) -> EventNo {
     EventNo::new(number).expect(rt, "a number")
 }
 
+/// A text with what these words say.
 pub(crate) fn text(rt: &impl Abort, alloc: Global, content: &str) -> Text {
     Text::new(String::from_str(alloc, content).expect(rt, "memory"))
+}
+
+/// Adds words to a text.
+pub(crate) fn add(rt: &impl Abort, text: &mut String, words: &str) {
+    text.push_str(words).expect(rt, "memory");
+}
+
+/// The events of a history behind as many as it says itself, else behind so many.
+pub(crate) fn recorded(
+    rt: &impl Abort,
+    alloc: Global,
+    history: &'static str,
+    behind: usize,
+) -> Vec<Event> {
+    events_behind(alloc, history, behind).expect(rt, history)
 }
 
 /// The track of a history whose events are in place.

@@ -1,49 +1,45 @@
 //! Where the tasks of a history are.
 
-use crate::rows::{numbered, wants};
+use crate::rows::{cut, next_number, number, numbered, row, wants};
 use std::alloc::Global;
 use std::process::Abort;
 use wh_histories::events;
 use wh_split::{cuts, is_live, next_cut};
 
-/// A history, its tasks, the first of them after some event, and whether another event is a live
-/// one.
-struct Row {
-    history: &'static str,
-    cuts: &'static str,
-    from: u64,
-    next: &'static str,
-    cut: u64,
-    live: &'static str,
-}
+/// A history, an event and another one: its tasks, the first of them after the one event, and
+/// whether the other event is a live task.
+const ROWS: &str = "\
+nap after 0 at 8 => Ok([3, 8]); Some(3); false
+nap after 3 at 8 => Ok([3, 8]); Some(8); false
+nap after 8 at 8 => Ok([3, 8]); None; false
+nap/8 after 8 at 8 => Ok([3, 8]); None; true
+nap/3 task_failed S T ignored after 0 at 6 => Ok([6]); Some(6); true
+nap/3 task_failed S T ignored after 0 at 3 => Ok([6]); Some(6); false
+";
 
-#[rattlefmt::skip]
-static ROWS: [Row; 6] = [
-    Row { history: "nap", cuts: "Ok([3, 8])", from: 0, next: "Some(3)", cut: 8, live: "false" },
-    Row { history: "nap", cuts: "Ok([3, 8])", from: 3, next: "Some(8)", cut: 8, live: "false" },
-    Row { history: "nap", cuts: "Ok([3, 8])", from: 8, next: "None", cut: 8, live: "false" },
-    Row { history: "nap/8", cuts: "Ok([3, 8])", from: 8, next: "None", cut: 8, live: "true" },
-    Row { history: "nap/3 task_failed S T ignored", cuts: "Ok([6])", from: 0, next: "Some(6)", cut: 6, live: "true" },
-    Row { history: "nap/3 task_failed S T ignored", cuts: "Ok([6])", from: 0, next: "Some(6)", cut: 3, live: "false" },
-];
-
-fn splits(rt: &impl Abort, alloc: Global, row: &Row) {
-    let events = events(alloc, row.history).expect(rt, row.history);
-    wants(rt, alloc, row.history, cuts(alloc, &events), row.cuts);
+/// The tasks of the history of a row are what is wanted.
+fn splits(rt: &impl Abort, alloc: Global, given: &'static str, wanted: &'static str) {
+    let (mut given, mut wanted) = (given, wanted);
+    let history = cut(&mut given, " after ");
+    let from = number(rt, cut(&mut given, " at "));
+    let at = numbered(rt, next_number(rt, &mut given));
+    let events = events(alloc, history).expect(rt, history);
     wants(
         rt,
         alloc,
-        row.history,
-        next_cut(&events, row.from),
-        row.next,
+        history,
+        cuts(alloc, &events),
+        cut(&mut wanted, "; "),
     );
-    let live = is_live(&events, numbered(rt, row.cut));
-    wants(rt, alloc, row.history, live, row.live);
+    let next = next_cut(&events, from);
+    wants(rt, alloc, history, next, cut(&mut wanted, "; "));
+    wants(rt, alloc, history, is_live(&events, at), wanted);
 }
 
 #[test]
 fn finds_tasks(rt: HostRuntime) {
-    for row in &ROWS {
-        splits(&rt, rt.alloc(), row);
+    for line in ROWS.lines() {
+        let (given, wanted) = row(&rt, line);
+        splits(&rt, rt.alloc(), given, wanted);
     }
 }

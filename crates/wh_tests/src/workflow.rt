@@ -25,7 +25,9 @@ fn answered<W: Workflow>(rt: &impl Abort, alloc: Global, kind: &str) -> usize {
     let job = Job::CancelRequested;
     assert!(rt; W::step(alloc, &mut state, &job, &mut out, &mut meter).is_ok());
     assert!(rt; meter.count() == 1);
-    out.len()
+    let count = out.len();
+    drop(out);
+    count
 }
 
 #[test]

@@ -1,7 +1,7 @@
 //! A workflow that gives the command that a signal names.
 
 ghost use Rattle.std.specs.Prelude.{◌≡◌, [], Some, IfOk, codes};
-ghost use Rattle.wfhost.specs.Scripted.{scripted, scripted_lawful, ask_named, closing_named, command_named};
+ghost use Rattle.wh_tests.specs.Scripted.{scripted, scripted_lawful, ask_named, closing_named, command_named};
 ghost use Rattle.wh_workflow.specs.declared.command.Command.TheVariants.{Ask};
 
 use std::alloc::Global;
@@ -11,7 +11,7 @@ use wh_workflow::{Command, Job, Meter, Workflow};
 
 /// Gives the command that a signal names. A name that is none of a command gives nothing, and nor
 /// do other jobs. It has code for every workflow type.
-pub(super) struct Scripted;
+pub(crate) struct Scripted;
 
 fn text(alloc: Global, text: &str) -> Result<Text, OutOfMemory>
     ensures { IfOk result (λ copy. copy ≡ text.now) }

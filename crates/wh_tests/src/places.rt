@@ -1,10 +1,10 @@
 //! Which events are in place.
 
-use crate::tests::rows::replays;
+use crate::replaying::replays;
 use wh_samples::All;
 
 /// Events that are not in place, and then events that are, with what the task makes of them.
-pub(super) const PLACES: &str = "\
+pub(crate) const PLACES: &str = "\
 S => x.json: fault, event 1 is not in place: FirstNotStart
 ignored start:Nap => x.json: fault, event 1 is not in place: FirstNotStart
 nap start:Nap => x.json: fault, event 11 is not in place: FirstNotStart
@@ -78,7 +78,6 @@ start:Nap signal:s*51199 timer_fired:9 => x.json: fault, event 51201 is not in p
 
 #[test]
 fn bounds_histories(rt: HostRuntime) {
-    for table in [LONG, LONGEST] {
-        replays::<All, _>(&rt, rt.alloc(), table);
-    }
+    replays::<All, _>(&rt, rt.alloc(), LONG);
+    replays::<All, _>(&rt, rt.alloc(), LONGEST);
 }

@@ -1,10 +1,14 @@
 //! What the reader takes, and what it refuses.
 
-use crate::tests::rows::{bytes_of, reads};
+use crate::replaying::{bytes_of, reads};
+use crate::rows::{number, row};
+use std::alloc::Global;
+use std::process::Abort;
+use std::thread::Threads;
 use wh_samples::All;
 
 /// Forms that are read.
-pub(super) const READ: &str = "\
+pub(crate) const READ: &str = "\
 nap => x.json: ok, 2 tasks
 nap | [{ -> {'events':[{ | }] -> }]} => x.json: ok, 2 tasks
 nap | 'eventId':'1' -> 'eventId':1 | 'startedEventId':'5' -> 'startedEventId':5 => x.json: ok, 2 tasks
@@ -43,7 +47,7 @@ nap/3 signal:s S T | {'signalName' -> {'input':{'payloads':[{'data':'aGk='}]},'s
 ";
 
 /// Numbers, order, types, times, payloads and markers that are refused.
-pub(super) const REFUSED: &str = "\
+pub(crate) const REFUSED: &str = "\
 nap | 'eventId':'1' -> 'eventId':'0' => x.json: unreadable, event 1 has a bad number
 nap | 'eventId':'1' -> 'eventId':'9223372036854775808' => x.json: unreadable, event 1 has a bad number
 nap | 'eventId':'1' -> 'eventId':'9999999999999999999' => x.json: unreadable, event 1 has a bad number
@@ -104,7 +108,7 @@ nap/4 chg_marker:MQ== | 'ImNoZyI=' -> 'IiI=' => x.json: unreadable, event 5 has 
 ";
 
 /// More that is refused, where one thing stands before another.
-pub(super) const REFUSED_FIRST: &str = "\
+pub(crate) const REFUSED_FIRST: &str = "\
 nap | 'eventId':'1' -> 'eventId':-0 => x.json: unreadable, event 1 has a bad number
 nap | 'eventId':'1' -> 'eventId':10e-1 => x.json: unreadable, event 1 has a bad number
 nap | 'eventId':'1' -> 'eventId':'\u{ff11}' => x.json: unreadable, event 1 has a bad number
@@ -150,35 +154,37 @@ nap/4 chg_marker:eA== => x.json: unreadable, event 5 has the unsupported marker 
 nap/4 chg_marker:MQ== | 'ImNoZyI=' -> 'MQ==' => x.json: unreadable, event 5 has the unsupported marker Version
 ";
 
-/// A file of so many spaces, and its line.
-struct Spaces {
-    count: usize,
-    line: &'static str,
-}
+/// Files of so many spaces, and their lines.
+const SPACES: &str = "\
+67108864 => x.json: unreadable, not JSON
+67108865 => x.json: unreadable, file too long
+67108866 => x.json: unreadable, file too long
+";
 
-#[rattlefmt::skip]
-static SPACES: [Spaces; 3] = [
-    Spaces { count: 67_108_864, line: "x.json: unreadable, not JSON" },
-    Spaces { count: 67_108_865, line: "x.json: unreadable, file too long" },
-    Spaces { count: 67_108_866, line: "x.json: unreadable, file too long" },
-];
+/// As many spaces.
+fn spaces(rt: &impl Abort, alloc: Global, count: usize) -> Vec<u8> {
+    vec![in alloc; b' '; count].expect(rt, "memory")
+}
 
 #[test]
 fn long_files_are_refused(rt: HostRuntime) {
-    let alloc = rt.alloc();
-    for spaces in &SPACES {
-        let mut bytes = Vec::new(alloc);
-        assert!(rt; bytes.resize(spaces.count, b' ').is_ok());
-        reads::<All, _>(&rt, alloc, "spaces", bytes.as_slice(), spaces.line);
+    for line in SPACES.lines() {
+        let (count, wanted) = row(&rt, line);
+        let bytes = spaces(&rt, rt.alloc(), number(&rt, count) as usize);
+        reads::<All, _>(&rt, rt.alloc(), line, bytes.as_slice(), wanted);
+    }
+}
+
+/// Each front of a text is refused with this line.
+fn refuses_fronts<R: Threads + Sync + Abort>(rt: &R, alloc: Global, text: &[u8], line: &str) {
+    for count in 0..text.len() {
+        reads::<All, _>(rt, alloc, "cut", &text[..count], line);
     }
 }
 
 #[test]
 fn cut_files_are_refused(rt: HostRuntime) {
-    let alloc = rt.alloc();
-    let bytes = bytes_of(&rt, alloc, "nap | [{ -> {'events':[{ | }] -> }]}");
+    let bytes = bytes_of(&rt, rt.alloc(), "nap | [{ -> {'events':[{ | }] -> }]}");
     let wanted = "x.json: unreadable, not JSON";
-    for count in 0..bytes.len() {
-        reads::<All, _>(&rt, alloc, "cut", &bytes.as_slice()[..count], wanted);
-    }
+    refuses_fronts(&rt, rt.alloc(), bytes.as_slice(), wanted);
 }

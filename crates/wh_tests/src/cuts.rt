@@ -2,7 +2,7 @@
 
 /// Tasks that ended in one way or another; records, which go on to the next completion, whichever
 /// it is; and events of failed tasks and of no record, which give jobs all the same.
-pub(super) const CUTS: &str = "\
+pub(crate) const CUTS: &str = "\
 start:Nap => x.json: ok, 0 tasks
 start:Nap S => x.json: ok, 0 tasks
 nap/3 => x.json: ok, 1 tasks, last live

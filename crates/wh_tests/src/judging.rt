@@ -1,9 +1,9 @@
 //! What a task may command, and whether it is what was recorded.
 
-use crate::tests::cuts::CUTS;
-use crate::tests::places::PLACES;
-use crate::tests::reading::{READ, REFUSED, REFUSED_FIRST};
-use crate::tests::rows::replays;
+use crate::cuts::CUTS;
+use crate::places::PLACES;
+use crate::reading::{READ, REFUSED, REFUSED_FIRST};
+use crate::replaying::replays;
 use wh_samples::{All, Asker, Flood};
 
 /// Commands that match their record or do not, versions of a change, and commands that cannot
@@ -91,9 +91,12 @@ start:Asker S T => x.json: fault, task at 3: TooManyCommands
 
 #[test]
 fn judges_histories(rt: HostRuntime) {
-    for table in [READ, REFUSED, REFUSED_FIRST, PLACES, CUTS, ACTIVATIONS] {
-        replays::<All, _>(&rt, rt.alloc(), table);
-    }
+    replays::<All, _>(&rt, rt.alloc(), READ);
+    replays::<All, _>(&rt, rt.alloc(), REFUSED);
+    replays::<All, _>(&rt, rt.alloc(), REFUSED_FIRST);
+    replays::<All, _>(&rt, rt.alloc(), PLACES);
+    replays::<All, _>(&rt, rt.alloc(), CUTS);
+    replays::<All, _>(&rt, rt.alloc(), ACTIVATIONS);
 }
 
 #[test]

@@ -1,17 +1,17 @@
 //! What a host is tried with: a gate, a source and a handler of activities that note each call that
 //! a worker makes of them.
 
-use crate::tests::rows::{recorded, row, shown};
-use crate::tests::scripted::Scripted;
+use crate::rows::{cut, number, recorded, row, shown, text};
+use crate::scripted::Scripted;
 use std::alloc::Global;
 use std::fmt::Debug;
 use std::process::Abort;
 use std::sync::ledger::Ledger;
 use std::sync::{Mutex, Wait};
 use std::{mem, thread};
-use wh_events::{Event, Items, OutOfMemory, Payload, RunKey, Text};
+use wh_events::{Event, Items, OutOfMemory, Payload, RunKey};
 use wh_histories::key;
-use wh_host::Host;
+use wh_host::{Evict, Host};
 use wh_poll::{
     ActivityAnswer, ActivityHandler, ActivityTask, Gate, Polled, SourceFault, TaskSource,
     WorkflowTask, last_number,
@@ -21,17 +21,20 @@ use wh_samples::{All, ScriptSource};
 use wh_slots::TaskName;
 use wh_workflow::Pair;
 
-/// A source of histories, each of a line with the index of its file, its name and its events.
-pub(super) fn script(rt: &impl Abort, alloc: Global, table: &'static str) -> ScriptSource {
+/// A history of a script: the index of its file, its name and its events.
+fn file_of(rt: &impl Abort, alloc: Global, line: &'static str) -> (u64, String, Vec<Event>) {
+    let (file, history) = row(rt, line);
+    let (index, name) = file.split_once(' ').expect(rt, line);
+    let name = String::from_str(alloc, name).expect(rt, "memory");
+    (number(rt, index), name, recorded(rt, alloc, history, 0))
+}
+
+/// A source of histories, between each two of which stands a comma.
+pub(crate) fn script(rt: &impl Abort, alloc: Global, table: &'static str) -> ScriptSource {
     let mut histories = Vec::new(alloc);
-    for line in table.lines() {
-        let (file, history) = row(rt, line);
-        let (index, name) = file.split_once(' ').expect(rt, line);
-        let index = index.parse::<u64>().expect(rt, line);
-        let name = String::from_str(alloc, name).expect(rt, "memory");
-        let events = recorded(rt, alloc, history, 0);
+    for line in table.split(", ") {
         histories.reserve(1).expect(rt, "memory");
-        histories.push_reserved((index, name, events));
+        histories.push_reserved(file_of(rt, alloc, line));
     }
     match ScriptSource::new(alloc, histories) {
         Ok(source) => source,
@@ -40,43 +43,27 @@ pub(super) fn script(rt: &impl Abort, alloc: Global, table: &'static str) -> Scr
 }
 
 /// The workflows of a host: the samples, and what signals name.
-pub(super) type Workflows = Pair<All, Scripted>;
-
-/// What is done when the task of a name enters.
-pub(super) struct Deed {
-    pub(super) name: u128,
-    pub(super) act: Act,
-}
-
-/// What is done when a task enters.
-#[derive(Clone, Copy)]
-pub(super) enum Act {
-    /// It waits until this call is noted, for ten million looks at most.
-    Await(&'static str),
-    /// The run of this name is evicted.
-    Evict(&'static str),
-    /// The host drains.
-    Drain,
-}
+pub(crate) type Workflows = Pair<All, Scripted>;
 
 /// Notes calls, and is a gate. It takes the host's lock at each call, so that one that is made
 /// while the lock is held waits for ever.
 #[derive(Drop)]
-pub(super) struct Notebook<'r, 'h, R: Wait + Abort, T: Ledger, C: Ledger, F: Ledger> {
-    pub(super) rt: &'r R,
-    pub(super) alloc: Global,
-    pub(super) host: &'h Host<Workflows, T, C, F>,
-    deeds: &'static [Deed],
+pub(crate) struct Notebook<'r, 'h, R: Wait + Abort, T: Ledger, C: Ledger, F: Ledger> {
+    pub(crate) rt: &'r R,
+    pub(crate) alloc: Global,
+    pub(crate) host: &'h Host<Workflows, T, C, F>,
+    /// What is done when tasks enter, each behind the call that it follows.
+    deeds: &'static str,
     calls: Mutex<String>,
 }
 
 impl<'r, 'h, R: Wait + Abort, T: Ledger, C: Ledger, F: Ledger> Notebook<'r, 'h, R, T, C, F> {
     /// Nothing was noted yet.
-    pub(super) fn new(
+    pub(crate) fn new(
         rt: &'r R,
         alloc: Global,
         host: &'h Host<Workflows, T, C, F>,
-        deeds: &'static [Deed],
+        deeds: &'static str,
     ) -> Self {
         Notebook {
             rt,
@@ -96,21 +83,28 @@ impl<'r, 'h, R: Wait + Abort, T: Ledger, C: Ledger, F: Ledger> Notebook<'r, 'h, 
 
     /// Notes what a task is answered.
     fn note_answer<A: Debug>(&self, name: TaskName, answer: &A) {
-        let text = shown(self.rt, self.alloc, answer);
-        let call = format!(in self.alloc; "answer {} {text}, ", name.0);
+        let answer = shown(self.rt, self.alloc, answer);
+        let call = format!(in self.alloc; "answer {} {answer}, ", name.0);
         self.note(call.expect(self.rt, "memory").as_str());
     }
 
     /// The calls since this was asked last.
-    pub(super) fn calls(&self) -> String {
+    pub(crate) fn calls(&self) -> String {
         let mut calls = self.calls.lock(self.rt);
         mem::replace(&mut *calls, String::new(self.alloc))
     }
 
-    /// Waits until a call is noted. Each look takes the lock of the notes.
+    /// Whether a call was noted.
+    fn is_noted(&self, call: &str) -> bool {
+        self.calls.lock(self.rt).as_str().contains(call)
+    }
+
+    /// Waits until a call is noted, for ten million looks at most. Each look takes the lock of the
+    /// notes.
     fn await_call(&self, call: &str) {
+        let call = format!(in self.alloc; "{call}, ").expect(self.rt, "memory");
         for _look in 0..10_000_000 {
-            if self.calls.lock(self.rt).as_str().contains(call) {
+            if self.is_noted(call.as_str()) {
                 return;
             }
             thread::yield_now();
@@ -118,12 +112,25 @@ impl<'r, 'h, R: Wait + Abort, T: Ledger, C: Ledger, F: Ledger> Notebook<'r, 'h, 
         panic!(self.rt; "no call: {call}");
     }
 
+    /// What the host answers where the run of a key is to be evicted.
+    fn evicted(&self, key: &RunKey) -> Evict {
+        self.host.lock(self.rt).evict(key)
+    }
+
     /// Evicts the run of a name.
     fn evict(&self, run: &str) {
-        let key = key(self.alloc, run).expect(self.rt, "memory");
-        let answer = self.host.lock(self.rt).evict(&key);
+        let answer = self.evicted(&key(self.alloc, run).expect(self.rt, "memory"));
         let call = format!(in self.alloc; "evict {run} {answer:?}, ").expect(self.rt, "memory");
         self.note(call.as_str());
+    }
+
+    /// Does a deed: it waits for a call, evicts a run, or drains the host.
+    fn act(&self, deed: &str) {
+        match deed.split_once(' ') {
+            Some(("await", call)) => self.await_call(call),
+            Some(("evict", run)) => self.evict(run),
+            _ => self.host.lock(self.rt).drain(),
+        }
     }
 }
 
@@ -132,23 +139,12 @@ impl<'r, 'h, R: Wait + Abort, T: Ledger, C: Ledger, F: Ledger> Gate
     fn enter<Q: Wait>(&self, _rt: &Q, name: TaskName) {
         let call = format!(in self.alloc; "enter {}, ", name.0).expect(self.rt, "memory");
         self.note(call.as_str());
-        for deed in self.deeds {
-            if deed.name == name.0 {
-                match deed.act {
-                    Act::Await(call) => self.await_call(call),
-                    Act::Evict(run) => self.evict(run),
-                    Act::Drain => self.host.lock(self.rt).drain(),
-                }
+        for deed in self.deeds.split("; ") {
+            if let Some(deed) = deed.strip_prefix(call.as_str()) {
+                self.act(deed);
             }
         }
     }
-}
-
-/// The first of several words, which are separated by `; `, and those behind it.
-fn next_word(words: &mut &'static str) -> &'static str {
-    let (word, rest) = words.split_once("; ").unwrap_or((words, ""));
-    *words = rest;
-    word
 }
 
 /// A source that notes its calls, and stores the answers that it is sent. Its polls give what their
@@ -156,13 +152,13 @@ fn next_word(words: &mut &'static str) -> &'static str {
 /// events are of, or an activity task by its name. Without a word, or where it is `next`, a poll
 /// gives what that of the script gives, and so does `whole`.
 #[derive(Drop)]
-pub(super) struct Desk<'b, 'r, 'h, R: Wait + Abort, T: Ledger, C: Ledger, F: Ledger> {
-    pub(super) book: &'b Notebook<'r, 'h, R, T, C, F>,
-    pub(super) script: ScriptSource,
+pub(crate) struct Desk<'b, 'r, 'h, R: Wait + Abort, T: Ledger, C: Ledger, F: Ledger> {
+    pub(crate) book: &'b Notebook<'r, 'h, R, T, C, F>,
+    pub(crate) script: ScriptSource,
     /// The words of the polls of workflow tasks.
-    pub(super) workflow_polls: &'static str,
+    pub(crate) workflow_polls: &'static str,
     /// The words of the polls of activity tasks.
-    pub(super) activity_polls: &'static str,
+    pub(crate) activity_polls: &'static str,
 }
 
 /// The workflow task of a word. Its name is the number of its last event.
@@ -176,20 +172,23 @@ fn workflow_task(rt: &impl Abort, alloc: Global, word: &'static str) -> Workflow
     }
 }
 
-/// The activity task of a word: to greet, with one payload.
-pub(super) fn activity_task(rt: &impl Abort, alloc: Global, word: &'static str) -> ActivityTask {
-    let name = word.parse::<u64>().expect(rt, word);
+/// A list of one payload.
+fn one_payload(rt: &impl Abort, alloc: Global) -> Items<Payload> {
     let payload = Payload {
         encoding: Items::new(Vec::new(alloc)),
         content: Items::new(vec![in alloc; 112].expect(rt, "memory")),
     };
-    let input = vec![in alloc; payload].expect(rt, "memory");
+    Items::new(vec![in alloc; payload].expect(rt, "memory"))
+}
+
+/// The activity task of a word: to greet, with one payload.
+pub(crate) fn activity_task(rt: &impl Abort, alloc: Global, word: &'static str) -> ActivityTask {
     ActivityTask {
-        name: TaskName(u128::from(name)),
+        name: TaskName(u128::from(number(rt, word))),
         run: key(alloc, "w").expect(rt, "memory"),
-        id: Text::new(String::from_str(alloc, "1").expect(rt, "memory")),
-        activity: Text::new(String::from_str(alloc, "greet").expect(rt, "memory")),
-        input: Items::new(input),
+        id: text(rt, alloc, "1"),
+        activity: text(rt, alloc, "greet"),
+        input: one_payload(rt, alloc),
     }
 }
 
@@ -207,7 +206,7 @@ impl<'b, 'r, 'h, R: Wait + Abort, T: Ledger, C: Ledger, F: Ledger> TaskSource
 
     fn poll_workflow(&mut self) -> Result<Polled<WorkflowTask>, SourceFault> {
         self.book.note("poll, ");
-        match next_word(&mut self.workflow_polls) {
+        match cut(&mut self.workflow_polls, "; ") {
             "" | "next" => self.script.poll_workflow(),
             "nothing" => Ok(Polled::Nothing),
             "closed" => Ok(Polled::Closed),
@@ -217,8 +216,8 @@ impl<'b, 'r, 'h, R: Wait + Abort, T: Ledger, C: Ledger, F: Ledger> TaskSource
 
     fn poll_activity(&mut self) -> Result<Polled<ActivityTask>, SourceFault> {
         self.book.note("poll activities, ");
-        match next_word(&mut self.activity_polls) {
-            "" => self.script.poll_activity(),
+        match cut(&mut self.activity_polls, "; ") {
+            "" | "next" => self.script.poll_activity(),
             "nothing" => Ok(Polled::Nothing),
             "closed" => Ok(Polled::Closed),
             word => Ok(Polled::Task(activity_task(self.book.rt, self.book.alloc, word))),
@@ -249,8 +248,8 @@ impl<'b, 'r, 'h, R: Wait + Abort, T: Ledger, C: Ledger, F: Ledger> TaskSource
 
 /// Completes each activity with what it was given, and notes that it ran.
 #[derive(Drop)]
-pub(super) struct Echo<'b, 'r, 'h, R: Wait + Abort, T: Ledger, C: Ledger, F: Ledger> {
-    pub(super) book: &'b Notebook<'r, 'h, R, T, C, F>,
+pub(crate) struct Echo<'b, 'r, 'h, R: Wait + Abort, T: Ledger, C: Ledger, F: Ledger> {
+    pub(crate) book: &'b Notebook<'r, 'h, R, T, C, F>,
 }
 
 impl<'b, 'r, 'h, R: Wait + Abort, T: Ledger, C: Ledger, F: Ledger> ActivityHandler

@@ -1,11 +1,11 @@
 //! Runs, from their first event and as they go on.
 
-use crate::tests::rows::{recorded, row, shown, wants};
+use crate::rows::{number, numbered, recorded, row, same, shown};
 use std::alloc::Global;
 use std::process::Abort;
 use wh_events::EventNo;
 use wh_histories::key;
-use wh_replay::{AdvanceFault, Answer, Run, RunFault};
+use wh_replay::{AdvanceFault, Run, RunFault};
 use wh_samples::{All, Flood};
 use wh_workflow::{Meter, Workflow};
 
@@ -94,6 +94,14 @@ caller/5 S T at 5 => Some(Open)
 caller/8 at 5 => Some(Closed by: 6)
 ";
 
+/// The version of the change `chg`, if there is one.
+fn version_text(rt: &impl Abort, alloc: Global, version: Option<i32>) -> String {
+    match version {
+        Some(version) => format!(in alloc; ", chg is {version}").expect(rt, "memory"),
+        None => String::new(alloc),
+    }
+}
+
 /// A run behind a word and so many steps: how many events it holds, its unsent commands, and the
 /// version of the change `chg`.
 fn run_text<W: Workflow>(
@@ -105,13 +113,8 @@ fn run_text<W: Workflow>(
 ) -> String {
     let held = run.held_len();
     let commands = shown(rt, alloc, &run.commands());
-    let text = match run.version("chg") {
-        Some(version) => {
-            format!(in alloc; "{word}{steps} steps, holds {held}, {commands}, chg is {version}")
-        }
-        None => format!(in alloc; "{word}{steps} steps, holds {held}, {commands}"),
-    };
-    text.expect(rt, "memory")
+    let version = version_text(rt, alloc, run.version("chg"));
+    format!(in alloc; "{word}{steps} steps, holds {held}, {commands}{version}").expect(rt, "memory")
 }
 
 /// The run of a history from its first event.
@@ -125,14 +128,26 @@ fn begun<W: Workflow>(
     Run::from_first(alloc, key, recorded(rt, alloc, history, 0), meter)
 }
 
+/// What came of a run in so many steps.
+fn text_of<W: Workflow>(
+    rt: &impl Abort,
+    alloc: Global,
+    steps: u64,
+    begun: &Result<Run<W>, RunFault>,
+) -> String {
+    match begun {
+        Ok(run) => run_text(rt, alloc, "", steps, run),
+        Err(fault) => shown(rt, alloc, fault),
+    }
+}
+
 /// What comes of a history from its first event.
 fn begun_text<W: Workflow>(rt: &impl Abort, alloc: Global, history: &'static str) -> String {
     let mut meter = Meter::new();
     let begun = begun::<W>(rt, alloc, history, &mut meter);
-    match &begun {
-        Ok(run) => run_text(rt, alloc, "", meter.count(), run),
-        Err(fault) => shown(rt, alloc, fault),
-    }
+    let text = text_of(rt, alloc, meter.count(), &begun);
+    drop(begun);
+    text
 }
 
 /// The run of a history that has no fault.
@@ -162,7 +177,7 @@ fn advanced_text<W: Workflow>(
 /// What comes of a run that is advanced by the events of a history behind those that it holds, or
 /// behind the place that the history names: the steps of the advance, and the run, where it is not
 /// gone.
-pub(super) fn advance<W: Workflow>(
+pub(crate) fn advance<W: Workflow>(
     rt: &impl Abort,
     alloc: Global,
     run: Run<W>,
@@ -171,7 +186,9 @@ pub(super) fn advance<W: Workflow>(
     let mut meter = Meter::new();
     let new = recorded(rt, alloc, history, run.held_len());
     let advanced = run.advance(alloc, new, &mut meter);
-    advanced_text(rt, alloc, meter.count(), &advanced)
+    let text = advanced_text(rt, alloc, meter.count(), &advanced);
+    drop(advanced);
+    text
 }
 
 /// Where something stands that the event of a number opened.
@@ -179,56 +196,75 @@ fn status_text<W: Workflow>(
     rt: &impl Abort,
     alloc: Global,
     history: &'static str,
-    number: &str,
+    number: EventNo,
 ) -> String {
-    let number = number.parse::<u64>().expect(rt, number);
-    let number = EventNo::new(number).expect(rt, "a number");
     let run = good::<W>(rt, alloc, history);
-    shown(rt, alloc, &run.status(number))
+    let text = shown(rt, alloc, &run.status(number));
+    drop(run);
+    text
+}
+
+/// What comes of a run that goes on.
+fn goes_on<W: Workflow>(
+    rt: &impl Abort,
+    alloc: Global,
+    before: &'static str,
+    after: &'static str,
+) -> String {
+    let run = good::<W>(rt, alloc, before);
+    advance(rt, alloc, run, after)
 }
 
 /// What comes of what a row gives: the run of a history, a run that goes on behind ` then `, or
 /// what the event of the number behind ` at ` opened.
 fn given_text<W: Workflow>(rt: &impl Abort, alloc: Global, given: &'static str) -> String {
     if let Some((before, after)) = given.split_once(" then ") {
-        let run = good::<W>(rt, alloc, before);
-        return advance(rt, alloc, run, after);
+        return goes_on::<W>(rt, alloc, before, after);
     }
     match given.split_once(" at ") {
-        Some((history, number)) => status_text::<W>(rt, alloc, history, number),
+        Some((history, at)) => {
+            status_text::<W>(rt, alloc, history, numbered(rt, number(rt, at)))
+        }
         None => begun_text::<W>(rt, alloc, given),
     }
 }
 
 /// Compares what comes of what each row gives.
-pub(super) fn begins<W: Workflow>(rt: &impl Abort, alloc: Global, table: &'static str) {
+pub(crate) fn begins<W: Workflow>(rt: &impl Abort, alloc: Global, table: &'static str) {
     for line in table.lines() {
         let (given, wanted) = row(rt, line);
-        wants(rt, given, given_text::<W>(rt, alloc, given), wanted);
+        let text = given_text::<W>(rt, alloc, given);
+        same(rt, given, text.as_str(), wanted);
     }
 }
 
 #[test]
 fn runs_begin_and_go_on(rt: HostRuntime) {
-    for table in [BEGUN, ADVANCED, STATUSES] {
-        begins::<All>(&rt, rt.alloc(), table);
-    }
+    begins::<All>(&rt, rt.alloc(), BEGUN);
+    begins::<All>(&rt, rt.alloc(), ADVANCED);
+    begins::<All>(&rt, rt.alloc(), STATUSES);
 }
 
-/// How many commands complete the last task of a history.
-fn count_commands<W: Workflow>(rt: &impl Abort, alloc: Global, history: &'static str) -> usize {
+/// The commands that complete the last task of a history, in words.
+fn answer_text<W: Workflow>(rt: &impl Abort, alloc: Global, history: &'static str) -> String {
     let run = good::<W>(rt, alloc, history);
-    let answer = run.answer(alloc).expect(rt, "memory");
-    match &answer {
-        Answer::Complete(commands) => commands.get().len(),
-        Answer::Fail(_) => 0,
-    }
+    let answer = run.answer(alloc);
+    drop(run);
+    let text = shown(rt, alloc, &answer);
+    drop(answer);
+    text
+}
+
+/// How many timers an answer starts, as it is said in words.
+fn starts_timers(rt: &impl Abort, answer: &str, wanted: usize) {
+    assert!(rt; answer.starts_with("Ok(Complete([StartTimer "));
+    assert!(rt; answer.split("StartTimer ").count() == wanted.saturating_add(1));
 }
 
 #[test]
 fn many_commands_are_kept(rt: HostRuntime) {
-    let few = count_commands::<Flood>(&rt, rt.alloc(), "start:Flood S T");
-    assert!(rt; few == 64);
-    let many = count_commands::<Flood>(&rt, rt.alloc(), "start:Flood signal:s*63 S T");
-    assert!(rt; many == 4_096);
+    let few = answer_text::<Flood>(&rt, rt.alloc(), "start:Flood S T");
+    starts_timers(&rt, few.as_str(), 64);
+    let many = answer_text::<Flood>(&rt, rt.alloc(), "start:Flood signal:s*63 S T");
+    starts_timers(&rt, many.as_str(), 4_096);
 }

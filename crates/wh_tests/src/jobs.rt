@@ -1,8 +1,8 @@
 //! Which jobs a task has, and in which order.
 
-use crate::tests::explaining::explains;
-use crate::tests::runs::begins;
-use crate::tests::scripted::Scripted;
+use crate::explaining::explains;
+use crate::runs::begins;
+use crate::scripted::Scripted;
 use wh_samples::Nap;
 use wh_workflow::Pair;
 

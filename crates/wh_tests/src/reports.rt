@@ -1,8 +1,10 @@
 //! Reports of several files.
 
-use crate::tests::rows::{bytes_of, push_file, replayed, row, wants};
+use crate::replaying::{push_history, replayed};
+use crate::rows::{add, row, same};
 use std::alloc::Global;
 use std::process::Abort;
+use std::thread::Threads;
 use wh_cli::{CommandFault, replay_command};
 use wh_samples::All;
 
@@ -19,7 +21,7 @@ b.json: nap; a.json: greet/2 C; c: S => b.json: ok, 2 tasks, a.json: ok, 0 tasks
 ";
 
 /// Files by their names and histories. That of an empty history is empty.
-pub(super) fn named_files(
+pub(crate) fn named_files(
     rt: &impl Abort,
     alloc: Global,
     list: &'static str,
@@ -27,37 +29,47 @@ pub(super) fn named_files(
     let mut files = Vec::new(alloc);
     for file in list.split("; ") {
         if let Some((name, history)) = file.split_once(": ") {
-            let bytes = bytes_of(rt, alloc, history);
-            push_file(rt, alloc, &mut files, name, bytes.as_slice());
+            push_history(rt, alloc, &mut files, name, history);
         }
     }
     files
 }
 
+/// The report of files, as one line.
+fn report_line<R: Threads + Sync + Abort>(rt: &R, alloc: Global, list: &'static str) -> String {
+    let report = replayed::<All, _>(rt, alloc, named_files(rt, alloc, list));
+    report
+        .as_str()
+        .replace(alloc, "\n", ", ")
+        .expect(rt, "memory")
+}
+
 #[test]
 fn files_are_reported(rt: HostRuntime) {
-    let alloc = rt.alloc();
     for line in REPORTS.lines() {
         let (list, wanted) = row(&rt, line);
-        let report = replayed::<All, _>(&rt, alloc, named_files(&rt, alloc, list));
-        let report = report.as_str().replace(alloc, "\n", ", ");
-        wants(&rt, list, report.expect(&rt, "memory"), wanted);
+        let report = report_line(&rt, rt.alloc(), list);
+        same(&rt, list, report.as_str(), wanted);
     }
+}
+
+/// As many files with a nap.
+fn naps(rt: &impl Abort, alloc: Global, count: usize) -> Vec<(String, Vec<u8>)> {
+    let mut files = Vec::new(alloc);
+    for _ in 0..count {
+        push_history(rt, alloc, &mut files, "nap.json", "nap");
+    }
+    files
 }
 
 #[test]
 fn many_files_are_replayed(rt: HostRuntime) {
     let alloc = rt.alloc();
-    let mut files = Vec::new(alloc);
-    let bytes = bytes_of(&rt, alloc, "nap");
-    for _file in 0..3_000 {
-        push_file(&rt, alloc, &mut files, "nap.json", bytes.as_slice());
-    }
-    let line = "nap.json: ok, 2 tasks\n";
-    let lines = line.repeat(alloc, 3_000).expect(&rt, "memory");
-    let report = replayed::<All, _>(&rt, alloc, files);
-    let totals = report.as_str().strip_prefix(lines.as_str());
-    assert!(rt; totals == Some("3000 files, 3000 ok\nstatus 0"));
+    let report = replayed::<All, _>(&rt, alloc, naps(&rt, alloc, 3_000));
+    let lines = "nap.json: ok, 2 tasks\n".repeat(alloc, 3_000);
+    let mut wanted = lines.expect(&rt, "memory");
+    add(&rt, &mut wanted, "3000 files, 3000 ok\nstatus 0");
+    same(&rt, "many files", report.as_str(), wanted.as_str());
 }
 
 /// A writer without room for the line of the totals.

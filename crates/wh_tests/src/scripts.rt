@@ -1,8 +1,8 @@
 //! What one task may command, and what of it is sent.
 
-use crate::tests::rows::replays;
-use crate::tests::runs::begins;
-use crate::tests::scripted::Scripted;
+use crate::replaying::replays;
+use crate::runs::begins;
+use crate::scripted::Scripted;
 
 /// What is opened and cancelled in one task, of which nothing was open before.
 const WITHDRAWN: &str = "\
@@ -167,14 +167,15 @@ start:Scripted timer:t timer_fired:2 signal:cancel_timer S T C => x.json: ok, 1 
 
 #[test]
 fn judges_scripts(rt: HostRuntime) {
-    for table in [WITHDRAWN, OPEN, LATE, CLOSING, VERSIONS] {
-        begins::<Scripted>(&rt, rt.alloc(), table);
-    }
+    begins::<Scripted>(&rt, rt.alloc(), WITHDRAWN);
+    begins::<Scripted>(&rt, rt.alloc(), OPEN);
+    begins::<Scripted>(&rt, rt.alloc(), LATE);
+    begins::<Scripted>(&rt, rt.alloc(), CLOSING);
+    begins::<Scripted>(&rt, rt.alloc(), VERSIONS);
 }
 
 #[test]
 fn counts_and_compares_commands(rt: HostRuntime) {
-    for table in [COUNTED, RECORDED] {
-        replays::<Scripted, _>(&rt, rt.alloc(), table);
-    }
+    replays::<Scripted, _>(&rt, rt.alloc(), COUNTED);
+    replays::<Scripted, _>(&rt, rt.alloc(), RECORDED);
 }

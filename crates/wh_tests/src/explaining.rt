@@ -1,7 +1,8 @@
 //! What is explained of histories, line by line.
 
-use crate::tests::rows::{bytes_of, wants, with_status};
-use crate::tests::scripted::Scripted;
+use crate::replaying::{bytes_of, with_status};
+use crate::rows::same;
+use crate::scripted::Scripted;
 use std::alloc::Global;
 use std::process::Abort;
 use wh_cli::explain_command;
@@ -398,13 +399,18 @@ fn explained<W: Workflow>(rt: &impl Abort, alloc: Global, bytes: &[u8]) -> Strin
     }
 }
 
+/// The text that explains a history.
+fn explanation<W: Workflow>(rt: &impl Abort, alloc: Global, history: &'static str) -> String {
+    let bytes = bytes_of(rt, alloc, history);
+    explained::<W>(rt, alloc, bytes.as_slice())
+}
+
 /// Explains the history that each block begins with, and compares the text with the block's.
-pub(super) fn explains<W: Workflow>(rt: &impl Abort, alloc: Global, blocks: &'static str) {
+pub(crate) fn explains<W: Workflow>(rt: &impl Abort, alloc: Global, blocks: &'static str) {
     for block in blocks.split("\n\n") {
         let (history, wanted) = block.split_once("\n").expect(rt, block);
-        let bytes = bytes_of(rt, alloc, history);
-        let text = explained::<W>(rt, alloc, bytes.as_slice());
-        wants(rt, history, text, wanted);
+        let text = explanation::<W>(rt, alloc, history);
+        same(rt, history, text.as_str(), wanted);
     }
 }
 
@@ -415,19 +421,23 @@ fn explains_histories(rt: HostRuntime) {
     explains::<Scripted>(&rt, rt.alloc(), SCRIPTED);
 }
 
+/// How often a text has a line.
+fn count_lines(text: &str, wanted: &str) -> u64 {
+    let mut count: u64 = 0;
+    for line in text.lines() {
+        if line == wanted {
+            count = count.saturating_add(1);
+        }
+    }
+    count
+}
+
 /// A workflow that asks at each answer asks 4,097 times.
 #[test]
 fn explains_endless_questions(rt: HostRuntime) {
-    let alloc = rt.alloc();
-    let bytes = bytes_of(&rt, alloc, "start:Asker S T");
-    let text = explained::<Asker>(&rt, alloc, bytes.as_slice());
-    let mut told: u64 = 0;
-    for line in text.as_str().lines() {
-        if line == "  told Version a (version 1)" {
-            told = told.saturating_add(1);
-        }
-    }
-    assert_eq!(rt; told, 4_096);
+    let text = explanation::<Asker>(&rt, rt.alloc(), "start:Asker S T");
+    let told = count_lines(text.as_str(), "  told Version a (version 1)");
+    assert!(rt; told == 4_096);
     let end = "\n  refuses Ask a (-1 to 1)\nx.json: fault, task at 3: TooManyCommands\nstatus 1";
     assert!(rt; text.as_str().ends_with(end));
 }

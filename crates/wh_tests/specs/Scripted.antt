@@ -1,7 +1,11 @@
 -- A workflow of the tests that gives the command that a signal names.
-use Rattle.std.specs.Prelude.{ℕ, pos, negsuc, Bool, true, false, List, [], ◌∷◌, codes, bytes_eq, Option, Some, None, refl}
+use Rattle.std.specs.Prelude.{ℕ, pos, negsuc, Bool, true, false, List, [], ◌∷◌, codes, bytes_eq, Option, Some, None}
+use Rattle.std.specs.Prelude.{refl}
 use Rattle.wh_workflow.specs.declared.command.Command.{Command}
-use Rattle.wh_workflow.specs.declared.command.Command.TheVariants.{StartActivity, CancelActivity, StartTimer, CancelTimer, StartChild, CancelChild, SignalExternal, Ask, Complete, Fail, Cancel, ContinueAsNew}
+use Rattle.wh_workflow.specs.declared.command.Command.TheVariants.{StartActivity, CancelActivity, StartTimer}
+use Rattle.wh_workflow.specs.declared.command.Command.TheVariants.{CancelTimer, StartChild, CancelChild}
+use Rattle.wh_workflow.specs.declared.command.Command.TheVariants.{SignalExternal, Ask, Complete, Fail, Cancel}
+use Rattle.wh_workflow.specs.declared.command.Command.TheVariants.{ContinueAsNew}
 use Rattle.wh_workflow.specs.declared.job.Job.{Job}
 use Rattle.wh_workflow.specs.declared.job.Job.TheVariants.{Signal}
 use Rattle.wh_workflow.specs.Law.{Program, IsAnswer, IsLawful}
@@ -31,7 +35,8 @@ closing_named name =
     (given_if (bytes_eq name (codes "fail")) (Fail (codes "failure"))
     (given_if (bytes_eq name (codes "cancel")) Cancel
     (given_if (bytes_eq name (codes "continue")) (ContinueAsNew (codes "Nap") [])
-    (given_if (bytes_eq name (codes "signal_other")) (SignalExternal (codes "other") (codes "go") []) (ask_named name)))))
+    (given_if (bytes_eq name (codes "signal_other")) (SignalExternal (codes "other") (codes "go") [])
+    (ask_named name)))))
 
 -- starts or cancels something
 abbrev pub command_named : List ℕ → Option Command
@@ -55,10 +60,16 @@ scripted_gives _ = []
 
 -- what it computes
 abbrev pub scripted : Program NoState
-scripted = record { knows = λ _. true; initial = λ _. record {}; after = λ state _. state; gives = λ _ job. scripted_gives job }
+scripted = record {
+  knows = λ _. true;
+  initial = λ _. record {};
+  after = λ state _. state;
+  gives = λ _ job. scripted_gives job;
+}
 
 -- one command or the other
-given_answers : (test : Bool) (command : Command) (otherwise : Option Command) → IsAnswer (command ∷ []) → IsAnswer (commands_in otherwise) → IsAnswer (commands_in (given_if test command otherwise))
+given_answers : (test : Bool) (command : Command) (otherwise : Option Command) → IsAnswer (command ∷ []) →
+    IsAnswer (commands_in otherwise) → IsAnswer (commands_in (given_if test command otherwise))
 given_answers true command otherwise stands _ = stands
 given_answers false command otherwise _ other_stands = other_stands
 

@@ -1,9 +1,10 @@
 //! Command lines.
 
-use crate::tests::rows::row;
+use crate::rows::{add, row, same};
 use std::alloc::Global;
 use std::process::Abort;
 use wh_cli::{Plan, Refusal, parse};
+use wh_events::Text;
 
 /// What a line behind the program's name asks for.
 const LINES: &str = "\
@@ -66,72 +67,107 @@ serve d --slots 0 => slots 1 1000
 serve d --slots 1001 => slots 1 1000
 ";
 
+/// A plan to replay, in words.
+fn replay_text(rt: &impl Abort, alloc: Global, dir: &Text, more: &[Text], json: bool) -> String {
+    let mut text = String::from_str(alloc, "replay ").expect(rt, "memory");
+    add(rt, &mut text, dir.get());
+    for path in more {
+        add(rt, &mut text, " ");
+        add(rt, &mut text, path.get());
+    }
+    add(rt, &mut text, if json { " as JSON" } else { "" });
+    text
+}
+
+/// A plan to serve, in words.
+fn serve_text(
+    rt: &impl Abort,
+    alloc: Global,
+    dir: &Text,
+    workers: u64,
+    cache: u64,
+    cache_events: u64,
+    slots: u64,
+) -> String {
+    let dir = dir.get();
+    let text = format!(in alloc;
+        "serve {dir}, workers {workers}, cache {cache}, cache events {cache_events}, slots {slots}"
+    );
+    text.expect(rt, "memory")
+}
+
+/// A word, and what stands behind it.
+fn joined(rt: &impl Abort, alloc: Global, word: &str, rest: &str) -> String {
+    let mut text = String::from_str(alloc, word).expect(rt, "memory");
+    add(rt, &mut text, rest);
+    text
+}
+
 /// A plan in words.
 fn plan_text(rt: &impl Abort, alloc: Global, plan: &Plan) -> String {
-    let text = match plan {
-        Plan::Replay { dir, more, json } => {
-            let mut text = format!(in alloc; "replay {}", dir.get()).expect(rt, "memory");
-            for path in more {
-                assert!(rt; text.push(' ').is_ok() && text.push_str(path.get()).is_ok());
-            }
-            if *json {
-                assert!(rt; text.push_str(" as JSON").is_ok());
-            }
-            Ok(text)
-        }
-        Plan::Explain { file } => format!(in alloc; "explain {}", file.get()),
+    match plan {
+        Plan::Replay { dir, more, json } => replay_text(rt, alloc, dir, more, *json),
+        Plan::Explain { file } => joined(rt, alloc, "explain ", file.get()),
         Plan::Serve {
             dir,
             workers,
             cache,
             cache_events,
             slots,
-        } => format!(in alloc;
-            "serve {}, workers {workers}, cache {cache}, cache events {cache_events}, slots {slots}",
-            dir.get()
-        ),
-        Plan::Help { .. } => String::from_str(alloc, "help"),
-    };
-    text.expect(rt, "memory")
+        } => serve_text(rt, alloc, dir, *workers, *cache, *cache_events, *slots),
+        Plan::Help { .. } => joined(rt, alloc, "help", ""),
+    }
 }
 
 /// A refusal in words, and in further lines the text of a bad line.
 fn refusal_text(rt: &impl Abort, alloc: Global, refusal: &Refusal) -> String {
-    let text = match refusal {
-        Refusal::BadLine { text } => format!(in alloc; "bad line\n{}", text.get()),
-        Refusal::FewSlots => String::from_str(alloc, "too few slots"),
-        Refusal::OutOfMemory => String::from_str(alloc, "out of memory"),
-    };
-    text.expect(rt, "memory")
+    match refusal {
+        Refusal::BadLine { text } => joined(rt, alloc, "bad line\n", text.get()),
+        Refusal::FewSlots => joined(rt, alloc, "too few slots", ""),
+        Refusal::OutOfMemory => joined(rt, alloc, "out of memory", ""),
+    }
 }
 
+/// Adds a word.
 fn push(rt: &impl Abort, alloc: Global, words: &mut Vec<String>, word: &str) {
     let word = String::from_str(alloc, word).expect(rt, "memory");
-    words.reserve(1).expect(rt, "memory");
-    words.push_reserved(word);
+    assert!(rt; words.push(word).is_ok());
 }
 
-/// The answer to the words of a line behind the program's name has this first line, and these words
-/// in the others.
-fn answers(rt: &impl Abort, alloc: Global, line: &str, first: &str, others: &str) {
+/// The words of a line behind the program's name, and that name before them.
+fn words_of(rt: &impl Abort, alloc: Global, line: &str) -> Vec<String> {
     let mut words = Vec::new(alloc);
     push(rt, alloc, &mut words, "wfhost");
     for word in line.split_whitespace() {
         push(rt, alloc, &mut words, word);
     }
-    let text = match parse(alloc, words.as_slice()) {
+    words
+}
+
+/// The answer to words, in words.
+fn answer_text(rt: &impl Abort, alloc: Global, words: &[String]) -> String {
+    match parse(alloc, words) {
         Ok(plan) => plan_text(rt, alloc, &plan),
         Err(refusal) => refusal_text(rt, alloc, &refusal),
-    };
-    let (word, text) = text
-        .as_str()
-        .split_once('\n')
-        .unwrap_or((text.as_str(), ""));
-    assert_eq!(rt; word, first, "{line}");
+    }
+}
+
+/// An answer has this first line, and these words in the others.
+fn has_words(rt: &impl Abort, line: &str, answer: &str, first: &str, others: &str) {
+    let (word, text) = answer.split_once('\n').unwrap_or((answer, ""));
+    same(rt, line, word, first);
     for other in others.split_whitespace() {
         assert!(rt; text.contains(other), "{line}: {text}");
     }
     assert!(rt; text.is_empty() || text.ends_with('\n'), "{line}: {text}");
+}
+
+/// The answer to the words of a line behind the program's name has this first line, and these words
+/// in the others.
+fn answers(rt: &impl Abort, alloc: Global, line: &str, first: &str, others: &str) {
+    let words = words_of(rt, alloc, line);
+    let answer = answer_text(rt, alloc, words.as_slice());
+    has_words(rt, line, answer.as_str(), first, others);
 }
 
 #[test]
@@ -140,6 +176,10 @@ fn reads_command_lines(rt: HostRuntime) {
         let (words, wanted) = row(&rt, line);
         answers(&rt, rt.alloc(), words, wanted, "");
     }
+}
+
+#[test]
+fn names_bad_numbers(rt: HostRuntime) {
     for line in BAD_NUMBERS.lines() {
         let (words, wanted) = row(&rt, line);
         answers(&rt, rt.alloc(), words, "bad line", wanted);
