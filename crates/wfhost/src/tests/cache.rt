@@ -1,0 +1,176 @@
+//! What the cache keeps, and what has to go.
+
+use crate::tests::rows::{add, cut, next_number, number, row, same, shown};
+use crate::tests::workflows::Still;
+use std::alloc::Global;
+use std::process::Abort;
+use wh_cache::{MOST_CACHED_EVENTS, MOST_RUNS, Put, Sticky};
+use wh_histories::{events, key};
+use wh_replay::Run;
+use wh_workflow::{Meter, Workflow};
+
+/// How many runs and events a cache may hold, and below it what is done with it, with its answers
+/// and how many events it then holds.
+const CACHES: &str = "\
+10 10
+put a start:Still S T => kept, holds 3
+put b start:Still S*4 T => kept, holds 9
+put c start:Still S T => gone a, holds 9
+put d start:Still S*8 T => gone b c, holds 10
+put e start:Still S*9 T => too large, holds 10
+put d start:Still S*9 T => too large, holds 10
+peek d => Some(10), holds 10
+take d => Some(10), holds 0
+
+2 0
+put a start:Still S T => kept, holds 3
+put b start:Still S T => kept, holds 6
+put c start:Still S T => gone a, holds 6
+evict a => false, holds 6
+put d start:Still S T => gone b, holds 6
+evict c => true, holds 3
+len => 1, holds 3
+
+2 0
+put a start:Still S*4 T => kept, holds 6
+put a start:Still S T => shorter, holds 6
+put a start:Still S*4 T => shorter, holds 6
+peek a => Some(6), holds 6
+put a start:Still S*7 T => kept, holds 9
+
+0 10
+put a start:Still S T => off, holds 0";
+
+/// A run by its name and its history.
+pub(crate) fn run_of<W: Workflow>(
+    rt: &impl Abort,
+    alloc: Global,
+    name: &str,
+    history: &'static str,
+) -> Run<W> {
+    let key = key(alloc, name).expect(rt, "memory");
+    let events = events(alloc, history).expect(rt, history);
+    match Run::from_first(alloc, key, events, &mut Meter::new()) {
+        Ok(run) => run,
+        Err(fault) => panic!(rt; "{fault:?}"),
+    }
+}
+
+/// The names of the runs that had to go.
+fn gone<W: Workflow>(rt: &impl Abort, alloc: Global, runs: &[Run<W>]) -> String {
+    let mut names = String::from_str(alloc, "gone").expect(rt, "memory");
+    for run in runs {
+        add(rt, &mut names, " ");
+        add(rt, &mut names, run.key().workflow_id.get());
+    }
+    names
+}
+
+/// What became of a run that was put into a cache.
+pub(crate) fn put_word<W: Workflow>(rt: &impl Abort, alloc: Global, put: &Put<W>) -> String {
+    let word = match put {
+        Put::Kept => "kept",
+        Put::PushedOut(runs) => return gone(rt, alloc, runs.get()),
+        Put::Off(_) => "off",
+        Put::Shorter(_) => "shorter",
+        Put::TooLarge(_) => "too large",
+        Put::NoMemory(_) => "no memory",
+    };
+    String::from_str(alloc, word).expect(rt, "memory")
+}
+
+/// Puts a run by its name and its history into a cache, and says what became of it.
+fn put<W: Workflow>(
+    rt: &impl Abort,
+    alloc: Global,
+    cache: &mut Sticky<W>,
+    run: &'static str,
+) -> String {
+    let (name, history) = run.split_once(' ').expect(rt, run);
+    let put = cache.put(run_of(rt, alloc, name, history));
+    let word = put_word(rt, alloc, &put);
+    drop(put);
+    word
+}
+
+/// How many events the run of a name holds that is taken out of a cache.
+fn take<W: Workflow>(
+    rt: &impl Abort,
+    alloc: Global,
+    cache: &mut Sticky<W>,
+    name: &str,
+) -> Option<usize> {
+    let key = key(alloc, name).expect(rt, "memory");
+    let run = cache.take(&key);
+    let length = run.as_ref().map(|run| run.held_len());
+    drop(run);
+    length
+}
+
+fn peek<W: Workflow>(
+    rt: &impl Abort,
+    alloc: Global,
+    cache: &Sticky<W>,
+    name: &str,
+) -> Option<usize> {
+    cache.peek_len(&key(alloc, name).expect(rt, "memory"))
+}
+
+fn evict<W: Workflow>(rt: &impl Abort, alloc: Global, cache: &mut Sticky<W>, name: &str) -> bool {
+    cache.evict(&key(alloc, name).expect(rt, "memory"))
+}
+
+/// What a cache answers to a step with a run of some name.
+fn answered<W: Workflow>(
+    rt: &impl Abort,
+    alloc: Global,
+    cache: &mut Sticky<W>,
+    step: &'static str,
+) -> String {
+    let (word, run) = step.split_once(' ').unwrap_or((step, ""));
+    match word {
+        "put" => put(rt, alloc, cache, run),
+        "peek" => shown(rt, alloc, &peek(rt, alloc, cache, run)),
+        "take" => shown(rt, alloc, &take(rt, alloc, cache, run)),
+        "evict" => shown(rt, alloc, &evict(rt, alloc, cache, run)),
+        _ => shown(rt, alloc, &cache.len()),
+    }
+}
+
+/// Takes a step, and tells the answer and how many events the cache then holds.
+fn step_text<W: Workflow>(
+    rt: &impl Abort,
+    alloc: Global,
+    cache: &mut Sticky<W>,
+    step: &'static str,
+) -> String {
+    let answer = answered(rt, alloc, cache, step);
+    let held = cache.held();
+    format!(in alloc; "{answer}, holds {held}").expect(rt, "memory")
+}
+
+/// Takes the steps, and compares what a cache answers.
+fn follows<W: Workflow>(rt: &impl Abort, alloc: Global, mut cache: Sticky<W>, steps: &'static str) {
+    for line in steps.lines() {
+        let (step, wanted) = row(rt, line);
+        let text = step_text(rt, alloc, &mut cache, step);
+        same(rt, step, text.as_str(), wanted);
+    }
+}
+
+/// Opens a cache, and compares what it answers.
+fn answers<W: Workflow>(rt: &impl Abort, alloc: Global, given: &'static str) {
+    let mut steps = given;
+    let runs = next_number(rt, &mut steps) as usize;
+    let events = number(rt, cut(&mut steps, "\n"));
+    assert!(rt; runs <= MOST_RUNS && events <= MOST_CACHED_EVENTS);
+    let cache = Sticky::<W>::open(alloc, runs, events).expect(rt, "memory");
+    follows(rt, alloc, cache, steps);
+}
+
+#[test]
+fn caches_answer(rt: HostRuntime) {
+    for given in CACHES.split("\n\n") {
+        answers::<Still>(&rt, rt.alloc(), given);
+    }
+}

@@ -1,0 +1,159 @@
+//! A workflow that gives the command that a signal names.
+
+ghost use Rattle.std.specs.Prelude.{◌≡◌, [], Some, IfOk, codes};
+ghost use Rattle.wfhost.specs.Scripted.{scripted, scripted_lawful, ask_named, closing_named, command_named};
+ghost use Rattle.wh_workflow.specs.declared.command.Command.TheVariants.{Ask};
+
+use std::alloc::Global;
+use wh_events::{Items, OutOfMemory, Payload, Text};
+use wh_samples::NoState;
+use wh_workflow::{Command, Job, Meter, Workflow};
+
+/// Gives the command that a signal names. A name that is none of a command gives nothing, and nor
+/// do other jobs. It has code for every workflow type.
+pub(crate) struct Scripted;
+
+fn text(alloc: Global, text: &str) -> Result<Text, OutOfMemory>
+    ensures { IfOk result (λ copy. copy ≡ text.now) }
+{
+    Ok(Text::new(String::from_str(alloc, text)?))
+}
+
+fn nothing(alloc: Global) -> Items<Payload>
+    ensures { result ≡ [] }
+{
+    Items::new(Vec::new(alloc))
+}
+
+fn ask(alloc: Global, min: i32, max: i32) -> Result<Option<Command>, OutOfMemory>
+    ensures { IfOk result (λ given. given ≡ Some (Ask (codes "chg") min max)) }
+{
+    Ok(Some(Command::Ask {
+        change_id: text(alloc, "chg")?,
+        min,
+        max,
+    }))
+}
+
+/// Asks about a change with some range.
+fn ask_named(alloc: Global, name: &str) -> Result<Option<Command>, OutOfMemory>
+    ensures { IfOk result (λ given. given ≡ ask_named name.now) }
+{
+    if name == "ask" {
+        ask(alloc, -1, 1)
+    } else if name == "ask_known" {
+        ask(alloc, 0, 1)
+    } else if name == "ask_new" {
+        ask(alloc, 1, 3)
+    } else if name == "ask_later" {
+        ask(alloc, 2, 3)
+    } else if name == "ask_crossed" {
+        ask(alloc, 2, 1)
+    } else if name == "ask_below" {
+        ask(alloc, -2, 1)
+    } else if name == "ask_none" {
+        ask(alloc, -1, -1)
+    } else {
+        Ok(None)
+    }
+}
+
+/// Closes the run, signals another one, or asks.
+fn closing_named(alloc: Global, name: &str) -> Result<Option<Command>, OutOfMemory>
+    ensures { IfOk result (λ given. given ≡ closing_named name.now) }
+{
+    if name == "complete" {
+        Ok(Some(Command::Complete {
+            result: nothing(alloc),
+        }))
+    } else if name == "fail" {
+        Ok(Some(Command::Fail {
+            message: text(alloc, "failure")?,
+        }))
+    } else if name == "cancel" {
+        Ok(Some(Command::Cancel))
+    } else if name == "continue" {
+        Ok(Some(Command::ContinueAsNew {
+            workflow: text(alloc, "Nap")?,
+            input: nothing(alloc),
+        }))
+    } else if name == "signal_other" {
+        Ok(Some(Command::SignalExternal {
+            workflow_id: text(alloc, "other")?,
+            signal: text(alloc, "go")?,
+            input: nothing(alloc),
+        }))
+    } else {
+        ask_named(alloc, name)
+    }
+}
+
+/// Starts or cancels something, or gives one of the other commands.
+fn command_named(alloc: Global, name: &str) -> Result<Option<Command>, OutOfMemory>
+    ensures { IfOk result (λ given. given ≡ command_named name.now) }
+{
+    if name == "start_timer" {
+        Ok(Some(Command::StartTimer {
+            id: text(alloc, "t")?,
+            seconds: 1,
+        }))
+    } else if name == "cancel_timer" {
+        Ok(Some(Command::CancelTimer {
+            id: text(alloc, "t")?,
+        }))
+    } else if name == "start_activity" {
+        Ok(Some(Command::StartActivity {
+            id: text(alloc, "1")?,
+            activity: text(alloc, "work")?,
+            input: nothing(alloc),
+        }))
+    } else if name == "cancel_activity" {
+        Ok(Some(Command::CancelActivity {
+            id: text(alloc, "1")?,
+        }))
+    } else if name == "start_child" {
+        Ok(Some(Command::StartChild {
+            workflow_id: text(alloc, "kid")?,
+            workflow: text(alloc, "Nap")?,
+            input: nothing(alloc),
+        }))
+    } else if name == "cancel_child" {
+        Ok(Some(Command::CancelChild {
+            workflow_id: text(alloc, "kid")?,
+        }))
+    } else {
+        closing_named(alloc, name)
+    }
+}
+
+impl Workflow for Scripted {
+    type State = NoState;
+
+    ghost program = { scripted };
+
+    ghost lawful = { scripted_lawful };
+
+    fn handles(_kind: &str) -> bool {
+        true
+    }
+
+    fn begin(_alloc: Global, _kind: &str) -> Result<NoState, OutOfMemory> {
+        Ok(NoState)
+    }
+
+    fn step(
+        alloc: Global,
+        _state: &mut NoState,
+        job: &Job,
+        out: &mut Vec<Command>,
+        meter: &mut Meter,
+    ) -> Result<(), OutOfMemory> {
+        meter.tick();
+        if let Job::Signal { name, .. } = job {
+            if let Some(command) = command_named(alloc, name.get())? {
+                out.push(command)?;
+            }
+        }
+        Ok(())
+    }
+}

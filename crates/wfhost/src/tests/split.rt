@@ -1,0 +1,45 @@
+//! Where the tasks of a history are.
+
+use crate::tests::rows::{cut, next_number, number, numbered, row, wants};
+use std::alloc::Global;
+use std::process::Abort;
+use wh_histories::events;
+use wh_split::{cuts, is_live, next_cut};
+
+/// A history, an event and another one: its tasks, the first of them after the one event, and
+/// whether the other event is a live task.
+const ROWS: &str = "\
+nap after 0 at 8 => Ok([3, 8]); Some(3); false
+nap after 3 at 8 => Ok([3, 8]); Some(8); false
+nap after 8 at 8 => Ok([3, 8]); None; false
+nap/8 after 8 at 8 => Ok([3, 8]); None; true
+nap/3 task_failed S T ignored after 0 at 6 => Ok([6]); Some(6); true
+nap/3 task_failed S T ignored after 0 at 3 => Ok([6]); Some(6); false
+";
+
+/// The tasks of the history of a row are what is wanted.
+fn splits(rt: &impl Abort, alloc: Global, given: &'static str, wanted: &'static str) {
+    let (mut given, mut wanted) = (given, wanted);
+    let history = cut(&mut given, " after ");
+    let from = number(rt, cut(&mut given, " at "));
+    let at = numbered(rt, next_number(rt, &mut given));
+    let events = events(alloc, history).expect(rt, history);
+    wants(
+        rt,
+        alloc,
+        history,
+        cuts(alloc, &events),
+        cut(&mut wanted, "; "),
+    );
+    let next = next_cut(&events, from);
+    wants(rt, alloc, history, next, cut(&mut wanted, "; "));
+    wants(rt, alloc, history, is_live(&events, at), wanted);
+}
+
+#[test]
+fn finds_tasks(rt: HostRuntime) {
+    for line in ROWS.lines() {
+        let (given, wanted) = row(&rt, line);
+        splits(&rt, rt.alloc(), given, wanted);
+    }
+}
