@@ -114,7 +114,7 @@ fn say_opened<R: Runtime, W: Workflow, T: Ledger, C: Ledger, F: Ledger>(
     drop(host);
 }
 
-/// Opens the state of a host with so many workflow slots, of which none has none.
+/// Opens the state of a host with so many workflow slots, of which it needs one at least.
 fn open_state<R: Runtime + AllocGlobal, W: Workflow, T: Ledger, C: Ledger, F: Ledger>(
     rt: &R,
     name: &str,
