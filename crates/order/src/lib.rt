@@ -6,9 +6,11 @@ ghost use Rattle.order.specs.Order.{calling_off, order, order_after, order_gives
 ghost use Rattle.wh_workflow.specs.declared.command.Command.TheVariants.{StartActivity, StartTimer, StartChild};
 ghost use Rattle.wh_workflow.specs.declared.command.Command.TheVariants.{Ask, Fail};
 
+mod charging;
 #[cfg(test)]
 mod tests;
 
+pub use charging::receipt;
 use std::alloc::Global;
 use wh_events::{Items, OutOfMemory, Payload};
 use wh_workflow::{

@@ -1,11 +1,12 @@
 //! The activities of orders.
 
+use order::receipt;
 use std::alloc::Global;
 use wh_events::OutOfMemory;
 use wh_poll::{ActivityAnswer, ActivityHandler, ActivityTask};
 use wh_workflow::text_of;
 
-/// Charges cards: the receipt is what the card was charged with.
+/// Charges cards, and gives their receipts.
 #[derive(Drop)]
 pub struct Till {
     /// Where reasons are made.
@@ -14,15 +15,14 @@ pub struct Till {
 
 impl ActivityHandler for Till {
     ghost use Rattle.std.specs.Prelude.{◌≡◌};
-    ghost use Rattle.order_worker.specs.Till.{receipt};
+    ghost use Rattle.order_worker.specs.Till.{till_answer};
 
-    ghost may = { λ till task answer. answer ≡ receipt task };
+    ghost may = { λ till task answer. answer ≡ till_answer task };
 
     fn run(&mut self, task: &ActivityTask) -> Result<ActivityAnswer, OutOfMemory> {
-        if task.activity.get() == "ChargeCard" {
-            Ok(ActivityAnswer::Completed(task.input.try_copy()?))
-        } else {
-            Ok(ActivityAnswer::Failed(text_of(self.alloc, "no such activity")?))
+        match receipt(task.activity.get(), &task.input)? {
+            Some(result) => Ok(ActivityAnswer::Completed(result)),
+            None => Ok(ActivityAnswer::Failed(text_of(self.alloc, "no such activity")?)),
         }
     }
 }
