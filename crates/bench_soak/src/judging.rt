@@ -2,8 +2,8 @@
 ghost use Rattle.std.specs.Prelude.{◌≡◌, ◌↔◌, IsOk, IsTrue, OnOk, map, true};
 ghost use Rattle.bench_soak.specs.Sound.{IsSound};
 
-use crate::same::same_answers;
 use crate::soak::{Findings, Tally};
+use bench_answers::are_alike;
 use wh_host::Totals;
 use wh_samples::ScriptSource;
 
@@ -22,21 +22,6 @@ fn check(totals: Totals, tally: Tally) -> Result<(), &'static str>
         return Err("not every task was taken and answered once");
     }
     Ok(())
-}
-
-/// Whether each source was sent what the other one in its place was sent.
-fn are_alike(sources: &[ScriptSource], plain: &[ScriptSource]) -> bool
-    ensures { IsTrue result → map (λ source. source.answers) sources.now ≡ map (λ source. source.answers) plain.now }
-{
-    if sources.len() != plain.len() {
-        return false;
-    }
-    for place in 0..sources.len() {
-        if !same_answers(sources[place].answers(), plain[place].answers()) {
-            return false;
-        }
-    }
-    true
 }
 
 /// Checks what a soak with a cache found: the host's totals, what the workers counted, that the

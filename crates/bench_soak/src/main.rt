@@ -7,7 +7,6 @@ ghost use Rattle.std.specs.Prelude.{◌<◌, length};
 mod histories;
 mod hits;
 mod judging;
-mod same;
 mod soak;
 
 use crate::histories::{File, keys_of, sources_of, tasks_of};

@@ -155,40 +155,6 @@ fn evict_all<R: Wait + Clock, W: Workflow, T: Ledger, C: Ledger, F: Ledger>(
     evicted.saturating_add(evict_each(rt, host, keys))
 }
 
-/// Runs the posts, and beside them evicts runs. Says also how many of these were cached.
-fn serve_posts<
-    R: Threads + Wait + Clock + Sync,
-    W: Workflow + Send,
-    T: Ledger + Send,
-    C: Ledger + Send,
-    F: Ledger + Send,
-    S: TaskSource + Send + Drop,
->(
-    rt: &R,
-    alloc: Global,
-    host: &Host<W, T, C, F>,
-    seats: Vec<Seat<T, C, F>>,
-    posts: Vec<SoakPost<S>>,
-    keys: &[RunKey],
-) -> (Result<Ended<T, C, F, S>, OutOfMemory>, u64)
-    requires { seats.items ≡ replicate (vec_len posts) no_shares }
-{
-    let have_ended = AtomicBool::new(false);
-    thread::join(
-        rt,
-        || -> Result<Ended<T, C, F, S>, OutOfMemory>
-            requires workflow { IsSend W.row }
-            requires state { IsSend W.State.row }
-            requires seats { seats.items ≡ replicate (vec_len posts) no_shares }
-        {
-            let ended = run_posts(rt, alloc, host, seats, posts, &OpenGate);
-            have_ended.store(true, Ordering::SeqCst);
-            ended
-        },
-        || evict_all(rt, host, keys, &have_ended),
-    )
-}
-
 /// What happened while the posts ran.
 #[derive(Clone, Copy)]
 struct Run {
@@ -198,8 +164,35 @@ struct Run {
     micros: u64,
 }
 
-/// Runs the posts while runs are evicted, and measures the time.
-fn serve_timed<
+/// How many microseconds it is since the clock told an instant.
+fn micros_since<R: Clock>(rt: &R, begun: io::Result<Instant>) -> io::Result<u64> {
+    let elapsed = begun?.elapsed(rt)?;
+    Ok(u64::try_from(elapsed.as_micros()).unwrap_or(u64::MAX))
+}
+
+/// What came back, with what happened meanwhile.
+fn timed<E: Drop>(
+    ended: Result<E, OutOfMemory>,
+    evicted: u64,
+    micros: io::Result<u64>,
+) -> io::Result<(E, Run)> {
+    match ended {
+        Ok(ended) => match micros {
+            Ok(micros) => Ok((ended, Run { evicted, micros })),
+            Err(error) => {
+                drop(ended);
+                Err(error)
+            }
+        },
+        Err(OutOfMemory) => {
+            drop(micros);
+            Err(ErrorKind::OutOfMemory.into())
+        }
+    }
+}
+
+/// Runs the posts, evicts runs beside them, and measures the time.
+fn serve_posts<
     R: Threads + Wait + Clock + Sync,
     W: Workflow + Send,
     T: Ledger + Send,
@@ -216,17 +209,22 @@ fn serve_timed<
 ) -> io::Result<(Ended<T, C, F, S>, Run)>
     requires { seats.items ≡ replicate (vec_len posts) no_shares }
 {
-    let begun = Instant::now(rt)?;
-    let (ended, evicted) = serve_posts(rt, alloc, host, seats, posts, keys);
-    let elapsed = begun.elapsed(rt)?;
-    let run = Run {
-        evicted,
-        micros: u64::try_from(elapsed.as_micros()).unwrap_or(u64::MAX),
-    };
-    match ended {
-        Ok(ended) => Ok((ended, run)),
-        Err(OutOfMemory) => Err(ErrorKind::OutOfMemory.into()),
-    }
+    let begun = Instant::now(rt);
+    let have_ended = AtomicBool::new(false);
+    let (ended, evicted) = thread::join(
+        rt,
+        || -> Result<Ended<T, C, F, S>, OutOfMemory>
+            requires workflow { IsSend W.row }
+            requires state { IsSend W.State.row }
+            requires seats { seats.items ≡ replicate (vec_len posts) no_shares }
+        {
+            let ended = run_posts(rt, alloc, host, seats, posts, &OpenGate);
+            have_ended.store(true, Ordering::SeqCst);
+            ended
+        },
+        || evict_all(rt, host, keys, &have_ended),
+    );
+    timed(ended, evicted, micros_since(rt, begun))
 }
 
 /// Drains the host, and says whether no slot of either kind can be reserved then.
@@ -331,7 +329,7 @@ fn soak_with<
     let Ok((host, seats)) = Host::<W, T, C, F>::open(alloc, config, taken, completed, failed) else {
         return Err(ErrorKind::InvalidInput.into());
     };
-    let served = serve_timed(rt, alloc, &host, seats, posts, keys);
+    let served = serve_posts(rt, alloc, &host, seats, posts, keys);
     let is_drained = drain(rt, &host);
     match served {
         Ok((ended, run)) => end(alloc, host, ended, run, is_drained, tasks),
