@@ -117,21 +117,35 @@ fn push_word(words: &mut Vec<&'static str>, word: &'static str) -> Result<(), Hi
     }
 }
 
-/// Adds the events that a word stands for: those of a history with that name, as many as it says
-/// behind `/`, or one event as many times as it says behind `*`.
-fn push_events(words: &mut Vec<&'static str>, word: &'static str) -> Result<(), HistoryFault> {
-    let (name, count) = counted(word, "/", usize::MAX)?;
-    if let Some(history) = line_named(HISTORIES, name) {
-        for event in history.split_whitespace().take(count) {
-            push_word(words, event)?;
-        }
-        return Ok(());
+/// Adds the first events of a history, as many as there are up to a number.
+fn push_first(
+    words: &mut Vec<&'static str>,
+    history: &'static str,
+    count: usize,
+) -> Result<(), HistoryFault> {
+    for event in history.split_whitespace().take(count) {
+        push_word(words, event)?;
     }
+    Ok(())
+}
+
+/// Adds one event as many times as its word says behind `*`.
+fn push_times(words: &mut Vec<&'static str>, word: &'static str) -> Result<(), HistoryFault> {
     let (event, times) = counted(word, "*", 1)?;
     for _ in 0..times {
         push_word(words, event)?;
     }
     Ok(())
+}
+
+/// Adds the events that a word stands for: those of a history with that name, as many as it says
+/// behind `/`, or one event as many times as it says behind `*`.
+fn push_events(words: &mut Vec<&'static str>, word: &'static str) -> Result<(), HistoryFault> {
+    let (name, count) = counted(word, "/", usize::MAX)?;
+    match line_named(HISTORIES, name) {
+        Some(history) => push_first(words, history, count),
+        None => push_times(words, word),
+    }
 }
 
 /// Short words, one for each event.
@@ -141,6 +155,32 @@ fn words_of(alloc: Global, history: &'static str) -> Result<Vec<&'static str>, H
         push_events(&mut words, word)?;
     }
     Ok(words)
+}
+
+/// A form with what stands for `$1` and `$2`.
+fn filled(alloc: Global, form: &str, first: &str, second: &str) -> Result<String, AllocError> {
+    let half = form.replace(alloc, "$1", first)?;
+    let filled = half.as_str().replace(alloc, "$2", second);
+    drop(half);
+    filled
+}
+
+/// Adds an event in JSON by its form, but for its quotation marks.
+fn push_form(
+    alloc: Global,
+    text: &mut String,
+    number: usize,
+    form: &str,
+) -> Result<(), AllocError> {
+    let (kind, rest) = form.split_once(' ').unwrap_or((form, ""));
+    let minute = number / 60 % 60;
+    let second = number % 60;
+    let event = format!(in alloc;
+        "{{'eventId':'{number}','eventTime':'2024-05-01T10:{minute:02}:{second:02}Z','eventType':'{kind}'{rest}}}"
+    )?;
+    let pushed = text.push_str(event.as_str());
+    drop(event);
+    pushed
 }
 
 /// Adds an event in JSON, but for its quotation marks.
@@ -155,29 +195,34 @@ fn push_event(
     let Some(form) = line_named(FORMS, short) else {
         return Err(HistoryFault::BadWord);
     };
-    let (kind, rest) = form.split_once(' ').unwrap_or((form, ""));
-    let rest = rest.replace(alloc, "$1", first)?;
-    let rest = rest.as_str().replace(alloc, "$2", second)?;
-    let minute = number / 60 % 60;
-    let second = number % 60;
-    let event = format!(in alloc;
-        "{{'eventId':'{number}','eventTime':'2024-05-01T10:{minute:02}:{second:02}Z','eventType':'{kind}'{rest}}}"
-    )?;
-    text.push_str(event.as_str())?;
-    Ok(())
+    let form = filled(alloc, form, first, second)?;
+    let pushed = push_form(alloc, text, number, form.as_str());
+    drop(form);
+    Ok(pushed?)
+}
+
+/// Adds events in JSON, but for their quotation marks, and the end of their list.
+fn push_each(alloc: Global, text: &mut String, words: &[&'static str]) -> Result<(), HistoryFault> {
+    for (place, word) in words.iter().enumerate() {
+        text.push_str(if place == 0 { "" } else { ",\n" })?;
+        push_event(alloc, text, place + 1, word)?;
+    }
+    Ok(text.push_str("]")?)
 }
 
 /// Events in JSON, but for their quotation marks.
 fn events_text(alloc: Global, words: &[&'static str]) -> Result<String, HistoryFault> {
     let mut text = String::from_str(alloc, "[")?;
-    for (place, word) in words.iter().enumerate() {
-        if 0 < place {
-            text.push_str(",\n")?;
-        }
-        push_event(alloc, &mut text, place + 1, word)?;
-    }
-    text.push_str("]")?;
-    Ok(text)
+    let pushed = push_each(alloc, &mut text, words);
+    pushed.and(Ok(text))
+}
+
+/// The events of a history in JSON, but for their quotation marks.
+fn text_of(alloc: Global, history: &'static str) -> Result<String, HistoryFault> {
+    let words = words_of(alloc, history)?;
+    let text = events_text(alloc, words.as_slice());
+    drop(words);
+    text
 }
 
 /// A text with a change, which is what is replaced, `->` and what it becomes.
@@ -188,15 +233,33 @@ fn changed(alloc: Global, text: &str, change: &str) -> Result<String, HistoryFau
     }
 }
 
-/// A history in JSON. Behind the events stand changes of its text, each behind a `|`.
-pub fn json(alloc: Global, history: &'static str) -> Result<String, HistoryFault> {
+/// The events of a history with its changes, but for their quotation marks.
+fn changed_text(alloc: Global, history: &'static str) -> Result<String, HistoryFault> {
     let mut parts = history.split(" | ");
-    let words = words_of(alloc, parts.next().unwrap_or(""))?;
-    let mut text = events_text(alloc, words.as_slice())?;
+    let mut text = text_of(alloc, parts.next().unwrap_or(""))?;
     for change in parts {
         text = changed(alloc, text.as_str(), change)?;
     }
-    Ok(text.as_str().replace(alloc, "'", "\"")?)
+    Ok(text)
+}
+
+/// A history in JSON. Behind the events stand changes of its text, each behind a `|`.
+pub fn json(alloc: Global, history: &'static str) -> Result<String, HistoryFault> {
+    let text = changed_text(alloc, history)?;
+    let json = text.as_str().replace(alloc, "'", "\"");
+    drop(text);
+    Ok(json?)
+}
+
+/// The events that a text stands for.
+fn read(alloc: Global, text: &str) -> Result<Vec<Event>, HistoryFault> {
+    match read_events(alloc, text.as_bytes()) {
+        Ok(events) => Ok(events),
+        Err(fault) => {
+            drop(fault);
+            Err(HistoryFault::Unreadable)
+        }
+    }
 }
 
 /// The events of a history, none of an empty one.
@@ -205,10 +268,17 @@ pub fn events(alloc: Global, history: &'static str) -> Result<Vec<Event>, Histor
         return Ok(Vec::new(alloc));
     }
     let text = json(alloc, history)?;
-    match read_events(alloc, text.as_bytes()) {
-        Ok(events) => Ok(events),
-        Err(_) => Err(HistoryFault::Unreadable),
+    let events = read(alloc, text.as_str());
+    drop(text);
+    events
+}
+
+/// The events behind so many, which are left.
+fn split_behind(events: &mut Vec<Event>, behind: usize) -> Result<Vec<Event>, HistoryFault> {
+    if events.len() < behind {
+        return Err(HistoryFault::BadWord);
     }
+    Ok(events.split_off(behind)?)
 }
 
 /// The events of a history behind so many, or behind as many as the history says itself: those of
@@ -220,10 +290,9 @@ pub fn events_behind(
 ) -> Result<Vec<Event>, HistoryFault> {
     let (history, behind) = counted(history, " behind ", otherwise)?;
     let mut all = events(alloc, history)?;
-    if all.len() < behind {
-        return Err(HistoryFault::BadWord);
-    }
-    Ok(all.split_off(behind)?)
+    let later = split_behind(&mut all, behind);
+    drop(all);
+    later
 }
 
 /// A key of a run, by the id of its workflow.
