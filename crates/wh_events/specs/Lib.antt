@@ -1,3 +1,4 @@
+pub mod Phrases
 pub mod Kinds
 pub mod Cuts
 pub mod Machines

@@ -11,6 +11,7 @@ pub mod laws;
 mod lists;
 mod memory;
 mod number;
+mod phrase;
 mod place;
 
 pub use event::{Event, Payload, opened_id};
@@ -19,4 +20,5 @@ pub use kind::{Class, Effect, EventKind, Role};
 pub use lists::{Items, Text};
 pub use memory::OutOfMemory;
 pub use number::EventNo;
+pub use phrase::{Detail, Phrase};
 pub use place::{MOST_EVENTS, OpenKind, PlaceFault, Status, Thing};

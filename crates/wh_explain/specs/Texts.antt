@@ -3,6 +3,8 @@ use Rattle.std.specs.Prelude.{ℕ, List, [], ◌∷◌, ◌++◌, ◌-◌, lengt
 use Rattle.std.specs.List.{flat_map}
 use Rattle.wh_workflow.specs.declared.command.Command.{Command}
 use Rattle.wh_workflow.specs.ActivationScripts.{Step}
+use Rattle.wh_workflow.specs.Jobs.{job_phrase}
+use Rattle.wh_workflow.specs.Names.{command_phrase}
 use Rattle.wh_tester.specs.Report.{shown, line_text}
 use Rattle.wh_explain.specs.declared.explanation.RecordedEvent.{RecordedEvent}
 use Rattle.wh_explain.specs.declared.explanation.Pairing.{Pairing}
@@ -11,7 +13,7 @@ use Rattle.wh_explain.specs.declared.explanation.Ending.{Ending}
 use Rattle.wh_explain.specs.declared.explanation.Ending.TheVariants.{Refused, Live, Recorded}
 use Rattle.wh_explain.specs.declared.explanation.ExplainedTask.{ExplainedTask}
 use Rattle.wh_explain.specs.declared.explanation.Explanation.{Explanation}
-use Rattle.wh_explain.specs.Phrases.{phrase_text, job_phrase, command_phrase, event_phrase}
+use Rattle.wh_explain.specs.Phrases.{phrase_text, event_phrase}
 
 -- `gives COMMAND`
 abbrev pub gives_line : Command → List ℕ

@@ -8,7 +8,7 @@ ghost use Rattle.wh_explain.specs.Texts.{sends_line, pairing_line, ending_text, 
 ghost use Rattle.wh_explain.specs.Texts.{unknown_line, explanation_text};
 
 use crate::explanation::{Ending, ExplainedTask, Explanation, Pairing, RecordedEvent, Step};
-use crate::phrase::{command_phrase, event_phrase, job_phrase};
+use crate::phrase::{PhraseText, event_phrase};
 use std::io::Write;
 use std::{fmt, io};
 use wh_events::Text;
@@ -24,7 +24,7 @@ impl fmt::Display for EventText<'_> {
 
     fn fmt<W: fmt::Write>(&self, f: &mut fmt::Formatter<W>) -> fmt::Result {
         let number = self.0.number.get();
-        let phrase = event_phrase(self.0);
+        let phrase = PhraseText(event_phrase(self.0));
         write!(f, "{number} {phrase}")
     }
 }
@@ -37,7 +37,7 @@ impl fmt::Display for SendsText<'_> {
     ghost output = { λ t. Some (sends_text t.0.now) };
 
     fn fmt<W: fmt::Write>(&self, f: &mut fmt::Formatter<W>) -> fmt::Result {
-        let phrase = command_phrase(self.0);
+        let phrase = PhraseText(self.0.phrase());
         write!(f, "  sends {phrase}")
     }
 }
@@ -76,7 +76,7 @@ fn write_commands<O: Write>(commands: &[Command], writer: &mut O) -> io::Result<
     ensures { OnOk result (Appends (O.contents writer.old) (O.contents writer.new) (flat_map gives_line commands.now)) }
 {
     for command in commands {
-        let phrase = command_phrase(command);
+        let phrase = PhraseText(command.phrase());
         write!(writer, "    gives {phrase}\n")?;
     }
     Ok(())
@@ -86,7 +86,7 @@ fn write_commands<O: Write>(commands: &[Command], writer: &mut O) -> io::Result<
 fn write_step<O: Write>(step: &Step, writer: &mut O) -> io::Result<()>
     ensures { OnOk result (Appends (O.contents writer.old) (O.contents writer.new) (step_text step.now)) }
 {
-    let phrase = job_phrase(step.job());
+    let phrase = PhraseText(step.job().phrase());
     write!(writer, "  told {phrase}\n")?;
     write_commands(step.commands(), writer)
 }
@@ -112,7 +112,7 @@ fn write_refused<O: Write>(steps: &[Step], writer: &mut O) -> io::Result<()>
     let Some(command) = step.commands().last() else {
         return Ok(());
     };
-    let phrase = command_phrase(command);
+    let phrase = PhraseText(command.phrase());
     write!(writer, "  refuses {phrase}\n")
 }
 

@@ -1,0 +1,87 @@
+//! What is shown of an event, a command or a job: its kind, ids and types, and seconds or versions.
+
+ghost use Rattle.std.specs.Prelude.{◌≡◌};
+ghost use Rattle.wh_events.specs.Phrases.{phrase_seen, bare, named, typed, detailed};
+
+/// What stands behind the ids and types of a phrase.
+#[derive(Clone, Copy)]
+pub enum Detail {
+    /// Nothing does.
+    Nothing,
+    /// A time, in nanoseconds.
+    Time(i128),
+    /// How long something takes, in seconds.
+    Seconds(u64),
+    /// The version of a change.
+    Version(i32),
+    /// The versions of a change that code can run.
+    Range {
+        /// The least.
+        min: i32,
+        /// The greatest.
+        max: i32,
+    },
+}
+
+/// What is shown of an event, a command or a job.
+#[derive(Clone, Copy)]
+pub struct Phrase<'a> {
+    /// The kind of the event, the command or the job.
+    pub kind: &'static str,
+    /// An id, or another name.
+    pub id: Option<&'a str>,
+    /// A type, a signal or an end.
+    pub name: Option<&'a str>,
+    /// What stands behind them.
+    pub detail: Detail,
+}
+
+impl<'a> Phrase<'a> {
+    /// A kind alone.
+    pub fn bare(kind: &'static str) -> Self
+        ensures { phrase_seen result ≡ bare kind.now }
+    {
+        Phrase {
+            kind,
+            id: None,
+            name: None,
+            detail: Detail::Nothing,
+        }
+    }
+
+    /// A kind with an id.
+    pub fn named(kind: &'static str, id: &'a str) -> Self
+        ensures { phrase_seen result ≡ named kind.now id.now }
+    {
+        Phrase {
+            kind,
+            id: Some(id),
+            name: None,
+            detail: Detail::Nothing,
+        }
+    }
+
+    /// A kind with an id and a type.
+    pub fn typed(kind: &'static str, id: &'a str, name: &'a str) -> Self
+        ensures { phrase_seen result ≡ typed kind.now id.now name.now }
+    {
+        Phrase {
+            kind,
+            id: Some(id),
+            name: Some(name),
+            detail: Detail::Nothing,
+        }
+    }
+
+    /// A kind with an id and what stands behind it.
+    pub fn detailed(kind: &'static str, id: &'a str, detail: Detail) -> Self
+        ensures { phrase_seen result ≡ detailed kind.now id.now detail }
+    {
+        Phrase {
+            kind,
+            id: Some(id),
+            name: None,
+            detail,
+        }
+    }
+}
