@@ -1,12 +1,12 @@
 -- The commands of a step, issued one after another.
-use Rattle.std.proofs.Common.{◌≡◌, ℕ, Bool, true, false, cond, List, [], ◌∷◌, ◌++◌, Option, Some, None, is_some, Result, Ok, Err, ℤ, refl, sym, ap, ◌∙◌, append-nil}
+use Rattle.std.proofs.Common.{◌≡◌, ℕ, cond, List, [], ◌∷◌, ◌++◌, Option, Some, None, is_some, Result, Ok, Err, ℤ, refl, ap, ◌∙◌}
 use Rattle.wh_workflow.specs.declared.command.Command.{Command}
-use Rattle.wh_workflow.specs.declared.command.Command.TheVariants.{Ask, Marker}
 use Rattle.wh_workflow.specs.declared.fault.WorkflowFault.{WorkflowFault}
 use Rattle.wh_workflow.specs.Scripts.{Standpoint, Settled, act_of, choice_of, command_fault, reduced}
-use Rattle.wh_workflow.specs.Activations.{unless_fault, Script, issue_all, marker_if}
-use Rattle.wh_match.specs.Issuing.{Issuing, standpoint_at, standpoint_in, is_late_act, late_marks, with_issued, unmarked_if, with_asked, reduced_by}
-use Rattle.wh_match.proofs.Reducing.{late_marks-push, reduced_by-standpoint}
+use Rattle.wh_workflow.specs.Activations.{unless_fault, Script, issue_all}
+use Rattle.wh_match.specs.Issuing.{Issuing, standpoint_at, standpoint_in, is_late_act, with_issued, with_asked, reduced_by}
+use Rattle.wh_match.proofs.Reducing.{reduced_by-standpoint}
+use Rattle.wh_replay.proofs.Responding.{issued_late, asked_late}
 use Rattle.wh_replay.specs.Views.{script}
 use Rattle.wh_explain.specs.declared.cut.Cut.{Cut}
 use Rattle.wh_explain.specs.Tracing.{stood}
@@ -21,34 +21,16 @@ pub issued_of : (cut : Cut) (s next : Issuing) (command : Command) → IsOf cut 
 issued_of cut s next command of is = record {
   previous = ap (λ (n : Issuing). n.previous) is ∙ of.previous;
   number = ap (λ (n : Issuing). n.cut) is ∙ of.number;
-  late =
-      ap (λ (n : Issuing). n.late) is
-      ∙ (ap (λ standpoint. s.late ++ is_late_act standpoint s.issued (act_of command) ∷ []) (place_is cut s of)
-      ∙ (ap (λ l. l ++ is_late_act (standpoint_of cut) s.issued (act_of command) ∷ []) of.late
-      ∙ (sym (late_marks-push (standpoint_of cut) s.issued command) ∙ sym (ap (λ (n : Issuing). late_marks (standpoint_of cut) n.issued) is))));
+  late = issued_late (standpoint_of cut) _ s next command (place_is cut s of) of.late is;
 }
-
-marks_asked : (standpoint : Standpoint) (issued : List Command) (change_id : List ℕ) (low high version : ℤ) (marked : Bool)
-    → (late_marks standpoint issued ++ false ∷ []) ++ unmarked_if marked ≡ late_marks standpoint ((issued ++ Ask change_id low high ∷ []) ++ marker_if marked change_id version)
-marks_asked standpoint issued change_id low high version true =
-    let ask = Ask change_id low high in
-    ap (λ l. l ++ false ∷ []) (sym (late_marks-push standpoint issued ask)) ∙ sym (late_marks-push standpoint (issued ++ ask ∷ []) (Marker change_id version))
-marks_asked standpoint issued change_id low high version false =
-    let ask = Ask change_id low high in
-    append-nil (late_marks standpoint issued ++ false ∷ []) ∙ (sym (late_marks-push standpoint issued ask) ∙ ap (late_marks standpoint) (sym (append-nil (issued ++ ask ∷ []))))
 
 -- nor does an ask change that
 pub asked_of : (cut : Cut) (s next : Issuing) (settled : Settled) (change_id : List ℕ) (low high : ℤ) → IsOf cut s → next ≡ with_asked s change_id low high (choice_of (standpoint_of cut) settled change_id high) → IsOf cut next
-asked_of cut s next settled change_id low high of is =
-    let choice = choice_of (standpoint_of cut) settled change_id high in
-    record {
-      previous = ap (λ (n : Issuing). n.previous) is ∙ of.previous;
-      number = ap (λ (n : Issuing). n.cut) is ∙ of.number;
-      late =
-          ap (λ (n : Issuing). n.late) is
-          ∙ (ap (λ l. (l ++ false ∷ []) ++ unmarked_if choice.marked) of.late
-          ∙ (marks_asked (standpoint_of cut) s.issued change_id low high choice.version choice.marked ∙ sym (ap (λ (n : Issuing). late_marks (standpoint_of cut) n.issued) is)));
-    }
+asked_of cut s next settled change_id low high of is = record {
+  previous = ap (λ (n : Issuing). n.previous) is ∙ of.previous;
+  number = ap (λ (n : Issuing). n.cut) is ∙ of.number;
+  late = asked_late (standpoint_of cut) s next settled change_id low high of.late is;
+}
 
 -- what is sent of a script
 pub sent_is : (cut : Cut) (s : Issuing) (sent : List Command) → IsOf cut s → sent ≡ reduced_by s.late s.issued → sent ≡ reduced (standpoint_of cut) s.issued

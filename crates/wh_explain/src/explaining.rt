@@ -53,6 +53,17 @@ fn nothing(alloc: Global) -> Told
     }
 }
 
+/// A workflow type is told, for which there is no code.
+fn no_code(alloc: Global, kind: &str) -> Result<Told, OutOfMemory>
+    ensures tasks { IfOk result (λ told. told.tasks.items ≡ []) }
+    ensures unknown { IfOk result (λ told. told.unknown ≡ Some kind.now) }
+{
+    Ok(Told {
+        unknown: Some(Text::new(String::from_str(alloc, kind)?)),
+        tasks: Vec::new(alloc),
+    })
+}
+
 /// How a task ends, of whose commands the last has the fault, if there is one.
 fn end_task(
     alloc: Global,
@@ -178,10 +189,7 @@ fn explain_track<W: Workflow>(alloc: Global, track: &Track) -> Result<Told, OutO
 {
     let kind = workflow_of(track.events());
     if !W::handles(kind) {
-        return Ok(Told {
-            unknown: Some(Text::new(String::from_str(alloc, kind)?)),
-            tasks: Vec::new(alloc),
-        });
+        return no_code(alloc, kind);
     }
     let reached = Reached {
         state: W::begin(alloc, kind)?,

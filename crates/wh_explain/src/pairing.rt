@@ -2,6 +2,7 @@
 ghost use Rattle.std.specs.Prelude.{◌≡◌, IfOk};
 ghost use Rattle.std.specs.List.{list_any};
 ghost use Rattle.wh_events.specs.Cuts.{commanded};
+ghost use Rattle.wh_explain.specs.declared.explanation.Pairing.TheVariants.{CommandMissing};
 ghost use Rattle.wh_explain.specs.Pairings.{referred_id, recorded_event, pairing_of, pairings, differs};
 
 use crate::explanation::{Pairing, RecordedEvent};
@@ -61,6 +62,15 @@ fn pair(
     }
 }
 
+/// An event for which no command is left.
+fn alone(alloc: Global, history: &[Event], event: &Event) -> Result<Pairing, OutOfMemory>
+    ensures { IfOk result (λ pairing. pairing ≡ CommandMissing (recorded_event history.now event.now)) }
+{
+    Ok(Pairing::CommandMissing {
+        event: recorded_event(alloc, history, event)?,
+    })
+}
+
 /// What is sent beside the commanded events, up to the first difference.
 pub(crate) fn pair_up(
     alloc: Global,
@@ -74,12 +84,12 @@ pub(crate) fn pair_up(
     let mut index = 0;
     for event in events {
         if matches!(event.class(), Class::Commanded) {
+            paired.reserve(1)?;
             if index == sent.len() {
-                let event = recorded_event(alloc, history, event)?;
-                paired.push(Pairing::CommandMissing { event })?;
+                paired.push_reserved(alone(alloc, history, event)?);
                 return Ok(paired);
             }
-            paired.push(pair(alloc, history, &sent[index], event)?)?;
+            paired.push_reserved(pair(alloc, history, &sent[index], event)?);
             if !sent[index].names(history, &event.body) {
                 return Ok(paired);
             }
@@ -87,8 +97,10 @@ pub(crate) fn pair_up(
         }
     }
     if index < sent.len() {
-        let command = sent[index].try_copy()?;
-        paired.push(Pairing::CommandExtra { command })?;
+        paired.reserve(1)?;
+        paired.push_reserved(Pairing::CommandExtra {
+            command: sent[index].try_copy()?,
+        });
     }
     Ok(paired)
 }

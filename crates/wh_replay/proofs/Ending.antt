@@ -8,6 +8,7 @@ use Rattle.wh_events.specs.declared.kind.EventKind.{EventKind}
 use Rattle.wh_events.specs.declared.kind.EventKind.TheVariants.{WorkflowTaskStarted}
 use Rattle.wh_events.specs.Machines.{Machine, machines_of}
 use Rattle.wh_events.specs.Cuts.{is_task_started_kind, is_task_started}
+use Rattle.wh_events.specs.Places.{fault_after}
 use Rattle.wh_workflow.specs.declared.command.Command.{Command}
 use Rattle.wh_workflow.specs.Law.{Program, IsLawful}
 use Rattle.wh_workflow.specs.Scripts.{Settled}
@@ -23,7 +24,7 @@ use Rattle.wh_replay.specs.declared.fault.RunFault.TheVariants.{Fault as Faulty,
 use Rattle.wh_replay.specs.Checks.{Answers}
 use Rattle.wh_replay.specs.Tracking.{joined}
 use Rattle.wh_replay.specs.Advances.{GivesHistory}
-use Rattle.wh_replay.proofs.Resuming.{run_replay, replay_parts, replayed_gives, replayed_fault, misplaced, advanced_gives, advanced_counts, advanced_fault}
+use Rattle.wh_replay.proofs.Resuming.{taken_parts, run_replay, replay_parts, replayed_gives, replayed_fault, misplaced, advanced_gives, advanced_counts, advanced_fault}
 use Rattle.wh_events.proofs.Standing.{no_fault_where_in_place}
 use Rattle.wh_workflow.specs.Counting.{risen}
 
@@ -108,6 +109,17 @@ module _ {S : Type 0} where
     pub joins : joined ≡ before ++ new
     pub count : held ≡ length before
     pub below : meter ≤ top
+
+  -- it is so where new events were taken behind held ones
+  pub is_longer : (program : Program S) (before new track : List Event) (held meter : ℕ) (state : S) (settled : Settled) (unsent : List Command) → IsRun program before state settled unsent → ends_in_task new ≡ true → joined before new ≡ Ok track → held ≡ length before → meter ≤ top
+      → IsLonger program before new track held meter state settled unsent
+  is_longer program before new track held meter state settled unsent run ends taken count below = record {
+    run = run;
+    ends = ends;
+    joins = sym (taken_parts (fault_after before new) (before ++ new) track taken).1;
+    count = count;
+    below = below;
+  }
 
   pub kept_run : (program : Program S) (before new joined : List Event) (held meter : ℕ) (state : S) (settled : Settled) (unsent : List Command) → IsLonger program before new joined held meter state settled unsent → IsRun program (take held joined) state settled unsent
   kept_run program before new joined held meter state settled unsent h =

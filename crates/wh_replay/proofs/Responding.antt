@@ -122,16 +122,20 @@ gives_then (Err OutOfMemory) defined seen next whole_seen same gives = tt
 pub place_is : (cut : Cut) (s : Issuing) → IsOf cut s → standpoint_in cut.track.now s (standpoint_of cut).recorded ≡ standpoint_of cut
 place_is cut s of = ap (λ k. standpoint_at cut.track.now k s.cut (standpoint_of cut).recorded) of.previous ∙ ap (λ k. standpoint_at cut.track.now cut.previous k (standpoint_of cut).recorded) of.number
 
+-- one more command has the mark of its standpoint
+pub issued_late : (standpoint here : Standpoint) (s next : Issuing) (command : Command) → here ≡ standpoint → s.late ≡ late_marks standpoint s.issued → next ≡ with_issued s command (is_late_act here s.issued (act_of command)) → next.late ≡ late_marks standpoint next.issued
+issued_late standpoint here s next command place late is =
+    ap (λ (n : Issuing). n.late) is
+    ∙ (ap (λ standpoint. s.late ++ is_late_act standpoint s.issued (act_of command) ∷ []) place
+    ∙ (ap (λ l. l ++ is_late_act standpoint s.issued (act_of command) ∷ []) late
+    ∙ (sym (late_marks-push standpoint s.issued command) ∙ sym (ap (λ (n : Issuing). late_marks standpoint n.issued) is))))
+
 -- a script with one more command is still that of its cut
 pub issued_of : (cut : Cut) (s next : Issuing) (command : Command) → IsOf cut s → next ≡ with_issued s command (is_late_act (standpoint_in cut.track.now s (standpoint_of cut).recorded) s.issued (act_of command)) → IsOf cut next
 issued_of cut s next command of is = record {
   previous = ap (λ (n : Issuing). n.previous) is ∙ of.previous;
   number = ap (λ (n : Issuing). n.cut) is ∙ of.number;
-  late =
-      ap (λ (n : Issuing). n.late) is
-      ∙ (ap (λ standpoint. s.late ++ is_late_act standpoint s.issued (act_of command) ∷ []) (place_is cut s of)
-      ∙ (ap (λ l. l ++ is_late_act (standpoint_of cut) s.issued (act_of command) ∷ []) of.late
-      ∙ (sym (late_marks-push (standpoint_of cut) s.issued command) ∙ sym (ap (λ (n : Issuing). late_marks (standpoint_of cut) n.issued) is))));
+  late = issued_late (standpoint_of cut) _ s next command (place_is cut s of) of.late is;
 }
 
 marks_asked : (standpoint : Standpoint) (issued : List Command) (change_id : List ℕ) (low high version : ℤ) (marked : Bool)
@@ -143,17 +147,20 @@ marks_asked standpoint issued change_id low high version false =
     let ask = Ask change_id low high in
     append-nil (late_marks standpoint issued ++ false ∷ []) ∙ (sym (late_marks-push standpoint issued ask) ∙ ap (late_marks standpoint) (sym (append-nil (issued ++ ask ∷ []))))
 
+-- an ask has the mark of none that is late, and so has its marker
+pub asked_late : (standpoint : Standpoint) (s next : Issuing) (settled : Settled) (change_id : List ℕ) (low high : ℤ) → s.late ≡ late_marks standpoint s.issued → next ≡ with_asked s change_id low high (choice_of standpoint settled change_id high) → next.late ≡ late_marks standpoint next.issued
+asked_late standpoint s next settled change_id low high late is =
+    let choice = choice_of standpoint settled change_id high in
+    ap (λ (n : Issuing). n.late) is
+    ∙ (ap (λ l. (l ++ false ∷ []) ++ unmarked_if choice.marked) late
+    ∙ (marks_asked standpoint s.issued change_id low high choice.version choice.marked ∙ sym (ap (λ (n : Issuing). late_marks standpoint n.issued) is)))
+
 asked_here : (cut : Cut) (s next : Issuing) (settled : Settled) (change_id : List ℕ) (low high : ℤ) → IsOf cut s → next ≡ with_asked s change_id low high (choice_of (standpoint_of cut) settled change_id high) → IsOf cut next
-asked_here cut s next settled change_id low high of is =
-    let choice = choice_of (standpoint_of cut) settled change_id high in
-    record {
-      previous = ap (λ (n : Issuing). n.previous) is ∙ of.previous;
-      number = ap (λ (n : Issuing). n.cut) is ∙ of.number;
-      late =
-          ap (λ (n : Issuing). n.late) is
-          ∙ (ap (λ l. (l ++ false ∷ []) ++ unmarked_if choice.marked) of.late
-          ∙ (marks_asked (standpoint_of cut) s.issued change_id low high choice.version choice.marked ∙ sym (ap (λ (n : Issuing). late_marks (standpoint_of cut) n.issued) is)));
-    }
+asked_here cut s next settled change_id low high of is = record {
+  previous = ap (λ (n : Issuing). n.previous) is ∙ of.previous;
+  number = ap (λ (n : Issuing). n.cut) is ∙ of.number;
+  late = asked_late (standpoint_of cut) s next settled change_id low high of.late is;
+}
 
 -- nor does an ask change that
 pub asked_of : (cut : Cut) (s next : Issuing) (settled : Settled) (change_id : List ℕ) (low high : ℤ) (recorded : Option (List Event)) → recorded ≡ (standpoint_of cut).recorded → IsOf cut s
