@@ -1,7 +1,7 @@
 //! One turn of a worker.
 ghost use Rattle.std.specs.Prelude.{◌≡◌, ◌≤◌, IfErr, IfOk, IfSome, MatchOption, MatchResult};
 ghost use Rattle.wh_tasks.specs.Source.{KeepsOrigin, SameTasks, SameMay, FailsOnly};
-ghost use Rattle.wh_tasks.specs.Source.{Workflow as WorkflowDelivery};
+ghost use Rattle.wh_tasks.specs.Source.{Workflow as WorkflowDelivery, Activity as ActivityDelivery};
 ghost use Rattle.wh_tasks.specs.Tasks.{FailsOnlySource};
 ghost use Rattle.wh_poll.specs.Serve.{Serves, ServesWorkflow, ServesActivity, Sends, IsOfKind};
 ghost use Rattle.wh_poll.specs.Serve.{Counts, MayCount, with_taken, ended, unanswered};
@@ -15,7 +15,9 @@ use wh_host::{Host, Outcome};
 use wh_ledger::Seat;
 use wh_replay::Run;
 use wh_slots::{Held, Permit, ReserveFault, SlotKind, TaskName};
-use wh_tasks::{ActivityHandler, Gate, Polled, SourceFault, StepFault, TaskSource, WorkflowTask};
+use wh_tasks::{
+    ActivityHandler, ActivityTask, Gate, Polled, SourceFault, StepFault, TaskSource, WorkflowTask,
+};
 use wh_workflow::Workflow;
 
 /// What one turn of a worker did.
@@ -148,7 +150,10 @@ fn serve_workflow<R: Wait, W: Workflow, T: Ledger, C: Ledger, F: Ledger, S: Task
     let name = task.name;
     let (held, cached) = match take_workflow(rt, host, permit, &task, seat) {
         Ok(taken) => taken,
-        Err(served) => return Ok(served),
+        Err(served) => {
+            drop(task);
+            return Ok(served);
+        }
     };
     gate.enter(rt, name);
     let sent = answer_held(rt, alloc, host, &held, cached, task, source);
@@ -224,20 +229,39 @@ fn serve_activity<
     ensures origin { KeepsOrigin S.comes_from source.old source.new }
     ensures may { SameMay (A.may handler.old) (A.may handler.new) }
 {
-    let task = match source.poll_activity() {
-        Ok(Polled::Task(task)) => task,
-        Ok(Polled::Nothing) => return released(rt, host, permit, Ok(Served::Idle)),
-        Ok(Polled::Closed) => return released(rt, host, permit, Ok(Served::Closed)),
-        Err(fault) => return released(rt, host, permit, Err(fault)),
+    let task = match polled_activity(source) {
+        Ok(task) => task,
+        Err(served) => return released(rt, host, permit, served),
     };
     let name = task.name;
     let Some(held) = take_activity(rt, host, permit, name, seat) else {
+        drop(task);
         return Ok(Served::Repeated { name });
     };
     let sent = answer_by_handler(&task, source, handler);
     drop(task);
     finish(rt, host, held, sent.unwrap_or(Outcome::Failed), seat);
     served_activity(name, sent)
+}
+
+/// Polls an activity task. Without one the turn has served what the poll says.
+fn polled_activity<S: TaskSource>(
+    source: &mut S,
+) -> Result<ActivityTask, Result<Served, SourceFault>>
+    ensures task { IfOk result (λ task. S.delivers source.old (ActivityDelivery task)) }
+    ensures none { IfErr result HasNoTask }
+    ensures failures { MatchResult result (λ _. S.failures source.old ≤ S.failures source.new)
+        (λ served. FailsOnly served (S.failures source.old) (S.failures source.new)) }
+    ensures same { SameTasks (S.delivers source.old) (S.tells source.old) (S.delivers source.new) (S.tells source.new) }
+    ensures origin { KeepsOrigin S.comes_from source.old source.new }
+    ensures answers { S.answers source.new ≡ S.answers source.old }
+{
+    match source.poll_activity() {
+        Ok(Polled::Task(task)) => Ok(task),
+        Ok(Polled::Nothing) => Err(Ok(Served::Idle)),
+        Ok(Polled::Closed) => Err(Ok(Served::Closed)),
+        Err(fault) => Err(Err(fault)),
+    }
 }
 
 /// What serving a workflow task answers, by what was sent.
