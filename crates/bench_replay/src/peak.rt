@@ -24,11 +24,19 @@ const LEAST: u64 = TASKS * 896;
 /// How many KiB the call takes at most: 16 blocks.
 const MOST: u64 = 16 * 1024;
 
+/// The KiB that a size of the process's status says.
+fn kib_of(size: &str) -> Option<u64> {
+    size.trim().strip_suffix(" kB")?.parse::<u64>().ok()
+}
+
 /// The peak that the process's status names.
 fn peak_in(status: &[u8]) -> Option<u64> {
-    for line in str::from_utf8(status).ok()?.lines() {
+    let Ok(status) = str::from_utf8(status) else {
+        return None;
+    };
+    for line in status.lines() {
         if let Some(size) = line.strip_prefix("VmHWM:") {
-            return size.trim().strip_suffix(" kB")?.parse::<u64>().ok();
+            return kib_of(size);
         }
     }
     None

@@ -1,6 +1,6 @@
 //! Calls on files: reading one, and checking some.
 
-use crate::calls::saying::{is_asked, say, say_left};
+use crate::calls::saying::{say, say_left};
 use std::alloc::Global;
 use std::rt::Runtime;
 use std::thread::Threads;
@@ -10,8 +10,10 @@ use wh_tester::check_all;
 use wh_workflow::Workflow;
 
 /// Reads a history.
-fn read<R: Runtime + AllocGlobal>(rt: &R, name: &str) -> Option<()> {
-    let text = json(rt.alloc(), "nap").ok()?;
+pub(crate) fn read<R: Runtime + AllocGlobal>(rt: &R, name: &str) -> Option<()> {
+    let Ok(text) = json(rt.alloc(), "nap") else {
+        return None;
+    };
     say(rt, name, "before", &text.len());
     let answer = read_events(rt.alloc(), text.as_bytes());
     say_left(rt, name, &answer, &text.len());
@@ -23,40 +25,32 @@ fn read<R: Runtime + AllocGlobal>(rt: &R, name: &str) -> Option<()> {
 /// The file of a history, with its name.
 fn file_of(alloc: Global, name: &str, history: &'static str) -> Option<(String, Vec<u8>)> {
     let name = String::from_str(alloc, name).ok();
-    let (name, text) = name.zip(json(alloc, history).ok())?;
+    let Some((name, text)) = name.zip(json(alloc, history).ok()) else {
+        return None;
+    };
     Some((name, text.into_bytes()))
 }
 
 /// Two files.
 fn two_files(alloc: Global) -> Option<Vec<(String, Vec<u8>)>> {
     let nap = file_of(alloc, "nap", "nap");
-    let (nap, live) = nap.zip(file_of(alloc, "live", "nap/8"))?;
+    let Some((nap, live)) = nap.zip(file_of(alloc, "live", "nap/8")) else {
+        return None;
+    };
     [nap, live].into_iter().collect(alloc).ok()
 }
 
 /// Checks two files.
-fn check<R: Runtime + AllocGlobal + Threads + Sync, W: Workflow + Send>(
+pub(crate) fn check<R: Runtime + AllocGlobal + Threads + Sync, W: Workflow + Send>(
     rt: &R,
     name: &str,
 ) -> Option<()> {
-    let files = two_files(rt.alloc())?;
+    let Some(files) = two_files(rt.alloc()) else {
+        return None;
+    };
     say(rt, name, "before", &());
     let answer = check_all::<W>(rt, rt.alloc(), files);
     say_left(rt, name, &answer, &());
     drop(answer);
-    Some(())
-}
-
-/// Makes each of these calls that has this name, or all where it is "".
-pub(crate) fn call_all<R: Runtime + AllocGlobal + Threads + Sync, W: Workflow + Send>(
-    rt: &R,
-    named: &str,
-) -> Option<()> {
-    if is_asked("read_events", named) {
-        read(rt, "read_events")?;
-    }
-    if is_asked("check_all", named) {
-        check::<R, W>(rt, "check_all")?;
-    }
     Some(())
 }

@@ -2,8 +2,9 @@
 
 ghost use Rattle.std.specs.Prelude.{◌≡◌};
 
+use crate::calls::Call;
 use crate::calls::runs::{put_seen, source_of};
-use crate::calls::saying::{is_asked, run_of, say, say_left};
+use crate::calls::saying::{run_of, say, say_left};
 use std::marker::Brand;
 use std::rt::Runtime;
 use std::sync::Wait;
@@ -11,25 +12,13 @@ use std::sync::ledger::{Blank, Ledger};
 use wh_cache::Sticky;
 use wh_events::RunKey;
 use wh_histories::key;
-use wh_host::{Config, Given, Host, HostState};
+use wh_host::{Config, Given, Host, HostState, OpenFault};
 use wh_ledger::{Books, Seat};
 use wh_poll::{NoActivities, OpenGate, serve_one};
 use wh_recorded::ScriptSource;
 use wh_replay::Run;
 use wh_slots::{Held, SlotKind, Slots, TaskName};
 use wh_workflow::Workflow;
-
-/// The names of the calls.
-const NAMES: [&str; 8] = [
-    "Books::open",
-    "Slots::open",
-    "Sticky::open",
-    "HostState::open",
-    "HostState::open without workflow slots",
-    "Host::open",
-    "give_run",
-    "serve_one",
-];
 
 /// A small host.
 const SMALL: Config = Config {
@@ -41,7 +30,7 @@ const SMALL: Config = Config {
 };
 
 /// Opens slots.
-fn open_slots<R: Runtime + AllocGlobal>(rt: &R, name: &str) {
+pub(crate) fn open_slots<R: Runtime + AllocGlobal>(rt: &R, name: &str) -> Option<()> {
     say(rt, name, "before", &());
     let opened = Slots::open(rt.alloc(), SlotKind::Workflow, 3);
     let answer = match &opened {
@@ -50,10 +39,11 @@ fn open_slots<R: Runtime + AllocGlobal>(rt: &R, name: &str) {
     };
     say_left(rt, name, &answer, &());
     drop(opened);
+    Some(())
 }
 
 /// Opens a cache.
-fn open_cache<R: Runtime + AllocGlobal, W: Workflow>(rt: &R, name: &str) {
+pub(crate) fn open_cache<R: Runtime + AllocGlobal, W: Workflow>(rt: &R, name: &str) -> Option<()> {
     say(rt, name, "before", &());
     let opened = Sticky::<W>::open(rt.alloc(), 3, 0);
     let answer = match &opened {
@@ -62,28 +52,47 @@ fn open_cache<R: Runtime + AllocGlobal, W: Workflow>(rt: &R, name: &str) {
     };
     say_left(rt, name, &answer, &());
     drop(opened);
+    Some(())
+}
+
+/// Prints what stands before or after a call that opens something, which is nothing. No line about
+/// another call.
+fn say_beside<R: Runtime>(rt: &R, call: Call, part: &str) {
+    if !matches!(call, Call::GiveRun | Call::ServeOne) {
+        say(rt, call.name(), part, &());
+    }
+}
+
+/// Prints why nothing could be opened. `None` where that was to be called.
+fn say_fault<R: Runtime>(rt: &R, call: Call, fault: OpenFault) -> Option<()> {
+    if matches!(call, Call::GiveRun | Call::ServeOne) {
+        return None;
+    }
+    say(rt, call.name(), "answer", &fault);
+    Some(())
 }
 
 /// Opens books.
 fn open_books<R: Runtime + AllocGlobal, T: Ledger, C: Ledger, F: Ledger>(
     rt: &R,
-    name: &str,
+    call: Call,
     taken: Blank,
     completed: Blank,
     failed: Blank,
-)
+) -> Option<()>
     requires taken { (taken.name ≡ T.name) × (taken.parts ≡ T.parts) × (taken.parts ≡ 1) }
     requires completed { (completed.name ≡ C.name) × (completed.parts ≡ C.parts) × (completed.parts ≡ 1) }
     requires failed { (failed.name ≡ F.name) × (failed.parts ≡ F.parts) × (failed.parts ≡ 1) }
 {
-    say(rt, name, "before", &());
+    say_beside(rt, call, "before");
     let opened = Books::<T, C, F>::open(rt.alloc(), 1, taken, completed, failed);
     match &opened {
-        Ok((books, _)) => say(rt, name, "answer", &books.totals()),
-        Err(fault) => say(rt, name, "answer", fault),
+        Ok((books, _)) => say(rt, call.name(), "answer", &books.totals()),
+        Err(fault) => say(rt, call.name(), "answer", fault),
     }
     drop(opened);
-    say(rt, name, "after", &());
+    say_beside(rt, call, "after");
+    Some(())
 }
 
 /// Prints what the state of a host has counted.
@@ -98,47 +107,6 @@ fn say_counts<R: Runtime, W: Workflow, T: Ledger, C: Ledger, F: Ledger>(
     say(rt, name, part, &counts);
 }
 
-/// Prints what an opened state of a host has counted.
-fn say_opened<R: Runtime, W: Workflow, T: Ledger, C: Ledger, F: Ledger>(
-    rt: &R,
-    name: &str,
-    host: HostState<W, T, C, F>,
-    seats: Vec<Seat<T, C, F>>,
-) {
-    let mut host = host;
-    let mut seats = seats;
-    if let Some(seat) = seats.as_mut_slice().first_mut() {
-        say_counts(rt, name, "answer", &mut host, seat);
-    }
-    drop(seats);
-    drop(host);
-}
-
-/// Opens the state of a host with so many workflow slots, of which it needs one at least.
-fn open_state<R: Runtime + AllocGlobal, W: Workflow, T: Ledger, C: Ledger, F: Ledger>(
-    rt: &R,
-    name: &str,
-    workflow_slots: usize,
-    taken: Blank,
-    completed: Blank,
-    failed: Blank,
-)
-    requires taken { (taken.name ≡ T.name) × (taken.parts ≡ T.parts) × (taken.parts ≡ 1) }
-    requires completed { (completed.name ≡ C.name) × (completed.parts ≡ C.parts) × (completed.parts ≡ 1) }
-    requires failed { (failed.name ≡ F.name) × (failed.parts ≡ F.parts) × (failed.parts ≡ 1) }
-{
-    let config = Config {
-        workflow_slots,
-        ..SMALL
-    };
-    say(rt, name, "before", &());
-    match HostState::<W, T, C, F>::open(rt.alloc(), config, taken, completed, failed) {
-        Ok((host, seats)) => say_opened(rt, name, host, seats),
-        Err(fault) => say(rt, name, "answer", &fault),
-    }
-    say(rt, name, "after", &());
-}
-
 /// Prints what a host has counted.
 fn say_shared<R: Runtime + Wait, W: Workflow, T: Ledger, C: Ledger, F: Ledger>(
     rt: &R,
@@ -149,41 +117,6 @@ fn say_shared<R: Runtime + Wait, W: Workflow, T: Ledger, C: Ledger, F: Ledger>(
 ) {
     let counts = host.lock(rt).counts(seat);
     say(rt, name, part, &counts);
-}
-
-/// Prints what an opened host has counted.
-fn say_open<R: Runtime + Wait, W: Workflow, T: Ledger, C: Ledger, F: Ledger>(
-    rt: &R,
-    name: &str,
-    host: Host<W, T, C, F>,
-    seats: Vec<Seat<T, C, F>>,
-) {
-    let mut seats = seats;
-    if let Some(seat) = seats.as_mut_slice().first_mut() {
-        say_shared(rt, name, "answer", &host, seat);
-    }
-    drop(seats);
-    drop(host);
-}
-
-/// Opens a host.
-fn open_host<R: Runtime + AllocGlobal + Wait, W: Workflow, T: Ledger, C: Ledger, F: Ledger>(
-    rt: &R,
-    name: &str,
-    taken: Blank,
-    completed: Blank,
-    failed: Blank,
-)
-    requires taken { (taken.name ≡ T.name) × (taken.parts ≡ T.parts) × (taken.parts ≡ 1) }
-    requires completed { (completed.name ≡ C.name) × (completed.parts ≡ C.parts) × (completed.parts ≡ 1) }
-    requires failed { (failed.name ≡ F.name) × (failed.parts ≡ F.parts) × (failed.parts ≡ 1) }
-{
-    say(rt, name, "before", &());
-    match Host::<W, T, C, F>::open(rt.alloc(), SMALL, taken, completed, failed) {
-        Ok((host, seats)) => say_open(rt, name, host, seats),
-        Err(fault) => say(rt, name, "answer", &fault),
-    }
-    say(rt, name, "after", &());
 }
 
 /// What became of a run that was given back, and how many events the run holds that came back, if
@@ -206,9 +139,13 @@ fn take<W: Workflow, T: Ledger, C: Ledger, F: Ledger>(
         drop(key);
         return None;
     };
-    let (held, run) = host.use_workflow(permit, TaskName(7), key, seat).ok()?;
-    drop(run);
-    Some(held)
+    match host.use_workflow(permit, TaskName(7), key, seat) {
+        Ok((held, run)) => {
+            drop(run);
+            Some(held)
+        }
+        Err(_) => None,
+    }
 }
 
 /// Gives a run back under its task in hand.
@@ -234,18 +171,41 @@ fn give_nap<R: Runtime + AllocGlobal, W: Workflow, T: Ledger, C: Ledger, F: Ledg
     host: &mut HostState<W, T, C, F>,
     seat: &mut Seat<T, C, F>,
 ) -> Option<()> {
-    let key = key(rt.alloc(), "nap").ok()?;
+    let Ok(key) = key(rt.alloc(), "nap") else {
+        return None;
+    };
     let held = take(host, seat, key);
-    let (held, run) = held.zip(run_of::<W>(rt.alloc(), "nap", "nap/3"))?;
+    let Some((held, run)) = held.zip(run_of::<W>(rt.alloc(), "nap", "nap/3")) else {
+        return None;
+    };
     give_back(rt, name, host, seat, &held, run);
     drop(held);
     Some(())
 }
 
-/// Opens the state of a host, and gives a run back to it.
-fn give_run<R: Runtime + AllocGlobal, W: Workflow, T: Ledger, C: Ledger, F: Ledger>(
+/// Makes a call on the state of a host with its first seat: gives a run back to it, or tells what it
+/// has counted.
+fn on_state<R: Runtime + AllocGlobal, W: Workflow, T: Ledger, C: Ledger, F: Ledger>(
     rt: &R,
-    name: &str,
+    call: Call,
+    host: &mut HostState<W, T, C, F>,
+    seats: &mut [Seat<T, C, F>],
+) -> Option<()> {
+    let Some(seat) = seats.first_mut() else {
+        return None;
+    };
+    if matches!(call, Call::GiveRun) {
+        return give_nap(rt, call.name(), host, seat);
+    }
+    say_counts(rt, call.name(), "answer", host, seat);
+    Some(())
+}
+
+/// Opens the state of a host, with no workflow slots where the call is to be refused, and makes a
+/// call on it.
+fn call_state<R: Runtime + AllocGlobal, W: Workflow, T: Ledger, C: Ledger, F: Ledger>(
+    rt: &R,
+    call: Call,
     taken: Blank,
     completed: Blank,
     failed: Blank,
@@ -254,15 +214,19 @@ fn give_run<R: Runtime + AllocGlobal, W: Workflow, T: Ledger, C: Ledger, F: Ledg
     requires completed { (completed.name ≡ C.name) × (completed.parts ≡ C.parts) × (completed.parts ≡ 1) }
     requires failed { (failed.name ≡ F.name) × (failed.parts ≡ F.parts) × (failed.parts ≡ 1) }
 {
-    let opened = HostState::<W, T, C, F>::open(rt.alloc(), SMALL, taken, completed, failed);
-    let (mut host, mut seats) = opened.ok()?;
-    let given = match seats.as_mut_slice().first_mut() {
-        Some(seat) => give_nap(rt, name, &mut host, seat),
-        None => None,
+    let config = Config {
+        workflow_slots: usize::from(!matches!(call, Call::OpenStateWithoutSlots)),
+        ..SMALL
     };
-    drop(seats);
-    drop(host);
-    given
+    say_beside(rt, call, "before");
+    let mut opened = HostState::<W, T, C, F>::open(rt.alloc(), config, taken, completed, failed);
+    let called = match &mut opened {
+        Ok((host, seats)) => on_state(rt, call, host, seats.as_mut_slice()),
+        Err(fault) => say_fault(rt, call, *fault),
+    };
+    drop(opened);
+    say_beside(rt, call, "after");
+    called
 }
 
 /// Serves a task of a source.
@@ -289,29 +253,53 @@ fn serve_task<R: Runtime + AllocGlobal + Wait, W: Workflow, T: Ledger, C: Ledger
     say_shared(rt, name, "after", host, seat);
 }
 
-/// Serves a task of a source on an opened host.
-fn serve_on<R: Runtime + AllocGlobal + Wait, W: Workflow, T: Ledger, C: Ledger, F: Ledger>(
+/// Serves the first task of a nap.
+fn serve_nap<R: Runtime + AllocGlobal + Wait, W: Workflow, T: Ledger, C: Ledger, F: Ledger>(
     rt: &R,
     name: &str,
-    host: Host<W, T, C, F>,
-    seats: Vec<Seat<T, C, F>>,
-    source: ScriptSource,
+    host: &Host<W, T, C, F>,
+    seat: &mut Seat<T, C, F>,
 ) -> Option<()> {
-    let (mut seats, mut source) = (seats, source);
-    let served = match seats.as_mut_slice().first_mut() {
-        Some(seat) => Some(serve_task(rt, name, &host, seat, &mut source)),
-        None => None,
+    let Some(mut source) = source_of(rt.alloc(), "nap/3") else {
+        return None;
     };
+    serve_task(rt, name, host, seat, &mut source);
     drop(source);
-    drop(seats);
-    drop(host);
-    served
+    Some(())
 }
 
-/// Opens a host, and serves the first task of a nap.
-fn serve<R: Runtime + AllocGlobal + Wait, W: Workflow, T: Ledger, C: Ledger, F: Ledger>(
+/// Makes a call on a host: serves a task on it, or tells what it has counted.
+fn on_host<R: Runtime + AllocGlobal + Wait, W: Workflow, T: Ledger, C: Ledger, F: Ledger>(
     rt: &R,
-    name: &str,
+    call: Call,
+    host: &Host<W, T, C, F>,
+    seat: &mut Seat<T, C, F>,
+) -> Option<()> {
+    match call {
+        Call::ServeOne => serve_nap(rt, call.name(), host, seat),
+        _ => Some(say_shared(rt, call.name(), "answer", host, seat)),
+    }
+}
+
+/// Makes a call on what opening a host gave.
+fn on_opened<R: Runtime + AllocGlobal + Wait, W: Workflow, T: Ledger, C: Ledger, F: Ledger>(
+    rt: &R,
+    call: Call,
+    opened: &mut Result<(Host<W, T, C, F>, Vec<Seat<T, C, F>>), OpenFault>,
+) -> Option<()> {
+    match opened {
+        Err(fault) => say_fault(rt, call, *fault),
+        Ok((host, seats)) => match seats.as_mut_slice().first_mut() {
+            Some(seat) => on_host(rt, call, host, seat),
+            None => None,
+        },
+    }
+}
+
+/// Opens a small host, and makes a call on it.
+fn call_host<R: Runtime + AllocGlobal + Wait, W: Workflow, T: Ledger, C: Ledger, F: Ledger>(
+    rt: &R,
+    call: Call,
     taken: Blank,
     completed: Blank,
     failed: Blank,
@@ -320,20 +308,18 @@ fn serve<R: Runtime + AllocGlobal + Wait, W: Workflow, T: Ledger, C: Ledger, F: 
     requires completed { (completed.name ≡ C.name) × (completed.parts ≡ C.parts) × (completed.parts ≡ 1) }
     requires failed { (failed.name ≡ F.name) × (failed.parts ≡ F.parts) × (failed.parts ≡ 1) }
 {
-    let source = source_of(rt.alloc(), "nap/3")?;
-    match Host::<W, T, C, F>::open(rt.alloc(), SMALL, taken, completed, failed) {
-        Ok((host, seats)) => serve_on(rt, name, host, seats, source),
-        Err(_) => {
-            drop(source);
-            None
-        }
-    }
+    say_beside(rt, call, "before");
+    let mut opened = Host::<W, T, C, F>::open(rt.alloc(), SMALL, taken, completed, failed);
+    let called = on_opened(rt, call, &mut opened);
+    drop(opened);
+    say_beside(rt, call, "after");
+    called
 }
 
-/// Makes the call of the name in a place over three ledgers.
+/// Makes a call over three ledgers.
 fn call_over<R: Runtime + AllocGlobal + Wait, W: Workflow, T: Ledger, C: Ledger, F: Ledger>(
     rt: &R,
-    place: usize,
+    call: Call,
     taken: Blank,
     completed: Blank,
     failed: Blank,
@@ -342,48 +328,19 @@ fn call_over<R: Runtime + AllocGlobal + Wait, W: Workflow, T: Ledger, C: Ledger,
     requires completed { (completed.name ≡ C.name) × (completed.parts ≡ C.parts) × (completed.parts ≡ 1) }
     requires failed { (failed.name ≡ F.name) × (failed.parts ≡ F.parts) × (failed.parts ≡ 1) }
 {
-    let name = NAMES.get(place).copied()?;
-    match name {
-        "give_run" => return give_run::<R, W, T, C, F>(rt, name, taken, completed, failed),
-        "serve_one" => return serve::<R, W, T, C, F>(rt, name, taken, completed, failed),
-        "Books::open" => open_books::<R, T, C, F>(rt, name, taken, completed, failed),
-        "Host::open" => open_host::<R, W, T, C, F>(rt, name, taken, completed, failed),
-        _ => {
-            let slots = usize::from(name == "HostState::open");
-            open_state::<R, W, T, C, F>(rt, name, slots, taken, completed, failed)
+    match call {
+        Call::OpenBooks => open_books::<R, T, C, F>(rt, call, taken, completed, failed),
+        Call::OpenHost | Call::ServeOne => {
+            call_host::<R, W, T, C, F>(rt, call, taken, completed, failed)
         }
+        _ => call_state::<R, W, T, C, F>(rt, call, taken, completed, failed),
     }
-    Some(())
 }
 
-/// Makes the call of the name in a place over three new ledgers.
-fn call_on_books<R: Runtime + AllocGlobal + Wait, W: Workflow>(rt: &R, place: usize) -> Option<()> {
-    call_over::<R, W, Brand, Brand, Brand>(rt, place, Blank::new(1), Blank::new(1), Blank::new(1))
-}
-
-/// Makes the call of a name in its place.
-fn call<R: Runtime + AllocGlobal + Wait, W: Workflow>(
+/// Makes a call over three new ledgers.
+pub(crate) fn call_on_books<R: Runtime + AllocGlobal + Wait, W: Workflow>(
     rt: &R,
-    name: &str,
-    place: usize,
+    call: Call,
 ) -> Option<()> {
-    match name {
-        "Slots::open" => open_slots(rt, name),
-        "Sticky::open" => open_cache::<R, W>(rt, name),
-        _ => return call_on_books::<R, W>(rt, place),
-    }
-    Some(())
-}
-
-/// Makes each of these calls that has this name, or all where it is "".
-pub(crate) fn call_all<R: Runtime + AllocGlobal + Wait, W: Workflow>(
-    rt: &R,
-    named: &str,
-) -> Option<()> {
-    for (place, name) in NAMES.iter().enumerate() {
-        if is_asked(name, named) {
-            call::<R, W>(rt, name, place)?;
-        }
-    }
-    Some(())
+    call_over::<R, W, Brand, Brand, Brand>(rt, call, Blank::new(1), Blank::new(1), Blank::new(1))
 }

@@ -2,7 +2,7 @@
 
 ghost use Rattle.std.specs.Prelude.{◌≡◌, IfSome};
 
-use crate::calls::saying::{is_asked, run_of, say, say_left, seen};
+use crate::calls::saying::{run_of, say, say_left, seen};
 use std::alloc::Global;
 use std::iter::once;
 use std::rt::Runtime;
@@ -15,7 +15,7 @@ use wh_replay::{AdvanceFault, Run, RunFault, check};
 use wh_workflow::{Command, Job, Meter, Workflow, no_payloads, text_of};
 
 /// The id of the workflow of the runs.
-const ID: &str = "nap";
+pub(crate) const ID: &str = "nap";
 
 /// The type of their workflow.
 const KIND: &str = "Nap";
@@ -30,9 +30,11 @@ fn say_replayed<R: Runtime, W: Workflow>(rt: &R, name: &str, run: Result<Run<W>,
 }
 
 /// Replays a history from its first event.
-fn from_first<R: Runtime + AllocGlobal, W: Workflow>(rt: &R, name: &str) -> Option<()> {
+pub(crate) fn from_first<R: Runtime + AllocGlobal, W: Workflow>(rt: &R, name: &str) -> Option<()> {
     let key = key(rt.alloc(), ID).ok();
-    let (key, events) = key.zip(events(rt.alloc(), "nap/8").ok())?;
+    let Some((key, events)) = key.zip(events(rt.alloc(), "nap/8").ok()) else {
+        return None;
+    };
     say(rt, name, "before", &());
     let run = Run::<W>::from_first(rt.alloc(), key, events, &mut Meter::new());
     say_replayed(rt, name, run);
@@ -41,8 +43,13 @@ fn from_first<R: Runtime + AllocGlobal, W: Workflow>(rt: &R, name: &str) -> Opti
 }
 
 /// Checks a history.
-fn check_history<R: Runtime + AllocGlobal, W: Workflow>(rt: &R, name: &str) -> Option<()> {
-    let events = events(rt.alloc(), "nap").ok()?;
+pub(crate) fn check_history<R: Runtime + AllocGlobal, W: Workflow>(
+    rt: &R,
+    name: &str,
+) -> Option<()> {
+    let Ok(events) = events(rt.alloc(), "nap") else {
+        return None;
+    };
     say(rt, name, "before", &());
     let answer = check::<W>(rt.alloc(), events);
     say_left(rt, name, &answer, &());
@@ -50,12 +57,14 @@ fn check_history<R: Runtime + AllocGlobal, W: Workflow>(rt: &R, name: &str) -> O
 }
 
 /// Steps a workflow by its start.
-fn step<R: Runtime + AllocGlobal, W: Workflow>(rt: &R, name: &str) -> Option<()> {
+pub(crate) fn step<R: Runtime + AllocGlobal, W: Workflow>(rt: &R, name: &str) -> Option<()> {
     if !W::handles(KIND) {
         return None;
     }
     let state = W::begin(rt.alloc(), KIND).ok();
-    let (mut state, workflow) = state.zip(text_of(rt.alloc(), KIND).ok())?;
+    let Some((mut state, workflow)) = state.zip(text_of(rt.alloc(), KIND).ok()) else {
+        return None;
+    };
     let input = no_payloads(rt.alloc());
     let start = Job::Start { workflow, input };
     let mut out: Vec<Command> = Vec::new(rt.alloc());
@@ -69,8 +78,10 @@ fn step<R: Runtime + AllocGlobal, W: Workflow>(rt: &R, name: &str) -> Option<()>
 }
 
 /// Asks a run for its answer.
-fn answer<R: Runtime + AllocGlobal, W: Workflow>(rt: &R, name: &str) -> Option<()> {
-    let run = run_of::<W>(rt.alloc(), ID, "nap/3")?;
+pub(crate) fn answer<R: Runtime + AllocGlobal, W: Workflow>(rt: &R, name: &str) -> Option<()> {
+    let Some(run) = run_of::<W>(rt.alloc(), ID, "nap/3") else {
+        return None;
+    };
     say(rt, name, "before", &seen(&run));
     let answer = run.answer(rt.alloc());
     say_left(rt, name, &answer, &seen(&run));
@@ -79,34 +90,55 @@ fn answer<R: Runtime + AllocGlobal, W: Workflow>(rt: &R, name: &str) -> Option<(
     Some(())
 }
 
+/// What became of a run that was to go on.
+fn advanced_seen<W: Workflow>(advanced: &Result<Run<W>, AdvanceFault<W>>) -> &'static str {
+    match advanced {
+        Ok(_) => "Ok",
+        Err(AdvanceFault::NotATask(_)) => "NotATask",
+        Err(AdvanceFault::Gap(_)) => "Gap",
+        Err(AdvanceFault::Fault(_)) => "Fault",
+        Err(AdvanceFault::OutOfMemory) => "OutOfMemory",
+    }
+}
+
+/// The run that is left of one that was to go on, if one is.
+fn run_left<W: Workflow>(advanced: &Result<Run<W>, AdvanceFault<W>>) -> Option<&Run<W>> {
+    match advanced {
+        Ok(run) => Some(run),
+        Err(AdvanceFault::NotATask(run) | AdvanceFault::Gap(run)) => Some(run),
+        Err(_) => None,
+    }
+}
+
+/// Prints what stands after a call: the run that is left, if one is.
+fn say_after<R: Runtime, W: Workflow>(rt: &R, name: &str, run: Option<&Run<W>>) {
+    match run {
+        Some(run) => say(rt, name, "after", &seen(run)),
+        None => say(rt, name, "after", &()),
+    }
+}
+
 /// Prints what became of a run that was to go on, and what is left of it, and lets it go.
 fn say_advanced<R: Runtime, W: Workflow>(
     rt: &R,
     name: &str,
     advanced: Result<Run<W>, AdvanceFault<W>>,
 ) {
-    let (answer, run) = match &advanced {
-        Ok(run) => ("Ok", Some(run)),
-        Err(AdvanceFault::NotATask(run)) => ("NotATask", Some(run)),
-        Err(AdvanceFault::Gap(run)) => ("Gap", Some(run)),
-        Err(AdvanceFault::Fault(_)) => ("Fault", None),
-        Err(AdvanceFault::OutOfMemory) => ("OutOfMemory", None),
-    };
-    match run {
-        Some(run) => say_left(rt, name, &answer, &seen(run)),
-        None => say_left(rt, name, &answer, &()),
-    }
+    say(rt, name, "answer", &advanced_seen(&advanced));
+    say_after(rt, name, run_left(&advanced));
     drop(advanced);
 }
 
 /// Lets a run go on with the later events of a history.
-fn advance<R: Runtime + AllocGlobal, W: Workflow>(
+pub(crate) fn advance<R: Runtime + AllocGlobal, W: Workflow>(
     rt: &R,
     name: &str,
     later: &'static str,
 ) -> Option<()> {
     let run = run_of::<W>(rt.alloc(), ID, "nap/3");
-    let (run, later) = run.zip(events_behind(rt.alloc(), later, 0).ok())?;
+    let Some((run, later)) = run.zip(events_behind(rt.alloc(), later, 0).ok()) else {
+        return None;
+    };
     say(rt, name, "before", &seen(&run));
     say_advanced(rt, name, run.advance(rt.alloc(), later, &mut Meter::new()));
     Some(())
@@ -140,7 +172,9 @@ fn say_cache<R: Runtime, W: Workflow>(
 /// A cache of one run, which it holds.
 fn cache_of<W: Workflow>(alloc: Global) -> Option<Sticky<W>> {
     let run = run_of::<W>(alloc, ID, "nap/3");
-    let (run, mut cache) = run.zip(Sticky::open(alloc, 1, 0).ok())?;
+    let Some((run, mut cache)) = run.zip(Sticky::open(alloc, 1, 0).ok()) else {
+        return None;
+    };
     drop(cache.put(run));
     Some(cache)
 }
@@ -169,15 +203,23 @@ fn put_under<R: Runtime + AllocGlobal, W: Workflow>(
     id: &str,
 ) -> Option<()> {
     let cache = cache_of::<W>(rt.alloc());
-    let (mut cache, run) = cache.zip(run_of::<W>(rt.alloc(), id, "nap/8"))?;
+    let Some((mut cache, run)) = cache.zip(run_of::<W>(rt.alloc(), id, "nap/8")) else {
+        return None;
+    };
     put_into(rt, name, &mut cache, key, run);
     drop(cache);
     Some(())
 }
 
 /// Puts the run of an id into a cache.
-fn put<R: Runtime + AllocGlobal, W: Workflow>(rt: &R, name: &str, id: &str) -> Option<()> {
-    let key = key(rt.alloc(), id).ok()?;
+pub(crate) fn put<R: Runtime + AllocGlobal, W: Workflow>(
+    rt: &R,
+    name: &str,
+    id: &str,
+) -> Option<()> {
+    let Ok(key) = key(rt.alloc(), id) else {
+        return None;
+    };
     let put = put_under::<R, W>(rt, name, &key, id);
     drop(key);
     put
@@ -194,15 +236,24 @@ fn run_under<W: Workflow>(
     if history.is_empty() {
         return Some(None);
     }
-    let (key, events) = key.try_copy().ok().zip(events(alloc, history).ok())?;
-    Some(Some(Run::from_first(alloc, key, events, &mut Meter::new()).ok()?))
+    let Some((key, events)) = key.try_copy().ok().zip(events(alloc, history).ok()) else {
+        return None;
+    };
+    match Run::from_first(alloc, key, events, &mut Meter::new()) {
+        Ok(run) => Some(Some(run)),
+        Err(_) => None,
+    }
 }
 
 /// A source over a nap.
 pub(crate) fn source_of(alloc: Global, history: &'static str) -> Option<ScriptSource> {
     let name = String::from_str(alloc, ID).ok();
-    let (name, events) = name.zip(events(alloc, history).ok())?;
-    let histories = once((0, name, events)).collect(alloc).ok()?;
+    let Some((name, events)) = name.zip(events(alloc, history).ok()) else {
+        return None;
+    };
+    let Ok(histories) = once((0, name, events)).collect(alloc) else {
+        return None;
+    };
     ScriptSource::new(alloc, histories).ok()
 }
 
@@ -213,12 +264,11 @@ fn say_stepped<R: Runtime, W: Workflow>(
     stepped: &Result<Stepped<W>, StepFault>,
 ) {
     match stepped {
-        Ok(stepped) => say(rt, name, "answer", &(stepped.fault, stepped.hit)),
-        Err(fault) => say(rt, name, "answer", fault),
-    }
-    match stepped {
-        Ok(Stepped { run: Some(run), .. }) => say(rt, name, "after", &seen(run)),
-        _ => say(rt, name, "after", &()),
+        Ok(stepped) => {
+            say(rt, name, "answer", &(stepped.fault, stepped.hit));
+            say_after(rt, name, stepped.run.as_ref());
+        }
+        Err(fault) => say_left(rt, name, fault, &()),
     }
 }
 
@@ -232,7 +282,9 @@ fn replay_under<R: Runtime + AllocGlobal, W: Workflow>(
 ) -> Option<()> {
     let later = events_behind(rt.alloc(), later, 0).ok();
     let given = later.zip(source_of(rt.alloc(), "nap"));
-    let (run, (later, mut source)) = run_under::<W>(rt.alloc(), key, held).zip(given)?;
+    let Some((run, (later, mut source))) = run_under::<W>(rt.alloc(), key, held).zip(given) else {
+        return None;
+    };
     say(rt, name, "before", &());
     let stepped = replay_task(rt.alloc(), run, key, later, &mut source, &mut Meter::new());
     say_stepped(rt, name, &stepped);
@@ -242,73 +294,16 @@ fn replay_under<R: Runtime + AllocGlobal, W: Workflow>(
 }
 
 /// Replays a task from the run of a history, or from none, and later events.
-fn replay<R: Runtime + AllocGlobal, W: Workflow>(
+pub(crate) fn replay<R: Runtime + AllocGlobal, W: Workflow>(
     rt: &R,
     name: &str,
     held: &'static str,
     later: &'static str,
 ) -> Option<()> {
-    let key = key(rt.alloc(), ID).ok()?;
+    let Ok(key) = key(rt.alloc(), ID) else {
+        return None;
+    };
     let replayed = replay_under::<R, W>(rt, name, &key, held, later);
     drop(key);
     replayed
-}
-
-/// Makes each call of a cache that has this name, or all where it is "".
-fn call_caches<R: Runtime + AllocGlobal, W: Workflow>(rt: &R, named: &str) -> Option<()> {
-    if is_asked("put", named) {
-        put::<R, W>(rt, "put", "other")?;
-    }
-    let name = "put of a longer run";
-    if is_asked(name, named) {
-        put::<R, W>(rt, name, ID)?;
-    }
-    Some(())
-}
-
-/// Makes each call that replays a task and has this name, or all where it is "".
-fn call_replays<R: Runtime + AllocGlobal, W: Workflow>(rt: &R, named: &str) -> Option<()> {
-    if is_asked("replay_task", named) {
-        replay::<R, W>(rt, "replay_task", "nap/3", "nap/8 behind 3")?;
-    }
-    let name = "replay_task from the first";
-    if is_asked(name, named) {
-        replay::<R, W>(rt, name, "", "nap/8")?;
-    }
-    let name = "replay_task as told";
-    if is_asked(name, named) {
-        replay::<R, W>(rt, name, "", "nap/8 behind 3")?;
-    }
-    Some(())
-}
-
-/// Makes each call of a run that has this name, or all where it is "".
-fn call_runs<R: Runtime + AllocGlobal, W: Workflow>(rt: &R, named: &str) -> Option<()> {
-    if is_asked("answer", named) {
-        answer::<R, W>(rt, "answer")?;
-    }
-    if is_asked("advance", named) {
-        advance::<R, W>(rt, "advance", "nap/8 behind 3")?;
-    }
-    let name = "advance by a gap";
-    if is_asked(name, named) {
-        advance::<R, W>(rt, name, "nap/3 behind 2")?;
-    }
-    Some(())
-}
-
-/// Makes each of these calls that has this name, or all where it is "".
-pub(crate) fn call_all<R: Runtime + AllocGlobal, W: Workflow>(rt: &R, named: &str) -> Option<()> {
-    if is_asked("step", named) {
-        step::<R, W>(rt, "step")?;
-    }
-    if is_asked("from_first", named) {
-        from_first::<R, W>(rt, "from_first")?;
-    }
-    if is_asked("check", named) {
-        check_history::<R, W>(rt, "check")?;
-    }
-    call_runs::<R, W>(rt, named)?;
-    call_replays::<R, W>(rt, named)?;
-    call_caches::<R, W>(rt, named)
 }

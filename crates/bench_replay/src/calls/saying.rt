@@ -9,11 +9,6 @@ use wh_machines::Track;
 use wh_replay::Run;
 use wh_workflow::{Command, Meter, Workflow};
 
-/// Whether the call of a name is asked for: the one that has it, or all where it is "".
-pub(crate) fn is_asked(name: &str, named: &str) -> bool {
-    named.is_empty() || name == named
-}
-
 /// Prints a line about a call: what stands before it, what it answers, or what stands after it.
 /// Where it can't be printed, the line is missing.
 pub(crate) fn say<R: Runtime>(rt: &R, call: &str, part: &str, value: &impl Debug) {
@@ -28,7 +23,9 @@ pub(crate) fn say_left<R: Runtime>(rt: &R, call: &str, answer: &impl Debug, left
 
 /// The track of a history.
 pub(crate) fn track_of(alloc: Global, history: &'static str) -> Option<Track> {
-    let events = events(alloc, history).ok()?;
+    let Ok(events) = events(alloc, history) else {
+        return None;
+    };
     let track = replay::track_of(alloc, events.as_slice());
     drop(events);
     track
@@ -40,7 +37,9 @@ pub(crate) fn run_of<W: Workflow>(
     id: &str,
     history: &'static str,
 ) -> Option<Run<W>> {
-    let (key, events) = key(alloc, id).ok().zip(events(alloc, history).ok())?;
+    let Some((key, events)) = key(alloc, id).ok().zip(events(alloc, history).ok()) else {
+        return None;
+    };
     Run::from_first(alloc, key, events, &mut Meter::new()).ok()
 }
 

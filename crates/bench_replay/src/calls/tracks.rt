@@ -1,6 +1,6 @@
 //! Calls on a track: of its events, of a script over it, and of its jobs.
 
-use crate::calls::saying::{is_asked, say, say_left, track_of};
+use crate::calls::saying::{say, say_left, track_of};
 use std::alloc::Global;
 use std::rt::Runtime;
 use wh_activation::jobs;
@@ -24,13 +24,18 @@ fn seen(track: &Track) -> (&[Event], Option<EventNo>, Option<Status>) {
 
 /// The last event of a history.
 fn last_of(alloc: Global, history: &'static str) -> Option<Event> {
-    events(alloc, history).ok()?.into_iter().last()
+    let Ok(events) = events(alloc, history) else {
+        return None;
+    };
+    events.into_iter().last()
 }
 
 /// Pushes an event that opens a timer.
-fn push<R: Runtime + AllocGlobal>(rt: &R, name: &str) -> Option<()> {
+pub(crate) fn push<R: Runtime + AllocGlobal>(rt: &R, name: &str) -> Option<()> {
     let track = track_of(rt.alloc(), "nap/4");
-    let (mut track, event) = track.zip(last_of(rt.alloc(), "nap/5"))?;
+    let Some((mut track, event)) = track.zip(last_of(rt.alloc(), "nap/5")) else {
+        return None;
+    };
     say(rt, name, "before", &seen(&track));
     let answer = track.push(event);
     say_left(rt, name, &answer, &seen(&track));
@@ -39,10 +44,14 @@ fn push<R: Runtime + AllocGlobal>(rt: &R, name: &str) -> Option<()> {
 }
 
 /// Issues a command.
-fn issue<R: Runtime + AllocGlobal>(rt: &R, name: &str) -> Option<()> {
-    let cut = EventNo::new(3)?;
+pub(crate) fn issue<R: Runtime + AllocGlobal>(rt: &R, name: &str) -> Option<()> {
+    let Some(cut) = EventNo::new(3) else {
+        return None;
+    };
     let track = track_of(rt.alloc(), STARTED);
-    let (track, id) = track.zip(text_of(rt.alloc(), "nap").ok())?;
+    let Some((track, id)) = track.zip(text_of(rt.alloc(), "nap").ok()) else {
+        return None;
+    };
     let mut script = Script::new(rt.alloc(), 0, cut);
     say(rt, name, "before", &script);
     let answer = script.issue(&track, Command::StartTimer { id, seconds: 60 });
@@ -53,8 +62,11 @@ fn issue<R: Runtime + AllocGlobal>(rt: &R, name: &str) -> Option<()> {
 }
 
 /// Asks for the version of a change, for which a marker is issued.
-fn ask<R: Runtime + AllocGlobal>(rt: &R, name: &str) -> Option<()> {
-    let mut script = Script::new(rt.alloc(), 0, EventNo::new(3)?);
+pub(crate) fn ask<R: Runtime + AllocGlobal>(rt: &R, name: &str) -> Option<()> {
+    let Some(cut) = EventNo::new(3) else {
+        return None;
+    };
+    let mut script = Script::new(rt.alloc(), 0, cut);
     let mut versions = Versions::new(rt.alloc());
     say(rt, name, "before", &(&script, &versions));
     let answer = script.ask(None, &mut versions, "change", -1, 1);
@@ -65,8 +77,11 @@ fn ask<R: Runtime + AllocGlobal>(rt: &R, name: &str) -> Option<()> {
 }
 
 /// Asks for what is sent of a script with an issued marker.
-fn reduced<R: Runtime + AllocGlobal>(rt: &R, name: &str) -> Option<()> {
-    let mut script = Script::new(rt.alloc(), 0, EventNo::new(3)?);
+pub(crate) fn reduced<R: Runtime + AllocGlobal>(rt: &R, name: &str) -> Option<()> {
+    let Some(cut) = EventNo::new(3) else {
+        return None;
+    };
+    let mut script = Script::new(rt.alloc(), 0, cut);
     let mut versions = Versions::new(rt.alloc());
     let is_marked = script.ask(None, &mut versions, "change", -1, 1).is_ok();
     drop(versions);
@@ -78,33 +93,17 @@ fn reduced<R: Runtime + AllocGlobal>(rt: &R, name: &str) -> Option<()> {
 }
 
 /// Asks for what a task is told.
-fn tell<R: Runtime + AllocGlobal>(rt: &R, name: &str) -> Option<()> {
-    let cut = EventNo::new(3)?;
-    let track = track_of(rt.alloc(), STARTED)?;
+pub(crate) fn tell<R: Runtime + AllocGlobal>(rt: &R, name: &str) -> Option<()> {
+    let Some(cut) = EventNo::new(3) else {
+        return None;
+    };
+    let Some(track) = track_of(rt.alloc(), STARTED) else {
+        return None;
+    };
     say(rt, name, "before", &seen(&track));
     let answer = jobs(rt.alloc(), &track, 0, cut);
     say_left(rt, name, &answer, &seen(&track));
     drop(answer);
     drop(track);
-    Some(())
-}
-
-/// Makes each of these calls that has this name, or all where it is "".
-pub(crate) fn call_all<R: Runtime + AllocGlobal>(rt: &R, named: &str) -> Option<()> {
-    if is_asked("push", named) {
-        push(rt, "push")?;
-    }
-    if is_asked("issue", named) {
-        issue(rt, "issue")?;
-    }
-    if is_asked("ask", named) {
-        ask(rt, "ask")?;
-    }
-    if is_asked("reduced", named) {
-        reduced(rt, "reduced")?;
-    }
-    if is_asked("jobs", named) {
-        tell(rt, "jobs")?;
-    }
     Some(())
 }
