@@ -1,6 +1,6 @@
 //! The command `explain`.
 
-ghost use Rattle.std.specs.Prelude.{◌≡◌, ◌∷◌, [], Err, IfOk, string_bytes};
+ghost use Rattle.std.specs.Prelude.{◌≡◌, ◌≢◌, ◌∷◌, [], Err, IfOk, OnOk, string_bytes};
 ghost use Rattle.std.specs.Io.KnownBytes.{Appends};
 ghost use Rattle.wh_json.specs.Events.{history};
 ghost use Rattle.wh_tester.specs.Verdicts.{IsVerdict};
@@ -13,8 +13,20 @@ use crate::replaying::{CommandFault, status_of};
 use std::alloc::Global;
 use std::io::Write;
 use std::slice;
-use wh_explain::{explain, write_explanation};
+use wh_explain::{Explanation, explain, write_explanation};
 use wh_workflow::Workflow;
+
+/// Writes an explanation, and gives the status of its last line.
+fn write_explained<O: Write>(explanation: &Explanation, writer: &mut O) -> Result<u8, CommandFault>
+    ensures written { OnOk result (Appends (O.contents writer.old) (O.contents writer.new) (explanation_text explanation.now)) }
+    ensures status { IfOk result (λ status. status ≡ status_of (explanation.now.line ∷ [])) }
+    ensures memory { result ≢ Err CommandFault.OutOfMemory }
+{
+    let Ok(()) = write_explanation(explanation, writer) else {
+        return Err(CommandFault::Output);
+    };
+    Ok(status_of(slice::from_ref(&explanation.line)))
+}
 
 /// Writes the explanation of a history file, whose last line is that of the file in the report of
 /// replay, and gives the status of that report. Nothing is written where the answer is
@@ -37,8 +49,7 @@ pub fn explain_command<W: Workflow, O: Write>(
     let Ok(explanation) = explain::<W>(alloc, name, bytes) else {
         return Err(CommandFault::OutOfMemory);
     };
-    let Ok(()) = write_explanation(&explanation, writer) else {
-        return Err(CommandFault::Output);
-    };
-    Ok(status_of(slice::from_ref(&explanation.line)))
+    let answer = write_explained(&explanation, writer);
+    drop(explanation);
+    answer
 }
