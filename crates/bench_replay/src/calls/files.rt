@@ -11,9 +11,7 @@ use wh_workflow::Workflow;
 
 /// Reads a history.
 pub(crate) fn read<R: Runtime + AllocGlobal>(rt: &R, name: &str) -> Option<()> {
-    let Ok(text) = json(rt.alloc(), "nap") else {
-        return None;
-    };
+    let text = json(rt.alloc(), "nap").ok()?;
     say(rt, name, "before", &text.len());
     let answer = read_events(rt.alloc(), text.as_bytes());
     say_left(rt, name, &answer, &text.len());
@@ -25,18 +23,14 @@ pub(crate) fn read<R: Runtime + AllocGlobal>(rt: &R, name: &str) -> Option<()> {
 /// The file of a history, with its name.
 fn file_of(alloc: Global, name: &str, history: &'static str) -> Option<(String, Vec<u8>)> {
     let name = String::from_str(alloc, name).ok();
-    let Some((name, text)) = name.zip(json(alloc, history).ok()) else {
-        return None;
-    };
+    let (name, text) = name.zip(json(alloc, history).ok())?;
     Some((name, text.into_bytes()))
 }
 
 /// Two files.
 fn two_files(alloc: Global) -> Option<Vec<(String, Vec<u8>)>> {
     let nap = file_of(alloc, "nap", "nap");
-    let Some((nap, live)) = nap.zip(file_of(alloc, "live", "nap/8")) else {
-        return None;
-    };
+    let (nap, live) = nap.zip(file_of(alloc, "live", "nap/8"))?;
     [nap, live].into_iter().collect(alloc).ok()
 }
 
@@ -45,9 +39,7 @@ pub(crate) fn check<R: Runtime + AllocGlobal + Threads + Sync, W: Workflow + Sen
     rt: &R,
     name: &str,
 ) -> Option<()> {
-    let Some(files) = two_files(rt.alloc()) else {
-        return None;
-    };
+    let files = two_files(rt.alloc())?;
     say(rt, name, "before", &());
     let answer = check_all::<W>(rt, rt.alloc(), files);
     say_left(rt, name, &answer, &());

@@ -171,13 +171,9 @@ fn give_nap<R: Runtime + AllocGlobal, W: Workflow, T: Ledger, C: Ledger, F: Ledg
     host: &mut HostState<W, T, C, F>,
     seat: &mut Seat<T, C, F>,
 ) -> Option<()> {
-    let Ok(key) = key(rt.alloc(), "nap") else {
-        return None;
-    };
+    let key = key(rt.alloc(), "nap").ok()?;
     let held = take(host, seat, key);
-    let Some((held, run)) = held.zip(run_of::<W>(rt.alloc(), "nap", "nap/3")) else {
-        return None;
-    };
+    let (held, run) = held.zip(run_of::<W>(rt.alloc(), "nap", "nap/3"))?;
     give_back(rt, name, host, seat, &held, run);
     drop(held);
     Some(())
@@ -191,9 +187,7 @@ fn on_state<R: Runtime + AllocGlobal, W: Workflow, T: Ledger, C: Ledger, F: Ledg
     host: &mut HostState<W, T, C, F>,
     seats: &mut [Seat<T, C, F>],
 ) -> Option<()> {
-    let Some(seat) = seats.first_mut() else {
-        return None;
-    };
+    let seat = seats.first_mut()?;
     if matches!(call, Call::GiveRun) {
         return give_nap(rt, call.name(), host, seat);
     }
@@ -260,9 +254,7 @@ fn serve_nap<R: Runtime + AllocGlobal + Wait, W: Workflow, T: Ledger, C: Ledger,
     host: &Host<W, T, C, F>,
     seat: &mut Seat<T, C, F>,
 ) -> Option<()> {
-    let Some(mut source) = source_of(rt.alloc(), "nap/3") else {
-        return None;
-    };
+    let mut source = source_of(rt.alloc(), "nap/3")?;
     serve_task(rt, name, host, seat, &mut source);
     drop(source);
     Some(())

@@ -32,9 +32,7 @@ fn say_replayed<R: Runtime, W: Workflow>(rt: &R, name: &str, run: Result<Run<W>,
 /// Replays a history from its first event.
 pub(crate) fn from_first<R: Runtime + AllocGlobal, W: Workflow>(rt: &R, name: &str) -> Option<()> {
     let key = key(rt.alloc(), ID).ok();
-    let Some((key, events)) = key.zip(events(rt.alloc(), "nap/8").ok()) else {
-        return None;
-    };
+    let (key, events) = key.zip(events(rt.alloc(), "nap/8").ok())?;
     say(rt, name, "before", &());
     let run = Run::<W>::from_first(rt.alloc(), key, events, &mut Meter::new());
     say_replayed(rt, name, run);
@@ -47,9 +45,7 @@ pub(crate) fn check_history<R: Runtime + AllocGlobal, W: Workflow>(
     rt: &R,
     name: &str,
 ) -> Option<()> {
-    let Ok(events) = events(rt.alloc(), "nap") else {
-        return None;
-    };
+    let events = events(rt.alloc(), "nap").ok()?;
     say(rt, name, "before", &());
     let answer = check::<W>(rt.alloc(), events);
     say_left(rt, name, &answer, &());
@@ -62,9 +58,7 @@ pub(crate) fn step<R: Runtime + AllocGlobal, W: Workflow>(rt: &R, name: &str) ->
         return None;
     }
     let state = W::begin(rt.alloc(), KIND).ok();
-    let Some((mut state, workflow)) = state.zip(text_of(rt.alloc(), KIND).ok()) else {
-        return None;
-    };
+    let (mut state, workflow) = state.zip(text_of(rt.alloc(), KIND).ok())?;
     let input = no_payloads(rt.alloc());
     let start = Job::Start { workflow, input };
     let mut out: Vec<Command> = Vec::new(rt.alloc());
@@ -79,35 +73,13 @@ pub(crate) fn step<R: Runtime + AllocGlobal, W: Workflow>(rt: &R, name: &str) ->
 
 /// Asks a run for its answer.
 pub(crate) fn answer<R: Runtime + AllocGlobal, W: Workflow>(rt: &R, name: &str) -> Option<()> {
-    let Some(run) = run_of::<W>(rt.alloc(), ID, "nap/3") else {
-        return None;
-    };
+    let run = run_of::<W>(rt.alloc(), ID, "nap/3")?;
     say(rt, name, "before", &seen(&run));
     let answer = run.answer(rt.alloc());
     say_left(rt, name, &answer, &seen(&run));
     drop(answer);
     drop(run);
     Some(())
-}
-
-/// What became of a run that was to go on.
-fn advanced_seen<W: Workflow>(advanced: &Result<Run<W>, AdvanceFault<W>>) -> &'static str {
-    match advanced {
-        Ok(_) => "Ok",
-        Err(AdvanceFault::NotATask(_)) => "NotATask",
-        Err(AdvanceFault::Gap(_)) => "Gap",
-        Err(AdvanceFault::Fault(_)) => "Fault",
-        Err(AdvanceFault::OutOfMemory) => "OutOfMemory",
-    }
-}
-
-/// The run that is left of one that was to go on, if one is.
-fn run_left<W: Workflow>(advanced: &Result<Run<W>, AdvanceFault<W>>) -> Option<&Run<W>> {
-    match advanced {
-        Ok(run) => Some(run),
-        Err(AdvanceFault::NotATask(run) | AdvanceFault::Gap(run)) => Some(run),
-        Err(_) => None,
-    }
 }
 
 /// Prints what stands after a call: the run that is left, if one is.
@@ -124,8 +96,17 @@ fn say_advanced<R: Runtime, W: Workflow>(
     name: &str,
     advanced: Result<Run<W>, AdvanceFault<W>>,
 ) {
-    say(rt, name, "answer", &advanced_seen(&advanced));
-    say_after(rt, name, run_left(&advanced));
+    let (answer, run) = match &advanced {
+        Ok(run) => ("Ok", Some(run)),
+        Err(AdvanceFault::NotATask(run)) => ("NotATask", Some(run)),
+        Err(AdvanceFault::Gap(run)) => ("Gap", Some(run)),
+        Err(AdvanceFault::Fault(_)) => ("Fault", None),
+        Err(AdvanceFault::OutOfMemory) => ("OutOfMemory", None),
+    };
+    match run {
+        Some(run) => say_left(rt, name, &answer, &seen(run)),
+        None => say_left(rt, name, &answer, &()),
+    }
     drop(advanced);
 }
 
@@ -136,9 +117,7 @@ pub(crate) fn advance<R: Runtime + AllocGlobal, W: Workflow>(
     later: &'static str,
 ) -> Option<()> {
     let run = run_of::<W>(rt.alloc(), ID, "nap/3");
-    let Some((run, later)) = run.zip(events_behind(rt.alloc(), later, 0).ok()) else {
-        return None;
-    };
+    let (run, later) = run.zip(events_behind(rt.alloc(), later, 0).ok())?;
     say(rt, name, "before", &seen(&run));
     say_advanced(rt, name, run.advance(rt.alloc(), later, &mut Meter::new()));
     Some(())
@@ -172,9 +151,7 @@ fn say_cache<R: Runtime, W: Workflow>(
 /// A cache of one run, which it holds.
 fn cache_of<W: Workflow>(alloc: Global) -> Option<Sticky<W>> {
     let run = run_of::<W>(alloc, ID, "nap/3");
-    let Some((run, mut cache)) = run.zip(Sticky::open(alloc, 1, 0).ok()) else {
-        return None;
-    };
+    let (run, mut cache) = run.zip(Sticky::open(alloc, 1, 0).ok())?;
     drop(cache.put(run));
     Some(cache)
 }
@@ -203,9 +180,7 @@ fn put_under<R: Runtime + AllocGlobal, W: Workflow>(
     id: &str,
 ) -> Option<()> {
     let cache = cache_of::<W>(rt.alloc());
-    let Some((mut cache, run)) = cache.zip(run_of::<W>(rt.alloc(), id, "nap/8")) else {
-        return None;
-    };
+    let (mut cache, run) = cache.zip(run_of::<W>(rt.alloc(), id, "nap/8"))?;
     put_into(rt, name, &mut cache, key, run);
     drop(cache);
     Some(())
@@ -217,9 +192,7 @@ pub(crate) fn put<R: Runtime + AllocGlobal, W: Workflow>(
     name: &str,
     id: &str,
 ) -> Option<()> {
-    let Ok(key) = key(rt.alloc(), id) else {
-        return None;
-    };
+    let key = key(rt.alloc(), id).ok()?;
     let put = put_under::<R, W>(rt, name, &key, id);
     drop(key);
     put
@@ -236,24 +209,15 @@ fn run_under<W: Workflow>(
     if history.is_empty() {
         return Some(None);
     }
-    let Some((key, events)) = key.try_copy().ok().zip(events(alloc, history).ok()) else {
-        return None;
-    };
-    match Run::from_first(alloc, key, events, &mut Meter::new()) {
-        Ok(run) => Some(Some(run)),
-        Err(_) => None,
-    }
+    let (key, events) = key.try_copy().ok().zip(events(alloc, history).ok())?;
+    Some(Some(Run::from_first(alloc, key, events, &mut Meter::new()).ok()?))
 }
 
 /// A source over a nap.
 pub(crate) fn source_of(alloc: Global, history: &'static str) -> Option<ScriptSource> {
     let name = String::from_str(alloc, ID).ok();
-    let Some((name, events)) = name.zip(events(alloc, history).ok()) else {
-        return None;
-    };
-    let Ok(histories) = once((0, name, events)).collect(alloc) else {
-        return None;
-    };
+    let (name, events) = name.zip(events(alloc, history).ok())?;
+    let histories = once((0, name, events)).collect(alloc).ok()?;
     ScriptSource::new(alloc, histories).ok()
 }
 
@@ -282,9 +246,7 @@ fn replay_under<R: Runtime + AllocGlobal, W: Workflow>(
 ) -> Option<()> {
     let later = events_behind(rt.alloc(), later, 0).ok();
     let given = later.zip(source_of(rt.alloc(), "nap"));
-    let Some((run, (later, mut source))) = run_under::<W>(rt.alloc(), key, held).zip(given) else {
-        return None;
-    };
+    let (run, (later, mut source)) = run_under::<W>(rt.alloc(), key, held).zip(given)?;
     say(rt, name, "before", &());
     let stepped = replay_task(rt.alloc(), run, key, later, &mut source, &mut Meter::new());
     say_stepped(rt, name, &stepped);
@@ -300,9 +262,7 @@ pub(crate) fn replay<R: Runtime + AllocGlobal, W: Workflow>(
     held: &'static str,
     later: &'static str,
 ) -> Option<()> {
-    let Ok(key) = key(rt.alloc(), ID) else {
-        return None;
-    };
+    let key = key(rt.alloc(), ID).ok()?;
     let replayed = replay_under::<R, W>(rt, name, &key, held, later);
     drop(key);
     replayed

@@ -23,9 +23,7 @@ pub(crate) fn say_left<R: Runtime>(rt: &R, call: &str, answer: &impl Debug, left
 
 /// The track of a history.
 pub(crate) fn track_of(alloc: Global, history: &'static str) -> Option<Track> {
-    let Ok(events) = events(alloc, history) else {
-        return None;
-    };
+    let events = events(alloc, history).ok()?;
     let track = replay::track_of(alloc, events.as_slice());
     drop(events);
     track
@@ -37,9 +35,7 @@ pub(crate) fn run_of<W: Workflow>(
     id: &str,
     history: &'static str,
 ) -> Option<Run<W>> {
-    let Some((key, events)) = key(alloc, id).ok().zip(events(alloc, history).ok()) else {
-        return None;
-    };
+    let (key, events) = key(alloc, id).ok().zip(events(alloc, history).ok())?;
     Run::from_first(alloc, key, events, &mut Meter::new()).ok()
 }
 

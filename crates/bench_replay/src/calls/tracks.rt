@@ -24,18 +24,14 @@ fn seen(track: &Track) -> (&[Event], Option<EventNo>, Option<Status>) {
 
 /// The last event of a history.
 fn last_of(alloc: Global, history: &'static str) -> Option<Event> {
-    let Ok(events) = events(alloc, history) else {
-        return None;
-    };
+    let events = events(alloc, history).ok()?;
     events.into_iter().last()
 }
 
 /// Pushes an event that opens a timer.
 pub(crate) fn push<R: Runtime + AllocGlobal>(rt: &R, name: &str) -> Option<()> {
     let track = track_of(rt.alloc(), "nap/4");
-    let Some((mut track, event)) = track.zip(last_of(rt.alloc(), "nap/5")) else {
-        return None;
-    };
+    let (mut track, event) = track.zip(last_of(rt.alloc(), "nap/5"))?;
     say(rt, name, "before", &seen(&track));
     let answer = track.push(event);
     say_left(rt, name, &answer, &seen(&track));
@@ -45,13 +41,9 @@ pub(crate) fn push<R: Runtime + AllocGlobal>(rt: &R, name: &str) -> Option<()> {
 
 /// Issues a command.
 pub(crate) fn issue<R: Runtime + AllocGlobal>(rt: &R, name: &str) -> Option<()> {
-    let Some(cut) = EventNo::new(3) else {
-        return None;
-    };
+    let cut = EventNo::new(3)?;
     let track = track_of(rt.alloc(), STARTED);
-    let Some((track, id)) = track.zip(text_of(rt.alloc(), "nap").ok()) else {
-        return None;
-    };
+    let (track, id) = track.zip(text_of(rt.alloc(), "nap").ok())?;
     let mut script = Script::new(rt.alloc(), 0, cut);
     say(rt, name, "before", &script);
     let answer = script.issue(&track, Command::StartTimer { id, seconds: 60 });
@@ -63,9 +55,7 @@ pub(crate) fn issue<R: Runtime + AllocGlobal>(rt: &R, name: &str) -> Option<()> 
 
 /// Asks for the version of a change, for which a marker is issued.
 pub(crate) fn ask<R: Runtime + AllocGlobal>(rt: &R, name: &str) -> Option<()> {
-    let Some(cut) = EventNo::new(3) else {
-        return None;
-    };
+    let cut = EventNo::new(3)?;
     let mut script = Script::new(rt.alloc(), 0, cut);
     let mut versions = Versions::new(rt.alloc());
     say(rt, name, "before", &(&script, &versions));
@@ -78,9 +68,7 @@ pub(crate) fn ask<R: Runtime + AllocGlobal>(rt: &R, name: &str) -> Option<()> {
 
 /// Asks for what is sent of a script with an issued marker.
 pub(crate) fn reduced<R: Runtime + AllocGlobal>(rt: &R, name: &str) -> Option<()> {
-    let Some(cut) = EventNo::new(3) else {
-        return None;
-    };
+    let cut = EventNo::new(3)?;
     let mut script = Script::new(rt.alloc(), 0, cut);
     let mut versions = Versions::new(rt.alloc());
     let is_marked = script.ask(None, &mut versions, "change", -1, 1).is_ok();
@@ -94,12 +82,8 @@ pub(crate) fn reduced<R: Runtime + AllocGlobal>(rt: &R, name: &str) -> Option<()
 
 /// Asks for what a task is told.
 pub(crate) fn tell<R: Runtime + AllocGlobal>(rt: &R, name: &str) -> Option<()> {
-    let Some(cut) = EventNo::new(3) else {
-        return None;
-    };
-    let Some(track) = track_of(rt.alloc(), STARTED) else {
-        return None;
-    };
+    let cut = EventNo::new(3)?;
+    let track = track_of(rt.alloc(), STARTED)?;
     say(rt, name, "before", &seen(&track));
     let answer = jobs(rt.alloc(), &track, 0, cut);
     say_left(rt, name, &answer, &seen(&track));
