@@ -1,5 +1,5 @@
 //! What must hold of a host after a soak.
-ghost use Rattle.std.specs.Prelude.{◌≡◌, ◌↔◌, IsOk, IsTrue, OnOk, map, true};
+ghost use Rattle.std.specs.Prelude.{◌≡◌, ◌↔◌, IsOk, OnOk, map, true};
 ghost use Rattle.bench_soak.specs.Sound.{IsSound};
 
 use crate::soak::{Findings, Tally};
