@@ -1,9 +1,9 @@
 //! Orders, step by step.
 
-use crate::{Order, OrderState};
+use crate::{Order, OrderState, receipt};
 use std::alloc::Global;
 use std::process::Abort;
-use wh_events::Text;
+use wh_events::{Items, Payload, Text};
 use wh_workflow::{ActivityEnd, ChildEnd, Command, Job, Meter, Workflow, no_payloads, text_of};
 
 fn text(rt: &impl Abort, alloc: Global, content: &str) -> Text {
@@ -96,4 +96,19 @@ fn an_order_is_called_off(rt: HostRuntime) {
     );
     let given = step(&rt, alloc, &mut state, &fired);
     assert!(&rt; given.is_empty());
+}
+
+#[test]
+fn a_charged_card_gives_back_what_it_was_charged_with(rt: HostRuntime) {
+    let alloc = rt.alloc();
+    let price = Payload {
+        encoding: Items::new(Vec::new(alloc)),
+        content: Items::new(vec![in alloc; 57].expect(&rt, "memory")),
+    };
+    let input = Items::new(vec![in alloc; price].expect(&rt, "memory"));
+    let charged = receipt("ChargeCard", &input).expect(&rt, "memory");
+    let given = charged.expect(&rt, "a receipt");
+    assert!(&rt; matches!(given.get(), [payload] if payload.content.get() == [57].as_slice()));
+    let refunded = receipt("RefundCard", &input).expect(&rt, "memory");
+    assert!(&rt; refunded.is_none());
 }

@@ -54,10 +54,8 @@ impl<'a> Phrase<'a> {
         ensures { phrase_seen result ≡ named kind.now id.now }
     {
         Phrase {
-            kind,
             id: Some(id),
-            name: None,
-            detail: Detail::Nothing,
+            ..Phrase::bare(kind)
         }
     }
 
@@ -66,10 +64,8 @@ impl<'a> Phrase<'a> {
         ensures { phrase_seen result ≡ typed kind.now id.now name.now }
     {
         Phrase {
-            kind,
-            id: Some(id),
             name: Some(name),
-            detail: Detail::Nothing,
+            ..Phrase::named(kind, id)
         }
     }
 
@@ -78,10 +74,8 @@ impl<'a> Phrase<'a> {
         ensures { phrase_seen result ≡ detailed kind.now id.now detail }
     {
         Phrase {
-            kind,
-            id: Some(id),
-            name: None,
             detail,
+            ..Phrase::named(kind, id)
         }
     }
 }
