@@ -1,8 +1,8 @@
 //! The program: it does what its command line asks for, and ends with a status.
 
 ghost use Rattle.std.specs.Prelude.{◌≡◌, ◌≢◌, Err, IfOk, map, string_bytes};
-ghost use Rattle.wh_command_line.specs.Options.{AreWithinLimits};
-ghost use Rattle.wh_command_line.specs.Plans.{IsWithinLimits, IsAskedBy, HasFewSlots};
+ghost use Rattle.wh_command_line.specs.Options.{AreWithinLimits, IsWithinLimits};
+ghost use Rattle.wh_command_line.specs.Plans.{HasFewSlots, IsAskedBy};
 
 use crate::explaining::explain_command;
 use crate::json_faults::json_fault;

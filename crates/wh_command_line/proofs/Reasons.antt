@@ -10,7 +10,6 @@ use Rattle.wh_command_line.specs.Lines.{program}
 use Rattle.wh_command_line.specs.Refusals.{IfBad}
 use Rattle.wh_command_line.specs.Plans.{IsHelp, IsRequest, IsMistake, IsRead, kinds_of, AsksText, HasMistake, IsAskedBy}
 use Rattle.wh_command_line.specs.declared.command_line.Plan.{Plan}
-use Rattle.wh_command_line.specs.declared.command_line.Plan.TheVariants as plans
 use Rattle.wh_command_line.specs.declared.command_line.Refusal.{Refusal}
 use Rattle.wh_command_line.specs.declared.command_line.Refusal.TheVariants as refusals
 
@@ -51,10 +50,7 @@ asks_by words kind (inl none) (inr version) = absurd cc
 -- the help that is given is asked for
 pub help_by : (words : List Text) (kind : ErrorKind) → (kind ≡ OutOfMemory) ⊎ IsAmong kind (kinds_of words) → (result : Result Plan Refusal)
     → IfOk result IsHelp → IfOk result (λ _. IsRequest kind) → IfOk result (IsAskedBy words)
-help_by words kind has (Ok (plans.Help text)) help request = asks_by words kind has request
-help_by words kind has (Ok (plans.Replay dir more json)) help request = absurd help
-help_by words kind has (Ok (plans.Explain file)) help request = absurd help
-help_by words kind has (Ok (plans.Serve dir workers cache cache_events slots)) help request = absurd help
+help_by words kind has (Ok plan) help request = inl (help, asks_by words kind has request)
 help_by words kind has (Err e) help request = tt
 
 -- what clap answers, where it is a mistake, is one that the words have

@@ -1,3 +1,4 @@
+pub mod Given
 pub mod Lines
 pub mod Options
 pub mod Plans

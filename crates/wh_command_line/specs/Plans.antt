@@ -1,60 +1,26 @@
 -- What a command line asks for.
-use Rattle.std.specs.Prelude.{◌≡◌, ◌≢◌, ◌⊎◌, ℕ, ◌≤◌, ◌<◌, Bool, true, false, List, [], ◌∷◌, codes, Some, None}
-use Rattle.clap.specs.Words.{IsAmong, Kinds, Row, Text, all_of, fault_of, first_of, one_of, subcommand_of}
+use Rattle.std.specs.Prelude.{◌≡◌, ◌≢◌, ◌⊎◌, List, [], codes, Some, None}
+use Rattle.clap.specs.Words.{IsAmong, Kinds, Row, Text, fault_of, subcommand_of}
 use Rattle.clap.specs.declared.error.kind.ErrorKind.{ErrorKind}
 use Rattle.clap.specs.declared.error.kind.ErrorKind.TheVariants.{DisplayHelp, DisplayVersion, OutOfMemory}
+use Rattle.wh_command_line.specs.Given.{GivesFile, GivesFlag, GivesPaths, LacksPath}
 use Rattle.wh_command_line.specs.Lines.{program}
-use Rattle.wh_command_line.specs.Options.{AreWithinLimits, GivesNumbers, GivesAllWithin}
+use Rattle.wh_command_line.specs.Options.{GivesAllWithin, GivesFewSlots, IsGivenService}
 use Rattle.wh_command_line.specs.declared.command_line.Plan.{Plan}
-use Rattle.wh_command_line.specs.declared.options.ServeOptions.{ServeOptions}
-use Rattle.wh_command_line.specs.declared.command_line.Plan.TheVariants.{Replay, Explain, Serve, Help}
-
--- the numbers of a plan are within their limits, with at least as many slots as workers
-abbrev pub IsWithinLimits : Plan → Type 0
-IsWithinLimits (Serve dir workers cache cache_events slots) =
-    AreWithinLimits workers cache cache_events slots × (workers ≤ slots)
-IsWithinLimits _ = Unit {0}
-
--- the plan is to serve a folder with these options
-abbrev pub IsServe : Text → ServeOptions → Plan → Type 0
-IsServe dir options plan = plan ≡ Serve dir options.workers options.cache options.cache_events options.slots
+use Rattle.wh_command_line.specs.declared.command_line.Plan.TheVariants.{Replay, Explain, Help}
 
 -- the plan is to print a text
 abbrev pub IsHelp : Plan → Type 0
 IsHelp (Help text) = Unit {0}
 IsHelp _ = ⊥
 
--- the rows give a path under a name
-abbrev pub GivesPath : Text → List Row → Text → Type 0
-GivesPath name rows path = first_of name rows ≡ Some path
-
--- the rows give the folder
-abbrev pub GivesFolder : List Row → Text → Type 0
-GivesFolder rows dir = GivesPath (codes "DIR") rows dir
-
--- the rows give the file
-abbrev pub GivesFile : List Row → Text → Type 0
-GivesFile rows file = GivesPath (codes "FILE") rows file
-
--- the rows give the paths, the first of which is that of a folder
-pub record GivesPaths (rows : List Row) (dir : Text) (more : List Text) : Type 0 where
-  pub gives_folder : GivesFolder rows dir
-  pub gives_all : all_of (codes "DIR") rows ≡ Some (dir ∷ more)
-
--- the rows give a flag: its row says whether it is set
-pub record GivesFlag (name : Text) (rows : List Row) (flag : Bool) : Type 0 where
-  pub absent : one_of name rows ≡ None → flag ≡ false
-  pub set : one_of name rows ≡ Some (codes "true") → flag ≡ true
-  pub unset : one_of name rows ≡ Some (codes "false") → flag ≡ false
-
 -- the plan is what the subcommand of a name asks for by its rows
 abbrev pub IsGiven : Text → List Row → Plan → Type 0
 IsGiven name rows (Replay dir more json) = (name ≡ codes "replay") × GivesPaths rows dir more.items
     × GivesFlag (codes "json") rows json
 IsGiven name rows (Explain file) = (name ≡ codes "explain") × GivesFile rows file
-IsGiven name rows (Serve dir workers cache cache_events slots) = (name ≡ codes "serve") × GivesFolder rows dir
-    × GivesNumbers rows workers cache cache_events slots
 IsGiven name rows (Help text) = ⊥
+IsGiven name rows plan = (name ≡ codes "serve") × IsGivenService rows plan
 
 -- clap's answer is a text that was asked for: the help or the version
 abbrev pub IsRequest : ErrorKind → Type 0
@@ -88,20 +54,10 @@ AsksText words = (kind : ErrorKind) × IsAmong kind (kinds_of words) × IsReques
 abbrev pub HasMistake : List Text → Type 0
 HasMistake words = (kind : ErrorKind) × IsAmong kind (kinds_of words) × IsMistake kind
 
--- the plan is what the subcommand of the words asks for, or to print a text that they ask for
+-- the plan is to print a text that the words ask for, or what their subcommand asks for
 abbrev pub IsAskedBy : List Text → Plan → Type 0
-IsAskedBy words (Help text) = AsksText words
-IsAskedBy words plan = (name : Text) × (rows : List Row) × Names words name rows × IsGiven name rows plan
-
--- the rows give numbers within their limits, with fewer slots than workers
-pub record GivesFewSlots (rows : List Row) : Type 0 where
-  pub workers : ℕ
-  pub cache : ℕ
-  pub cache_events : ℕ
-  pub slots : ℕ
-  pub given : GivesNumbers rows workers cache cache_events slots
-  pub limits : AreWithinLimits workers cache cache_events slots
-  pub few : slots < workers
+IsAskedBy words plan = (IsHelp plan × AsksText words)
+    ⊎ ((name : Text) × (rows : List Row) × Names words name rows × IsGiven name rows plan)
 
 -- the subcommand of a name is to serve, and its rows give fewer slots than workers
 abbrev pub AsksFewSlots : Text → List Row → Type 0
@@ -110,10 +66,6 @@ AsksFewSlots name rows = (name ≡ codes "serve") × GivesFewSlots rows
 -- the words ask to serve, with fewer slots than workers
 abbrev pub HasFewSlots : List Text → Type 0
 HasFewSlots words = (rows : List Row) × Names words (codes "serve") rows × GivesFewSlots rows
-
--- the rows give no path under a name
-abbrev pub LacksPath : Text → List Row → Type 0
-LacksPath name rows = first_of name rows ≡ None
 
 -- the rows give no folder to serve, or a number that is none or not within its limits
 abbrev pub LacksService : List Row → Type 0

@@ -5,12 +5,12 @@ ghost use Rattle.std.specs.Prelude.{string_bytes};
 ghost use Rattle.clap.specs.Words.{App, app_of, new_app, found_of, rows_of, rule_of, kind_of};
 ghost use Rattle.clap.specs.Words.{with_rule, with_subcommand};
 ghost use Rattle.clap.specs.declared.builder.Command.TheViews.{out-Command as fields_of};
-ghost use Rattle.wh_command_line.specs.Lines.{program, replay, explain, serve, needed, folder, paths, flag, number};
+ghost use Rattle.wh_command_line.specs.Given.{GivesFlag, GivesPath, GivesPaths, LacksPath};
+ghost use Rattle.wh_command_line.specs.Lines.{program, replay, explain, serve, needed, folder, paths, flag};
 ghost use Rattle.wh_command_line.specs.Lines.{StandsFor, with_value_name, with_version};
-ghost use Rattle.wh_command_line.specs.Plans.{IsWithinLimits, IsHelp, IsServe, IsGiven, IsAskedBy};
-ghost use Rattle.wh_command_line.specs.Plans.{GivesPath, GivesPaths, GivesFlag, GivesFewSlots};
-ghost use Rattle.wh_command_line.specs.Plans.{AsksFewSlots, HasFewSlots};
-ghost use Rattle.wh_command_line.specs.Plans.{IsRequest, IsMistake, LacksPath, IsBadGiven, IsBadLine};
+ghost use Rattle.wh_command_line.specs.Options.{IsWithinLimits, number};
+ghost use Rattle.wh_command_line.specs.Plans.{AsksFewSlots, HasFewSlots, IsAskedBy, IsGiven, IsHelp};
+ghost use Rattle.wh_command_line.specs.Plans.{IsBadGiven, IsBadLine, IsMistake, IsRequest};
 ghost use Rattle.wh_command_line.specs.Refusals.{IfBad};
 
 use crate::options::{CACHE, CACHE_EVENTS, Helps, NumberOption, SLOTS, ServeOptions, WORKERS};
@@ -292,7 +292,8 @@ fn command<'a>(alloc: Global, helps: &'a Helps) -> Result<Command<'a>, AllocErro
 /// The plan to serve with these options.
 fn serve_plan(dir: Text, options: ServeOptions) -> Result<Plan, Refusal>
     ensures limits { IfOk result IsWithinLimits }
-    ensures kept { IfOk result (IsServe dir options) }
+    ensures kept { IfOk result (λ plan.
+        plan ≡ Plan.Serve dir options.workers options.cache options.cache_events options.slots) }
     ensures few { (result ≡ Err Refusal.FewSlots) ↔ (options.slots < options.workers) }
     ensures err { IfErr result (λ e. e ≡ Refusal.FewSlots) }
 {

@@ -3,9 +3,8 @@
 ghost use Rattle.std.specs.Prelude.{◌≡◌, ◌≢◌, ◌≤◌, ◌<◌, ◌^◌, ℕ, Some, None, Err, IfOk, IfErr, IfSome};
 ghost use Rattle.clap.specs.Words.{found_of, rows_of};
 ghost use Rattle.wh_host.specs.Machine.{IsConfig};
-ghost use Rattle.wh_command_line.specs.Lines.{value_of, value_named};
-ghost use Rattle.wh_command_line.specs.Options.{AreWithinLimits, GivesNumbers, config_of};
-ghost use Rattle.wh_command_line.specs.Options.{IsNumber, GivesWithin, GivesAllWithin};
+ghost use Rattle.wh_command_line.specs.Given.{GivesWithin, IsNumber, value_named, value_of};
+ghost use Rattle.wh_command_line.specs.Options.{AreWithinLimits, GivesAllWithin, GivesNumbers, config_of};
 ghost use Rattle.wh_command_line.specs.Refusals.{IfBad};
 
 use crate::command_line::{Refusal, bad_line};

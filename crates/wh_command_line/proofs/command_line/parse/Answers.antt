@@ -4,9 +4,8 @@ use Rattle.std.specs.Prelude.{map, option_map, codes, string_bytes}
 use Rattle.clap.specs.Words.{Row, Text, is_simple, is_simple_and_free, subcommand_of}
 use Rattle.clap.proofs.OnLiterals.{clap_on_literals}
 use Rattle.wh_command_line.specs.Lines.{program}
-use Rattle.wh_command_line.specs.Plans.{IsRead, Names, IsGiven, IsAskedBy, GivesFewSlots, HasFewSlots}
-use Rattle.wh_command_line.specs.declared.command_line.Plan.{Plan}
-use Rattle.wh_command_line.specs.declared.command_line.Plan.TheVariants.{Replay, Explain, Serve, Help}
+use Rattle.wh_command_line.specs.Options.{GivesFewSlots}
+use Rattle.wh_command_line.specs.Plans.{IsRead, Names, HasFewSlots}
 use Rattle.wh_command_line.proofs.Reasons.{if_bad, if_bad_then, program_is_free, kinds_by, read_by, help_by, mistaken_by, none_found}
 use Rattle.wh_command_line.proofs.command_line.parse.Goals as goal
 
@@ -30,13 +29,6 @@ named_by words name rows (Some p) read of_name of_rows is_found =
     let same_rows : p.1 ≡ rows = cc in
     (read, sym is_found ∙ ap₂ (λ (a : Text) (b : List Row). Some (a, b)) same_name same_rows)
 
--- what a subcommand asks for is what the words ask for
-asked_by : (words : List Text) (name : Text) (rows : List Row) (plan : Plan) → Names words name rows → IsGiven name rows plan → IsAskedBy words plan
-asked_by words name rows (Replay dir more json) named given = (name, rows, named, given)
-asked_by words name rows (Explain file) named given = (name, rows, named, given)
-asked_by words name rows (Serve dir workers cache cache_events slots) named given = (name, rows, named, given)
-asked_by words name rows (Help text) named given = absurd given
-
 -- few slots of the subcommand `serve` are those of the words
 few_by : (words : List Text) (name : Text) (rows : List Row) → Names words name rows → (name ≡ codes "serve") × GivesFewSlots rows → HasFewSlots words
 few_by words name rows named given = (rows, (named.0, named.1 ∙ ap (λ (n : Text). Some (n, rows)) given.0), given.1)
@@ -47,7 +39,7 @@ returns-clause-asked c =
     let found = matched.1 ∙ ap (λ app. subcommand_of app (map string_bytes c.args.words.now)) c.in_ok-command.ensures in
     let read = read_by _ _ c.in_ok-command.ensures (c.in-Ok.ensures.kinds (ap is_simple_and_free c.in_ok-command.ensures ∙ program_is_free)) in
     let named = named_by _ _ _ _ read (c.in-Some.ensures.name ∙ first_made _ _ _) c.in-Some.ensures.rows found in
-    IfOk-weaker c.asked.result _ _ (λ plan given. asked_by _ _ _ plan named given) c.asked.ensures.given
+    IfOk-weaker c.asked.result _ _ (λ plan given. inr (_, _, named, given)) c.asked.ensures.given
 
 pub returns-clause-few : goal.returns-clause-few
 returns-clause-few c = λ few.

@@ -3,7 +3,7 @@ use Rattle.std.proofs.lemmas.List.{take_rest}
 use Rattle.std.specs.Prelude.{option_map, option_and_then, slice_get, bytes_eq}
 use Rattle.clap.specs.Words.{Row, Text, found_of, rows_of}
 use Rattle.clap.proofs.WalkLemmas.{raw_values-rows}
-use Rattle.wh_command_line.specs.Plans.{GivesPaths}
+use Rattle.wh_command_line.specs.Given.{GivesPaths}
 use Rattle.wh_command_line.proofs.Reasons.{if_bad}
 use Rattle.wh_command_line.proofs.command_line.paths_given.Goals as goal
 

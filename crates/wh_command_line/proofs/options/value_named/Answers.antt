@@ -3,8 +3,7 @@ use Rattle.std.specs.Prelude.{IfSome, option_map}
 use Rattle.clap.specs.Words.{first_value, rows_of, found_of}
 use Rattle.clap.specs.declared.ArgMatches.{ArgMatches}
 use Rattle.clap.proofs.WalkLemmas.{first_value-rows}
-use Rattle.wh_command_line.specs.Lines.{value_of, value_named}
-use Rattle.wh_command_line.specs.Options.{IsNumber, GivesWithin}
+use Rattle.wh_command_line.specs.Given.{GivesWithin, IsNumber, value_named, value_of}
 use Rattle.wh_command_line.proofs.options.value_named.Goals as goal
 
 -- a value that was read is the one among the rows

@@ -1,0 +1,51 @@
+-- What the words of a subcommand give under names: the rows in which `clap` puts them.
+use Rattle.std.specs.Prelude.{◌≡◌, ℕ, ◌≤◌, Bool, true, false, List, ◌∷◌, codes, Option, Some, None, option_map}
+use Rattle.std.specs.Str.Parse.{IsNumeral, digits_value, without_leading_plus}
+use Rattle.clap.specs.Words.{Row, Text, all_of, first_of, one_of}
+
+-- the rows give a path under a name
+abbrev pub GivesPath : Text → List Row → Text → Type 0
+GivesPath name rows path = first_of name rows ≡ Some path
+
+-- the rows give no path under a name
+abbrev pub LacksPath : Text → List Row → Type 0
+LacksPath name rows = first_of name rows ≡ None
+
+-- the rows give the folder
+abbrev pub GivesFolder : List Row → Text → Type 0
+GivesFolder rows dir = GivesPath (codes "DIR") rows dir
+
+-- the rows give the file
+abbrev pub GivesFile : List Row → Text → Type 0
+GivesFile rows file = GivesPath (codes "FILE") rows file
+
+-- the rows give the paths, the first of which is that of a folder
+pub record GivesPaths (rows : List Row) (dir : Text) (more : List Text) : Type 0 where
+  pub gives_folder : GivesFolder rows dir
+  pub gives_all : all_of (codes "DIR") rows ≡ Some (dir ∷ more)
+
+-- the rows give a flag: its row says whether it is set
+pub record GivesFlag (name : Text) (rows : List Row) (flag : Bool) : Type 0 where
+  pub absent : one_of name rows ≡ None → flag ≡ false
+  pub set : one_of name rows ≡ Some (codes "true") → flag ≡ true
+  pub unset : one_of name rows ≡ Some (codes "false") → flag ≡ false
+
+-- the text is a number, which a plus may precede
+abbrev pub IsNumber : Text → Type 0
+IsNumber text = IsNumeral 10 (without_leading_plus text)
+
+-- the number that digits stand for
+abbrev pub value_of : Text → ℕ
+value_of text = digits_value 10 (without_leading_plus text)
+
+-- the number of a name, among what was found
+abbrev pub value_named : List Row → Text → Option ℕ
+value_named rows name = option_map value_of (first_of name rows)
+
+-- the rows give a number under a name, from the least to the most
+pub record GivesWithin (rows : List Row) (name : Text) (least most : ℕ) : Type 0 where
+  pub text : Text
+  pub given : first_of name rows ≡ Some text
+  pub number : IsNumber text
+  pub at_least : least ≤ value_of text
+  pub at_most : value_of text ≤ most
