@@ -227,16 +227,21 @@ fn tell_each<R: Runtime, T: Display + Drop>(rt: &R, told: Vec<T>) -> io::Result<
 }
 
 /// Says on the standard error where files are no JSON and why tasks failed, a line for each, and
-/// then in a line where `serve` did not compare all that is recorded.
+/// then in a line each where a worker ended early and where `serve` did not compare all that is
+/// recorded.
 fn tell_service<R: Runtime>(rt: &R, end: ServiceEnd) -> io::Result<()> {
     let ServiceEnd {
         failures,
         uncompared,
+        faultless,
         json_faults,
         ..
     } = end;
     tell_each(rt, json_faults)?;
     tell_each(rt, failures)?;
+    if !faultless {
+        eprintln!(rt; "wfhost: a worker ended early, by a fault of its source")?;
+    }
     if uncompared {
         eprintln!(rt;
             "wfhost: the last task of a recorded history is not compared with its record; replay does that"

@@ -93,6 +93,9 @@ pub struct ServiceEnd {
     /// history. A task is compared with its record where the next one is replayed, so this record
     /// was compared with nothing, whether a task failed or not.
     pub uncompared: bool,
+    /// Whether no worker has a fault. A worker with one ended early, since there was no memory for
+    /// its source's next task.
+    pub faultless: bool,
     /// Where files are no JSON, in the order of the files.
     pub json_faults: Vec<JsonFault>,
 }
@@ -106,7 +109,8 @@ fn report<O: Write>(
     ensures written { IfOk result (λ end.
         Appends (O.contents writer.old) (O.contents writer.new) (service_text service.rows.items service.totals)
         × (end.status ≡ status_of service.faultless service.rows.items service.totals)
-        × (end.failures.items ≡ service.failures.items) × (end.uncompared ≡ service.uncompared)) }
+        × (end.failures.items ≡ service.failures.items) × (end.uncompared ≡ service.uncompared)
+        × (end.faultless ≡ service.faultless)) }
     ensures output { result ≢ Err CommandFault.OutOfMemory }
 {
     let status = status_of(&service);
@@ -115,13 +119,14 @@ fn report<O: Write>(
         totals,
         failures,
         uncompared,
-        ..
+        faultless,
     } = service;
     match write_service(rows, totals, writer) {
         Ok(()) => Ok(ServiceEnd {
             status,
             failures,
             uncompared,
+            faultless,
             json_faults,
         }),
         Err(_) => Err(CommandFault::Output),
@@ -137,11 +142,11 @@ fn serve_read<W: Workflow + Send, R: Threads + Wait + Sync, O: Write>(
     options: ServeOptions,
     writer: &mut O,
 ) -> Result<ServiceEnd, CommandFault>
-    ensures report { IfOk result (λ end. (rows : List Row) × (totals : Totals) × (faultless : Bool)
-        × IsToldService (map reading read.0.items) options.workers rows totals faultless
+    ensures report { IfOk result (λ end. (rows : List Row) × (totals : Totals)
+        × IsToldService (map reading read.0.items) options.workers rows totals end.faultless
         end.failures.items end.uncompared
         × Appends (O.contents writer.old) (O.contents writer.new) (service_text rows totals)
-        × (end.status ≡ status_of faultless rows totals)) }
+        × (end.status ≡ status_of end.faultless rows totals)) }
     ensures unwritten { result ≡ Err CommandFault.OutOfMemory → writer.new ≡ writer.old }
 {
     let (files, json_faults) = read;
@@ -167,11 +172,11 @@ pub fn serve_with_failures<W: Workflow + Send, R: Threads + Wait + Sync, O: Writ
     writer: &mut O,
 ) -> Result<ServiceEnd, CommandFault>
     requires { AreWithinLimits workers cache cache_events slots }
-    ensures report { IfOk result (λ end. (rows : List Row) × (totals : Totals) × (faultless : Bool)
-        × IsToldService (map reading_of files.items) workers rows totals faultless
+    ensures report { IfOk result (λ end. (rows : List Row) × (totals : Totals)
+        × IsToldService (map reading_of files.items) workers rows totals end.faultless
         end.failures.items end.uncompared
         × Appends (O.contents writer.old) (O.contents writer.new) (service_text rows totals)
-        × (end.status ≡ status_of faultless rows totals)) }
+        × (end.status ≡ status_of end.faultless rows totals)) }
     ensures unwritten { result ≡ Err CommandFault.OutOfMemory → writer.new ≡ writer.old }
 {
     let options = ServeOptions::new(workers, cache, cache_events, slots);
@@ -201,11 +206,11 @@ where
     R::Dir: Send,
     requires { AreWithinLimits workers cache cache_events slots }
     ensures report { IfOk result (λ answer. IfOk answer (λ end.
-        (readings : List Reading) × (rows : List Row) × (totals : Totals) × (faultless : Bool)
+        (readings : List Reading) × (rows : List Row) × (totals : Totals)
         × AllZip IsReadingOfInput inputs.items readings
-        × IsToldService readings workers rows totals faultless end.failures.items end.uncompared
+        × IsToldService readings workers rows totals end.faultless end.failures.items end.uncompared
         × Appends (O.contents writer.old) (O.contents writer.new) (service_text rows totals)
-        × (end.status ≡ status_of faultless rows totals))) }
+        × (end.status ≡ status_of end.faultless rows totals))) }
     ensures unread { OnErr result (writer.new ≡ writer.old) }
     ensures unwritten { result ≡ Ok (Err CommandFault.OutOfMemory) → writer.new ≡ writer.old }
 {
