@@ -5,7 +5,7 @@ until a run meets no refusal. The requests are counted and refused by a few line
 Each run of `wfhost replay` and `wfhost serve` has to end in one of these ways: what it prints with ample memory; status 2 with
 `wfhost: out of memory` and nothing on standard output; or status 1 with a whole report, in which the lines that differ say
 `out of memory` (replay), or the totals balance with nothing in hand (serve). Beside a whole report of serve, standard error has a
-line for each failed task, then at most one that a worker ended early, and the hint that is there with ample memory; one of the
+line for each failed task, then at most one that a worker has a fault, and the hint that is there with ample memory; one of the
 first two kinds is there.
 
 Of the calls that bench_replay makes, only the requests of the call itself are refused: those between the line on what stands before it
@@ -31,7 +31,7 @@ OUT_OF_MEMORY = "wfhost: out of memory\n"
 TOTALS = re.compile(r"taken (\d+), completed (\d+), failed (\d+), in hand 0")
 TALLY = re.compile(r"(.+): (\d+) tasks, (\d+) completed, (\d+) failed")
 FAILURE = re.compile(r"wfhost: (.+): task at \d+: .+")
-EARLY = "wfhost: a worker ended early, by a fault of its source\n"
+FAULT = "wfhost: a worker has a fault: a call of its source failed\n"
 COMMANDS = [
     ["replay", EXAMPLES],
     *(
@@ -136,12 +136,12 @@ def is_replay(out, error, ample):
 
 def is_service(out, error, ample):
     """Whether the report is one of serve, and standard error has a line for each failed task, file by file, and at most one that a
-    worker ended early, at least one in all, before what it says with ample memory."""
+    worker has a fault, at least one in all, before what it says with ample memory."""
     if not is_service_report(out, ample[1]) or not error.endswith(ample[2]):
         return False
     tallies = [TALLY.fullmatch(line) for line in out.splitlines()[:-1]]
     said = error.removesuffix(ample[2])
-    told = [FAILURE.fullmatch(line) for line in said.removesuffix(EARLY).splitlines()]
+    told = [FAILURE.fullmatch(line) for line in said.removesuffix(FAULT).splitlines()]
     return said != "" and all(told) and [it[1] for it in told] == [it[1] for it in tallies for _ in range(int(it[4]))]
 
 

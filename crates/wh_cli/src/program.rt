@@ -227,7 +227,7 @@ fn tell_each<R: Runtime, T: Display + Drop>(rt: &R, told: Vec<T>) -> io::Result<
 }
 
 /// Says on the standard error where files are no JSON and why tasks failed, a line for each, and
-/// then in a line each where a worker ended early and where `serve` did not compare all that is
+/// then in a line each where a worker has a fault and where `serve` did not compare all that is
 /// recorded.
 fn tell_service<R: Runtime>(rt: &R, end: ServiceEnd) -> io::Result<()> {
     let ServiceEnd {
@@ -240,7 +240,7 @@ fn tell_service<R: Runtime>(rt: &R, end: ServiceEnd) -> io::Result<()> {
     tell_each(rt, json_faults)?;
     tell_each(rt, failures)?;
     if !faultless {
-        eprintln!(rt; "wfhost: a worker ended early, by a fault of its source")?;
+        eprintln!(rt; "wfhost: a worker has a fault: a call of its source failed")?;
     }
     if uncompared {
         eprintln!(rt;

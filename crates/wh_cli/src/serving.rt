@@ -93,8 +93,8 @@ pub struct ServiceEnd {
     /// history. A task is compared with its record where the next one is replayed, so this record
     /// was compared with nothing, whether a task failed or not.
     pub uncompared: bool,
-    /// Whether no worker has a fault. A worker with one ended early, since there was no memory for
-    /// its source's next task.
+    /// Whether no worker has a fault: no call of its source failed. After a fault a worker goes on,
+    /// so all tasks may be completed beside one.
     pub faultless: bool,
     /// Where files are no JSON, in the order of the files.
     pub json_faults: Vec<JsonFault>,
