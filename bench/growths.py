@@ -1,5 +1,5 @@
 #!/usr/bin/env python3
-"""What `Run::advance` costs on a long run whose tasks start 64 timers each, by the program of bench_replay. It is no part of the
+"""What `Run::advance` costs on a long run whose tasks start 64 timers each, by the program of bench_trials. It is no part of the
 gate. It prints
 
 - with valgrind, the growths of memory of one call behind 1, 10, 100 and 650 tasks: those of the program that makes the call,
@@ -21,8 +21,8 @@ import sys
 from pathlib import Path
 
 TOP = Path(__file__).resolve().parent.parent
-CRATE = TOP / "crates/bench_replay"
-PROGRAM = CRATE / "out/bench_replay"
+CRATE = TOP / "crates/bench_trials"
+PROGRAM = CRATE / "out/bench_trials"
 LIMIT_SECONDS = 600
 MOST_GROWTHS = 4_000
 RUNS = 15
@@ -68,7 +68,7 @@ def refused(growth):
     """What the program says of one call behind 100 tasks where a growth of the whole program is refused, with its status."""
     ran = run("rt", "try", "--fail-alloc", growth, "--", 100, 1, cwd=CRATE)
     status = re.search(r"^run=ended status=(\d+) ", ran.stdout + ran.stderr, re.M)
-    said = re.search(r"^(100 tasks, and 1 more: .*|bench_replay: could not be tried)$", ran.stdout + ran.stderr, re.M)
+    said = re.search(r"^(100 tasks, and 1 more: .*|bench_trials: could not be tried)$", ran.stdout + ran.stderr, re.M)
     return (said[1] if said else "nothing"), (status[1] if status else "none")
 
 
@@ -80,7 +80,7 @@ def passes_by():
     middle = refused((before + with_call) // 2)
     print(f"growth 4,001 of the call refused: {late[0]} (status {late[1]})")
     print(f"a growth in its middle refused: {middle[0]} (status {middle[1]})")
-    return late == wanted and middle == ("bench_replay: could not be tried", "2")
+    return late == wanted and middle == ("bench_trials: could not be tried", "2")
 
 
 def steady():
@@ -92,7 +92,7 @@ def steady():
 
 def main():
     if not PROGRAM.exists():
-        sys.exit("the program is not built: run `rt run -- 100 1` in crates/bench_replay")
+        sys.exit("the program is not built: run `rt run -- 100 1` in crates/bench_trials")
     return 0 if all([counted(), passes_by(), steady()]) else 1
 
 

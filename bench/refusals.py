@@ -8,7 +8,7 @@ Each run of `wfhost replay` and `wfhost serve` has to end in one of these ways: 
 line for each failed task, then at most one that a worker has a fault, and the hint that is there with ample memory; one of the
 first two kinds is there.
 
-Of the calls that bench_replay makes, only the requests of the call itself are refused: those between the line on what stands before it
+Of the calls that bench_trials makes, only the requests of the call itself are refused: those between the line on what stands before it
 and the line with its answer. Each run has to print what it prints with ample memory, or want of memory and what may stand after it,
 which the table CALLS says. A call of the table without want of memory has to answer the same however many requests are refused.
 
@@ -23,7 +23,7 @@ from pathlib import Path
 
 TOP = Path(__file__).resolve().parent.parent
 PROGRAM = TOP / "crates/wfhost/out/wfhost"
-CALLER = TOP / "crates/bench_replay/out/bench_replay"
+CALLER = TOP / "crates/bench_trials/out/bench_trials"
 EXAMPLES = str(TOP / "examples/histories")
 LIMIT_SECONDS = 60
 LAST = 2**63
@@ -55,7 +55,7 @@ UNTAKEN = r"Counts \{ taken: 0, completed: 0, failed: 0, in_hand: 0, cached: 0, 
 # The run is given to the cache also where its answer could not be sent.
 FAILED = r"Counts \{ taken: 1, completed: 0, failed: 1, in_hand: 0, cached: (0, cached_events: 0|1, cached_events: 3), " + FREE
 UNCACHED = r"Counts \{ taken: 1, completed: 1, failed: 0, in_hand: 0, cached: 0, cached_events: 0, " + FREE
-# The calls of bench_replay, and the ways in which each may want memory: an answer, and what stands after it (SAME: what stood before).
+# The calls of bench_trials, and the ways in which each may want memory: an answer, and what stands after it (SAME: what stood before).
 CALLS = {
     "read_events": [(NO_MEMORY, SAME)],
     "push": [(NO_MEMORY, SAME)],
@@ -178,7 +178,7 @@ def try_program(refusals, words):
 
 
 def parts_of(name, out):
-    """What stands before a call, what it answers and what stands after it, as bench_replay prints them; None where it does not."""
+    """What stands before a call, what it answers and what stands after it, as bench_trials prints them; None where it does not."""
     heads, lines = [f"{name} {part}: " for part in ("before", "answer", "after")], out.splitlines()
     if len(lines) != len(heads) or not all(line.startswith(head) for line, head in zip(lines, heads)):
         return None
@@ -233,7 +233,7 @@ def main():
     if not PROGRAM.exists():
         sys.exit("the program is not built: start ./wfhost once")
     if not CALLER.exists():
-        sys.exit("the program of the calls is not built: run `rt run` in crates/bench_replay")
+        sys.exit("the program of the calls is not built: run `rt run` in crates/bench_trials")
     with tempfile.TemporaryDirectory() as room:
         refusals = Refusals(room)
         bad = sum(try_call(refusals, name) for name in CALLS)

@@ -1,5 +1,5 @@
 #!/usr/bin/env python3
-"""Soaks the worker host by `bench_soak` on the files of examples/histories, read over and over, and
+"""Soaks the worker host by `bench_trials` on the files of examples/histories, read over and over, and
 prints a row for each soak: tasks a second, how many tasks found their run in the cache and how many
 did not, how many cached runs were evicted, most at random and the last once each, and the peak memory in
 MiB, which is at least that of this script. A soak that refutes anything ends the script with its line. It is no part of the
@@ -12,7 +12,7 @@ import sys
 from pathlib import Path
 
 TOP = Path(__file__).resolve().parent.parent
-PROGRAM = TOP / "crates/bench_soak/out/bench_soak"
+PROGRAM = TOP / "crates/bench_trials/out/bench_trials"
 FOLDER = TOP / "examples/histories"
 LIMIT_SECONDS = 300
 HISTORIES = 2_000
@@ -38,7 +38,7 @@ def soak(workers, cache):
 
 def main():
     if not PROGRAM.exists():
-        sys.exit(f"{PROGRAM} is not there: run `rt run` in crates/bench_soak, which builds it")
+        sys.exit(f"{PROGRAM} is not there: run `rt run` in crates/bench_trials, which builds it")
     print(f"{HISTORIES:,} histories a soak")
     print(ROW.format("workers", "cache", "hits", "misses", "evicted", "seconds", "tasks/s", "MiB"))
     for workers, cache in SOAKS:

@@ -40,7 +40,7 @@ Status:
   1  the report names a file or a task that has one
   2  there is no report; standard error says why
 """
-VERSION = "wfhost 0.1.0 (rattle-kit-13b logic dac8208d650f15bf)\n"
+VERSION = "wfhost 0.1.0 (rattle-kit-13f logic dac8208d650f15bf)\n"
 EXPLAINED = """task at 3
   told Time 1714557603000000000 ns
   told Start Nap

@@ -3,8 +3,9 @@
 
 ghost use Rattle.std.specs.Prelude.{◌≡◌, [], ◌∷◌, pos, negsuc, codes, IfOk};
 ghost use Rattle.order.specs.Order.{calling_off, order, order_after, order_gives, order_lawful, parcel_type};
+ghost use Rattle.order.specs.Order.{charging_gives, held_gives, shipping_gives};
 ghost use Rattle.wh_workflow.specs.declared.command.Command.TheVariants.{StartActivity, StartTimer, StartChild};
-ghost use Rattle.wh_workflow.specs.declared.command.Command.TheVariants.{Ask, Fail};
+ghost use Rattle.wh_workflow.specs.declared.command.Command.TheVariants.{Ask, Complete, Fail};
 
 mod charging;
 #[cfg(test)]
@@ -50,27 +51,35 @@ pub enum OrderState {
 /// For how many seconds an order is held: a day.
 const HOLD: u64 = 86_400;
 
+/// One command, as a list.
+fn one(alloc: Global, command: Command) -> Result<Vec<Command>, OutOfMemory>
+    ensures { IfOk result (λ given. given.items ≡ command ∷ []) }
+{
+    Ok(vec![in alloc; command]?)
+}
+
 /// Charges for the order.
-fn charge(alloc: Global, input: &Items<Payload>) -> Result<Command, OutOfMemory>
-    ensures { IfOk result (λ command. command ≡ StartActivity (codes "charge") (codes "ChargeCard") input.now) }
+fn charge(alloc: Global, input: &Items<Payload>) -> Result<Vec<Command>, OutOfMemory>
+    ensures { IfOk result (λ given. given.items ≡ StartActivity (codes "charge") (codes "ChargeCard") input.now ∷ []) }
 {
     let input = input.try_copy()?;
     let (id, activity) = texts_of(alloc, "charge", "ChargeCard")?;
-    Ok(Command::StartActivity {
-        id,
-        activity,
-        input,
-    })
+    one(
+        alloc,
+        Command::StartActivity {
+            id,
+            activity,
+            input,
+        },
+    )
 }
 
 /// Holds the order.
-fn hold(alloc: Global) -> Result<Command, OutOfMemory>
-    ensures { IfOk result (λ command. command ≡ StartTimer (codes "hold") 86_400) }
+fn hold(alloc: Global) -> Result<Vec<Command>, OutOfMemory>
+    ensures { IfOk result (λ given. given.items ≡ StartTimer (codes "hold") 86_400 ∷ []) }
 {
-    Ok(Command::StartTimer {
-        id: text_of(alloc, "hold")?,
-        seconds: HOLD,
-    })
+    let id = text_of(alloc, "hold")?;
+    one(alloc, Command::StartTimer { id, seconds: HOLD })
 }
 
 /// Calls the order off.
@@ -87,70 +96,102 @@ fn call_off(alloc: Global) -> Result<Vec<Command>, OutOfMemory>
 }
 
 /// Asks whether parcels of this run are tracked: those that began before the change are not.
-fn ask(alloc: Global) -> Result<Command, OutOfMemory>
-    ensures { IfOk result (λ command. command ≡ Ask (codes "tracked") (negsuc 0) (pos 1)) }
+fn ask(alloc: Global) -> Result<Vec<Command>, OutOfMemory>
+    ensures { IfOk result (λ given. given.items ≡ Ask (codes "tracked") (negsuc 0) (pos 1) ∷ []) }
 {
-    Ok(Command::Ask {
-        change_id: text_of(alloc, "tracked")?,
-        min: -1,
-        max: 1,
-    })
+    let change_id = text_of(alloc, "tracked")?;
+    one(
+        alloc,
+        Command::Ask {
+            change_id,
+            min: -1,
+            max: 1,
+        },
+    )
 }
 
 /// Ships the order, by the version of the change.
-fn ship(alloc: Global, version: i32) -> Result<Command, OutOfMemory>
-    ensures { IfOk result (λ command. command ≡ StartChild (codes "parcel") (parcel_type version) []) }
+fn ship(alloc: Global, version: i32) -> Result<Vec<Command>, OutOfMemory>
+    ensures { IfOk result (λ given. given.items ≡ StartChild (codes "parcel") (parcel_type version) [] ∷ []) }
 {
     let workflow = if version == -1 { "Ship" } else { "ShipTracked" };
     let (workflow_id, workflow) = texts_of(alloc, "parcel", workflow)?;
-    Ok(Command::StartChild {
-        workflow_id,
-        workflow,
-        input: no_payloads(alloc),
-    })
+    one(
+        alloc,
+        Command::StartChild {
+            workflow_id,
+            workflow,
+            input: no_payloads(alloc),
+        },
+    )
+}
+
+/// Completes the run by what its child has given.
+fn complete(alloc: Global, payloads: &Items<Payload>) -> Result<Vec<Command>, OutOfMemory>
+    ensures { IfOk result (λ given. given.items ≡ Complete payloads.now ∷ []) }
+{
+    let result = payloads.try_copy()?;
+    one(alloc, Command::Complete { result })
 }
 
 /// Fails the run.
-fn fail(alloc: Global, message: &str) -> Result<Command, OutOfMemory>
-    ensures { IfOk result (λ command. command ≡ Fail message.now) }
+fn fail(alloc: Global, message: &str) -> Result<Vec<Command>, OutOfMemory>
+    ensures { IfOk result (λ given. given.items ≡ Fail message.now ∷ []) }
 {
-    Ok(Command::Fail {
-        message: text_of(alloc, message)?,
-    })
+    let message = text_of(alloc, message)?;
+    one(alloc, Command::Fail { message })
 }
 
-/// One command, as a list.
-fn one(alloc: Global, command: Command) -> Result<Vec<Command>, OutOfMemory>
-    ensures { IfOk result (λ given. given.items ≡ command ∷ []) }
+/// What an order that is charged for gives to a job.
+fn given_charging(alloc: Global, job: &Job) -> Result<Vec<Command>, OutOfMemory>
+    ensures { IfOk result (λ given. given.items ≡ charging_gives job.now) }
 {
-    Ok(vec![in alloc; command]?)
+    match job {
+        Job::Start { input, .. } => charge(alloc, input),
+        Job::Activity { id, end } if id.get() == "charge" => match end {
+            ActivityEnd::Completed(_) => hold(alloc),
+            _ => fail(alloc, "charge"),
+        },
+        _ => Ok(Vec::new(alloc)),
+    }
+}
+
+/// What an order that is held gives to a job.
+fn given_held(alloc: Global, job: &Job) -> Result<Vec<Command>, OutOfMemory>
+    ensures { IfOk result (λ given. given.items ≡ held_gives job.now) }
+{
+    match job {
+        Job::Signal { name, .. } if name.get() == "cancel" => call_off(alloc),
+        Job::TimerFired { id } if id.get() == "hold" => ask(alloc),
+        _ => Ok(Vec::new(alloc)),
+    }
+}
+
+/// What an order that is shipped gives to a job.
+fn given_shipping(alloc: Global, job: &Job) -> Result<Vec<Command>, OutOfMemory>
+    ensures { IfOk result (λ given. given.items ≡ shipping_gives job.now) }
+{
+    match job {
+        Job::Version { change_id, version } if change_id.get() == "tracked" => {
+            ship(alloc, *version)
+        }
+        Job::Child { workflow_id, end } if workflow_id.get() == "parcel" => match end {
+            ChildEnd::Completed(given) => complete(alloc, given),
+            _ => fail(alloc, "parcel"),
+        },
+        _ => Ok(Vec::new(alloc)),
+    }
 }
 
 /// What an order gives to a job.
 fn given(alloc: Global, state: OrderState, job: &Job) -> Result<Vec<Command>, OutOfMemory>
     ensures { IfOk result (λ given. given.items ≡ order_gives state job.now) }
 {
-    match (state, job) {
-        (OrderState::Charging, Job::Start { input, .. }) => one(alloc, charge(alloc, input)?),
-        (OrderState::Charging, Job::Activity { id, end }) if id.get() == "charge" => match end {
-            ActivityEnd::Completed(_) => one(alloc, hold(alloc)?),
-            _ => one(alloc, fail(alloc, "charge")?),
-        },
-        (OrderState::Held, Job::Signal { name, .. }) if name.get() == "cancel" => call_off(alloc),
-        (OrderState::Held, Job::TimerFired { id }) if id.get() == "hold" => one(alloc, ask(alloc)?),
-        (OrderState::Shipping, Job::Version { change_id, version })
-            if change_id.get() == "tracked" => { one(alloc, ship(alloc, *version)?) }
-        (OrderState::Shipping, Job::Child { workflow_id, end }) if workflow_id.get() == "parcel" =>
-            {
-                match end {
-                    ChildEnd::Completed(result) => {
-                        let result = result.try_copy()?;
-                        one(alloc, Command::Complete { result })
-                    }
-                    _ => one(alloc, fail(alloc, "parcel")?),
-                }
-            }
-        _ => Ok(Vec::new(alloc)),
+    match state {
+        OrderState::Charging => given_charging(alloc, job),
+        OrderState::Held => given_held(alloc, job),
+        OrderState::Shipping => given_shipping(alloc, job),
+        OrderState::Closed => Ok(Vec::new(alloc)),
     }
 }
 

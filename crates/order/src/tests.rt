@@ -10,54 +10,87 @@ fn text(rt: &impl Abort, alloc: Global, content: &str) -> Text {
     text_of(alloc, content).expect(rt, "memory")
 }
 
+/// The job that starts an order.
+fn start(rt: &impl Abort, alloc: Global) -> Job {
+    Job::Start {
+        workflow: text(rt, alloc, "Order"),
+        input: no_payloads(alloc),
+    }
+}
+
+/// The job that tells that the card was charged.
+fn charged(rt: &impl Abort, alloc: Global) -> Job {
+    Job::Activity {
+        id: text(rt, alloc, "charge"),
+        end: ActivityEnd::Completed(no_payloads(alloc)),
+    }
+}
+
+/// The job that tells that the day is over.
+fn fired(rt: &impl Abort, alloc: Global) -> Job {
+    Job::TimerFired {
+        id: text(rt, alloc, "hold"),
+    }
+}
+
+/// The job that calls an order off.
+fn cancel(rt: &impl Abort, alloc: Global) -> Job {
+    Job::Signal {
+        name: text(rt, alloc, "cancel"),
+        input: no_payloads(alloc),
+    }
+}
+
+/// The job that tells that parcels are tracked.
+fn tracked(rt: &impl Abort, alloc: Global) -> Job {
+    Job::Version {
+        change_id: text(rt, alloc, "tracked"),
+        version: 1,
+    }
+}
+
+/// The job that tells that the parcel has arrived.
+fn arrived(rt: &impl Abort, alloc: Global) -> Job {
+    Job::Child {
+        workflow_id: text(rt, alloc, "parcel"),
+        end: ChildEnd::Completed(no_payloads(alloc)),
+    }
+}
+
 /// What an order answers to the job.
-fn step(rt: &impl Abort, alloc: Global, state: &mut OrderState, job: &Job) -> Vec<Command> {
+fn step(rt: &impl Abort, alloc: Global, state: &mut OrderState, job: Job) -> Vec<Command> {
     let mut out = Vec::new(alloc);
-    let mut meter = Meter::new();
-    let stepped = Order::step(alloc, state, job, &mut out, &mut meter);
+    let stepped = Order::step(alloc, state, &job, &mut out, &mut Meter::new());
+    drop(job);
     assert!(rt; stepped.is_ok());
     out
 }
 
-/// An order whose card was charged, and so is held.
-fn held(rt: &impl Abort, alloc: Global) -> OrderState {
+/// An order begins, and charges the card.
+fn charges(rt: &impl Abort, alloc: Global) -> OrderState {
     let mut state = Order::begin(alloc, "Order").expect(rt, "memory");
-    let start = Job::Start {
-        workflow: text(rt, alloc, "Order"),
-        input: no_payloads(alloc),
-    };
-    let charged = Job::Activity {
-        id: text(rt, alloc, "charge"),
-        end: ActivityEnd::Completed(no_payloads(alloc)),
-    };
-    let given = step(rt, alloc, &mut state, &start);
+    let given = step(rt, alloc, &mut state, start(rt, alloc));
     assert!(rt;
         matches!(given.as_slice(), [Command::StartActivity { id, .. }] if id.get() == "charge")
     );
-    let given = step(rt, alloc, &mut state, &charged);
+    state
+}
+
+/// An order whose card was charged is held for a day.
+fn holds(rt: &impl Abort, alloc: Global) -> OrderState {
+    let mut state = charges(rt, alloc);
+    let given = step(rt, alloc, &mut state, charged(rt, alloc));
     assert!(rt;
         matches!(given.as_slice(), [Command::StartTimer { id, seconds: 86_400 }] if id.get() == "hold")
     );
     state
 }
 
-#[test]
-fn an_order_is_shipped_after_a_day(rt: HostRuntime) {
-    let alloc = rt.alloc();
-    let mut state = held(&rt, alloc);
-    let fired = Job::TimerFired {
-        id: text(&rt, alloc, "hold"),
-    };
-    let version = Job::Version {
-        change_id: text(&rt, alloc, "tracked"),
-        version: 1,
-    };
-    let arrived = Job::Child {
-        workflow_id: text(&rt, alloc, "parcel"),
-        end: ChildEnd::Completed(no_payloads(alloc)),
-    };
-    let given = step(&rt, alloc, &mut state, &fired);
-    assert!(&rt;
+/// After the day it asks whether parcels are tracked.
+fn asks(rt: &impl Abort, alloc: Global) -> OrderState {
+    let mut state = holds(rt, alloc);
+    let given = step(rt, alloc, &mut state, fired(rt, alloc));
+    assert!(rt;
         matches!(
             given.as_slice(),
             [Command::Ask {
@@ -67,48 +100,62 @@ fn an_order_is_shipped_after_a_day(rt: HostRuntime) {
             }]
         )
     );
-    let given = step(&rt, alloc, &mut state, &version);
-    assert!(&rt;
+    state
+}
+
+/// Then it is shipped by a child.
+fn ships(rt: &impl Abort, alloc: Global) -> OrderState {
+    let mut state = asks(rt, alloc);
+    let given = step(rt, alloc, &mut state, tracked(rt, alloc));
+    assert!(rt;
         matches!(given.as_slice(), [Command::StartChild { workflow, .. }] if workflow.get() == "ShipTracked")
     );
-    let given = step(&rt, alloc, &mut state, &arrived);
+    state
+}
+
+#[test]
+fn an_order_is_shipped_after_a_day(rt: HostRuntime) {
+    let mut state = ships(&rt, rt.alloc());
+    let given = step(&rt, rt.alloc(), &mut state, arrived(&rt, rt.alloc()));
     assert!(&rt; matches!(given.as_slice(), [Command::Complete { .. }]));
     assert_eq!(&rt; state, OrderState::Closed);
 }
 
-#[test]
-fn an_order_is_called_off(rt: HostRuntime) {
-    let alloc = rt.alloc();
-    let mut state = held(&rt, alloc);
-    let cancel = Job::Signal {
-        name: text(&rt, alloc, "cancel"),
-        input: no_payloads(alloc),
-    };
-    let fired = Job::TimerFired {
-        id: text(&rt, alloc, "hold"),
-    };
-    let given = step(&rt, alloc, &mut state, &cancel);
-    assert!(&rt;
+/// An order that is called off cancels the timer and ends.
+fn calls_off(rt: &impl Abort, alloc: Global) -> OrderState {
+    let mut state = holds(rt, alloc);
+    let given = step(rt, alloc, &mut state, cancel(rt, alloc));
+    assert!(rt;
         matches!(
             given.as_slice(),
             [Command::CancelTimer { .. }, Command::Complete { .. }]
         )
     );
-    let given = step(&rt, alloc, &mut state, &fired);
+    state
+}
+
+#[test]
+fn an_order_is_called_off(rt: HostRuntime) {
+    let mut state = calls_off(&rt, rt.alloc());
+    let given = step(&rt, rt.alloc(), &mut state, fired(&rt, rt.alloc()));
     assert!(&rt; given.is_empty());
+}
+
+/// What a charged card gives back of a price.
+fn price_back(rt: &impl Abort, alloc: Global, kind: &str) -> Option<Items<Payload>> {
+    let price = Payload {
+        encoding: Items::new(Vec::new(alloc)),
+        content: Items::new(vec![in alloc; 57].expect(rt, "memory")),
+    };
+    let input = Items::new(vec![in alloc; price].expect(rt, "memory"));
+    let given = receipt(kind, &input);
+    drop(input);
+    given.expect(rt, "memory")
 }
 
 #[test]
 fn a_charged_card_gives_back_what_it_was_charged_with(rt: HostRuntime) {
-    let alloc = rt.alloc();
-    let price = Payload {
-        encoding: Items::new(Vec::new(alloc)),
-        content: Items::new(vec![in alloc; 57].expect(&rt, "memory")),
-    };
-    let input = Items::new(vec![in alloc; price].expect(&rt, "memory"));
-    let charged = receipt("ChargeCard", &input).expect(&rt, "memory");
-    let given = charged.expect(&rt, "a receipt");
-    assert!(&rt; matches!(given.get(), [payload] if payload.content.get() == [57].as_slice()));
-    let refunded = receipt("RefundCard", &input).expect(&rt, "memory");
-    assert!(&rt; refunded.is_none());
+    let charged = price_back(&rt, rt.alloc(), "ChargeCard").expect(&rt, "a receipt");
+    assert!(&rt; matches!(charged.get(), [payload] if payload.content.get() == [57].as_slice()));
+    assert!(&rt; price_back(&rt, rt.alloc(), "RefundCard").is_none());
 }

@@ -11,8 +11,8 @@ use crate::till::Till;
 use order::Order;
 use std::alloc::Global;
 use std::io;
+use std::io::Print;
 use std::process::ExitCode;
-use std::rt::Runtime;
 use std::sync::Wait;
 use std::thread::Threads;
 use wh_events::OutOfMemory;
@@ -71,7 +71,7 @@ fn serve<R: Threads + Wait + Sync>(rt: &R, alloc: Global) -> Result<OrderEnd, Op
 }
 
 /// Prints what each worker and what the host has done.
-fn print<R: Runtime>(rt: &R, end: &OrderEnd) -> io::Result<()> {
+fn print<R: Print>(rt: &R, end: &OrderEnd) -> io::Result<()> {
     for (place, worker) in end.workers.iter().enumerate() {
         let tasks = worker.counted.taken;
         let answers = worker.source.count_answers();

@@ -1,8 +1,9 @@
 -- What is collected of answers that may be faults.
-use Rattle.std.proofs.Common.{◌≡◌, List, [], ◌∷◌, map, sym, subst}
+use Rattle.std.proofs.Common.{◌≡◌, ◌∙◌, List, [], ◌∷◌, ◌++◌, ap, map, sym, subst}
 use Rattle.std.specs.Prelude.{Vec, Result, Ok, Err, IfOk, MatchResult, Contains}
 use Rattle.std.specs.List.{AllZip}
 use Rattle.std.specs.declared.alloc.Global.{Global}
+use Rattle.std.proofs.lemmas.List.{map-append}
 
 -- where each input gave a value, the values are theirs, whatever stands beside them
 each_value : {A C B E : Type 0} (P : A → Result (C × B) E → Type 0) (inputs : List A) (told : List (C × B))
@@ -38,3 +39,9 @@ weaker (x ∷ xs) [] f zip = absurd zip
 pub all_ok : {X E : Type 0} {P Q : X → Type 0} (r : Result X E) → ((x : X) → P x → Q x) → IfOk r P → IfOk r Q
 all_ok (Ok x) f p = f x p
 all_ok (Err e) f p = tt
+
+-- what comes first in one pair more stands behind what comes first in those before it
+pub firsts_push : {A B : Type 0} (pairs : List (A × B)) (both : A × B) (old new : List A) → new ≡ old ++ (both.0 ∷ []) → old ≡ map (λ both. both.0) pairs → new ≡ map (λ both. both.0) (pairs ++ (both ∷ []))
+firsts_push {A} {B} pairs both old new added firsts =
+    let first : A × B → A = λ both. both.0 in
+    added ∙ ap (λ (l : List A). l ++ (both.0 ∷ [])) firsts ∙ sym (map-append first pairs (both ∷ []))

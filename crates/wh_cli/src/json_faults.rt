@@ -1,6 +1,6 @@
 //! Files that are no JSON, and where.
 
-ghost use Rattle.std.specs.Prelude.{◌≡◌, IfOk, IfSome, None, Some, map};
+ghost use Rattle.std.specs.Prelude.{◌≡◌, ◌++◌, [], ◌∷◌, IfOk, OnOk, IfSome, None, Some, map};
 ghost use Rattle.wh_json.specs.Fields.{document};
 ghost use Rattle.wh_cli.specs.Services.{json_fault_text};
 
@@ -46,6 +46,28 @@ pub(crate) fn json_fault(alloc: Global, name: &str, bytes: &[u8]) -> Option<Json
     })
 }
 
+/// Adds the fault of a file, if it is no JSON.
+fn add_fault(faults: &mut Vec<JsonFault>, fault: Option<JsonFault>) -> Result<(), OutOfMemory> {
+    match fault {
+        Some(fault) => Ok(faults.push(fault)?),
+        None => Ok(()),
+    }
+}
+
+/// Adds what was made of a file, and apart from it the fault of one that is no JSON.
+fn add_told<T: Drop>(
+    made: &mut Vec<T>,
+    faults: &mut Vec<JsonFault>,
+    told: (T, Option<JsonFault>),
+) -> Result<(), OutOfMemory>
+    ensures { OnOk result (made.new.items ≡ made.old.items ++ (told.0 ∷ [])) }
+{
+    let (one, fault) = told;
+    let added = made.push(one).is_ok();
+    add_fault(faults, fault)?;
+    if added { Ok(()) } else { Err(OutOfMemory) }
+}
+
 /// What was made of files, and apart from it the faults of those that are no JSON.
 pub(crate) fn parted<T: Drop>(
     alloc: Global,
@@ -55,11 +77,8 @@ pub(crate) fn parted<T: Drop>(
 {
     let mut made = Vec::new(alloc);
     let mut faults = Vec::new(alloc);
-    for (one, fault) in told {
-        made.push(one)?;
-        if let Some(fault) = fault {
-            faults.push(fault)?;
-        }
+    for both in told {
+        add_told(&mut made, &mut faults, both)?;
     }
     Ok((made, faults))
 }

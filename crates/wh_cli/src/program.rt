@@ -9,10 +9,11 @@ use crate::json_faults::json_fault;
 use crate::replaying::{CommandFault, lines_of, report};
 use crate::serving::{ServiceEnd, serve_inputs};
 use std::alloc::Global;
+use std::env::Env;
 use std::fmt::Display;
-use std::io::{BufWriter, ErrorKind, Printer, Write};
+use std::io::{BufWriter, Eprint, ErrorKind, Print, Printer, Write};
 use std::process::ExitCode;
-use std::rt::Runtime;
+use std::rt::{Files, Runtime};
 use std::sync::Wait;
 use std::thread::Threads;
 use std::{env, io};
@@ -51,7 +52,7 @@ enum Failure {
 }
 
 /// The words of the command line, the program's name first.
-fn words<R: Runtime + AllocGlobal>(rt: &R) -> Result<Vec<String>, Failure>
+fn words<R: Env + AllocGlobal>(rt: &R) -> Result<Vec<String>, Failure>
     ensures { result ≢ Err Failure.FewSlots }
 {
     match env::args(rt) {
@@ -115,12 +116,15 @@ fn unreadable(path: Text, fault: FolderFault) -> Failure {
 }
 
 /// Says on the standard error that a folder has no file that is read.
-fn tell_empty<R: Runtime>(rt: &R, dir: &str) {
+fn tell_empty<R: Eprint>(rt: &R, dir: &str) {
     let _ = eprintln!(rt; "wfhost: no .json file in {dir}");
 }
 
 /// The files of a folder that are to be read. Where there is none, the standard error says so.
-fn folder_of<R: Runtime + AllocGlobal>(rt: &R, dir: Text) -> Result<Vec<Input>, Failure> {
+fn folder_of<R: Files + Eprint + AllocGlobal + Clone + Drop>(
+    rt: &R,
+    dir: Text,
+) -> Result<Vec<Input>, Failure> {
     let inputs = match folder_inputs(rt, dir.get(), false) {
         Ok(inputs) => inputs,
         Err(fault) => return Err(unreadable(dir, fault)),
@@ -133,7 +137,7 @@ fn folder_of<R: Runtime + AllocGlobal>(rt: &R, dir: Text) -> Result<Vec<Input>, 
 
 /// What is to be read at a path. Where it is a folder without a file that is read, the standard
 /// error says so.
-fn inputs_of<R: Runtime + AllocGlobal>(
+fn inputs_of<R: Files + io::Input + Eprint + AllocGlobal + Clone + Drop>(
     rt: &R,
     path: Text,
     by_path: bool,
@@ -150,7 +154,7 @@ fn inputs_of<R: Runtime + AllocGlobal>(
 
 /// What is to be read at paths, in their order. Where there is one path alone, files are called
 /// without their folders.
-fn all_inputs<R: Runtime + AllocGlobal>(
+fn all_inputs<R: Files + io::Input + Eprint + AllocGlobal + Clone + Drop>(
     rt: &R,
     first: Text,
     more: Vec<Text>,
@@ -167,7 +171,10 @@ fn all_inputs<R: Runtime + AllocGlobal>(
 }
 
 /// The name and the bytes of the file at a path, or of the standard input.
-fn file_of<R: Runtime + AllocGlobal>(rt: &R, path: Text) -> Result<(String, Vec<u8>), Failure> {
+fn file_of<R: Files + io::Input + AllocGlobal>(
+    rt: &R,
+    path: Text,
+) -> Result<(String, Vec<u8>), Failure> {
     match input_at(rt, path.get(), false) {
         Ok(Input { name, origin }) => Ok((name, read_input(rt, origin)?)),
         Err(fault) => Err(unreadable(path, fault)),
@@ -188,7 +195,7 @@ fn flushed<O: Write>(answer: Result<u8, CommandFault>, writer: &mut O) -> Result
 }
 
 /// The standard output, for a report.
-fn output<R: Runtime + AllocGlobal>(rt: &R) -> Result<BufWriter<Printer<'_, R>>, Failure> {
+fn output<R: Print + AllocGlobal>(rt: &R) -> Result<BufWriter<Printer<'_, R>>, Failure> {
     match BufWriter::new(rt.alloc(), io::writer(rt)) {
         Ok(writer) => Ok(writer),
         Err(_) => Err(Failure::OutOfMemory),
@@ -196,7 +203,7 @@ fn output<R: Runtime + AllocGlobal>(rt: &R) -> Result<BufWriter<Printer<'_, R>>,
 }
 
 /// Prints a text that was asked for.
-fn print<R: Runtime>(rt: &R, text: &str) -> Result<u8, Failure> {
+fn print<R: Print>(rt: &R, text: &str) -> Result<u8, Failure> {
     match print!(rt; "{text}") {
         Ok(()) => Ok(0),
         Err(_) => Err(Failure::Output),
@@ -209,7 +216,7 @@ fn is_bad_json(alloc: Global, bytes: &[u8]) -> bool {
 }
 
 /// Says on the standard error where a file is no JSON, if that is why it is not read.
-fn tell_json_fault<R: Runtime + AllocGlobal>(rt: &R, name: &str, bytes: &[u8]) {
+fn tell_json_fault<R: Eprint + AllocGlobal>(rt: &R, name: &str, bytes: &[u8]) {
     if !is_bad_json(rt.alloc(), bytes) {
         return;
     }
@@ -219,7 +226,7 @@ fn tell_json_fault<R: Runtime + AllocGlobal>(rt: &R, name: &str, bytes: &[u8]) {
 }
 
 /// Says on the standard error what is told, a line for each.
-fn tell_each<R: Runtime, T: Display + Drop>(rt: &R, told: Vec<T>) -> io::Result<()> {
+fn tell_each<R: Eprint, T: Display + Drop>(rt: &R, told: Vec<T>) -> io::Result<()> {
     for one in told {
         eprintln!(rt; "wfhost: {one}")?;
     }
@@ -229,7 +236,7 @@ fn tell_each<R: Runtime, T: Display + Drop>(rt: &R, told: Vec<T>) -> io::Result<
 /// Says on the standard error where files are no JSON and why tasks failed, a line for each, and
 /// then in a line each where a worker has a fault and where `serve` did not compare all that is
 /// recorded.
-fn tell_service<R: Runtime>(rt: &R, end: ServiceEnd) -> io::Result<()> {
+fn tell_service<R: Eprint>(rt: &R, end: ServiceEnd) -> io::Result<()> {
     let ServiceEnd {
         failures,
         uncompared,
@@ -251,7 +258,7 @@ fn tell_service<R: Runtime>(rt: &R, end: ServiceEnd) -> io::Result<()> {
 }
 
 /// The status of a service, once its report is out and the rest is told.
-fn served<R: Runtime, O: Write>(
+fn served<R: Eprint, O: Write>(
     rt: &R,
     answer: Result<ServiceEnd, CommandFault>,
     writer: &mut O,
@@ -287,7 +294,7 @@ where
 }
 
 /// Explains a file, and gives the status once the report is out and the rest is told.
-fn explain<W: Workflow, R: Runtime + AllocGlobal>(
+fn explain<W: Workflow, R: Print + Eprint + AllocGlobal>(
     rt: &R,
     name: String,
     bytes: &[u8],
@@ -375,7 +382,7 @@ where
 
 /// Says on the standard error what cannot be read: the folder or the file, and in another line the
 /// entry of the folder, where it is one.
-fn tell_unreadable<R: Runtime>(rt: &R, dir: &str, entry: &Option<String>) -> io::Result<()> {
+fn tell_unreadable<R: Eprint>(rt: &R, dir: &str, entry: &Option<String>) -> io::Result<()> {
     eprintln!(rt; "wfhost: cannot read {dir}")?;
     let Some(name) = entry else {
         return Ok(());
@@ -385,7 +392,7 @@ fn tell_unreadable<R: Runtime>(rt: &R, dir: &str, entry: &Option<String>) -> io:
 }
 
 /// Says on the standard error why a run has no full report.
-fn tell<R: Runtime>(rt: &R, failure: &Failure) {
+fn tell<R: Eprint>(rt: &R, failure: &Failure) {
     let _ = match failure {
         Failure::BadLine { text } => {
             let text = text.get();

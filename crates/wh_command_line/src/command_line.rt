@@ -20,7 +20,7 @@ use std::alloc::{AllocError, Global};
 use wh_events::Text;
 
 /// What `--version` prints behind the program's name.
-const VERSION: &str = "0.1.0 (rattle-kit-13b logic dac8208d650f15bf)";
+const VERSION: &str = "0.1.0 (rattle-kit-13f logic dac8208d650f15bf)";
 
 /// What the help says of the statuses.
 const STATUSES: &str = "\

@@ -1,5 +1,5 @@
 -- What the definitions see of the code's values.
-use Rattle.std.specs.Prelude.{◌≡◌, ℕ, ◌<◌, ◌≤◌, length, List, Option, Result, Ok, Err, option_map}
+use Rattle.std.specs.Prelude.{◌≡◌, ◌<◌, ◌≤◌, length, List, Option, Result, Ok, Err, option_map}
 use Rattle.wh_events.specs.Cuts.{commanded}
 use Rattle.wh_workflow.specs.declared.fault.WorkflowFault.{WorkflowFault}
 use Rattle.wh_workflow.specs.declared.job.Job.{Job}
@@ -10,7 +10,7 @@ use Rattle.wh_workflow.specs.Activations.{Progress, Turn}
 use Rattle.wh_match.specs.Issuing.{Issuing, standpoint_at, late_marks}
 use Rattle.wh_replay.specs.Views.{progress}
 use Rattle.wh_explain.specs.declared.cut.Cut.{Cut}
-use Rattle.wh_explain.specs.declared.activation.Activation.{Activation}
+use Rattle.wh_explain.specs.declared.activation.Reached.{Reached}
 use Rattle.wh_explain.specs.declared.activation.Turned.{Turned}
 use Rattle.wh_explain.specs.declared.activation.Turned.TheVariants.{Next, Refused}
 
@@ -30,13 +30,13 @@ pub record IsOf (cut : Cut) (script : Issuing) : Type 0 where
   pub number : script.cut ≡ cut.number
   pub late : script.late ≡ late_marks (standpoint_of cut) script.issued
 
--- how far an activation of the code has come, on a meter
-abbrev pub progress_of : {W S : Type 0} → Activation W S → ℕ → Progress S
-progress_of activation meter = progress activation.state activation.versions activation.script.issued meter
+-- how far an activation of the code has come, with the script of its cut
+abbrev pub progress_of : {W S : Type 0} → Reached W S → Issuing → Progress S
+progress_of reached script = progress reached.state reached.versions script.issued reached.meter
 
 -- such a progress, and the version job that has to be next
-abbrev pub turn_of : {W S : Type 0} → Activation W S → ℕ → Option Job → Turn S
-turn_of activation meter next = record { progress = progress_of activation meter; next = next }
+abbrev pub turn_of : {W S : Type 0} → Reached W S → Issuing → Option Job → Turn S
+turn_of reached script next = record { progress = progress_of reached script; next = next }
 
 -- what comes of the commands of a step: what is seen with the version job that has to be next, or
 -- the fault

@@ -18,12 +18,13 @@ use wh_events::OutOfMemory;
 use wh_match::{Script, ScriptFault, Versions};
 use wh_workflow::{Command, Job, Meter, Workflow, WorkflowFault};
 
-/// How far the activation at a cut has come. Contracts see it, on a meter, as a `Progress`.
+/// What the steps so far leave, beside the script of the cut. Contracts see it, with the script, as
+/// a `Progress`.
 #[derive(Drop)]
-pub(crate) struct Activation<W: Workflow> {
+pub(crate) struct Reached<W: Workflow> {
     pub(crate) state: W::State,
     pub(crate) versions: Versions,
-    pub(crate) script: Script,
+    pub(crate) meter: Meter,
 }
 
 /// What comes of the commands of a step.
@@ -209,32 +210,32 @@ fn respond(
     }
 }
 
-impl<W: Workflow> Activation<W> {
+impl<W: Workflow> Reached<W> {
     /// Steps the workflow by one job, and adds the commands up to the first that can't stand to
     /// those given. There is room for one more step then.
     fn tell(
         &mut self,
         alloc: Global,
         cut: &Cut,
+        script: &mut Script,
         job: &Job,
         given: &mut Vec<Command>,
         steps: &mut Vec<Step>,
-        meter: &mut Meter,
     ) -> Result<Turned, OutOfMemory>
         requires within { IsWithin cut.now }
-        requires script { IsOf cut.now self.old.script }
-        ensures given { let step = step_of W.program (standpoint_of cut.now) (progress_of self.old meter.old) job.now in
+        requires script { IsOf cut.now script.old }
+        ensures given { let step = step_of W.program (standpoint_of cut.now) (progress_of self.old script.old) job.now in
             OnOk result (given.new.items ≡ given.old.items ++ step.commands) }
         ensures room { OnOk result (vec_len steps.new < vec_capacity steps.new) }
         ensures steps { OnOk result (steps.new.items ≡ steps.old.items) }
-        ensures turned { let whole = turn W.program (standpoint_of cut.now) job.now (progress_of self.old meter.old) in
-            IfOk result (λ turned. comes_to turned (turn_of self.new meter.new) ≡ whole) }
-        ensures script { OnOk result (IsOf cut.now self.new.script) }
+        ensures turned { let whole = turn W.program (standpoint_of cut.now) job.now (progress_of self.old script.old) in
+            IfOk result (λ turned. comes_to turned (turn_of self.new script.new) ≡ whole) }
+        ensures script { OnOk result (IsOf cut.now script.new) }
     {
         steps.reserve(1)?;
         let mut commands = Vec::new(alloc);
-        W::step(alloc, &mut self.state, job, &mut commands, meter)?;
-        respond(cut, &mut self.script, &mut self.versions, commands, given)
+        W::step(alloc, &mut self.state, job, &mut commands, &mut self.meter)?;
+        respond(cut, script, &mut self.versions, commands, given)
     }
 
     /// Steps the workflow by one job, and adds the step to those before it. The answer is what
@@ -243,20 +244,20 @@ impl<W: Workflow> Activation<W> {
         &mut self,
         alloc: Global,
         cut: &Cut,
+        script: &mut Script,
         job: Job,
         steps: &mut Vec<Step>,
-        meter: &mut Meter,
     ) -> Result<Turned, OutOfMemory>
         requires within { IsWithin cut.now }
-        requires script { IsOf cut.now self.old.script }
-        ensures step { let step = step_of W.program (standpoint_of cut.now) (progress_of self.old meter.old) job in
+        requires script { IsOf cut.now script.old }
+        ensures step { let step = step_of W.program (standpoint_of cut.now) (progress_of self.old script.old) job in
             OnOk result (steps.new.items ≡ steps.old.items ++ step ∷ []) }
-        ensures turned { let whole = turn W.program (standpoint_of cut.now) job (progress_of self.old meter.old) in
-            IfOk result (λ turned. comes_to turned (turn_of self.new meter.new) ≡ whole) }
-        ensures script { OnOk result (IsOf cut.now self.new.script) }
+        ensures turned { let whole = turn W.program (standpoint_of cut.now) job (progress_of self.old script.old) in
+            IfOk result (λ turned. comes_to turned (turn_of self.new script.new) ≡ whole) }
+        ensures script { OnOk result (IsOf cut.now script.new) }
     {
         let mut given = Vec::new(alloc);
-        match self.tell(alloc, cut, &job, &mut given, steps, meter) {
+        match self.tell(alloc, cut, script, &job, &mut given, steps) {
             Ok(turned) => {
                 steps.push_reserved(Step::new(job, given));
                 Ok(turned)
@@ -274,21 +275,21 @@ impl<W: Workflow> Activation<W> {
         &mut self,
         alloc: Global,
         cut: &Cut,
+        script: &mut Script,
         jobs: Vec<Job>,
-        meter: &mut Meter,
     ) -> Result<(Vec<Step>, Option<WorkflowFault>), OutOfMemory>
         requires within { IsWithin cut.now }
-        requires script { IsOf cut.now self.old.script }
-        ensures traced { let before = progress_of self.old meter.old in
+        requires script { IsOf cut.now script.old }
+        ensures traced { let before = progress_of self.old script.old in
             IfOk result (λ ran. IsTraced W.program (standpoint_of cut.now) jobs.items before ran.0.items
-            (ok_unless ran.1 (progress_of self.new meter.new))) }
-        ensures script { OnOk result (IsOf cut.now self.new.script) }
+            (ok_unless ran.1 (progress_of self.new script.new))) }
+        ensures script { OnOk result (IsOf cut.now script.new) }
     {
         let mut steps = Vec::new(alloc);
         let mut jobs = jobs.into_iter();
         let mut next = jobs.next();
         while let Some(job) = next {
-            let turned = self.turn(alloc, cut, job, &mut steps, meter)?;
+            let turned = self.turn(alloc, cut, script, job, &mut steps)?;
             next = match turned {
                 Turned::Refused(fault) => return Ok((steps, Some(fault))),
                 Turned::Next(Some(version)) => Some(version),

@@ -12,7 +12,7 @@ ghost use Rattle.wh_explain.specs.Explaining.{AreTasks, AreTasksPlaced, AreTasks
 ghost use Rattle.wh_explain.specs.Explaining.{unknown_placed, unknown_of, unknown_in};
 ghost use Rattle.wh_explain.specs.Walking.{IsWithin, IsOf, Leaves, standpoint_of};
 
-use crate::activation::Activation;
+use crate::activation::Reached;
 use crate::cut::Cut;
 use crate::explanation::{Ending, ExplainedTask, Explanation};
 use crate::pairing::{pair_up, some_differ};
@@ -27,13 +27,6 @@ use wh_match::{Script, Versions};
 use wh_split::next_cut;
 use wh_tester::{Line, verdict};
 use wh_workflow::{Meter, Workflow, WorkflowFault};
-
-/// What the tasks so far leave.
-#[derive(Drop)]
-struct Reached<S> {
-    state: S,
-    versions: Versions,
-}
 
 /// What is told of a history.
 #[derive(Drop)]
@@ -107,47 +100,36 @@ fn stops(ending: &Ending) -> bool
 fn explain_task<W: Workflow>(
     alloc: Global,
     cut: &Cut,
-    before: Reached<W::State>,
-    meter: &mut Meter,
-) -> Result<(ExplainedTask, Reached<W::State>), OutOfMemory>
+    reached: &mut Reached<W>,
+) -> Result<ExplainedTask, OutOfMemory>
     requires within { IsWithin cut.now }
     ensures task { let told = jobs_at cut.now.track.now cut.now.previous cut.now.number in
-        IfOk result (λ explained. IsTaskAt W.program cut.now.track.now (standpoint_of cut.now) told cut.now.number
-        before.state before.versions explained.0) }
+        IfOk result (λ task. IsTaskAt W.program cut.now.track.now (standpoint_of cut.now) told cut.now.number
+        reached.old.state reached.old.versions task) }
     ensures left { let standpoint = standpoint_of cut.now in
-        IfOk result (λ explained. fault_in standpoint before.versions [] explained.0.steps ≡ None
-        → Leaves W.program before.state before.versions explained.0.steps explained.1.state explained.1.versions) }
+        IfOk result (λ task. fault_in standpoint reached.old.versions [] task.steps ≡ None
+        → Leaves W.program reached.old.state reached.old.versions task.steps reached.new.state reached.new.versions) }
 {
     let jobs = jobs(alloc, cut.track, cut.previous, cut.number)?;
-    let mut activation = Activation::<W> {
-        state: before.state,
-        versions: before.versions,
-        script: Script::new(alloc, cut.previous, cut.number),
-    };
-    let (steps, fault) = activation.run(alloc, cut, jobs, meter)?;
-    let Activation {
-        state,
-        versions,
-        script,
-    } = activation;
-    let task = ExplainedTask {
+    let mut script = Script::new(alloc, cut.previous, cut.number);
+    let (steps, fault) = reached.run(alloc, cut, &mut script, jobs)?;
+    let ending = end_task(alloc, cut, script, fault)?;
+    Ok(ExplainedTask {
         at: cut.number,
         steps: Items::new(steps),
-        ending: end_task(alloc, cut, script, fault)?,
-    };
-    Ok((task, Reached { state, versions }))
+        ending,
+    })
 }
 
 /// Explains the tasks of a history in their order, up to the first that has a fault.
 fn explain_tasks<W: Workflow>(
     alloc: Global,
     track: &Track,
-    mut reached: Reached<W::State>,
+    reached: &mut Reached<W>,
 ) -> Result<Vec<ExplainedTask>, OutOfMemory>
-    ensures { IfOk result
-        (λ tasks. AreTasks W.program track.now 0 (cuts track.now) reached.state reached.versions tasks.items) }
+    ensures { IfOk result (λ tasks. AreTasks W.program track.now 0 (cuts track.now)
+        reached.old.state reached.old.versions tasks.items) }
 {
-    let mut meter = Meter::new();
     let mut tasks = Vec::new(alloc);
     let mut last = 0;
     while let Some(number) = next_cut(track.events(), last) {
@@ -157,13 +139,12 @@ fn explain_tasks<W: Workflow>(
             number,
             recorded: record_behind(track.events(), number.get() as usize),
         };
-        let (task, left) = explain_task::<W>(alloc, &cut, reached, &mut meter)?;
+        let task = explain_task::<W>(alloc, &cut, reached)?;
         let stop = stops(&task.ending);
         tasks.push(task)?;
         if stop {
             return Ok(tasks);
         }
-        reached = left;
         last = number.get();
     }
     Ok(tasks)
@@ -191,13 +172,15 @@ fn explain_track<W: Workflow>(alloc: Global, track: &Track) -> Result<Told, OutO
     if !W::handles(kind) {
         return no_code(alloc, kind);
     }
-    let reached = Reached {
+    let mut reached = Reached::<W> {
         state: W::begin(alloc, kind)?,
         versions: Versions::new(alloc),
+        meter: Meter::new(),
     };
+    let tasks = explain_tasks::<W>(alloc, track, &mut reached)?;
     Ok(Told {
         unknown: None,
-        tasks: explain_tasks::<W>(alloc, track, reached)?,
+        tasks,
     })
 }
 

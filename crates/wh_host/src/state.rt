@@ -1,11 +1,15 @@
 //! Slots, the run key and the mark of each workflow place, cached runs and books, as one machine.
-ghost use Rattle.std.specs.Prelude.{◌≡◌, ◌<◌, ◌+◌, ◌-◌, ◌^◌, ◌↔◌, Bool, None, Some, length, map};
+ghost use Rattle.std.specs.Prelude.{◌≡◌, ◌<◌, ◌+◌, ◌-◌, ◌^◌, ◌↔◌, Bool, false, None, Some, [], length};
+ghost use Rattle.std.specs.Prelude.{map};
 ghost use Rattle.std.specs.Prelude.{option_map, slice_get, replicate, IsTrue, IfOk, IfErr, OnOk};
 ghost use Rattle.std.specs.Prelude.{IsErr, Err, MatchOption, MatchResult, vec_len};
 ghost use Rattle.std.specs.Map.{lookup_entry, remove_entry};
 ghost use Rattle.wh_events.specs.Keys.{same_key};
-ghost use Rattle.wh_cache.specs.Cache.{held_of, Puts, put_reply_of};
+ghost use Rattle.wh_cache.specs.Cache.{cache_view, held_of, Puts, put_reply_of};
 ghost use Rattle.wh_ledger.specs.Shares.{no_shares, sums_of, IsWithin};
+ghost use Rattle.wh_slots.specs.Table.{table};
+ghost use Rattle.wh_slots.specs.declared.Place.TheVariants.{Free};
+ghost use Rattle.wh_slots.specs.declared.SlotKind.{SlotKind};
 ghost use Rattle.wh_host.specs.Machine.{IsConfig, IsHost, in_hand, totals_of, opening_of, step};
 ghost use Rattle.wh_host.specs.Machine.{with_taken, with_outcome, books_of, give_reply_of, evicted_for};
 ghost use Rattle.wh_host.specs.Machine.{has_key, has_mark, is_marked_at, Reserve, Release};
@@ -86,21 +90,27 @@ impl<W: Workflow, T: Ledger, C: Ledger, F: Ledger> HostState<W, T, C, F> {
         if !config.is_within() {
             return Err(OpenFault::BadConfig);
         }
-        let workflow = Slots::open(alloc, SlotKind::Workflow, config.workflow_slots)?;
-        let activity = Slots::open(alloc, SlotKind::Activity, config.activity_slots)?;
-        let marks = no_marks(alloc, config.workflow_slots)?;
-        let cache = Sticky::open(alloc, config.cache, config.cache_events)?;
         let (books, seats) = Books::open(alloc, config.seats, taken, completed, failed)?;
-        Ok((
-            HostState {
-                workflow,
-                activity,
-                marks,
-                cache,
-                books,
-            },
-            seats,
-        ))
+        let state = HostState::beside(alloc, config, books)?;
+        Ok((state, seats))
+    }
+
+    /// A state beside empty books, with all places free and an empty cache. `OutOfMemory` where no
+    /// room was found.
+    fn beside(alloc: Global, config: Config, books: Books<T, C, F>) -> Result<Self, OutOfMemory>
+        requires config { IsConfig config }
+        requires books { books ≡ no_shares }
+        ensures { IfOk result (λ state. state ≡ opening_of config) }
+    {
+        let (workflow, activity) = open_slots(alloc, config)?;
+        let (marks, cache) = open_runs(alloc, config)?;
+        Ok(HostState {
+            workflow,
+            activity,
+            marks,
+            cache,
+            books,
+        })
     }
 
     /// Reserves a place of the kind for one poll. The faults are tried as `Draining`,
@@ -154,10 +164,10 @@ impl<W: Workflow, T: Ledger, C: Ledger, F: Ledger> HostState<W, T, C, F> {
             unreachable!()
         };
         let run = hand_out(&mut self.cache, &key);
-        self.marks[at] = Some(Mark {
+        drop(self.marks[at].replace(Mark {
             key,
             evicted: false,
-        });
+        }));
         self.books.add_taken(seat);
         Ok((held, run))
     }
@@ -231,7 +241,7 @@ impl<W: Workflow, T: Ledger, C: Ledger, F: Ledger> HostState<W, T, C, F> {
                     return Err((held, NotHeld));
                 };
                 self.workflow.free(held)?;
-                self.marks[at] = None;
+                drop(self.marks[at].take());
                 count_outcome(&mut self.books, outcome, seat);
                 Ok(())
             }
@@ -322,6 +332,33 @@ impl<W: Workflow, T: Ledger, C: Ledger, F: Ledger> HostState<W, T, C, F> {
             )),
         }
     }
+}
+
+/// The slots of both kinds, with all places free.
+fn open_slots(alloc: Global, config: Config) -> Result<(Slots, Slots), OutOfMemory>
+    requires { IsConfig config }
+    ensures workflow { IfOk result (λ slots.
+        slots.0 ≡ table SlotKind.Workflow (replicate config.workflow_slots Free) 1 false) }
+    ensures activity { IfOk result (λ slots.
+        slots.1 ≡ table SlotKind.Activity (replicate config.activity_slots Free) 1 false) }
+{
+    let workflow = Slots::open(alloc, SlotKind::Workflow, config.workflow_slots)?;
+    let activity = Slots::open(alloc, SlotKind::Activity, config.activity_slots)?;
+    Ok((workflow, activity))
+}
+
+/// The workflow places, none of which has a mark, and an empty cache.
+fn open_runs<W: Workflow>(
+    alloc: Global,
+    config: Config,
+) -> Result<(Vec<Option<Mark>>, Sticky<W>), OutOfMemory>
+    requires { IsConfig config }
+    ensures marks { IfOk result (λ runs. runs.0.items ≡ replicate config.workflow_slots None) }
+    ensures cache { IfOk result (λ runs. runs.1 ≡ cache_view [] config.cache config.cache_events) }
+{
+    let marks = no_marks(alloc, config.workflow_slots)?;
+    let cache = Sticky::open(alloc, config.cache, config.cache_events)?;
+    Ok((marks, cache))
 }
 
 /// As many places, none of which has a mark.

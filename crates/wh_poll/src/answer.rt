@@ -16,7 +16,7 @@ use wh_tasks::{
 use wh_workflow::{Meter, Workflow};
 
 /// What was sent: whether a cached run served, the steps that replay took, and how the task ended.
-#[derive(Clone, Copy, Debug)]
+#[derive(Clone, Copy)]
 pub struct Reply {
     pub hit: bool,
     pub steps: u64,
@@ -56,6 +56,7 @@ pub fn answer_by_replay<W: Workflow, S: TaskSource>(
     } = task;
     let mut meter = Meter::new();
     let stepped = replay_task(alloc, run, &key, events.into_inner(), source, &mut meter);
+    drop(key);
     let Stepped { run, fault, hit } = match stepped {
         Ok(stepped) => stepped,
         Err(fault) => return not_answered(fault),
@@ -97,8 +98,11 @@ fn send_answer<W: Workflow, S: TaskSource>(
     ensures origin { KeepsOrigin S.comes_from source.old source.new }
 {
     let answer = answer_of(alloc, run, fault)?;
-    match source.answer_workflow(name, &answer) {
-        Ok(()) => Ok(outcome_of(&answer)),
+    let outcome = outcome_of(&answer);
+    let sent = source.answer_workflow(name, &answer);
+    drop(answer);
+    match sent {
+        Ok(()) => Ok(outcome),
         Err(fault) => Err(StepFault::Source(fault)),
     }
 }
@@ -146,7 +150,9 @@ pub fn answer_by_handler<S: TaskSource, A: ActivityHandler>(
         Err(_) => return Err(StepFault::OutOfMemory),
     };
     let outcome = activity_outcome(&answer);
-    match source.answer_activity(task.name, &answer) {
+    let sent = source.answer_activity(task.name, &answer);
+    drop(answer);
+    match sent {
         Ok(()) => Ok(outcome),
         Err(fault) => Err(StepFault::Source(fault)),
     }

@@ -1,6 +1,6 @@
 //! A source that gives the tasks of recorded histories.
 ghost use Rattle.std.specs.Prelude.{◌≡◌, ◌<◌, ◌≤◌, ◌+◌, ◌-◌, get_or, length, map, take, drop};
-ghost use Rattle.std.specs.Prelude.{option_map, IfOk, IfErr, IfSome, OnOk, OnErr};
+ghost use Rattle.std.specs.Prelude.{◌++◌, ◌∷◌, [], option_map, IfOk, IfErr, IfSome, OnOk, OnErr};
 ghost use Rattle.wh_recorded.specs.Rounds.{scripted, opening_stage, with_answer, ends_of, tasks_in};
 ghost use Rattle.wh_recorded.specs.Rounds.{begin_at, events_of, task_of, key_of, events_up_to, first_named};
 ghost use Rattle.wh_recorded.specs.Rounds.{first_tasks, completed_of, tally_of, deliveries_of, first_with};
@@ -62,6 +62,14 @@ fn find_ends(alloc: Global, events: &[Event]) -> Result<Vec<usize>, OutOfMemory>
     Ok(ends)
 }
 
+/// Adds a copy of the event behind the copies.
+fn push_copy(copies: &mut Vec<Event>, event: &Event) -> Result<(), OutOfMemory>
+    ensures { OnOk result (copies.new.items ≡ copies.old.items ++ event.now ∷ []) }
+{
+    copies.push(event.try_copy()?)?;
+    Ok(())
+}
+
 /// Copies of the events behind the first `begin` of them, up to `end`.
 fn copy_between(
     alloc: Global,
@@ -74,7 +82,7 @@ fn copy_between(
     let stop = end.min(events.len());
     let mut copies = Vec::new(alloc);
     for place in begin..stop {
-        copies.push(events[place].try_copy()?)?;
+        push_copy(&mut copies, &events[place])?;
     }
     Ok(copies)
 }
@@ -97,7 +105,7 @@ fn copy_up_to(alloc: Global, events: &[Event], up_to: u64) -> Result<Vec<Event>,
         if up_to < event.number.get() {
             return Ok(copies);
         }
-        copies.push(event.try_copy()?)?;
+        push_copy(&mut copies, event)?;
     }
     Ok(copies)
 }

@@ -113,9 +113,11 @@ impl SentAnswers {
         ensures failures { FailsOnly result 0 0 }
     {
         if self.list.reserve(1).is_err() {
+            drop(sent);
             return Err(SourceFault::OutOfMemory);
         }
         if enter(&mut self.completed, &mut self.faults, name, &sent).is_err() {
+            drop(sent);
             return Err(SourceFault::OutOfMemory);
         }
         self.list.push_reserved((name, sent));

@@ -1,5 +1,5 @@
 -- Lists that end in a started task, and runs over a joined list.
-use Rattle.std.proofs.Common.{◌≡◌, ℕ, suc, ◌-◌, ◌≤◌, Bool, true, false, List, [], ◌∷◌, ◌++◌, length, take, drop, slice_get, Option, Some, None, Result, Ok, Err, cond, refl, sym, ap, ◌∙◌, subst}
+use Rattle.std.proofs.Common.{◌≡◌, ℕ, suc, ◌-◌, ◌≤◌, Bool, true, false, List, [], ◌∷◌, ◌++◌, length, take, drop, slice_get, Option, Some, None, Result, Ok, Err, cond, refl, sym, ap, ◌∙◌, subst, length-append, arith}
 use Rattle.std.proofs.Math.Numerals.{sub-one}
 use Rattle.std.proofs.Math.Seq.{take-append_seam, drop-append_seam}
 use Rattle.std.specs.Result.{IsOkAnd}
@@ -120,6 +120,10 @@ module _ {S : Type 0} where
     count = count;
     below = below;
   }
+
+  -- the held events are among the joined ones
+  pub longer_within : (program : Program S) (before new joined : List Event) (held meter : ℕ) (state : S) (settled : Settled) (unsent : List Command) → IsLonger program before new joined held meter state settled unsent → held ≤ length joined
+  longer_within program before new joined held meter state settled unsent h = omega (arith, h.count, ap length h.joins, length-append before new)
 
   pub kept_run : (program : Program S) (before new joined : List Event) (held meter : ℕ) (state : S) (settled : Settled) (unsent : List Command) → IsLonger program before new joined held meter state settled unsent → IsRun program (take held joined) state settled unsent
   kept_run program before new joined held meter state settled unsent h =

@@ -57,6 +57,11 @@ module _ {S : Type 0} where
   Counts program run new before after (Err (Gap back)) = after ≡ before
   Counts program run new before after (Err _) = Unit {0}
 
+  -- the fault of a replay that spent the run
+  abbrev pub spent : {W : Type 0} → RunFault → AdvanceFault W S
+  spent (Faulty fault) = AdvanceFaulty fault
+  spent OutOfMemory = NoMemory
+
   -- what is answered for a replay
   abbrev pub answered : Result (Replayed S) Fault → Answer
   answered (Ok replayed) = Complete replayed.unsent

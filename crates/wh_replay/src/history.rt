@@ -73,14 +73,23 @@ impl<W: Workflow> ReplayedHistory<W> {
     {
         let ReplayedHistory { mut track, outcome } = self;
         let held = track.len();
-        push_all(&mut track, events)?;
+        if let Err(fault) = push_all(&mut track, events) {
+            drop(outcome);
+            drop(track);
+            return Err(fault);
+        }
         // Made for the proof: its contract says that the meter fits 64 bits.
         let _proof_fits = meter.count();
-        let walk = replay_joined::<W>(alloc, &track, held, outcome, meter)?;
-        Ok(ReplayedHistory {
-            track,
-            outcome: walk.outcome,
-        })
+        match replay_joined::<W>(alloc, &track, held, outcome, meter) {
+            Ok(walk) => Ok(ReplayedHistory {
+                track,
+                outcome: walk.outcome,
+            }),
+            Err(fault) => {
+                drop(track);
+                Err(fault)
+            }
+        }
     }
 
     /// Does nothing. Its contract tells a caller what holds of every replayed history.

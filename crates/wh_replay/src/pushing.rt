@@ -45,6 +45,11 @@ pub(crate) fn track_of(alloc: Global, events: Vec<Event>) -> Result<Track, RunFa
         }));
     }
     let mut track = Track::new(alloc);
-    push_all(&mut track, events)?;
-    Ok(track)
+    match push_all(&mut track, events) {
+        Ok(()) => Ok(track),
+        Err(fault) => {
+            drop(track);
+            Err(fault)
+        }
+    }
 }

@@ -2,7 +2,7 @@
 ghost use Rattle.std.specs.Prelude.{◌≡◌, ◌-◌, ◌≤◌, length, slice_get, option_map, IfOk, IsOkAnd, OnOk};
 ghost use Rattle.wh_workflow.specs.Scripts.{lookup_version};
 ghost use Rattle.wh_replay.specs.Runs.{history_of, run_under, status_in, IsReplayed, run_of, steps};
-ghost use Rattle.wh_replay.specs.Advances.{Begins, Advances, Counts};
+ghost use Rattle.wh_replay.specs.Advances.{IsJoined, Begins, Advances, Counts, spent};
 ghost use Rattle.wh_replay.specs.declared.run.Answer.TheVariants.{Complete};
 ghost use Rattle.wh_workflow.specs.Counting.{risen};
 
@@ -44,6 +44,18 @@ pub enum AdvanceFault<W: Workflow> {
     Fault(Fault),
     /// An allocation was refused. It may come in place of any fault.
     OutOfMemory,
+}
+
+impl<W: Workflow> AdvanceFault<W> {
+    /// The fault of a replay that spent the run.
+    fn spent(fault: RunFault) -> Self
+        ensures { result ≡ spent fault }
+    {
+        match fault {
+            RunFault::Fault(fault) => AdvanceFault::Fault(fault),
+            RunFault::OutOfMemory => AdvanceFault::OutOfMemory,
+        }
+    }
 }
 
 /// What is answered for a workflow task.
@@ -94,8 +106,13 @@ impl<W: Workflow> Run<W> {
         ensures meter { OnOk result (meter.new ≡ risen meter.old (steps W.program events.items)) }
         ensures never_lowered { meter.old ≤ meter.new }
     {
-        let history = ReplayedHistory::<W>::from_first(alloc, events, meter)?;
-        Ok(Run { key, history })
+        match ReplayedHistory::<W>::from_first(alloc, events, meter) {
+            Ok(history) => Ok(Run { key, history }),
+            Err(fault) => {
+                drop(key);
+                Err(fault)
+            }
+        }
     }
 
     /// Goes on with new events, as if the whole history were replayed from its first event. Where
@@ -118,11 +135,28 @@ impl<W: Workflow> Run<W> {
         if !follows(self.history.len(), events.as_slice()) {
             return Err(AdvanceFault::Gap(self));
         }
+        self.extend(alloc, events, meter)
+    }
+
+    /// Goes on with events that are joined to those of the run.
+    fn extend(
+        self,
+        alloc: Global,
+        events: Vec<Event>,
+        meter: &mut Meter,
+    ) -> Result<Self, AdvanceFault<W>>
+        requires joined { IsJoined self.events events.items }
+        ensures run { Advances W.program self events.items result }
+        ensures meter { Counts W.program self events.items meter.old meter.new result }
+        ensures never_lowered { meter.old ≤ meter.new }
+    {
         let Run { key, history } = self;
         match history.extend(alloc, events, meter) {
             Ok(history) => Ok(Run { key, history }),
-            Err(RunFault::Fault(fault)) => Err(AdvanceFault::Fault(fault)),
-            Err(RunFault::OutOfMemory) => Err(AdvanceFault::OutOfMemory),
+            Err(fault) => {
+                drop(key);
+                Err(AdvanceFault::spent(fault))
+            }
         }
     }
 

@@ -1,5 +1,6 @@
 //! Replay of one workflow task.
-ghost use Rattle.std.specs.Prelude.{◌≡◌, ◌≤◌, false, true, Some, None, Err, IfOk, IfSome, OnErr};
+ghost use Rattle.std.specs.Prelude.{◌≡◌, ◌≤◌, false, true, Some, None, Err, IfOk, IfErr, IfSome};
+ghost use Rattle.std.specs.Prelude.{OnErr};
 ghost use Rattle.wh_replay.specs.Replays.{ends_in_task};
 ghost use Rattle.wh_tasks.specs.Source.{KeepsOrigin, SameTasks};
 ghost use Rattle.wh_replay.specs.Runs.{follows, steps};
@@ -90,7 +91,7 @@ pub fn replay_task<W: Workflow, S: TaskSource>(
 {
     if is_whole(events.as_slice()) {
         drop(run);
-        return Ok(replay_first(alloc, key, events, meter)?);
+        return replay_first(alloc, key, events, meter);
     }
     match run {
         Some(run) => replay_held(alloc, run, key, events, source, meter),
@@ -183,11 +184,12 @@ fn replay_first<W: Workflow>(
     key: &RunKey,
     events: Vec<Event>,
     meter: &mut Meter,
-) -> Result<Stepped<W>, OutOfMemory>
+) -> Result<Stepped<W>, StepFault>
     ensures replays { IfOk result (λ stepped. Replays W.program key.now events.items (steps W.program events.items)
         stepped.run stepped.fault meter.old meter.new) }
     ensures miss { IfOk result (λ stepped. stepped.hit ≡ false) }
     ensures never_lowered { meter.old ≤ meter.new }
+    ensures fault { IfErr result (λ fault. fault ≡ StepFault.OutOfMemory) }
     ensures memory { OnErr result (ends_in_task events.items ≡ true) }
 {
     if !ends_in_task(events.as_slice()) {
@@ -209,7 +211,7 @@ fn replay_first<W: Workflow>(
             fault: Some(fault),
             hit: false,
         }),
-        Err(RunFault::OutOfMemory) => Err(OutOfMemory),
+        Err(RunFault::OutOfMemory) => Err(StepFault::OutOfMemory),
     }
 }
 
@@ -234,7 +236,7 @@ fn replay_told<W: Workflow, S: TaskSource>(
         Ok(history) => history,
         Err(fault) => return Err(StepFault::Source(fault)),
     };
-    Ok(replay_first(alloc, key, history, meter)?)
+    replay_first(alloc, key, history, meter)
 }
 
 /// Whether the events begin with the first of a history.

@@ -31,7 +31,7 @@ returns-then-stop g c =
     let there = option_map (λ events. commanded events.now) c.record_behind.result in
     let recorded = recorded_there track c.events-in-Some.result.now c.get.result c.in-Some.number there c.events-in-Some.ensures.events c.get.ensures.kept c.record_behind.ensures in
     let here = task_here program track at.last c.in-Some.number there at.reached.state at.reached.versions c.in_ok-task.task recorded c.in_ok-task.ensures.task in
-    stops_here program track c.args.reached.state at.reached.state c.args.reached.versions at.reached.versions at.tasks.items c.push.new.self.items at.last c.in-Some.number c.in_ok-task.task n.counts at.invariant.left here
+    stops_here program track c.args.reached.now.state at.reached.state c.args.reached.now.versions at.reached.versions at.tasks.items c.push.new.self.items at.last c.in-Some.number c.in_ok-task.task n.counts at.invariant.left here
     (sym c.stops-stop.ensures ∙ c.if-stop.true) c.in_ok-push.ensures.items
 
 pub loop-number-smaller : goal.loop-number-smaller
@@ -52,12 +52,12 @@ loop-number-preserved g c =
     let here = task_here program track at.last c.in-Some.number there at.reached.state at.reached.versions c.in_ok-task.task recorded task in
     let passes = sym c.stops-stop.ensures ∙ c.if-stop.false in
     let left = c.in_ok-task.ensures.left (no_fault _ c.in_ok-task.task.ending _ task.ending passes) in
-    let P : ℕ → Type 0 = λ number. Continues program track c.args.reached.state c.args.reached.versions c.push.new.self.items number c.in_ok-task.left.state c.in_ok-task.left.versions in
+    let P : ℕ → Type 0 = λ number. Continues program track c.args.reached.now.state c.args.reached.now.versions c.push.new.self.items number c.explain_task.new.reached.state c.explain_task.new.reached.versions in
     let within = n.within in
     record {
       low = omega (arith, within, c.get-last.ensures.kept);
       left = subst P (sym c.get-last.ensures.kept)
-          (goes_past program track c.args.reached.state at.reached.state c.in_ok-task.left.state c.args.reached.versions at.reached.versions c.in_ok-task.left.versions at.tasks.items c.push.new.self.items at.last c.in-Some.number c.in_ok-task.task n.counts at.invariant.left here
+          (goes_past program track c.args.reached.now.state at.reached.state c.explain_task.new.reached.state c.args.reached.now.versions at.reached.versions c.explain_task.new.reached.versions at.tasks.items c.push.new.self.items at.last c.in-Some.number c.in_ok-task.task n.counts at.invariant.left here
           left.0 left.1 passes c.in_ok-push.ensures.items);
     }
 
@@ -65,4 +65,4 @@ pub returns : goal.returns
 returns g c =
     let at = c.loop-number in
     let none = none_left c.args.track.now c.events.result.now at.last c.next_cut.result c.events.ensures.events c.next_cut.ensures.behind c.in_default.is in
-    no_cut_left g.W.Workflow.program c.args.track.now c.args.reached.state at.reached.state c.args.reached.versions at.reached.versions at.tasks.items at.last none at.invariant.left
+    no_cut_left g.W.Workflow.program c.args.track.now c.args.reached.now.state at.reached.state c.args.reached.now.versions at.reached.versions at.tasks.items at.last none at.invariant.left

@@ -1,4 +1,4 @@
-use Rattle.std.proofs.Common.{◌≡◌, ap, length, map, rules}
+use Rattle.std.proofs.Common.{◌≡◌, ◌∙◌, ap, length, map, rules}
 use Rattle.std.proofs.lemmas.List.{length-map}
 use Rattle.wh_poll.proofs.Jobs.{in_order, one_taken}
 use Rattle.wh_poll.proofs.workers.workers_of.Goals as goal
@@ -20,15 +20,18 @@ loop-end-preserved g c =
 
 pub returns-clause-seats : goal.returns-clause-seats
 returns-clause-seats g c =
-    let none : length (map (λ end. end.0) c.loop-end.ended.items) ≡ 0 = search (rules, length-map) in
+    let none : length c.loop-end.ended.items ≡ 0 = search rules in
+    let none = length-map c.loop-end.ended.items (λ end. end.0) ∙ none in
     in_order (λ worker. worker.seat) (map (λ end. end.0) c.loop-end.ended.items) (map (λ end. end.0) c.args.ended.items) c.loop-end.workers.items c.reverse.new.self.items c.loop-end.invariant.seats none c.reverse.ensures.items
 
 pub returns-clause-sources : goal.returns-clause-sources
 returns-clause-sources g c =
-    let none : length (map (λ end. end.1.source) c.loop-end.ended.items) ≡ 0 = search (rules, length-map) in
+    let none : length c.loop-end.ended.items ≡ 0 = search rules in
+    let none = length-map c.loop-end.ended.items (λ end. end.1.source) ∙ none in
     in_order (λ worker. worker.source) (map (λ end. end.1.source) c.loop-end.ended.items) (map (λ end. end.1.source) c.args.ended.items) c.loop-end.workers.items c.reverse.new.self.items c.loop-end.invariant.sources none c.reverse.ensures.items
 
 pub returns-clause-faults : goal.returns-clause-faults
 returns-clause-faults g c =
-    let none : length (map (λ end. end.1.fault) c.loop-end.ended.items) ≡ 0 = search (rules, length-map) in
+    let none : length c.loop-end.ended.items ≡ 0 = search rules in
+    let none = length-map c.loop-end.ended.items (λ end. end.1.fault) ∙ none in
     in_order (λ worker. worker.fault) (map (λ end. end.1.fault) c.loop-end.ended.items) (map (λ end. end.1.fault) c.args.ended.items) c.loop-end.workers.items c.reverse.new.self.items c.loop-end.invariant.faults none c.reverse.ensures.items

@@ -1,6 +1,5 @@
 use Rattle.std.proofs.Common.{◌≡◌, ◌++◌, ◌∷◌, ◌∙◌, [], sym, ap}
 use Rattle.std.specs.Prelude.{option_to_list}
-use Rattle.std.proofs.lemmas.Result.{err_from_is_err_and}
 use Rattle.wh_workflow.specs.Law.{asks_last, records_none}
 use Rattle.wh_workflow.specs.Activations.{and_then, issue_all, respond}
 use Rattle.wh_replay.specs.Views.{standpoint_of, script}
@@ -20,25 +19,24 @@ issue_last-requires-clause-not_marker c =
     let parted : c.args.given.items ≡ front ++ c.in-Some.last ∷ [] = c.pop.ensures.items ∙ ap (λ o. front ++ option_to_list o) c.in-Some.is in
     (plain_front front c.in-Some.last (ap asks_last (sym parted) ∙ c.requires.answer.asks) (ap records_none (sym parted) ∙ c.requires.answer.records)).1
 
-pub returns-in_err-issue_all-clause-issued : goal.returns-in_err-issue_all-clause-issued
-returns-in_err-issue_all-clause-issued c =
+pub returns-in-Err-clause-issued : goal.returns-in-Err-clause-issued
+returns-in-Err-clause-issued c =
     let place = standpoint_of c.args.cut.now in
     let s = script c.args.versions.now c.args.script.now.issued in
     let front = c.pop.new.self.items in
     let last = c.in-Some.last in
     let parted : c.args.given.items ≡ front ++ last ∷ [] = c.pop.ensures.items ∙ ap (λ o. front ++ option_to_list o) c.in-Some.is in
-    let p = err_from_is_err_and c.from_residual.result c.from_residual.ensures.1 in
-    rw (p.1, p.2) (gives_err c.in_err-issue_all.field-0.0 (issue_all place s front) (respond place s c.args.given.items) _ _
+    gives_err c.in-Err.fault (issue_all place s front) (respond place s c.args.given.items) _ _
     (λ fault e. ap (respond place s) parted ∙ (respond-push place s front last ∙ ap (λ r. and_then r (λ next. respond place next (last ∷ []))) e))
-    (c.in_err-issue_all.ensures.issued c.args.versions.now))
+    (c.in-Err.ensures.issued c.args.versions.now)
 
-pub returns-clause-issued : goal.returns-clause-issued
-returns-clause-issued c =
+pub returns-in-Ok-clause-issued : goal.returns-in-Ok-clause-issued
+returns-in-Ok-clause-issued c =
     let place = standpoint_of c.args.cut.now in
     let s = script c.args.versions.now c.args.script.now.issued in
     let front = c.pop.new.self.items in
     let last = c.in-Some.last in
     let parted : c.args.given.items ≡ front ++ last ∷ [] = c.pop.ensures.items ∙ ap (λ o. front ++ option_to_list o) c.in-Some.is in
     gives_along c.issue_last.result _ (respond place s c.args.given.items) _
-    (ap (respond place s) parted ∙ (respond-push place s front last ∙ ap (λ r. and_then r (λ next. respond place next (last ∷ []))) (c.in_ok-issue_all.ensures.issued c.args.versions.now)))
+    (ap (respond place s) parted ∙ (respond-push place s front last ∙ ap (λ r. and_then r (λ next. respond place next (last ∷ []))) (c.in-Ok.ensures.issued c.args.versions.now)))
     c.issue_last.ensures.issued

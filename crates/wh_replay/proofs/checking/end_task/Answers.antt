@@ -1,7 +1,9 @@
-use Rattle.std.proofs.Common.{◌∙◌, Ok, List, Option, sym, ap, option_map}
+use Rattle.std.proofs.Common.{◌∙◌, Ok, List, [], Option, refl, sym, ap, option_map}
 use Rattle.wh_events.specs.declared.event.Event.{Event}
 use Rattle.wh_events.specs.Cuts.{commanded}
 use Rattle.wh_workflow.specs.Names.{mismatch}
+use Rattle.wh_match.specs.Issuing.{reduced_by}
+use Rattle.wh_replay.specs.Replays.{Upshot}
 use Rattle.wh_replay.specs.Views.{standpoint_of, progress_of, span_events}
 use Rattle.wh_replay.specs.declared.cut.Span.{Span}
 use Rattle.wh_replay.proofs.Responding.{sent_is, live_task, matched_task, differing_task}
@@ -10,28 +12,31 @@ use Rattle.wh_replay.proofs.checking.end_task.Goals as goal
 pub returns-in_default : goal.returns-in_default
 returns-in_default g c meter =
     let cut = c.args.cut.now in
-    let left = progress_of c.args.activation meter in
+    let script = c.args.activation.script in
+    let sent = reduced_by script.late script.issued in
     let told : Option Span → Option (List Event) = option_map (λ span. commanded (span_events cut.track.now span)) in
-    live_task cut.track.now (standpoint_of cut) cut.number left c.in_ok-sent.sent.items (sent_is cut c.args.activation.script c.in_ok-sent.sent.items c.requires.script c.in_ok-sent.ensures) (ap told c.in_default.is)
+    live_task cut.track.now (standpoint_of cut) cut.number (progress_of c.args.activation meter) sent (sent_is cut script sent c.requires.script refl) (ap told c.in_default.is)
+    ∙ ap Ok (sym (c.in_ok-outcome.ensures meter))
 
-pub returns-in-None : goal.returns-in-None
-returns-in-None g c meter =
+pub returns-in_default-difference : goal.returns-in_default-difference
+returns-in_default-difference g c meter =
     let cut = c.args.cut.now in
-    let left = progress_of c.args.activation meter in
-    let sent = c.in_ok-sent.sent.items in
+    let script = c.args.activation.script in
+    let sent = reduced_by script.late script.issued in
     let told : Option Span → Option (List Event) = option_map (λ span. commanded (span_events cut.track.now span)) in
     let events = commanded (span_events cut.track.now c.in-Some.span) in
-    matched_task cut.track.now (standpoint_of cut) cut.number left sent (sent_is cut c.args.activation.script sent c.requires.script c.in_ok-sent.ensures) events c.difference.result (ap told c.in-Some.is)
-    (c.difference.ensures ∙ ap (λ l. mismatch cut.track.now l events) c.as_slice.ensures.value) c.in-None.is
-    ∙ ap Ok (sym (c.sent_outcome.ensures meter))
+    let left = c.in_ok-outcome.ensures meter in
+    matched_task cut.track.now (standpoint_of cut) cut.number (progress_of c.args.activation meter) sent (sent_is cut script sent c.requires.script refl) events c.difference.result (ap told c.in-Some.is)
+    (c.difference.ensures ∙ ap (λ l. mismatch cut.track.now l events) (c.as_slice.ensures.value ∙ ap (λ (u : Upshot _). u.unsent) left)) c.in_default-difference.is
+    ∙ ap Ok (ap (λ (u : Upshot _). record u { unsent = [] }) (sym left) ∙ sym (c.sent.ensures meter))
 
-pub returns-in-Some-difference : goal.returns-in-Some-difference
-returns-in-Some-difference g c meter =
+pub returns : goal.returns
+returns g c meter =
     let cut = c.args.cut.now in
-    let left = progress_of c.args.activation meter in
-    let sent = c.in_ok-sent.sent.items in
+    let script = c.args.activation.script in
+    let sent = reduced_by script.late script.issued in
     let told : Option Span → Option (List Event) = option_map (λ span. commanded (span_events cut.track.now span)) in
     let events = commanded (span_events cut.track.now c.in-Some.span) in
     rw c.get.ensures.kept
-    (differing_task cut.track.now (standpoint_of cut) cut.number left sent (sent_is cut c.args.activation.script sent c.requires.script c.in_ok-sent.ensures) events c.difference.result c.in-Some-difference.mismatch (ap told c.in-Some.is)
-    (c.difference.ensures ∙ ap (λ l. mismatch cut.track.now l events) c.as_slice.ensures.value) c.in-Some-difference.is)
+    (differing_task cut.track.now (standpoint_of cut) cut.number (progress_of c.args.activation meter) sent (sent_is cut script sent c.requires.script refl) events c.difference.result c.in-Some-difference.mismatch (ap told c.in-Some.is)
+    (c.difference.ensures ∙ ap (λ l. mismatch cut.track.now l events) (c.as_slice.ensures.value ∙ ap (λ (u : Upshot _). u.unsent) (c.in_ok-outcome.ensures meter))) c.in-Some-difference.is)

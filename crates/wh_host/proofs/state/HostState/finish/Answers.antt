@@ -11,7 +11,7 @@ index_mut-requires g c =
 
 pub invariant_of-self-in-Workflow : goal.invariant_of-self-in-Workflow
 invariant_of-self-in-Workflow g c =
-    rw c.count_outcome.ensures.books (finish_at g.W.Workflow.program _ c.self.invariant c.free.new.self _ c.in-Some.at c.args.outcome c.in_ok-free-in-Workflow.ensures.freed c.in-Some.ensures.found)
+    rw (c.take.ensures.after, c.count_outcome.ensures.books) (finish_at g.W.Workflow.program _ c.self.invariant c.free.new.self _ c.in-Some.at c.args.outcome c.in_ok-free-in-Workflow.ensures.freed c.in-Some.ensures.found)
 
 pub invariant_of-self-in-Activity : goal.invariant_of-self-in-Activity
 invariant_of-self-in-Activity g c =

@@ -1,4 +1,4 @@
-use Rattle.std.proofs.Common.{Some, false, ◌∙◌, rules}
+use Rattle.std.proofs.Common.{◌∙◌, rules}
 use Rattle.std.proofs.lemmas.Option.{slice_get_within}
 use Rattle.std.specs.Prelude.{slice_set}
 use Rattle.wh_host.specs.Machine.{host_view}
@@ -17,7 +17,7 @@ index_mut-requires g c =
 
 pub invariant_of-self-2 : goal.invariant_of-self-2
 invariant_of-self-2 g c =
-    rw (c.hand_out-run.ensures.runs, c.add_taken.ensures.books) (use_at g.W.Workflow.program _ c.self.invariant c.use_slot.new.self c.args.permit c.args.name c.in-Ok.held c.args.key c.in-Some.at c.in-Ok.ensures.held c.in-Some.ensures.found)
+    rw (c.hand_out-run.ensures.runs, c.replace.ensures.after, c.add_taken.ensures.books) (use_at g.W.Workflow.program _ c.self.invariant c.use_slot.new.self c.args.permit c.args.name c.in-Ok.held c.args.key c.in-Some.at c.in-Ok.ensures.held c.in-Some.ensures.found)
 
 pub returns-clause-step : goal.returns-clause-step
 returns-clause-step g c =
@@ -30,5 +30,5 @@ returns-clause-step g c =
       handed_out = c.hand_out-run.ensures.run;
       place = c.in-Some.at;
       was_reserved = used.0;
-      changed = λ i. host_view (used.1 i) c.self.inside.activity (slice_set c.self.inside.marks.items c.in-Some.at (Some (record { key = c.args.key; evicted = false }))) (c.hand_out-run.ensures.runs i) (c.add_taken.ensures.books i);
+      changed = λ i. host_view (used.1 i) c.self.inside.activity (slice_set c.self.inside.marks.items c.in-Some.at (c.replace.ensures.after i)) (c.hand_out-run.ensures.runs i) (c.add_taken.ensures.books i);
     })

@@ -1,0 +1,139 @@
+//! Makes calls of the libraries, each by its name on fixed histories, and prints for each what
+//! stands before it, what it answers and what stands after it. bench/refusals.py refuses requests
+//! for memory between the first of these lines and the second.
+
+mod files;
+mod hosts;
+mod runs;
+mod saying;
+mod tracks;
+
+use std::io::Print;
+use std::sync::Wait;
+use std::thread::Threads;
+use wh_workflow::Workflow;
+
+/// A call that has a name.
+#[derive(Clone, Copy)]
+enum Call {
+    ReadEvents,
+    CheckAll,
+    Push,
+    Issue,
+    Ask,
+    Reduced,
+    Jobs,
+    Step,
+    FromFirst,
+    Check,
+    Answer,
+    Advance,
+    AdvanceByGap,
+    ReplayTask,
+    ReplayTaskFromFirst,
+    ReplayTaskAsTold,
+    Put,
+    PutOfLonger,
+    OpenBooks,
+    OpenSlots,
+    OpenSticky,
+    OpenState,
+    OpenStateWithoutSlots,
+    OpenHost,
+    GiveRun,
+    ServeOne,
+}
+
+/// All calls, in the order in which they are made.
+#[rattlefmt::skip]
+const CALLS: [Call; 26] = [
+    Call::ReadEvents, Call::CheckAll, Call::Push, Call::Issue, Call::Ask, Call::Reduced, Call::Jobs,
+    Call::Step, Call::FromFirst, Call::Check, Call::Answer, Call::Advance, Call::AdvanceByGap,
+    Call::ReplayTask, Call::ReplayTaskFromFirst, Call::ReplayTaskAsTold, Call::Put, Call::PutOfLonger,
+    Call::OpenBooks, Call::OpenSlots, Call::OpenSticky, Call::OpenState, Call::OpenStateWithoutSlots,
+    Call::OpenHost, Call::GiveRun, Call::ServeOne,
+];
+
+impl Call {
+    /// Its name.
+    fn name(self) -> &'static str {
+        match self {
+            Call::ReadEvents => "read_events",
+            Call::CheckAll => "check_all",
+            Call::Push => "push",
+            Call::Issue => "issue",
+            Call::Ask => "ask",
+            Call::Reduced => "reduced",
+            Call::Jobs => "jobs",
+            Call::Step => "step",
+            Call::FromFirst => "from_first",
+            Call::Check => "check",
+            Call::Answer => "answer",
+            Call::Advance => "advance",
+            Call::AdvanceByGap => "advance by a gap",
+            Call::ReplayTask => "replay_task",
+            Call::ReplayTaskFromFirst => "replay_task from the first",
+            Call::ReplayTaskAsTold => "replay_task as told",
+            Call::Put => "put",
+            Call::PutOfLonger => "put of a longer run",
+            Call::OpenBooks => "Books::open",
+            Call::OpenSlots => "Slots::open",
+            Call::OpenSticky => "Sticky::open",
+            Call::OpenState => "HostState::open",
+            Call::OpenStateWithoutSlots => "HostState::open without workflow slots",
+            Call::OpenHost => "Host::open",
+            Call::GiveRun => "give_run",
+            Call::ServeOne => "serve_one",
+        }
+    }
+}
+
+/// Makes a call. `None` where what it is made on can't be made.
+fn make<R: Print + AllocGlobal + Threads + Wait + Sync, W: Workflow + Send>(
+    rt: &R,
+    call: Call,
+) -> Option<()> {
+    let name = call.name();
+    match call {
+        Call::ReadEvents => files::read(rt, name),
+        Call::CheckAll => files::check::<R, W>(rt, name),
+        Call::Push => tracks::push(rt, name),
+        Call::Issue => tracks::issue(rt, name),
+        Call::Ask => tracks::ask(rt, name),
+        Call::Reduced => tracks::reduced(rt, name),
+        Call::Jobs => tracks::tell(rt, name),
+        Call::Step => runs::step::<R, W>(rt, name),
+        Call::FromFirst => runs::from_first::<R, W>(rt, name),
+        Call::Check => runs::check_history::<R, W>(rt, name),
+        Call::Answer => runs::answer::<R, W>(rt, name),
+        Call::Advance => runs::advance::<R, W>(rt, name, "nap/8 behind 3"),
+        Call::AdvanceByGap => runs::advance::<R, W>(rt, name, "nap/3 behind 2"),
+        Call::ReplayTask => runs::replay::<R, W>(rt, name, "nap/3", "nap/8 behind 3"),
+        Call::ReplayTaskFromFirst => runs::replay::<R, W>(rt, name, "", "nap/8"),
+        Call::ReplayTaskAsTold => runs::replay::<R, W>(rt, name, "", "nap/8 behind 3"),
+        Call::Put => runs::put::<R, W>(rt, name, "other"),
+        Call::PutOfLonger => runs::put::<R, W>(rt, name, runs::ID),
+        Call::OpenSlots => hosts::open_slots(rt, name),
+        Call::OpenSticky => hosts::open_cache::<R, W>(rt, name),
+        _ => hosts::call_on_books::<R, W>(rt, call),
+    }
+}
+
+/// Whether the call of a name is asked for: the one that has it, or all where it is "".
+fn is_asked(name: &str, named: &str) -> bool {
+    named.is_empty() || name == named
+}
+
+/// Makes each call that has this name, or all calls where it is "". `None` where what one is made
+/// on can't be made.
+pub(crate) fn call_all<R: Print + AllocGlobal + Threads + Wait + Sync, W: Workflow + Send>(
+    rt: &R,
+    named: &str,
+) -> Option<()> {
+    for call in CALLS.as_slice() {
+        if is_asked(call.name(), named) {
+            make::<R, W>(rt, *call)?;
+        }
+    }
+    Some(())
+}

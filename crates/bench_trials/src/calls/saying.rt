@@ -1,0 +1,61 @@
+//! What is printed of a call, and what the calls are made on.
+
+use crate::replay;
+use std::alloc::Global;
+use std::fmt::Debug;
+use std::io::Print;
+use wh_events::RunKey;
+use wh_histories::{events, key};
+use wh_machines::Track;
+use wh_replay::Run;
+use wh_workflow::{Meter, Workflow};
+
+/// Prints a line about a call: what stands before it, what it answers, or what stands after it.
+/// Where it can't be printed, the line is missing.
+pub(crate) fn say<R: Print>(rt: &R, call: &str, part: &str, value: &impl Debug) {
+    let _ = println!(rt; "{call} {part}: {value:?}");
+}
+
+/// Prints that nothing stands before a call, or after it.
+pub(crate) fn say_nothing<R: Print>(rt: &R, call: &str, part: &str) {
+    say(rt, call, part, &());
+}
+
+/// Prints what a call answers, and lets it go.
+pub(crate) fn say_answer<R: Print>(rt: &R, call: &str, answer: impl Debug + Drop) {
+    say(rt, call, "answer", &answer);
+    drop(answer);
+}
+
+/// Prints of a run that stands before or after a call how many events it holds, and which commands
+/// it did not send yet.
+pub(crate) fn say_run<R: Print, W: Workflow>(rt: &R, call: &str, part: &str, run: &Run<W>) {
+    let seen = (run.held_len(), run.commands());
+    say(rt, call, part, &seen);
+}
+
+/// The track of a history.
+pub(crate) fn track_of(alloc: Global, history: &'static str) -> Option<Track> {
+    let events = events(alloc, history).ok()?;
+    let track = replay::track_of(alloc, events.as_slice());
+    drop(events);
+    track
+}
+
+/// The run of a key over a history.
+fn run_over<W: Workflow>(alloc: Global, key: RunKey, history: &'static str) -> Option<Run<W>> {
+    let Ok(events) = events(alloc, history) else {
+        drop(key);
+        return None;
+    };
+    Run::from_first(alloc, key, events, &mut Meter::new()).ok()
+}
+
+/// The run of a history, by the id of its workflow.
+pub(crate) fn run_of<W: Workflow>(
+    alloc: Global,
+    id: &str,
+    history: &'static str,
+) -> Option<Run<W>> {
+    run_over(alloc, key(alloc, id).ok()?, history)
+}

@@ -1,0 +1,120 @@
+//! A long run that goes on by so many tasks, one call of `Run::advance` for each.
+ghost use Rattle.std.specs.Prelude.{◌≡◌, ◌++◌, IfSome};
+ghost use Rattle.wh_replay.specs.Runs.{advance_steps};
+ghost use Rattle.wh_workflow.specs.Counting.{risen};
+
+use crate::long_run::LongRun;
+use std::alloc::Global;
+use std::io;
+use std::io::{Eprint, Print};
+use std::time::{Clock, Duration, Instant};
+use wh_events::Event;
+use wh_replay::Run;
+use wh_sample_workflows::Flood;
+use wh_workflow::{Meter, Workflow};
+
+/// The run, each of whose tasks starts as many timers as a step may.
+const LONG: LongRun = LongRun {
+    workflow: "Flood",
+    timers: 64,
+};
+
+/// What is done with it.
+#[derive(Clone, Copy)]
+pub(crate) struct Plan {
+    /// How many tasks of the run are completed before the calls.
+    pub(crate) tasks: u64,
+    /// How many calls are made. Each lets the run go on by one task.
+    pub(crate) calls: u64,
+}
+
+/// What the calls of a plan counted and took.
+#[derive(Clone, Copy)]
+struct Measured {
+    /// By how many steps they raised the meter.
+    steps: u64,
+    /// How long they took together.
+    took: Duration,
+}
+
+/// Lets the run go on by one task. `None` where it can't go on.
+fn go_on_once<W: Workflow>(
+    alloc: Global,
+    run: Run<W>,
+    more: Vec<Event>,
+    meter: &mut Meter,
+) -> Option<Run<W>>
+    ensures run { IfSome result (λ next. next.events ≡ run.events ++ more.items) }
+
+    // The meter has risen by the steps that `advance` takes for the new events.
+    ensures meter { IfSome result (λ _. meter.new ≡ risen meter.old (advance_steps W.program run.events more.items)) }
+{
+    run.advance(alloc, more, meter).ok()
+}
+
+/// How long it is since the clock told an instant. `None` where there is no clock.
+fn since<R: Clock>(rt: &R, start: io::Result<Instant>) -> Option<Duration> {
+    start.ok()?.elapsed(rt).ok()
+}
+
+/// How long two calls took together. `None` where there was no clock for one of them.
+fn sum_of(took: Option<Duration>, call: Option<Duration>) -> Option<Duration> {
+    Some(took?.saturating_add(call?))
+}
+
+/// The run, where it ends with a task's timers to be sent.
+fn with_timers<W: Workflow>(run: Run<W>) -> Option<Run<W>> {
+    if run.commands().len() as u64 == LONG.timers {
+        Some(run)
+    } else {
+        drop(run);
+        None
+    }
+}
+
+/// Lets the run go on by the task after so many completed ones, and adds how long the call took, if
+/// there is a clock. `None` where the run can't go on, and where it does not end with a task's
+/// timers to be sent.
+fn go_on<R: Clock + AllocGlobal, W: Workflow>(
+    rt: &R,
+    run: Run<W>,
+    completed: u64,
+    meter: &mut Meter,
+    took: &mut Option<Duration>,
+) -> Option<Run<W>> {
+    let Ok(more) = LONG.next_task(rt.alloc(), completed) else {
+        drop(run);
+        return None;
+    };
+    let start = Instant::now(rt);
+    let next = go_on_once(rt.alloc(), run, more, meter);
+    *took = sum_of(*took, since(rt, start));
+    with_timers(next?)
+}
+
+/// Makes the calls of a plan. `None` where replay has a fault or no memory, and where there is no
+/// clock.
+fn measure<R: Clock + AllocGlobal, W: Workflow>(rt: &R, plan: Plan) -> Option<Measured> {
+    let Plan { tasks, calls } = plan;
+    let mut meter = Meter::new();
+    let mut run = LONG.replayed::<W>(rt.alloc(), tasks, &mut meter);
+    let before = meter.count();
+    let mut took = Some(Duration::ZERO);
+    for completed in tasks..tasks.saturating_add(calls) {
+        run = go_on(rt, run?, completed, &mut meter, &mut took);
+    }
+    drop(run?);
+    let steps = meter.count().saturating_sub(before);
+    Some(Measured { steps, took: took? })
+}
+
+/// Tells the steps that the calls of a plan count, and how long they took. `None` where they can't
+/// be made.
+pub(crate) fn tell<R: Clock + Print + Eprint + AllocGlobal>(rt: &R, plan: Plan) -> Option<()> {
+    let Plan { tasks, calls } = plan;
+    let Measured { steps, took } = measure::<R, Flood>(rt, plan)?;
+    let micros = took.as_micros();
+    let _ = println!(rt; "{tasks} tasks, and {calls} more: {steps} steps of the calls");
+    let _ = eprintln!(rt; "the calls took {micros} microseconds");
+    Some(())
+}

@@ -1,0 +1,84 @@
+//! A run of a workflow that takes memory for good: whether going on by one task steps that task
+//! alone, told by the peak of the process's memory, which Linux keeps in a file.
+use crate::keeper::Keeper;
+use crate::long_run::LongRun;
+use std::alloc::Global;
+use std::io::{Eprint, Print};
+use std::rt::Files;
+use std::str;
+use wh_files::read_file;
+use wh_replay::Run;
+use wh_workflow::{Meter, Workflow};
+
+/// The run, whose workflow takes a block of memory by each signal.
+const LONG: LongRun = LongRun {
+    workflow: "Keeper",
+    timers: 0,
+};
+
+/// How many tasks are completed before the call.
+const TASKS: u64 = 200;
+
+/// How many KiB the replay of these tasks takes at least: seven eighths of a block for each.
+const LEAST: u64 = TASKS * 896;
+
+/// How many KiB the call takes at most: 16 blocks.
+const MOST: u64 = 16 * 1024;
+
+/// The KiB that a size of the process's status says.
+fn kib_of(size: &str) -> Option<u64> {
+    size.trim().strip_suffix(" kB")?.parse::<u64>().ok()
+}
+
+/// The peak that the process's status names.
+fn peak_in(status: &[u8]) -> Option<u64> {
+    let Ok(status) = str::from_utf8(status) else {
+        return None;
+    };
+    for line in status.lines() {
+        if let Some(size) = line.strip_prefix("VmHWM:") {
+            return kib_of(size);
+        }
+    }
+    None
+}
+
+/// The most memory, in KiB, that the process had up to now.
+fn peak<R: Files + AllocGlobal>(rt: &R) -> Option<u64> {
+    let status = read_file(rt, "/proc/self/status").ok()?;
+    let peak = peak_in(status.as_slice());
+    drop(status);
+    peak
+}
+
+/// Lets the run go on by one task more.
+fn go_on<W: Workflow>(alloc: Global, run: Run<W>) -> Option<()> {
+    let Ok(more) = LONG.next_task(alloc, TASKS) else {
+        drop(run);
+        return None;
+    };
+    drop(run.advance(alloc, more, &mut Meter::new()).ok()?);
+    Some(())
+}
+
+/// By how many KiB the peak rises in the replay of all tasks, and then in the call that goes on by
+/// one more. `None` where there is no run, or no peak.
+fn rises<R: Files + AllocGlobal, W: Workflow>(rt: &R) -> Option<(u64, u64)> {
+    let first = peak(rt)?;
+    let run = LONG.replayed::<W>(rt.alloc(), TASKS, &mut Meter::new())?;
+    let before = peak(rt);
+    go_on(rt.alloc(), run)?;
+    let (before, after) = before.zip(peak(rt))?;
+    Some((before.saturating_sub(first), after.saturating_sub(before)))
+}
+
+/// Tells whether the peak shows a replay, and whether the call stepped the new task alone: whether
+/// both hold. `None` where that can't be told.
+pub(crate) fn tell<R: Files + Print + Eprint + AllocGlobal>(rt: &R) -> Option<bool> {
+    let (replay, call) = rises::<R, Keeper>(rt)?;
+    let (shows, is_within) = (LEAST <= replay, call <= MOST);
+    let _ = eprintln!(rt; "the peak rose by {replay} KiB in the replay, by {call} KiB in the call");
+    let _ = println!(rt; "the replay of {TASKS} tasks shows in the peak of memory: {shows}");
+    let _ = println!(rt; "one more task takes 16 MiB at most: {is_within}");
+    Some(shows && is_within)
+}

@@ -1,0 +1,168 @@
+//! Soaks a worker host: many workers serve many short histories while another thread evicts runs at
+//! random. What they answer is compared with what as many workers answer without a cache.
+ghost use Rattle.std.specs.Prelude.{◌<◌, length};
+
+mod histories;
+mod hits;
+mod judging;
+mod serving;
+
+use crate::soak::histories::{File, keys_of, sources_of, tasks_of};
+use crate::soak::judging::judge;
+use crate::soak::serving::{Findings, Tally, serve};
+use std::io;
+use std::io::{Eprint, ErrorKind, Print};
+use std::rt::Runtime;
+use std::sync::Wait;
+use std::thread::Threads;
+use std::time::Clock;
+use wh_events::RunKey;
+use wh_files::read_files;
+use wh_host::Totals;
+use wh_recorded::ScriptSource;
+use wh_sample_workflows::All;
+
+/// A soak to be done.
+#[derive(Clone, Copy)]
+pub(crate) struct Soak<'a> {
+    /// The folder of the files that the histories are read from.
+    pub(crate) dir: &'a str,
+    /// How many workers serve.
+    pub(crate) workers: u64,
+    /// How many runs the cache holds.
+    pub(crate) cache: usize,
+    /// How many histories are served.
+    pub(crate) histories: u64,
+}
+
+/// Writes the figures, in which no two soaks agree, to the standard error.
+fn print_figures<R: Eprint>(
+    rt: &R,
+    tally: Tally,
+    taken: u64,
+    evicted: u64,
+    micros: u64,
+) -> io::Result<()> {
+    let (hits, misses) = (tally.hits, tally.misses);
+    let rate = taken.saturating_mul(1_000_000) / micros.max(1);
+    eprintln!(rt;
+        "evicted {evicted}, hits {hits}, misses {misses}, microseconds {micros}, tasks a second {rate}"
+    )
+}
+
+/// Writes what was checked to the standard output.
+fn print_checked<R: Print>(rt: &R, tasks: u64, totals: Totals) -> io::Result<()> {
+    let (taken, in_hand) = (totals.taken, totals.in_hand);
+    let (completed, failed) = (totals.completed, totals.failed);
+    println!(rt;
+        "{tasks} answers, equal to those without a cache\ntaken {taken}, completed {completed}, failed {failed}, in hand {in_hand}"
+    )
+}
+
+/// Writes what a soak found.
+fn print<R: Print + Eprint, S>(rt: &R, found: &Findings<S>) -> io::Result<()> {
+    let taken = found.totals.taken;
+    print_figures(rt, found.tally, taken, found.evicted, found.micros)?;
+    print_checked(rt, found.tally.tasks, found.totals)
+}
+
+/// Soaks the host once, on sources that are made anew, with a cache of so many runs, while the runs
+/// of the keys are evicted.
+fn soak_once<R: Clock + AllocGlobal + Threads + Wait + Sync>(
+    rt: &R,
+    soak: Soak<'_>,
+    files: &[File],
+    keys: &[RunKey],
+    cache: usize,
+) -> io::Result<Findings<ScriptSource>>
+    requires { 0 < length files.now }
+{
+    let sources = sources_of(rt.alloc(), files, soak.histories, soak.workers)?;
+    let tasks = tasks_of(sources.as_slice());
+    serve::<All, ScriptSource, R>(rt, rt.alloc(), sources, tasks, keys, cache)
+}
+
+/// Says what a soak refuted beside the plain one, if anything, and prints it else.
+fn judge_and_print<R: Print + Eprint>(
+    rt: &R,
+    found: &Findings<ScriptSource>,
+    plain: &Findings<ScriptSource>,
+    cache: usize,
+) -> io::Result<Result<(), &'static str>> {
+    let judged = judge(found, plain, cache);
+    if judged.is_ok() {
+        print(rt, found)?;
+    }
+    Ok(judged)
+}
+
+/// Soaks the host, after a plain soak without a cache, and says what the soak refuted, if anything.
+fn soak_beside<R: Clock + Print + Eprint + AllocGlobal + Threads + Wait + Sync>(
+    rt: &R,
+    soak: Soak<'_>,
+    files: &[File],
+    keys: &[RunKey],
+) -> io::Result<Result<(), &'static str>>
+    requires { 0 < length files.now }
+{
+    let plain = soak_once(rt, soak, files, &[], 0)?;
+    let found = soak_once(rt, soak, files, keys, soak.cache);
+    let judged = match &found {
+        Ok(found) => judge_and_print(rt, found, &plain, soak.cache),
+        Err(error) => Err(error.kind().into()),
+    };
+    drop(found);
+    drop(plain);
+    judged
+}
+
+/// Soaks the host on the files, of which there are some.
+fn soak_files<R: Clock + Print + Eprint + AllocGlobal + Threads + Wait + Sync>(
+    rt: &R,
+    soak: Soak<'_>,
+    files: &[File],
+) -> io::Result<Result<(), &'static str>> {
+    if files.is_empty() {
+        return Err(ErrorKind::NotFound.into());
+    }
+    let keys = keys_of(rt.alloc(), files, soak.histories)?;
+    let judged = soak_beside(rt, soak, files, keys.as_slice());
+    drop(keys);
+    judged
+}
+
+/// Soaks the host, and says what the soak refuted, if anything.
+fn run<R: Runtime + AllocGlobal + Threads + Wait + Sync>(
+    rt: &R,
+    soak: Soak<'_>,
+) -> io::Result<Result<(), &'static str>> {
+    let Ok(files) = read_files(rt, soak.dir) else {
+        return Err(ErrorKind::NotFound.into());
+    };
+    let judged = soak_files(rt, soak, files.as_slice());
+    drop(files);
+    judged
+}
+
+/// Tells what a soak refuted, if anything, and says whether nothing was.
+fn tell_judged<R: Eprint>(rt: &R, judged: Result<(), &'static str>) -> bool {
+    if let Err(refuted) = judged {
+        let _ = eprintln!(rt; "bench_trials: {refuted}");
+    }
+    judged.is_ok()
+}
+
+/// Soaks the host, and says whether nothing was refuted. `None` where there was no soak. Standard
+/// error has the reason for either.
+pub(crate) fn tell<R: Runtime + AllocGlobal + Threads + Wait + Sync>(
+    rt: &R,
+    soak: Soak<'_>,
+) -> Option<bool> {
+    match run(rt, soak) {
+        Ok(judged) => Some(tell_judged(rt, judged)),
+        Err(error) => {
+            let _ = eprintln!(rt; "bench_trials: {error}");
+            None
+        }
+    }
+}

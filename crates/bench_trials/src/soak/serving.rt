@@ -1,0 +1,387 @@
+//! A soak: workers with a thread each serve tasks while another thread evicts runs at random.
+ghost use Rattle.std.specs.Prelude.{◌≡◌, IfOk, replicate, vec_len};
+ghost use denote.Param.Send.{IsSend};
+ghost use Rattle.wh_ledger.specs.Shares.{no_shares};
+
+use crate::soak::hits::HitCount;
+use rand_core::utils::NextWord;
+use rand_pcg::Pcg32;
+use std::alloc::{AllocError, Global};
+use std::io::ErrorKind;
+use std::marker::Brand;
+use std::sync::Wait;
+use std::sync::atomic::{AtomicBool, Ordering};
+use std::sync::ledger::{Blank, Ledger};
+use std::thread::Threads;
+use std::time::{Clock, Duration, Instant};
+use std::{io, thread};
+use wh_events::{OutOfMemory, RunKey};
+use wh_host::{Config, Evict, Host, Totals};
+use wh_ledger::Seat;
+use wh_poll::{Left, NoActivities, OpenGate, Post, TaskSource, run_posts};
+use wh_slots::{ReserveFault, SlotKind};
+use wh_workflow::Workflow;
+
+/// How many slots of each kind the host has.
+const SLOTS: usize = 1_000;
+
+/// How often the evicting thread sleeps at most.
+const MOST_ROUNDS: u32 = 10_000;
+
+/// How many runs it evicts each time.
+const ROUND: u32 = 64;
+
+/// For how many microseconds it sleeps then.
+const PAUSE: u64 = 2_000;
+
+/// What workers counted.
+#[derive(Clone, Copy)]
+pub struct Tally {
+    /// The tasks that their sources had.
+    pub tasks: u64,
+    /// The tasks that were answered from a cached run.
+    pub hits: u64,
+    /// The tasks that were answered without one.
+    pub misses: u64,
+}
+
+/// What a soak gave.
+#[derive(Drop)]
+pub struct Findings<S> {
+    /// What the closed host counted.
+    pub totals: Totals,
+    /// What the workers counted.
+    pub tally: Tally,
+    /// How many runs were cached when they were evicted.
+    pub evicted: u64,
+    /// Whether nothing could be reserved once the host drained.
+    pub is_drained: bool,
+    /// For how many microseconds the workers served.
+    pub micros: u64,
+    /// The sources of the workers, with what they were sent.
+    pub sources: Vec<S>,
+}
+
+/// What a worker begins with.
+type SoakPost<S> = Post<S, NoActivities, HitCount>;
+
+/// What a worker leaves.
+type SoakLeft<S> = Left<S, NoActivities, HitCount>;
+
+/// The seats that come back, and what their workers leave.
+type Ended<T, C, F, S> = (Vec<Seat<T, C, F>>, Vec<SoakLeft<S>>);
+
+/// A post for each source, with so many turns at most.
+fn posts_of<S: Drop>(
+    alloc: Global,
+    sources: Vec<S>,
+    turns: u64,
+) -> Result<Vec<SoakPost<S>>, AllocError>
+    ensures { IfOk result (λ posts. vec_len posts ≡ vec_len sources) }
+{
+    let mut posts = Vec::new(alloc);
+    for source in sources {
+        posts.push(Post {
+            source,
+            handler: NoActivities { alloc },
+            observer: HitCount { hits: 0, misses: 0 },
+            turns,
+        })?;
+    }
+    Ok(posts)
+}
+
+/// Evicts a run, and says whether it was cached.
+fn evict<R: Wait, W: Workflow, T: Ledger, C: Ledger, F: Ledger>(
+    rt: &R,
+    host: &Host<W, T, C, F>,
+    key: &RunKey,
+) -> bool {
+    let evicted = host.lock(rt).evict(key);
+    matches!(evicted, Evict::Evicted)
+}
+
+/// Evicts a few runs picked at random, and says how many of them were cached.
+fn evict_some<R: Wait, W: Workflow, T: Ledger, C: Ledger, F: Ledger>(
+    rt: &R,
+    host: &Host<W, T, C, F>,
+    keys: &[RunKey],
+    random: &mut Pcg32,
+) -> u64 {
+    let mut evicted: u64 = 0;
+    for _run in 0..ROUND {
+        let picked = keys.get(random.next_word() as usize % keys.len().max(1));
+        if let Some(key) = picked
+            && evict(rt, host, key)
+        {
+            evicted = evicted.saturating_add(1);
+        }
+    }
+    evicted
+}
+
+/// Evicts each run, and says how many of them were cached.
+fn evict_each<R: Wait, W: Workflow, T: Ledger, C: Ledger, F: Ledger>(
+    rt: &R,
+    host: &Host<W, T, C, F>,
+    keys: &[RunKey],
+) -> u64 {
+    let mut evicted: u64 = 0;
+    for key in keys {
+        if evict(rt, host, key) {
+            evicted = evicted.saturating_add(1);
+        }
+    }
+    evicted
+}
+
+/// Evicts runs picked at random, a few at a time, until the workers have ended, and at most
+/// `MOST_ROUNDS` times; then each run once. Says how many of them were cached.
+fn evict_all<R: Wait + Clock, W: Workflow, T: Ledger, C: Ledger, F: Ledger>(
+    rt: &R,
+    host: &Host<W, T, C, F>,
+    keys: &[RunKey],
+    have_ended: &AtomicBool,
+) -> u64 {
+    let mut evicted: u64 = 0;
+    let mut random = Pcg32::new(42, 54);
+    for _round in 0..MOST_ROUNDS {
+        if have_ended.load(Ordering::SeqCst) {
+            break;
+        }
+        evicted = evicted.saturating_add(evict_some(rt, host, keys, &mut random));
+        thread::sleep(rt, Duration::from_micros(PAUSE));
+    }
+    evicted.saturating_add(evict_each(rt, host, keys))
+}
+
+/// What happened while the posts ran.
+#[derive(Clone, Copy)]
+struct Run {
+    /// How many runs were cached when they were evicted.
+    evicted: u64,
+    /// For how many microseconds the workers served.
+    micros: u64,
+}
+
+/// How many microseconds it is since the clock told an instant.
+fn micros_since<R: Clock>(rt: &R, begun: io::Result<Instant>) -> io::Result<u64> {
+    let elapsed = begun?.elapsed(rt)?;
+    Ok(u64::try_from(elapsed.as_micros()).unwrap_or(u64::MAX))
+}
+
+/// What came back, with what happened meanwhile.
+fn timed<E: Drop>(
+    ended: Result<E, OutOfMemory>,
+    evicted: u64,
+    micros: io::Result<u64>,
+) -> io::Result<(E, Run)> {
+    match ended {
+        Ok(ended) => match micros {
+            Ok(micros) => Ok((ended, Run { evicted, micros })),
+            Err(error) => {
+                drop(ended);
+                Err(error)
+            }
+        },
+        Err(OutOfMemory) => {
+            drop(micros);
+            Err(ErrorKind::OutOfMemory.into())
+        }
+    }
+}
+
+/// Runs the posts, evicts runs beside them, and measures the time.
+fn serve_posts<
+    R: Threads + Wait + Clock + Sync,
+    W: Workflow + Send,
+    T: Ledger + Send,
+    C: Ledger + Send,
+    F: Ledger + Send,
+    S: TaskSource + Send + Drop,
+>(
+    rt: &R,
+    alloc: Global,
+    host: &Host<W, T, C, F>,
+    seats: Vec<Seat<T, C, F>>,
+    posts: Vec<SoakPost<S>>,
+    keys: &[RunKey],
+) -> io::Result<(Ended<T, C, F, S>, Run)>
+    requires { seats.items ≡ replicate (vec_len posts) no_shares }
+{
+    let begun = Instant::now(rt);
+    let have_ended = AtomicBool::new(false);
+    let (ended, evicted) = thread::join(
+        rt,
+        || -> Result<Ended<T, C, F, S>, OutOfMemory>
+            requires workflow { IsSend W.row }
+            requires state { IsSend W.State.row }
+            requires seats { seats.items ≡ replicate (vec_len posts) no_shares }
+        {
+            let ended = run_posts(rt, alloc, host, seats, posts, &OpenGate);
+            have_ended.store(true, Ordering::SeqCst);
+            ended
+        },
+        || evict_all(rt, host, keys, &have_ended),
+    );
+    timed(ended, evicted, micros_since(rt, begun))
+}
+
+/// Whether no slot of a kind can be reserved, since the host drains.
+fn is_refused<R: Wait, W: Workflow, T: Ledger, C: Ledger, F: Ledger>(
+    rt: &R,
+    host: &Host<W, T, C, F>,
+    kind: SlotKind,
+) -> bool {
+    let reserved = host.lock(rt).reserve(kind);
+    matches!(reserved, Err(ReserveFault::Draining))
+}
+
+/// Drains the host, and says whether no slot of either kind can be reserved then.
+fn drain<R: Wait, W: Workflow, T: Ledger, C: Ledger, F: Ledger>(
+    rt: &R,
+    host: &Host<W, T, C, F>,
+) -> bool {
+    host.lock(rt).drain();
+    is_refused(rt, host, SlotKind::Workflow) && is_refused(rt, host, SlotKind::Activity)
+}
+
+/// Closes the host.
+fn close<W: Workflow, T: Ledger, C: Ledger, F: Ledger>(
+    host: Host<W, T, C, F>,
+    seats: Vec<Seat<T, C, F>>,
+) -> io::Result<Totals> {
+    match host.close(seats).ok() {
+        Some(totals) => Ok(totals),
+        None => Err(ErrorKind::Other.into()),
+    }
+}
+
+/// What the workers counted, where their sources had so many tasks.
+fn tally_of<S>(left: &[SoakLeft<S>], tasks: u64) -> Tally {
+    let (mut hits, mut misses) = (0u64, 0u64);
+    for worker in left {
+        hits = hits.saturating_add(worker.observer.hits);
+        misses = misses.saturating_add(worker.observer.misses);
+    }
+    Tally {
+        tasks,
+        hits,
+        misses,
+    }
+}
+
+/// Adds the source that a worker leaves.
+fn push_source<S: Drop>(sources: &mut Vec<S>, worker: SoakLeft<S>) -> Result<(), AllocError> {
+    Ok(sources.push(worker.source)?)
+}
+
+/// The sources that the workers leave.
+fn sources_left<S: Drop>(alloc: Global, left: Vec<SoakLeft<S>>) -> Result<Vec<S>, AllocError> {
+    let mut sources = Vec::new(alloc);
+    for worker in left {
+        push_source(&mut sources, worker)?;
+    }
+    Ok(sources)
+}
+
+/// Closes a host, and gives what its posts left with what the host has counted.
+fn end<W: Workflow, T: Ledger, C: Ledger, F: Ledger, S: Drop>(
+    alloc: Global,
+    host: Host<W, T, C, F>,
+    ended: Ended<T, C, F, S>,
+    run: Run,
+    is_drained: bool,
+    tasks: u64,
+) -> io::Result<Findings<S>> {
+    let (seats, left) = ended;
+    let totals = close(host, seats);
+    let tally = tally_of(left.as_slice(), tasks);
+    let sources = sources_left(alloc, left)?;
+    match totals {
+        Ok(totals) => Ok(Findings {
+            totals,
+            tally,
+            evicted: run.evicted,
+            is_drained,
+            micros: run.micros,
+            sources,
+        }),
+        Err(error) => {
+            drop(sources);
+            Err(error)
+        }
+    }
+}
+
+/// Opens a host, runs the posts, drains the host and closes it.
+fn soak_with<
+    R: Threads + Wait + Clock + Sync,
+    W: Workflow + Send,
+    T: Ledger + Send,
+    C: Ledger + Send,
+    F: Ledger + Send,
+    S: TaskSource + Send + Drop,
+>(
+    rt: &R,
+    alloc: Global,
+    posts: Vec<SoakPost<S>>,
+    tasks: u64,
+    keys: &[RunKey],
+    config: Config,
+    taken: Blank,
+    completed: Blank,
+    failed: Blank,
+) -> io::Result<Findings<S>>
+    requires seats { config.seats ≡ vec_len posts }
+    requires taken { (taken.name ≡ T.name) × (taken.parts ≡ T.parts) × (taken.parts ≡ config.seats) }
+    requires completed { (completed.name ≡ C.name) × (completed.parts ≡ C.parts) × (completed.parts ≡ config.seats) }
+    requires failed { (failed.name ≡ F.name) × (failed.parts ≡ F.parts) × (failed.parts ≡ config.seats) }
+{
+    let Ok((host, seats)) = Host::<W, T, C, F>::open(alloc, config, taken, completed, failed) else {
+        return Err(ErrorKind::InvalidInput.into());
+    };
+    let served = serve_posts(rt, alloc, &host, seats, posts, keys);
+    let is_drained = drain(rt, &host);
+    match served {
+        Ok((ended, run)) => end(alloc, host, ended, run, is_drained, tasks),
+        Err(error) => {
+            drop(host);
+            Err(error)
+        }
+    }
+}
+
+/// Serves so many tasks of the sources, each by a worker, with a cache of so many runs, while the
+/// runs of the keys are evicted. A worker serves each kind of tasks by turns, so it has two turns
+/// for each task, and two by which it learns that there are no more.
+pub fn serve<W: Workflow + Send, S: TaskSource + Send + Drop, R: Threads + Wait + Clock + Sync>(
+    rt: &R,
+    alloc: Global,
+    sources: Vec<S>,
+    tasks: u64,
+    keys: &[RunKey],
+    cache: usize,
+) -> io::Result<Findings<S>> {
+    let turns = tasks.saturating_mul(2).saturating_add(2);
+    let posts = posts_of(alloc, sources, turns)?;
+    let config = Config {
+        workflow_slots: SLOTS,
+        activity_slots: SLOTS,
+        cache,
+        cache_events: 0,
+        seats: posts.len(),
+    };
+    let seats = posts.len() as u64;
+    soak_with::<R, W, Brand, Brand, Brand, S>(
+        rt,
+        alloc,
+        posts,
+        tasks,
+        keys,
+        config,
+        Blank::new(seats),
+        Blank::new(seats),
+        Blank::new(seats),
+    )
+}

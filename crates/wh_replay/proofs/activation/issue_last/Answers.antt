@@ -1,6 +1,0 @@
-use Rattle.wh_replay.proofs.Responding.{asked_of}
-use Rattle.wh_replay.proofs.activation.issue_last.Goals as goal
-
-pub returns-in_ok-version-in-Ask-clause-script : goal.returns-in_ok-version-in-Ask-clause-script
-returns-in_ok-version-in-Ask-clause-script c =
-    asked_of c.args.cut.now c.args.script.now c.ask.new.self c.args.versions.now c.get.result.now _ _ _ c.recorded.ensures c.requires.script c.in_ok-version-in-Ask.ensures.asked
