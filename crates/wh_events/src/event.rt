@@ -107,10 +107,17 @@ impl Clone for Event {
 pub fn opened_id(events: &[Event], number: u64) -> &str
     ensures { result.now ≡ opened_id (role_at events.now number) }
 {
-    let Some(event) = events.get(number.saturating_sub(1) as usize) else {
-        return "";
-    };
-    match event.role() {
+    match events.get(number.saturating_sub(1) as usize) {
+        Some(event) => opened_under(event.role()),
+        None => "",
+    }
+}
+
+/// The id under which an event of the role opens something; the empty text where it opens nothing.
+fn opened_under(role: Role<'_>) -> &str
+    ensures { result.now ≡ opened_id (role_seen role.entry) }
+{
+    match role {
         Role::Opens { id, .. } => id,
         Role::CancelsChild { workflow_id } => workflow_id,
         Role::Refers { .. } | Role::Plain => "",
