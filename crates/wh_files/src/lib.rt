@@ -267,8 +267,9 @@ pub fn inputs_at<R: Files + io::Input + AllocGlobal + Clone + Drop>(
     if path != "-" && fs::metadata(rt, path)?.is_dir() {
         return folder_inputs(rt, path, by_path);
     }
+    let input = input_at(rt, path, by_path)?;
     let mut inputs = Vec::new(rt.alloc());
-    let Ok(()) = inputs.push(input_at(rt, path, by_path)?) else {
+    let Ok(()) = inputs.push(input) else {
         return Err(FolderFault::OutOfMemory);
     };
     Ok(inputs)
