@@ -1,7 +1,7 @@
 //! The cuts of a history, one after another and all at once.
-ghost use Rattle.std.specs.Prelude.{◌≡◌, drop, IfOk};
+ghost use Rattle.std.specs.Prelude.{◌≡◌, Some, drop, IfOk};
 ghost use Rattle.wh_events.specs.Cuts.{cuts};
-ghost use Rattle.wh_split.specs.Splits.{IsNumbered, first_of, next_cut, is_live};
+ghost use Rattle.wh_split.specs.Splits.{IsNumbered, first_of, next_cut, is_live, is_live_before};
 
 use crate::cut;
 use std::alloc::Global;
@@ -39,8 +39,14 @@ pub fn is_live(events: &[Event], cut: EventNo) -> bool
     if place > events.len() as u64 {
         return false;
     }
-    let event = &events[(place - 1) as usize];
-    cut::is_task_started(event) && cut::next_core(&events[place as usize..]).is_none()
+    is_live_before(&events[(place - 1) as usize], &events[place as usize..])
+}
+
+/// Whether the event is a live cut of a history that goes on with the rest.
+fn is_live_before(event: &Event, rest: &[Event]) -> bool
+    ensures { result ≡ is_live_before (Some event.now) rest.now }
+{
+    cut::is_task_started(event) && cut::next_core(rest).is_none()
 }
 
 /// The numbers of all cuts, in their order. `OutOfMemory` where no room was found for the list.
