@@ -210,6 +210,17 @@ fn explain_bytes<W: Workflow>(alloc: Global, bytes: &[u8]) -> Result<Told, OutOf
     }
 }
 
+/// The line of a file in the report of replay.
+fn line_of<W: Workflow>(alloc: Global, name: String, bytes: &[u8]) -> Line
+    ensures name { result.name ≡ string_bytes name }
+    ensures verdict { IsVerdict W.program bytes.now result.verdict }
+{
+    Line {
+        name: Text::new(name),
+        verdict: verdict::<W>(alloc, bytes),
+    }
+}
+
 /// Explains the replay of a history file, given by name and bytes, with the code of `W`: its tasks
 /// in their order up to the first that has a fault, each with what the workflow was told, what it
 /// gave, and what the record has beside what is sent. There are no tasks where the file can't be
@@ -230,13 +241,9 @@ pub fn explain<W: Workflow>(
     ensures memory { IfErr result (λ _. length bytes.now ≤ longest) }
 {
     let Told { unknown, tasks } = explain_bytes::<W>(alloc, bytes)?;
-    let verdict = verdict::<W>(alloc, bytes);
     Ok(Explanation {
         unknown,
         tasks: Items::new(tasks),
-        line: Line {
-            name: Text::new(name),
-            verdict,
-        },
+        line: line_of::<W>(alloc, name, bytes),
     })
 }

@@ -1,8 +1,8 @@
 //! What is sent beside what is recorded.
-ghost use Rattle.std.specs.Prelude.{◌≡◌, IfOk};
+ghost use Rattle.std.specs.Prelude.{◌≡◌, if◌then◌else◌, IfOk};
 ghost use Rattle.std.specs.List.{list_any};
 ghost use Rattle.wh_events.specs.Cuts.{commanded};
-ghost use Rattle.wh_explain.specs.declared.explanation.Pairing.TheVariants.{CommandMissing};
+ghost use Rattle.wh_explain.specs.declared.explanation.Pairing.TheVariants.{Alike, Different, CommandMissing};
 ghost use Rattle.wh_explain.specs.Pairings.{referred_id, recorded_event, pairing_of, pairings, differs};
 
 use crate::explanation::{Pairing, RecordedEvent};
@@ -36,6 +36,17 @@ fn recorded_event(
     })
 }
 
+/// A command and the event in its place, that are named alike or not.
+fn paired(alike: bool, command: Command, event: RecordedEvent) -> Pairing
+    ensures { result ≡ if alike then Alike command event else Different command event }
+{
+    if alike {
+        Pairing::Alike { command, event }
+    } else {
+        Pairing::Different { command, event }
+    }
+}
+
 /// A command and the event in its place.
 fn pair(
     alloc: Global,
@@ -48,13 +59,7 @@ fn pair(
     let alike = command.names(history, &event.body);
     let event = recorded_event(alloc, history, event)?;
     match command.try_copy() {
-        Ok(command) => {
-            if alike {
-                Ok(Pairing::Alike { command, event })
-            } else {
-                Ok(Pairing::Different { command, event })
-            }
-        }
+        Ok(command) => Ok(paired(alike, command, event)),
         Err(full) => {
             drop(event);
             Err(full)
