@@ -20,7 +20,10 @@ use wh_workflow::Mismatch;
 fn escape_of(c: char) -> &'static str
     ensures { result.now ++ c ∷ [] ≡ escaped_char c }
 {
-    if c == '"' || c == '\\' { "\\" } else { "" }
+    match c {
+        '"' | '\\' => "\\",
+        _ => "",
+    }
 }
 
 /// Writes a name as the report in words shows it, with what JSON escapes in a string.
