@@ -329,13 +329,20 @@ impl ScriptSource {
             let (index, name, events) = history;
             scripted.push(ScriptedHistory::new(alloc, index, name, events)?)?;
         }
-        Ok(ScriptSource {
+        Ok(ScriptSource::beginning(alloc, scripted))
+    }
+
+    /// A source over histories of which no task was polled yet.
+    fn beginning(alloc: Global, histories: Vec<ScriptedHistory>) -> ScriptSource
+        ensures { result ≡ opening_stage histories.items }
+    {
+        ScriptSource {
             alloc,
-            histories: scripted,
+            histories,
             round: 0,
             next: 0,
             answers: SentAnswers::new(alloc),
-        })
+        }
     }
 
     /// How many tasks all histories have together, polled or not: at most 2^64 - 1.
