@@ -1,10 +1,25 @@
 //! A workflow that is easily told what it can't do.
+ghost use Rattle.std.specs.Prelude.{◌≡◌, codes, if◌then◌else◌, IfOk};
+ghost use Rattle.wh_workflow.specs.declared.command.Command.TheVariants.{StartTimer, CancelTimer};
+
 use std::alloc::Global;
 use wh_events::OutOfMemory;
-use wh_workflow::{Command, Job, Meter, Workflow, text_of};
+use wh_workflow::{Command, Job, Meter, Workflow, give, text_of};
 
 /// Sets a timer at one job, and cancels it at the next one.
 pub(crate) struct Blink;
+
+/// Sets the timer, or cancels it.
+fn given(alloc: Global, sets: bool) -> Result<Command, OutOfMemory>
+    ensures { IfOk result (λ command. command ≡ if sets then StartTimer (codes "t") 60 else CancelTimer (codes "t")) }
+{
+    let id = text_of(alloc, "t")?;
+    Ok(if sets {
+        Command::StartTimer { id, seconds: 60 }
+    } else {
+        Command::CancelTimer { id }
+    })
+}
 
 impl Workflow for Blink {
     ghost use Rattle.std.specs.Prelude.{true, false, not, [], ◌∷◌, refl, bytes_eq, codes, if◌then◌else◌};
@@ -17,7 +32,7 @@ impl Workflow for Blink {
       knows = λ kind. bytes_eq kind (codes "Blink");
       initial = λ kind. true;
       after = λ state job. not state;
-      gives = λ state job. if state then StartTimer (codes "t") 60 ∷ [] else CancelTimer (codes "t") ∷ [];
+      gives = λ state job. (if state then StartTimer (codes "t") 60 else CancelTimer (codes "t")) ∷ [];
     } };
 
     ghost lawful = { elim [
@@ -41,14 +56,8 @@ impl Workflow for Blink {
         meter: &mut Meter,
     ) -> Result<(), OutOfMemory> {
         meter.tick();
-        let id = text_of(alloc, "t")?;
-        let command = if *state {
-            Command::StartTimer { id, seconds: 60 }
-        } else {
-            Command::CancelTimer { id }
-        };
+        let command = given(alloc, *state)?;
         *state = !*state;
-        out.push(command)?;
-        Ok(())
+        give(out, Some(command))
     }
 }

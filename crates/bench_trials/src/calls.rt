@@ -8,10 +8,10 @@ mod runs;
 mod saying;
 mod tracks;
 
+use std::alloc::Global;
 use std::io::Print;
 use std::sync::Wait;
 use std::thread::Threads;
-use wh_workflow::Workflow;
 
 /// A call that has a name.
 #[derive(Clone, Copy)]
@@ -89,50 +89,43 @@ impl Call {
 }
 
 /// Makes a call. `None` where what it is made on can't be made.
-fn make<R: Print + AllocGlobal + Threads + Wait + Sync, W: Workflow + Send>(
-    rt: &R,
-    call: Call,
-) -> Option<()> {
+fn make<R: Print + Threads + Wait + Sync>(rt: &R, alloc: Global, call: Call) -> Option<()> {
     let name = call.name();
     match call {
-        Call::ReadEvents => files::read(rt, name),
-        Call::CheckAll => files::check::<R, W>(rt, name),
-        Call::Push => tracks::push(rt, name),
-        Call::Issue => tracks::issue(rt, name),
-        Call::Ask => tracks::ask(rt, name),
-        Call::Reduced => tracks::reduced(rt, name),
-        Call::Jobs => tracks::tell(rt, name),
-        Call::Step => runs::step::<R, W>(rt, name),
-        Call::FromFirst => runs::from_first::<R, W>(rt, name),
-        Call::Check => runs::check_history::<R, W>(rt, name),
-        Call::Answer => runs::answer::<R, W>(rt, name),
-        Call::Advance => runs::advance::<R, W>(rt, name, "nap/8 behind 3"),
-        Call::AdvanceByGap => runs::advance::<R, W>(rt, name, "nap/3 behind 2"),
-        Call::ReplayTask => runs::replay::<R, W>(rt, name, "nap/3", "nap/8 behind 3"),
-        Call::ReplayTaskFromFirst => runs::replay::<R, W>(rt, name, "", "nap/8"),
-        Call::ReplayTaskAsTold => runs::replay::<R, W>(rt, name, "", "nap/8 behind 3"),
-        Call::Put => runs::put::<R, W>(rt, name, "other"),
-        Call::PutOfLonger => runs::put::<R, W>(rt, name, runs::ID),
-        Call::OpenSlots => hosts::open_slots(rt, name),
-        Call::OpenSticky => hosts::open_cache::<R, W>(rt, name),
-        _ => hosts::call_on_books::<R, W>(rt, call),
+        Call::ReadEvents => files::read(rt, alloc, name),
+        Call::CheckAll => files::check(rt, alloc, name),
+        Call::Push => tracks::push(rt, alloc, name),
+        Call::Issue => tracks::issue(rt, alloc, name),
+        Call::Ask => tracks::ask(rt, alloc, name),
+        Call::Reduced => tracks::reduced(rt, alloc, name),
+        Call::Jobs => tracks::tell(rt, alloc, name),
+        Call::Step => runs::step(rt, alloc, name),
+        Call::FromFirst => runs::from_first(rt, alloc, name),
+        Call::Check => runs::check_history(rt, alloc, name),
+        Call::Answer => runs::answer(rt, alloc, name),
+        Call::Advance => runs::advance(rt, alloc, name, "nap/8 behind 3"),
+        Call::AdvanceByGap => runs::advance(rt, alloc, name, "nap/3 behind 2"),
+        Call::ReplayTask => runs::replay(rt, alloc, name, "nap/3", "nap/8 behind 3"),
+        Call::ReplayTaskFromFirst => runs::replay(rt, alloc, name, "", "nap/8"),
+        Call::ReplayTaskAsTold => runs::replay(rt, alloc, name, "", "nap/8 behind 3"),
+        Call::Put => runs::put(rt, alloc, name, "other"),
+        Call::PutOfLonger => runs::put(rt, alloc, name, runs::ID),
+        Call::OpenSlots => hosts::open_slots(rt, alloc, name),
+        Call::OpenSticky => hosts::open_cache(rt, alloc, name),
+        _ => hosts::call_on_books(rt, alloc, call),
     }
-}
-
-/// Whether the call of a name is asked for: the one that has it, or all where it is "".
-fn is_asked(name: &str, named: &str) -> bool {
-    named.is_empty() || name == named
 }
 
 /// Makes each call that has this name, or all calls where it is "". `None` where what one is made
 /// on can't be made.
-pub(crate) fn call_all<R: Print + AllocGlobal + Threads + Wait + Sync, W: Workflow + Send>(
+pub(crate) fn call_all<R: Print + Threads + Wait + Sync>(
     rt: &R,
+    alloc: Global,
     named: &str,
 ) -> Option<()> {
     for call in CALLS.as_slice() {
-        if is_asked(call.name(), named) {
-            make::<R, W>(rt, *call)?;
+        if named.is_empty() || call.name() == named {
+            make(rt, alloc, *call)?;
         }
     }
     Some(())

@@ -48,11 +48,6 @@ impl Counts {
     }
 }
 
-/// Whether the answer is a fault of place.
-fn is_misplaced(answer: Result<Checked, RunFault>) -> bool {
-    matches!(answer, Err(RunFault::Fault(Fault::Place { .. })))
-}
-
 /// Compares what both replays say of a history, and counts it.
 pub(crate) fn compare<W: Workflow>(
     alloc: Global,
@@ -62,7 +57,8 @@ pub(crate) fn compare<W: Workflow>(
     let answer = wh_replay::check::<W>(alloc, copy_of(alloc, events)?);
     let same = check::<W>(alloc, events) == answer;
     counts.histories = counts.histories.saturating_add(1);
-    if same && (is_misplaced(answer) || same_lookups(alloc, events)) {
+    let is_misplaced = matches!(answer, Err(RunFault::Fault(Fault::Place { .. })));
+    if same && (is_misplaced || same_lookups(alloc, events)) {
         counts.alike = counts.alike.saturating_add(1);
     }
     let count = counts.count_of(answer);

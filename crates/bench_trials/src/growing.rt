@@ -52,18 +52,19 @@ fn go_on_once<W: Workflow>(
     run.advance(alloc, more, meter).ok()
 }
 
-/// How long it is since the clock told an instant. `None` where there is no clock.
-fn since<R: Clock>(rt: &R, start: io::Result<Instant>) -> Option<Duration> {
-    start.ok()?.elapsed(rt).ok()
-}
-
-/// How long two calls took together. `None` where there was no clock for one of them.
-fn sum_of(took: Option<Duration>, call: Option<Duration>) -> Option<Duration> {
-    Some(took?.saturating_add(call?))
+/// How long calls took together with one that has begun at an instant. `None` where there was no
+/// clock for one of them.
+fn with_call<R: Clock>(
+    rt: &R,
+    took: Option<Duration>,
+    begun: io::Result<Instant>,
+) -> Option<Duration> {
+    let call = begun.ok()?.elapsed(rt).ok()?;
+    Some(took?.saturating_add(call))
 }
 
 /// The run, where it ends with a task's timers to be sent.
-fn with_timers<W: Workflow>(run: Run<W>) -> Option<Run<W>> {
+fn with_timers(run: Run<Flood>) -> Option<Run<Flood>> {
     if run.commands().len() as u64 == LONG.timers {
         Some(run)
     } else {
@@ -75,33 +76,34 @@ fn with_timers<W: Workflow>(run: Run<W>) -> Option<Run<W>> {
 /// Lets the run go on by the task after so many completed ones, and adds how long the call took, if
 /// there is a clock. `None` where the run can't go on, and where it does not end with a task's
 /// timers to be sent.
-fn go_on<R: Clock + AllocGlobal, W: Workflow>(
+fn go_on<R: Clock>(
     rt: &R,
-    run: Run<W>,
+    alloc: Global,
+    run: Run<Flood>,
     completed: u64,
     meter: &mut Meter,
     took: &mut Option<Duration>,
-) -> Option<Run<W>> {
-    let Ok(more) = LONG.next_task(rt.alloc(), completed) else {
+) -> Option<Run<Flood>> {
+    let Ok(more) = LONG.next_task(alloc, completed) else {
         drop(run);
         return None;
     };
-    let start = Instant::now(rt);
-    let next = go_on_once(rt.alloc(), run, more, meter);
-    *took = sum_of(*took, since(rt, start));
+    let begun = Instant::now(rt);
+    let next = go_on_once(alloc, run, more, meter);
+    *took = with_call(rt, *took, begun);
     with_timers(next?)
 }
 
 /// Makes the calls of a plan. `None` where replay has a fault or no memory, and where there is no
 /// clock.
-fn measure<R: Clock + AllocGlobal, W: Workflow>(rt: &R, plan: Plan) -> Option<Measured> {
+fn measure<R: Clock>(rt: &R, alloc: Global, plan: Plan) -> Option<Measured> {
     let Plan { tasks, calls } = plan;
     let mut meter = Meter::new();
-    let mut run = LONG.replayed::<W>(rt.alloc(), tasks, &mut meter);
+    let mut run = LONG.replayed::<Flood>(alloc, tasks, &mut meter);
     let before = meter.count();
     let mut took = Some(Duration::ZERO);
     for completed in tasks..tasks.saturating_add(calls) {
-        run = go_on(rt, run?, completed, &mut meter, &mut took);
+        run = go_on(rt, alloc, run?, completed, &mut meter, &mut took);
     }
     drop(run?);
     let steps = meter.count().saturating_sub(before);
@@ -110,9 +112,9 @@ fn measure<R: Clock + AllocGlobal, W: Workflow>(rt: &R, plan: Plan) -> Option<Me
 
 /// Tells the steps that the calls of a plan count, and how long they took. `None` where they can't
 /// be made.
-pub(crate) fn tell<R: Clock + Print + Eprint + AllocGlobal>(rt: &R, plan: Plan) -> Option<()> {
+pub(crate) fn tell<R: Clock + Print + Eprint>(rt: &R, alloc: Global, plan: Plan) -> Option<()> {
     let Plan { tasks, calls } = plan;
-    let Measured { steps, took } = measure::<R, Flood>(rt, plan)?;
+    let Measured { steps, took } = measure(rt, alloc, plan)?;
     let micros = took.as_micros();
     let _ = println!(rt; "{tasks} tasks, and {calls} more: {steps} steps of the calls");
     let _ = eprintln!(rt; "the calls took {micros} microseconds");

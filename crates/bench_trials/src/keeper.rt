@@ -13,9 +13,11 @@ const BLOCK: usize = 1 << 20;
 /// whatever became of the states.
 pub(crate) struct Keeper;
 
-/// Takes a block of memory for good.
-fn keep_block(alloc: Global) -> Result<(), OutOfMemory> {
-    mem::forget(vec![in alloc; 1u8; BLOCK]?);
+/// Takes a block of memory for good by a signal, and nothing by another job.
+fn keep_block(alloc: Global, job: &Job) -> Result<(), OutOfMemory> {
+    if matches!(job, Job::Signal { .. }) {
+        mem::forget(vec![in alloc; 1u8; BLOCK]?);
+    }
     Ok(())
 }
 
@@ -50,9 +52,6 @@ impl Workflow for Keeper {
         meter: &mut Meter,
     ) -> Result<(), OutOfMemory> {
         meter.tick();
-        if matches!(job, Job::Signal { .. }) {
-            keep_block(alloc)?;
-        }
-        Ok(())
+        keep_block(alloc, job)
     }
 }

@@ -3,7 +3,7 @@ use crate::notation::{append, signal, start};
 use std::alloc::Global;
 use wh_events::{Event, EventKind, OutOfMemory, RunKey, Text};
 use wh_replay::Run;
-use wh_workflow::{Meter, Workflow, text_of};
+use wh_workflow::{Meter, Workflow, texts_of};
 
 /// A run that is told a signal in each task but the first, and starts so many timers in each.
 #[derive(Clone, Copy)]
@@ -65,8 +65,7 @@ impl LongRun {
         tasks: u64,
         meter: &mut Meter,
     ) -> Option<Run<W>> {
-        let events = self.first_tasks(alloc, tasks).ok()?;
-        let key = key(alloc).ok()?;
+        let (key, events) = key(alloc).ok().zip(self.first_tasks(alloc, tasks).ok())?;
         Run::<W>::from_first(alloc, key, events, meter).ok()
     }
 }
@@ -91,8 +90,9 @@ fn append_timer(
 
 /// The key of the runs.
 fn key(alloc: Global) -> Result<RunKey, OutOfMemory> {
+    let (workflow_id, run_id) = texts_of(alloc, "long", "first")?;
     Ok(RunKey {
-        workflow_id: text_of(alloc, "long")?,
-        run_id: text_of(alloc, "first")?,
+        workflow_id,
+        run_id,
     })
 }

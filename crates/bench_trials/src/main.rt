@@ -32,7 +32,6 @@ use std::process::ExitCode;
 use std::rt::Runtime;
 use std::sync::Wait;
 use std::thread::Threads;
-use wh_sample_workflows::Nap;
 
 /// How the program is called.
 const USAGE: &str =
@@ -121,9 +120,9 @@ fn words_of<R: Env + AllocGlobal>(rt: &R) -> Option<Vec<String>> {
 /// Tries all there is, and says whether all of it holds. `None` where it can't be tried.
 fn try_all<R: Runtime + AllocGlobal + Threads + Wait + Sync>(rt: &R) -> Option<bool> {
     let is_alone = peak::tell(rt)?;
-    growing::tell(rt, FEW)?;
+    growing::tell(rt, rt.alloc(), FEW)?;
     let is_same = samples::tell(rt).ok()?;
-    calls::call_all::<R, Nap>(rt, "")?;
+    calls::call_all(rt, rt.alloc(), "")?;
     let is_sound = soak::tell(rt, SMALL)?;
     Some(is_alone && is_same && is_sound)
 }
@@ -134,8 +133,8 @@ fn run<R: Runtime + AllocGlobal + Threads + Wait + Sync>(
     asked: Request<'_>,
 ) -> Option<bool> {
     match asked {
-        Request::Named(name) => calls::call_all::<R, Nap>(rt, name)?,
-        Request::Calls(plan) => growing::tell(rt, plan)?,
+        Request::Named(name) => calls::call_all(rt, rt.alloc(), name)?,
+        Request::Calls(plan) => growing::tell(rt, rt.alloc(), plan)?,
         Request::Soak(soak) => return soak::tell(rt, soak),
         Request::All => return try_all(rt),
     }

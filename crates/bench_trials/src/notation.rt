@@ -1,7 +1,7 @@
 //! Histories as letters, one for each event.
 use std::alloc::Global;
 use wh_events::{Event, EventKind, EventNo, OutOfMemory};
-use wh_workflow::{no_payloads, text_of};
+use wh_workflow::{no_payloads, text_of, texts_of};
 
 /// The letters that `kind_of` knows, but for those of starts.
 pub(crate) const LETTERS: &[u8] = b"qscfngTUFCAarKkxmD";
@@ -51,17 +51,16 @@ fn timer(alloc: Global, id: &str) -> Result<EventKind, OutOfMemory> {
 
 /// The scheduling of an activity.
 fn activity(alloc: Global) -> Result<EventKind, OutOfMemory> {
-    Ok(EventKind::ActivityTaskScheduled {
-        id: text_of(alloc, "1")?,
-        activity: text_of(alloc, "race")?,
-    })
+    let (id, activity) = texts_of(alloc, "1", "race")?;
+    Ok(EventKind::ActivityTaskScheduled { id, activity })
 }
 
 /// The start of a child.
 fn child(alloc: Global) -> Result<EventKind, OutOfMemory> {
+    let (workflow_id, workflow) = texts_of(alloc, "1", "Nap")?;
     Ok(EventKind::StartChildWorkflowExecutionInitiated {
-        workflow_id: text_of(alloc, "1")?,
-        workflow: text_of(alloc, "Nap")?,
+        workflow_id,
+        workflow,
     })
 }
 

@@ -2,13 +2,11 @@
 //! alone, told by the peak of the process's memory, which Linux keeps in a file.
 use crate::keeper::Keeper;
 use crate::long_run::LongRun;
-use std::alloc::Global;
 use std::io::{Eprint, Print};
 use std::rt::Files;
 use std::str;
 use wh_files::read_file;
-use wh_replay::Run;
-use wh_workflow::{Meter, Workflow};
+use wh_workflow::Meter;
 
 /// The run, whose workflow takes a block of memory by each signal.
 const LONG: LongRun = LongRun {
@@ -51,23 +49,14 @@ fn peak<R: Files + AllocGlobal>(rt: &R) -> Option<u64> {
     peak
 }
 
-/// Lets the run go on by one task more.
-fn go_on<W: Workflow>(alloc: Global, run: Run<W>) -> Option<()> {
-    let Ok(more) = LONG.next_task(alloc, TASKS) else {
-        drop(run);
-        return None;
-    };
-    drop(run.advance(alloc, more, &mut Meter::new()).ok()?);
-    Some(())
-}
-
 /// By how many KiB the peak rises in the replay of all tasks, and then in the call that goes on by
 /// one more. `None` where there is no run, or no peak.
-fn rises<R: Files + AllocGlobal, W: Workflow>(rt: &R) -> Option<(u64, u64)> {
+fn rises<R: Files + AllocGlobal>(rt: &R) -> Option<(u64, u64)> {
     let first = peak(rt)?;
-    let run = LONG.replayed::<W>(rt.alloc(), TASKS, &mut Meter::new())?;
+    let run = LONG.replayed::<Keeper>(rt.alloc(), TASKS, &mut Meter::new());
+    let (run, more) = run.zip(LONG.next_task(rt.alloc(), TASKS).ok())?;
     let before = peak(rt);
-    go_on(rt.alloc(), run)?;
+    drop(run.advance(rt.alloc(), more, &mut Meter::new()).ok()?);
     let (before, after) = before.zip(peak(rt))?;
     Some((before.saturating_sub(first), after.saturating_sub(before)))
 }
@@ -75,7 +64,7 @@ fn rises<R: Files + AllocGlobal, W: Workflow>(rt: &R) -> Option<(u64, u64)> {
 /// Tells whether the peak shows a replay, and whether the call stepped the new task alone: whether
 /// both hold. `None` where that can't be told.
 pub(crate) fn tell<R: Files + Print + Eprint + AllocGlobal>(rt: &R) -> Option<bool> {
-    let (replay, call) = rises::<R, Keeper>(rt)?;
+    let (replay, call) = rises(rt)?;
     let (shows, is_within) = (LEAST <= replay, call <= MOST);
     let _ = eprintln!(rt; "the peak rose by {replay} KiB in the replay, by {call} KiB in the call");
     let _ = println!(rt; "the replay of {TASKS} tasks shows in the peak of memory: {shows}");

@@ -145,7 +145,10 @@ impl<'a> Task<'a> {
         let id = change_id.get();
         match self.script.ask(self.record, versions, id, min, max) {
             Ok(version) => Ok(Some(Job::Version { change_id, version })),
-            Err(fault) => Err(fault),
+            Err(fault) => {
+                drop(change_id);
+                Err(fault)
+            }
         }
     }
 

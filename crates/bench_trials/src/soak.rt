@@ -9,7 +9,8 @@ mod serving;
 
 use crate::soak::histories::{File, keys_of, sources_of, tasks_of};
 use crate::soak::judging::judge;
-use crate::soak::serving::{Findings, Tally, serve};
+use crate::soak::serving::{Findings, serve};
+use std::alloc::Global;
 use std::io;
 use std::io::{Eprint, ErrorKind, Print};
 use std::rt::Runtime;
@@ -18,8 +19,6 @@ use std::thread::Threads;
 use std::time::Clock;
 use wh_events::RunKey;
 use wh_files::read_files;
-use wh_host::Totals;
-use wh_recorded::ScriptSource;
 use wh_sample_workflows::All;
 
 /// A soak to be done.
@@ -36,22 +35,18 @@ pub(crate) struct Soak<'a> {
 }
 
 /// Writes the figures, in which no two soaks agree, to the standard error.
-fn print_figures<R: Eprint>(
-    rt: &R,
-    tally: Tally,
-    taken: u64,
-    evicted: u64,
-    micros: u64,
-) -> io::Result<()> {
-    let (hits, misses) = (tally.hits, tally.misses);
-    let rate = taken.saturating_mul(1_000_000) / micros.max(1);
+fn print_figures<R: Eprint>(rt: &R, found: &Findings) -> io::Result<()> {
+    let (hits, misses) = (found.tally.hits, found.tally.misses);
+    let (evicted, micros) = (found.evicted, found.micros);
+    let rate = found.totals.taken.saturating_mul(1_000_000) / micros.max(1);
     eprintln!(rt;
         "evicted {evicted}, hits {hits}, misses {misses}, microseconds {micros}, tasks a second {rate}"
     )
 }
 
 /// Writes what was checked to the standard output.
-fn print_checked<R: Print>(rt: &R, tasks: u64, totals: Totals) -> io::Result<()> {
+fn print_checked<R: Print>(rt: &R, found: &Findings) -> io::Result<()> {
+    let (tasks, totals) = (found.tally.tasks, found.totals);
     let (taken, in_hand) = (totals.taken, totals.in_hand);
     let (completed, failed) = (totals.completed, totals.failed);
     println!(rt;
@@ -59,54 +54,50 @@ fn print_checked<R: Print>(rt: &R, tasks: u64, totals: Totals) -> io::Result<()>
     )
 }
 
-/// Writes what a soak found.
-fn print<R: Print + Eprint, S>(rt: &R, found: &Findings<S>) -> io::Result<()> {
-    let taken = found.totals.taken;
-    print_figures(rt, found.tally, taken, found.evicted, found.micros)?;
-    print_checked(rt, found.tally.tasks, found.totals)
-}
-
 /// Soaks the host once, on sources that are made anew, with a cache of so many runs, while the runs
 /// of the keys are evicted.
-fn soak_once<R: Clock + AllocGlobal + Threads + Wait + Sync>(
+fn soak_once<R: Clock + Threads + Wait + Sync>(
     rt: &R,
+    alloc: Global,
     soak: Soak<'_>,
     files: &[File],
     keys: &[RunKey],
     cache: usize,
-) -> io::Result<Findings<ScriptSource>>
+) -> io::Result<Findings>
     requires { 0 < length files.now }
 {
-    let sources = sources_of(rt.alloc(), files, soak.histories, soak.workers)?;
+    let sources = sources_of(alloc, files, soak.histories, soak.workers)?;
     let tasks = tasks_of(sources.as_slice());
-    serve::<All, ScriptSource, R>(rt, rt.alloc(), sources, tasks, keys, cache)
+    serve::<All, R>(rt, alloc, sources, tasks, keys, cache)
 }
 
 /// Says what a soak refuted beside the plain one, if anything, and prints it else.
 fn judge_and_print<R: Print + Eprint>(
     rt: &R,
-    found: &Findings<ScriptSource>,
-    plain: &Findings<ScriptSource>,
+    found: &Findings,
+    plain: &Findings,
     cache: usize,
 ) -> io::Result<Result<(), &'static str>> {
     let judged = judge(found, plain, cache);
     if judged.is_ok() {
-        print(rt, found)?;
+        print_figures(rt, found)?;
+        print_checked(rt, found)?;
     }
     Ok(judged)
 }
 
 /// Soaks the host, after a plain soak without a cache, and says what the soak refuted, if anything.
-fn soak_beside<R: Clock + Print + Eprint + AllocGlobal + Threads + Wait + Sync>(
+fn soak_beside<R: Clock + Print + Eprint + Threads + Wait + Sync>(
     rt: &R,
+    alloc: Global,
     soak: Soak<'_>,
     files: &[File],
     keys: &[RunKey],
 ) -> io::Result<Result<(), &'static str>>
     requires { 0 < length files.now }
 {
-    let plain = soak_once(rt, soak, files, &[], 0)?;
-    let found = soak_once(rt, soak, files, keys, soak.cache);
+    let plain = soak_once(rt, alloc, soak, files, &[], 0)?;
+    let found = soak_once(rt, alloc, soak, files, keys, soak.cache);
     let judged = match &found {
         Ok(found) => judge_and_print(rt, found, &plain, soak.cache),
         Err(error) => Err(error.kind().into()),
@@ -117,16 +108,17 @@ fn soak_beside<R: Clock + Print + Eprint + AllocGlobal + Threads + Wait + Sync>(
 }
 
 /// Soaks the host on the files, of which there are some.
-fn soak_files<R: Clock + Print + Eprint + AllocGlobal + Threads + Wait + Sync>(
+fn soak_files<R: Clock + Print + Eprint + Threads + Wait + Sync>(
     rt: &R,
+    alloc: Global,
     soak: Soak<'_>,
     files: &[File],
 ) -> io::Result<Result<(), &'static str>> {
     if files.is_empty() {
         return Err(ErrorKind::NotFound.into());
     }
-    let keys = keys_of(rt.alloc(), files, soak.histories)?;
-    let judged = soak_beside(rt, soak, files, keys.as_slice());
+    let keys = keys_of(alloc, files, soak.histories)?;
+    let judged = soak_beside(rt, alloc, soak, files, keys.as_slice());
     drop(keys);
     judged
 }
@@ -139,17 +131,9 @@ fn run<R: Runtime + AllocGlobal + Threads + Wait + Sync>(
     let Ok(files) = read_files(rt, soak.dir) else {
         return Err(ErrorKind::NotFound.into());
     };
-    let judged = soak_files(rt, soak, files.as_slice());
+    let judged = soak_files(rt, rt.alloc(), soak, files.as_slice());
     drop(files);
     judged
-}
-
-/// Tells what a soak refuted, if anything, and says whether nothing was.
-fn tell_judged<R: Eprint>(rt: &R, judged: Result<(), &'static str>) -> bool {
-    if let Err(refuted) = judged {
-        let _ = eprintln!(rt; "bench_trials: {refuted}");
-    }
-    judged.is_ok()
 }
 
 /// Soaks the host, and says whether nothing was refuted. `None` where there was no soak. Standard
@@ -159,7 +143,11 @@ pub(crate) fn tell<R: Runtime + AllocGlobal + Threads + Wait + Sync>(
     soak: Soak<'_>,
 ) -> Option<bool> {
     match run(rt, soak) {
-        Ok(judged) => Some(tell_judged(rt, judged)),
+        Ok(Ok(())) => Some(true),
+        Ok(Err(refuted)) => {
+            let _ = eprintln!(rt; "bench_trials: {refuted}");
+            Some(false)
+        }
         Err(error) => {
             let _ = eprintln!(rt; "bench_trials: {error}");
             None

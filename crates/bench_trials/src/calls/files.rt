@@ -6,14 +6,14 @@ use std::io::Print;
 use std::thread::Threads;
 use wh_histories::json;
 use wh_json::read_events;
+use wh_sample_workflows::Nap;
 use wh_tester::check_all;
-use wh_workflow::Workflow;
 
 /// Reads a history.
-pub(crate) fn read<R: Print + AllocGlobal>(rt: &R, name: &str) -> Option<()> {
-    let text = json(rt.alloc(), "nap").ok()?;
+pub(crate) fn read<R: Print>(rt: &R, alloc: Global, name: &str) -> Option<()> {
+    let text = json(alloc, "nap").ok()?;
     say(rt, name, "before", &text.len());
-    say_answer(rt, name, read_events(rt.alloc(), text.as_bytes()));
+    say_answer(rt, name, read_events(alloc, text.as_bytes()));
     say(rt, name, "after", &text.len());
     drop(text);
     Some(())
@@ -31,22 +31,14 @@ fn push_file(
     files.push((name, text.into_bytes())).ok()
 }
 
-/// Two files.
-fn two_files(alloc: Global) -> Option<Vec<(String, Vec<u8>)>> {
+/// Checks two files.
+pub(crate) fn check<R: Print + Threads + Sync>(rt: &R, alloc: Global, name: &str) -> Option<()> {
     let mut files = Vec::new(alloc);
     let nap = push_file(alloc, &mut files, "nap", "nap");
     let live = push_file(alloc, &mut files, "live", "nap/8");
-    nap.and(live).and(Some(files))
-}
-
-/// Checks two files.
-pub(crate) fn check<R: Print + AllocGlobal + Threads + Sync, W: Workflow + Send>(
-    rt: &R,
-    name: &str,
-) -> Option<()> {
-    let files = two_files(rt.alloc())?;
+    let files = nap.and(live).and(Some(files))?;
     say_nothing(rt, name, "before");
-    say_answer(rt, name, check_all::<W>(rt, rt.alloc(), files));
+    say_answer(rt, name, check_all::<Nap>(rt, alloc, files));
     say_nothing(rt, name, "after");
     Some(())
 }

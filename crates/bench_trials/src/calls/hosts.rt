@@ -3,22 +3,20 @@
 ghost use Rattle.std.specs.Prelude.{◌≡◌};
 
 use crate::calls::Call;
-use crate::calls::runs::{put_seen, source_of};
+use crate::calls::runs::{ID, put_seen, source_of};
 use crate::calls::saying::{run_of, say, say_answer, say_nothing};
+use std::alloc::Global;
 use std::io::Print;
 use std::marker::Brand;
 use std::sync::Wait;
 use std::sync::ledger::{Blank, Ledger};
 use wh_cache::Sticky;
-use wh_events::{OutOfMemory, RunKey};
 use wh_histories::key;
 use wh_host::{Config, Given, Host, HostState, OpenFault};
 use wh_ledger::{Books, Seat};
 use wh_poll::{NoActivities, OpenGate, serve_one};
-use wh_recorded::ScriptSource;
-use wh_replay::Run;
+use wh_sample_workflows::Nap;
 use wh_slots::{Held, SlotKind, Slots, TaskName};
-use wh_workflow::Workflow;
 
 /// A small host.
 const SMALL: Config = Config {
@@ -29,39 +27,30 @@ const SMALL: Config = Config {
     seats: 1,
 };
 
-/// Prints what slots count that were opened, or why they were not, and lets them go.
-fn say_slots<R: Print>(rt: &R, name: &str, opened: Result<Slots, OutOfMemory>) {
+/// Opens slots, and prints what they count, or why they were not opened.
+pub(crate) fn open_slots<R: Print>(rt: &R, alloc: Global, name: &str) -> Option<()> {
+    say_nothing(rt, name, "before");
+    let opened = Slots::open(alloc, SlotKind::Workflow, 3);
     let answer = match &opened {
         Ok(slots) => Ok(slots.count()),
         Err(fault) => Err(*fault),
     };
     say(rt, name, "answer", &answer);
     drop(opened);
-}
-
-/// Opens slots.
-pub(crate) fn open_slots<R: Print + AllocGlobal>(rt: &R, name: &str) -> Option<()> {
-    say_nothing(rt, name, "before");
-    say_slots(rt, name, Slots::open(rt.alloc(), SlotKind::Workflow, 3));
     say_nothing(rt, name, "after");
     Some(())
 }
 
-/// Prints how many runs and events a cache holds that was opened, or why it was not, and lets it
-/// go.
-fn say_opened<R: Print, W: Workflow>(rt: &R, name: &str, opened: Result<Sticky<W>, OutOfMemory>) {
+/// Opens a cache, and prints how many runs and events it holds, or why it was not opened.
+pub(crate) fn open_cache<R: Print>(rt: &R, alloc: Global, name: &str) -> Option<()> {
+    say_nothing(rt, name, "before");
+    let opened = Sticky::<Nap>::open(alloc, 3, 0);
     let answer = match &opened {
         Ok(cache) => Ok((cache.len(), cache.held())),
         Err(fault) => Err(*fault),
     };
     say(rt, name, "answer", &answer);
     drop(opened);
-}
-
-/// Opens a cache.
-pub(crate) fn open_cache<R: Print + AllocGlobal, W: Workflow>(rt: &R, name: &str) -> Option<()> {
-    say_nothing(rt, name, "before");
-    say_opened(rt, name, Sticky::<W>::open(rt.alloc(), 3, 0));
     say_nothing(rt, name, "after");
     Some(())
 }
@@ -83,19 +72,10 @@ fn say_fault<R: Print>(rt: &R, call: Call, fault: OpenFault) -> Option<()> {
     Some(())
 }
 
-/// Prints what books count, and lets them go.
-fn say_totals<R: Print, T: Ledger, C: Ledger, F: Ledger>(
-    rt: &R,
-    name: &str,
-    books: Books<T, C, F>,
-) {
-    say(rt, name, "answer", &books.totals());
-    drop(books);
-}
-
 /// Opens books.
-fn open_books<R: Print + AllocGlobal, T: Ledger, C: Ledger, F: Ledger>(
+fn open_books<R: Print, T: Ledger, C: Ledger, F: Ledger>(
     rt: &R,
+    alloc: Global,
     call: Call,
     taken: Blank,
     completed: Blank,
@@ -106,10 +86,11 @@ fn open_books<R: Print + AllocGlobal, T: Ledger, C: Ledger, F: Ledger>(
     requires failed { (failed.name ≡ F.name) × (failed.parts ≡ F.parts) × (failed.parts ≡ 1) }
 {
     say_beside(rt, call, "before");
-    match Books::<T, C, F>::open(rt.alloc(), 1, taken, completed, failed) {
+    match Books::<T, C, F>::open(alloc, 1, taken, completed, failed) {
         Ok((books, seats)) => {
             drop(seats);
-            say_totals(rt, call.name(), books);
+            say(rt, call.name(), "answer", &books.totals());
+            drop(books);
         }
         Err(fault) => say_answer(rt, call.name(), fault),
     }
@@ -118,11 +99,11 @@ fn open_books<R: Print + AllocGlobal, T: Ledger, C: Ledger, F: Ledger>(
 }
 
 /// Prints what the state of a host has counted.
-fn say_counts<R: Print, W: Workflow, T: Ledger, C: Ledger, F: Ledger>(
+fn say_counts<R: Print, T: Ledger, C: Ledger, F: Ledger>(
     rt: &R,
     name: &str,
     part: &str,
-    host: &mut HostState<W, T, C, F>,
+    host: &mut HostState<Nap, T, C, F>,
     seat: &mut Seat<T, C, F>,
 ) {
     let counts = host.counts(seat);
@@ -130,105 +111,83 @@ fn say_counts<R: Print, W: Workflow, T: Ledger, C: Ledger, F: Ledger>(
 }
 
 /// Prints what a host has counted.
-fn say_shared<R: Print + Wait, W: Workflow, T: Ledger, C: Ledger, F: Ledger>(
+fn say_shared<R: Print + Wait, T: Ledger, C: Ledger, F: Ledger>(
     rt: &R,
     name: &str,
     part: &str,
-    host: &Host<W, T, C, F>,
+    host: &Host<Nap, T, C, F>,
     seat: &mut Seat<T, C, F>,
 ) {
     let counts = host.lock(rt).counts(seat);
     say(rt, name, part, &counts);
 }
 
-/// What became of a run that was given back, and how many events the run holds that came back, if
-/// one did.
-fn given_seen<W: Workflow>(given: &Given<W>) -> (&'static str, Option<usize>) {
-    match given {
+/// Prints what became of a run that was given back, and how many events the run holds that came
+/// back, if one did, and lets it go.
+fn say_given<R: Print>(rt: &R, name: &str, given: Given<Nap>) {
+    let seen = match &given {
         Given::Put(put) => put_seen(put),
         Given::Marked(run) => ("Marked", Some(run.held_len())),
         Given::NotHeld(run) => ("NotHeld", Some(run.held_len())),
-    }
-}
-
-/// Prints what became of a run that was given back, and lets it go.
-fn say_given<R: Print, W: Workflow>(rt: &R, name: &str, given: Given<W>) {
-    say(rt, name, "answer", &given_seen(&given));
+    };
+    say(rt, name, "answer", &seen);
     drop(given);
 }
 
-/// Takes a task of the key in hand.
-fn take<W: Workflow, T: Ledger, C: Ledger, F: Ledger>(
-    host: &mut HostState<W, T, C, F>,
+/// Takes a task in hand.
+fn take<T: Ledger, C: Ledger, F: Ledger>(
+    alloc: Global,
+    host: &mut HostState<Nap, T, C, F>,
     seat: &mut Seat<T, C, F>,
-    key: RunKey,
 ) -> Option<Held> {
-    let Ok(permit) = host.reserve(SlotKind::Workflow) else {
-        drop(key);
-        return None;
-    };
-    match host.use_workflow(permit, TaskName(7), key, seat) {
-        Ok((held, run)) => {
-            drop(run);
-            Some(held)
-        }
-        Err(_) => None,
-    }
-}
-
-/// Gives a run back under its task in hand.
-fn give_back<R: Print, W: Workflow, T: Ledger, C: Ledger, F: Ledger>(
-    rt: &R,
-    name: &str,
-    host: &mut HostState<W, T, C, F>,
-    seat: &mut Seat<T, C, F>,
-    held: &Held,
-    run: Run<W>,
-) {
-    say_counts(rt, name, "before", host, seat);
-    say_given(rt, name, host.give_run(held, run));
-    say_counts(rt, name, "after", host, seat);
+    let key = key(alloc, ID).ok();
+    let (permit, key) = host.reserve(SlotKind::Workflow).ok().zip(key)?;
+    let (held, run) = host.use_workflow(permit, TaskName(7), key, seat).ok()?;
+    drop(run);
+    Some(held)
 }
 
 /// Takes a task in hand, and gives the run of a nap back under it.
-fn give_nap<R: Print + AllocGlobal, W: Workflow, T: Ledger, C: Ledger, F: Ledger>(
+fn give_nap<R: Print, T: Ledger, C: Ledger, F: Ledger>(
     rt: &R,
+    alloc: Global,
     name: &str,
-    host: &mut HostState<W, T, C, F>,
+    host: &mut HostState<Nap, T, C, F>,
     seat: &mut Seat<T, C, F>,
 ) -> Option<()> {
-    let key = key(rt.alloc(), "nap").ok()?;
-    let held = take(host, seat, key);
-    let (held, run) = held.zip(run_of::<W>(rt.alloc(), "nap", "nap/3"))?;
-    give_back(rt, name, host, seat, &held, run);
+    let (held, run) = take(alloc, host, seat).zip(run_of(alloc, ID, "nap/3"))?;
+    say_counts(rt, name, "before", host, seat);
+    say_given(rt, name, host.give_run(&held, run));
+    say_counts(rt, name, "after", host, seat);
     drop(held);
     Some(())
 }
 
 /// Makes a call on the state of a host with a seat: gives a run back to it, or tells what it has
 /// counted.
-fn on_seat<R: Print + AllocGlobal, W: Workflow, T: Ledger, C: Ledger, F: Ledger>(
+fn on_seat<R: Print, T: Ledger, C: Ledger, F: Ledger>(
     rt: &R,
+    alloc: Global,
     call: Call,
-    host: &mut HostState<W, T, C, F>,
+    host: &mut HostState<Nap, T, C, F>,
     seat: &mut Seat<T, C, F>,
 ) -> Option<()> {
-    if matches!(call, Call::GiveRun) {
-        return give_nap(rt, call.name(), host, seat);
+    match call {
+        Call::GiveRun => give_nap(rt, alloc, call.name(), host, seat),
+        _ => Some(say_counts(rt, call.name(), "answer", host, seat)),
     }
-    say_counts(rt, call.name(), "answer", host, seat);
-    Some(())
 }
 
 /// Makes a call on the state of a host with its first seat, and lets both go.
-fn on_state<R: Print + AllocGlobal, W: Workflow, T: Ledger, C: Ledger, F: Ledger>(
+fn on_state<R: Print, T: Ledger, C: Ledger, F: Ledger>(
     rt: &R,
+    alloc: Global,
     call: Call,
-    mut host: HostState<W, T, C, F>,
+    mut host: HostState<Nap, T, C, F>,
     mut seats: Vec<Seat<T, C, F>>,
 ) -> Option<()> {
     let called = match seats.as_mut_slice().first_mut() {
-        Some(seat) => on_seat(rt, call, &mut host, seat),
+        Some(seat) => on_seat(rt, alloc, call, &mut host, seat),
         None => None,
     };
     drop(seats);
@@ -238,8 +197,9 @@ fn on_state<R: Print + AllocGlobal, W: Workflow, T: Ledger, C: Ledger, F: Ledger
 
 /// Opens the state of a host, with no workflow slots where the call is to be refused, and makes a
 /// call on it.
-fn call_state<R: Print + AllocGlobal, W: Workflow, T: Ledger, C: Ledger, F: Ledger>(
+fn call_state<R: Print, T: Ledger, C: Ledger, F: Ledger>(
     rt: &R,
+    alloc: Global,
     call: Call,
     taken: Blank,
     completed: Blank,
@@ -254,72 +214,64 @@ fn call_state<R: Print + AllocGlobal, W: Workflow, T: Ledger, C: Ledger, F: Ledg
         workflow_slots: usize::from(!matches!(call, Call::OpenStateWithoutSlots)),
         ..SMALL
     };
-    let called = match HostState::<W, T, C, F>::open(rt.alloc(), config, taken, completed, failed) {
-        Ok((host, seats)) => on_state(rt, call, host, seats),
+    let called = match HostState::<Nap, T, C, F>::open(alloc, config, taken, completed, failed) {
+        Ok((host, seats)) => on_state(rt, alloc, call, host, seats),
         Err(fault) => say_fault(rt, call, fault),
     };
     say_beside(rt, call, "after");
     called
 }
 
-/// Serves a task of a source.
-fn serve_task<R: Print + AllocGlobal + Wait, W: Workflow, T: Ledger, C: Ledger, F: Ledger>(
+/// Serves the first task of a nap.
+fn serve_nap<R: Print + Wait, T: Ledger, C: Ledger, F: Ledger>(
     rt: &R,
+    alloc: Global,
     name: &str,
-    host: &Host<W, T, C, F>,
+    host: &Host<Nap, T, C, F>,
     seat: &mut Seat<T, C, F>,
-    source: &mut ScriptSource,
-) {
+) -> Option<()> {
+    let mut source = source_of(alloc, "nap/3")?;
     say_shared(rt, name, "before", host, seat);
     let served = serve_one(
         rt,
-        rt.alloc(),
+        alloc,
         host,
         seat,
-        source,
-        &mut NoActivities { alloc: rt.alloc() },
+        &mut source,
+        &mut NoActivities { alloc },
         &OpenGate,
         SlotKind::Workflow,
     );
     say_answer(rt, name, served);
     say_shared(rt, name, "after", host, seat);
-}
-
-/// Serves the first task of a nap.
-fn serve_nap<R: Print + AllocGlobal + Wait, W: Workflow, T: Ledger, C: Ledger, F: Ledger>(
-    rt: &R,
-    name: &str,
-    host: &Host<W, T, C, F>,
-    seat: &mut Seat<T, C, F>,
-) -> Option<()> {
-    let mut source = source_of(rt.alloc(), "nap/3")?;
-    serve_task(rt, name, host, seat, &mut source);
     drop(source);
     Some(())
 }
 
 /// Makes a call on a host: serves a task on it, or tells what it has counted.
-fn on_host<R: Print + AllocGlobal + Wait, W: Workflow, T: Ledger, C: Ledger, F: Ledger>(
+fn on_host<R: Print + Wait, T: Ledger, C: Ledger, F: Ledger>(
     rt: &R,
+    alloc: Global,
     call: Call,
-    host: &Host<W, T, C, F>,
+    host: &Host<Nap, T, C, F>,
     seat: &mut Seat<T, C, F>,
 ) -> Option<()> {
     match call {
-        Call::ServeOne => serve_nap(rt, call.name(), host, seat),
+        Call::ServeOne => serve_nap(rt, alloc, call.name(), host, seat),
         _ => Some(say_shared(rt, call.name(), "answer", host, seat)),
     }
 }
 
 /// Makes a call on a host with its first seat, and lets both go.
-fn on_opened<R: Print + AllocGlobal + Wait, W: Workflow, T: Ledger, C: Ledger, F: Ledger>(
+fn on_opened<R: Print + Wait, T: Ledger, C: Ledger, F: Ledger>(
     rt: &R,
+    alloc: Global,
     call: Call,
-    host: Host<W, T, C, F>,
+    host: Host<Nap, T, C, F>,
     mut seats: Vec<Seat<T, C, F>>,
 ) -> Option<()> {
     let called = match seats.as_mut_slice().first_mut() {
-        Some(seat) => on_host(rt, call, &host, seat),
+        Some(seat) => on_host(rt, alloc, call, &host, seat),
         None => None,
     };
     drop(seats);
@@ -328,8 +280,9 @@ fn on_opened<R: Print + AllocGlobal + Wait, W: Workflow, T: Ledger, C: Ledger, F
 }
 
 /// Opens a small host, and makes a call on it.
-fn call_host<R: Print + AllocGlobal + Wait, W: Workflow, T: Ledger, C: Ledger, F: Ledger>(
+fn call_host<R: Print + Wait, T: Ledger, C: Ledger, F: Ledger>(
     rt: &R,
+    alloc: Global,
     call: Call,
     taken: Blank,
     completed: Blank,
@@ -340,8 +293,8 @@ fn call_host<R: Print + AllocGlobal + Wait, W: Workflow, T: Ledger, C: Ledger, F
     requires failed { (failed.name ≡ F.name) × (failed.parts ≡ F.parts) × (failed.parts ≡ 1) }
 {
     say_beside(rt, call, "before");
-    let called = match Host::<W, T, C, F>::open(rt.alloc(), SMALL, taken, completed, failed) {
-        Ok((host, seats)) => on_opened(rt, call, host, seats),
+    let called = match Host::<Nap, T, C, F>::open(alloc, SMALL, taken, completed, failed) {
+        Ok((host, seats)) => on_opened(rt, alloc, call, host, seats),
         Err(fault) => say_fault(rt, call, fault),
     };
     say_beside(rt, call, "after");
@@ -349,8 +302,9 @@ fn call_host<R: Print + AllocGlobal + Wait, W: Workflow, T: Ledger, C: Ledger, F
 }
 
 /// Makes a call over three ledgers.
-fn call_over<R: Print + AllocGlobal + Wait, W: Workflow, T: Ledger, C: Ledger, F: Ledger>(
+fn call_over<R: Print + Wait, T: Ledger, C: Ledger, F: Ledger>(
     rt: &R,
+    alloc: Global,
     call: Call,
     taken: Blank,
     completed: Blank,
@@ -361,18 +315,22 @@ fn call_over<R: Print + AllocGlobal + Wait, W: Workflow, T: Ledger, C: Ledger, F
     requires failed { (failed.name ≡ F.name) × (failed.parts ≡ F.parts) × (failed.parts ≡ 1) }
 {
     match call {
-        Call::OpenBooks => open_books::<R, T, C, F>(rt, call, taken, completed, failed),
+        Call::OpenBooks => open_books::<R, T, C, F>(rt, alloc, call, taken, completed, failed),
         Call::OpenHost | Call::ServeOne => {
-            call_host::<R, W, T, C, F>(rt, call, taken, completed, failed)
+            call_host::<R, T, C, F>(rt, alloc, call, taken, completed, failed)
         }
-        _ => call_state::<R, W, T, C, F>(rt, call, taken, completed, failed),
+        _ => call_state::<R, T, C, F>(rt, alloc, call, taken, completed, failed),
     }
 }
 
 /// Makes a call over three new ledgers.
-pub(crate) fn call_on_books<R: Print + AllocGlobal + Wait, W: Workflow>(
-    rt: &R,
-    call: Call,
-) -> Option<()> {
-    call_over::<R, W, Brand, Brand, Brand>(rt, call, Blank::new(1), Blank::new(1), Blank::new(1))
+pub(crate) fn call_on_books<R: Print + Wait>(rt: &R, alloc: Global, call: Call) -> Option<()> {
+    call_over::<R, Brand, Brand, Brand>(
+        rt,
+        alloc,
+        call,
+        Blank::new(1),
+        Blank::new(1),
+        Blank::new(1),
+    )
 }

@@ -1,5 +1,7 @@
 //! What is printed of a call, and what the calls are made on.
 
+ghost use Rattle.std.specs.Prelude.{◌≡◌, IfSome};
+
 use crate::replay;
 use std::alloc::Global;
 use std::fmt::Debug;
@@ -8,7 +10,8 @@ use wh_events::RunKey;
 use wh_histories::{events, key};
 use wh_machines::Track;
 use wh_replay::Run;
-use wh_workflow::{Meter, Workflow};
+use wh_sample_workflows::Nap;
+use wh_workflow::Meter;
 
 /// Prints a line about a call: what stands before it, what it answers, or what stands after it.
 /// Where it can't be printed, the line is missing.
@@ -29,9 +32,8 @@ pub(crate) fn say_answer<R: Print>(rt: &R, call: &str, answer: impl Debug + Drop
 
 /// Prints of a run that stands before or after a call how many events it holds, and which commands
 /// it did not send yet.
-pub(crate) fn say_run<R: Print, W: Workflow>(rt: &R, call: &str, part: &str, run: &Run<W>) {
-    let seen = (run.held_len(), run.commands());
-    say(rt, call, part, &seen);
+pub(crate) fn say_run<R: Print>(rt: &R, call: &str, part: &str, run: &Run<Nap>) {
+    say(rt, call, part, &(run.held_len(), run.commands()));
 }
 
 /// The track of a history.
@@ -42,8 +44,10 @@ pub(crate) fn track_of(alloc: Global, history: &'static str) -> Option<Track> {
     track
 }
 
-/// The run of a key over a history.
-fn run_over<W: Workflow>(alloc: Global, key: RunKey, history: &'static str) -> Option<Run<W>> {
+/// The run of the key over a history.
+pub(crate) fn run_over(alloc: Global, key: RunKey, history: &'static str) -> Option<Run<Nap>>
+    ensures { IfSome result (λ run. run.key ≡ key) }
+{
     let Ok(events) = events(alloc, history) else {
         drop(key);
         return None;
@@ -52,10 +56,6 @@ fn run_over<W: Workflow>(alloc: Global, key: RunKey, history: &'static str) -> O
 }
 
 /// The run of a history, by the id of its workflow.
-pub(crate) fn run_of<W: Workflow>(
-    alloc: Global,
-    id: &str,
-    history: &'static str,
-) -> Option<Run<W>> {
+pub(crate) fn run_of(alloc: Global, id: &str, history: &'static str) -> Option<Run<Nap>> {
     run_over(alloc, key(alloc, id).ok()?, history)
 }

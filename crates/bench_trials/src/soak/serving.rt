@@ -18,7 +18,8 @@ use std::{io, thread};
 use wh_events::{OutOfMemory, RunKey};
 use wh_host::{Config, Evict, Host, Totals};
 use wh_ledger::Seat;
-use wh_poll::{Left, NoActivities, OpenGate, Post, TaskSource, run_posts};
+use wh_poll::{Left, NoActivities, OpenGate, Post, run_posts};
+use wh_recorded::ScriptSource;
 use wh_slots::{ReserveFault, SlotKind};
 use wh_workflow::Workflow;
 
@@ -47,7 +48,7 @@ pub struct Tally {
 
 /// What a soak gave.
 #[derive(Drop)]
-pub struct Findings<S> {
+pub struct Findings {
     /// What the closed host counted.
     pub totals: Totals,
     /// What the workers counted.
@@ -59,24 +60,24 @@ pub struct Findings<S> {
     /// For how many microseconds the workers served.
     pub micros: u64,
     /// The sources of the workers, with what they were sent.
-    pub sources: Vec<S>,
+    pub sources: Vec<ScriptSource>,
 }
 
 /// What a worker begins with.
-type SoakPost<S> = Post<S, NoActivities, HitCount>;
+type SoakPost = Post<ScriptSource, NoActivities, HitCount>;
 
 /// What a worker leaves.
-type SoakLeft<S> = Left<S, NoActivities, HitCount>;
+type SoakLeft = Left<ScriptSource, NoActivities, HitCount>;
 
 /// The seats that come back, and what their workers leave.
-type Ended<T, C, F, S> = (Vec<Seat<T, C, F>>, Vec<SoakLeft<S>>);
+type Ended<T, C, F> = (Vec<Seat<T, C, F>>, Vec<SoakLeft>);
 
 /// A post for each source, with so many turns at most.
-fn posts_of<S: Drop>(
+fn posts_of(
     alloc: Global,
-    sources: Vec<S>,
+    sources: Vec<ScriptSource>,
     turns: u64,
-) -> Result<Vec<SoakPost<S>>, AllocError>
+) -> Result<Vec<SoakPost>, AllocError>
     ensures { IfOk result (λ posts. vec_len posts ≡ vec_len sources) }
 {
     let mut posts = Vec::new(alloc);
@@ -198,22 +199,21 @@ fn serve_posts<
     T: Ledger + Send,
     C: Ledger + Send,
     F: Ledger + Send,
-    S: TaskSource + Send + Drop,
 >(
     rt: &R,
     alloc: Global,
     host: &Host<W, T, C, F>,
     seats: Vec<Seat<T, C, F>>,
-    posts: Vec<SoakPost<S>>,
+    posts: Vec<SoakPost>,
     keys: &[RunKey],
-) -> io::Result<(Ended<T, C, F, S>, Run)>
+) -> io::Result<(Ended<T, C, F>, Run)>
     requires { seats.items ≡ replicate (vec_len posts) no_shares }
 {
     let begun = Instant::now(rt);
     let have_ended = AtomicBool::new(false);
     let (ended, evicted) = thread::join(
         rt,
-        || -> Result<Ended<T, C, F, S>, OutOfMemory>
+        || -> Result<Ended<T, C, F>, OutOfMemory>
             requires workflow { IsSend W.row }
             requires state { IsSend W.State.row }
             requires seats { seats.items ≡ replicate (vec_len posts) no_shares }
@@ -246,19 +246,8 @@ fn drain<R: Wait, W: Workflow, T: Ledger, C: Ledger, F: Ledger>(
     is_refused(rt, host, SlotKind::Workflow) && is_refused(rt, host, SlotKind::Activity)
 }
 
-/// Closes the host.
-fn close<W: Workflow, T: Ledger, C: Ledger, F: Ledger>(
-    host: Host<W, T, C, F>,
-    seats: Vec<Seat<T, C, F>>,
-) -> io::Result<Totals> {
-    match host.close(seats).ok() {
-        Some(totals) => Ok(totals),
-        None => Err(ErrorKind::Other.into()),
-    }
-}
-
 /// What the workers counted, where their sources had so many tasks.
-fn tally_of<S>(left: &[SoakLeft<S>], tasks: u64) -> Tally {
+fn tally_of(left: &[SoakLeft], tasks: u64) -> Tally {
     let (mut hits, mut misses) = (0u64, 0u64);
     for worker in left {
         hits = hits.saturating_add(worker.observer.hits);
@@ -272,12 +261,12 @@ fn tally_of<S>(left: &[SoakLeft<S>], tasks: u64) -> Tally {
 }
 
 /// Adds the source that a worker leaves.
-fn push_source<S: Drop>(sources: &mut Vec<S>, worker: SoakLeft<S>) -> Result<(), AllocError> {
+fn push_source(sources: &mut Vec<ScriptSource>, worker: SoakLeft) -> Result<(), AllocError> {
     Ok(sources.push(worker.source)?)
 }
 
 /// The sources that the workers leave.
-fn sources_left<S: Drop>(alloc: Global, left: Vec<SoakLeft<S>>) -> Result<Vec<S>, AllocError> {
+fn sources_left(alloc: Global, left: Vec<SoakLeft>) -> Result<Vec<ScriptSource>, AllocError> {
     let mut sources = Vec::new(alloc);
     for worker in left {
         push_source(&mut sources, worker)?;
@@ -286,32 +275,30 @@ fn sources_left<S: Drop>(alloc: Global, left: Vec<SoakLeft<S>>) -> Result<Vec<S>
 }
 
 /// Closes a host, and gives what its posts left with what the host has counted.
-fn end<W: Workflow, T: Ledger, C: Ledger, F: Ledger, S: Drop>(
+fn end<W: Workflow, T: Ledger, C: Ledger, F: Ledger>(
     alloc: Global,
     host: Host<W, T, C, F>,
-    ended: Ended<T, C, F, S>,
+    ended: Ended<T, C, F>,
     run: Run,
     is_drained: bool,
     tasks: u64,
-) -> io::Result<Findings<S>> {
+) -> io::Result<Findings> {
     let (seats, left) = ended;
-    let totals = close(host, seats);
+    let totals = host.close(seats).ok();
     let tally = tally_of(left.as_slice(), tasks);
     let sources = sources_left(alloc, left)?;
-    match totals {
-        Ok(totals) => Ok(Findings {
-            totals,
-            tally,
-            evicted: run.evicted,
-            is_drained,
-            micros: run.micros,
-            sources,
-        }),
-        Err(error) => {
-            drop(sources);
-            Err(error)
-        }
-    }
+    let Some(totals) = totals else {
+        drop(sources);
+        return Err(ErrorKind::Other.into());
+    };
+    Ok(Findings {
+        totals,
+        tally,
+        evicted: run.evicted,
+        is_drained,
+        micros: run.micros,
+        sources,
+    })
 }
 
 /// Opens a host, runs the posts, drains the host and closes it.
@@ -321,18 +308,17 @@ fn soak_with<
     T: Ledger + Send,
     C: Ledger + Send,
     F: Ledger + Send,
-    S: TaskSource + Send + Drop,
 >(
     rt: &R,
     alloc: Global,
-    posts: Vec<SoakPost<S>>,
+    posts: Vec<SoakPost>,
     tasks: u64,
     keys: &[RunKey],
     config: Config,
     taken: Blank,
     completed: Blank,
     failed: Blank,
-) -> io::Result<Findings<S>>
+) -> io::Result<Findings>
     requires seats { config.seats ≡ vec_len posts }
     requires taken { (taken.name ≡ T.name) × (taken.parts ≡ T.parts) × (taken.parts ≡ config.seats) }
     requires completed { (completed.name ≡ C.name) × (completed.parts ≡ C.parts) × (completed.parts ≡ config.seats) }
@@ -355,14 +341,14 @@ fn soak_with<
 /// Serves so many tasks of the sources, each by a worker, with a cache of so many runs, while the
 /// runs of the keys are evicted. A worker serves each kind of tasks by turns, so it has two turns
 /// for each task, and two by which it learns that there are no more.
-pub fn serve<W: Workflow + Send, S: TaskSource + Send + Drop, R: Threads + Wait + Clock + Sync>(
+pub fn serve<W: Workflow + Send, R: Threads + Wait + Clock + Sync>(
     rt: &R,
     alloc: Global,
-    sources: Vec<S>,
+    sources: Vec<ScriptSource>,
     tasks: u64,
     keys: &[RunKey],
     cache: usize,
-) -> io::Result<Findings<S>> {
+) -> io::Result<Findings> {
     let turns = tasks.saturating_mul(2).saturating_add(2);
     let posts = posts_of(alloc, sources, turns)?;
     let config = Config {
@@ -373,7 +359,7 @@ pub fn serve<W: Workflow + Send, S: TaskSource + Send + Drop, R: Threads + Wait 
         seats: posts.len(),
     };
     let seats = posts.len() as u64;
-    soak_with::<R, W, Brand, Brand, Brand, S>(
+    soak_with::<R, W, Brand, Brand, Brand>(
         rt,
         alloc,
         posts,
