@@ -1,9 +1,9 @@
-//! Tries the libraries. `wh_replay::check` is compared with replay as its definition computes it: by
-//! going over the list of events anew for each place, each task and each look-up, in quadratic time.
-//! Of `Run::advance` the steps and the time of calls on a long run are told, and by the peak of the
-//! process's memory whether a call steps its task alone. bench/growths.py counts the growths of
-//! memory and the instructions of one call, and refuses single growths. Calls of the libraries are
-//! made by their names, for bench/refusals.py. A host is soaked, for bench/soak.py.
+//! Tries the libraries. `wh_replay::check` is compared with replay as its definition computes it:
+//! by going over the list of events anew for each place, each task and each look-up, in quadratic
+//! time. Of `Run::advance` the steps and the time of calls on a long run are told, and by the peak
+//! of the process's memory whether a call steps its task alone. bench/growths.py counts the growths
+//! of memory and the instructions of one call, and refuses single growths. Calls of the libraries
+//! are made by their names, for bench/refusals.py. A host is soaked, for bench/soak.py.
 #![tactic(auto)]
 
 mod blink;
@@ -147,8 +147,8 @@ fn tell_usage<R: Eprint>(rt: &R) -> ExitCode {
     ExitCode::from(2)
 }
 
-/// The status is 0 where all that was tried holds, 1 where some of it does not, and 2 where it could
-/// not be tried, by a bad command line, or for want of the histories, a clock or memory.
+/// The status is 0 where all that was tried holds, 1 where some of it does not, and 2 where it
+/// could not be tried, by a bad command line, or for want of the histories, a clock or memory.
 fn main(rt: HostRuntime) -> ExitCode {
     let Some(words) = words_of(&rt) else {
         return tell_usage(&rt);

@@ -18,7 +18,8 @@ use wh_workflow::Workflow;
 
 /// Writes an explanation, and gives the status of its last line.
 fn write_explained<O: Write>(explanation: &Explanation, writer: &mut O) -> Result<u8, CommandFault>
-    ensures written { OnOk result (Appends (O.contents writer.old) (O.contents writer.new) (explanation_text explanation.now)) }
+    ensures written { let text = explanation_text explanation.now in
+        OnOk result (Appends (O.contents writer.old) (O.contents writer.new) text) }
     ensures status { IfOk result (λ status. status ≡ status_of (explanation.now.line ∷ [])) }
     ensures memory { result ≢ Err CommandFault.OutOfMemory }
 {

@@ -10,8 +10,8 @@ use std::fmt;
 use wh_events::{OutOfMemory, Text};
 use wh_tester::Shown;
 
-/// A file that is no JSON, and where the reader stops. As a text: the name of the file as the report
-/// shows it, and the place.
+/// A file that is no JSON, and where the reader stops. As a text: the name of the file as the
+/// report shows it, and the place.
 #[derive(Drop)]
 pub struct JsonFault {
     /// The name of the file.

@@ -1,5 +1,6 @@
 //! A program that replays a folder of histories, serves their tasks, or explains a history, for any
-//! workflows: its commands and their reports, and the program that its command line chooses them by.
+//! workflows: its commands and their reports, and the program, which takes them from its command
+//! line.
 #![tactic(auto)]
 
 mod dealing;

@@ -53,8 +53,8 @@ fn read_file(
     }
 }
 
-/// What was read of the files, each parsed in a thread, in their order, and apart from it where files
-/// are no JSON.
+/// What was read of the files, each parsed in a thread, in their order, and apart from it where
+/// files are no JSON.
 pub(crate) fn read_all<R: Threads + Sync>(
     rt: &R,
     alloc: Global,
@@ -89,8 +89,8 @@ fn read_from<R: Files + AllocGlobal>(
 }
 
 /// Reads inputs and parses them, in their order, and tells apart where inputs are no JSON. Each is
-/// read in the thread that parses it: so the bytes of no more files are there at once than there are
-/// threads, and only histories are held. The fault is that of the first that cannot be read.
+/// read in the thread that parses it: so the bytes of no more files are there at once than there
+/// are threads, and only histories are held. The fault is that of the first that cannot be read.
 pub(crate) fn read_inputs<R: Files + AllocGlobal + Threads + Sync>(
     rt: &R,
     inputs: Vec<Input>,

@@ -97,8 +97,9 @@ fn line_of<W: Workflow, R: Files + AllocGlobal>(
 }
 
 /// The lines of inputs that are replayed with the code of `W`, in their order, and apart from these
-/// where inputs are no JSON. Each is read in the thread that replays it: so the bytes of no more files
-/// are there at once than there are threads. The fault is that of the first that cannot be read.
+/// where inputs are no JSON. Each is read in the thread that replays it: so the bytes of no more
+/// files are there at once than there are threads. The fault is that of the first that cannot be
+/// read.
 pub(crate) fn lines_of<W: Workflow + Send, R: Files + AllocGlobal + Threads + Sync>(
     rt: &R,
     inputs: Vec<Input>,

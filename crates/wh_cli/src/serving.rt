@@ -85,7 +85,7 @@ fn status_of(service: &Service) -> u8
 /// What is told of a service beside its report.
 #[derive(Drop)]
 pub struct ServiceEnd {
-    /// The status: 0 where each file was read, no task failed and no worker has a fault, and else 1.
+    /// The status: 0 where each file was read, no task failed and no worker has a fault, else 1.
     pub status: u8,
     /// The failed tasks, in the order of the files and, within a file, of its tasks.
     pub failures: Vec<FileFailure>,

@@ -224,7 +224,8 @@ impl<W: Workflow> Reached<W> {
     ) -> Result<Turned, OutOfMemory>
         requires within { IsWithin cut.now }
         requires script { IsOf cut.now script.old }
-        ensures given { let step = step_of W.program (standpoint_of cut.now) (progress_of self.old script.old) job.now in
+        ensures given { let before = progress_of self.old script.old in
+            let step = step_of W.program (standpoint_of cut.now) before job.now in
             OnOk result (given.new.items ≡ given.old.items ++ step.commands) }
         ensures room { OnOk result (vec_len steps.new < vec_capacity steps.new) }
         ensures steps { OnOk result (steps.new.items ≡ steps.old.items) }

@@ -299,8 +299,8 @@ fn worker_of<T: Ledger, C: Ledger, F: Ledger, S, A: Drop>(
 /// of the same place. The four lists are equally long. The workers come back in the order of the
 /// seats, the taken share of each has risen by at most its turns, and where one kept a fault, its
 /// own source has failed. Each source comes from the one of its place, and was sent at most as many
-/// answers as its seat took tasks. `OutOfMemory` where no room was found; then the seats are given up.
-/// (Temporal documentation, "Workers": a Worker Process runs many task executors.)
+/// answers as its seat took tasks. `OutOfMemory` where no room was found; then the seats are given
+/// up. (Temporal documentation, "Workers": a Worker Process runs many task executors.)
 pub fn run_workers<
     R: Threads + Wait + Sync,
     W: Workflow + Send,

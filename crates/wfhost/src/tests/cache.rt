@@ -7,7 +7,7 @@ use std::process::Abort;
 use wh_cache::{MOST_CACHED_EVENTS, MOST_RUNS, Put, Sticky};
 use wh_histories::{events, key};
 use wh_replay::Run;
-use wh_workflow::{Meter, Workflow};
+use wh_workflow::Meter;
 
 /// How many runs and events a cache may hold, and below it what is done with it, with its answers
 /// and how many events it then holds.
@@ -42,12 +42,12 @@ put a start:Still S*7 T => kept, holds 9
 put a start:Still S T => off, holds 0";
 
 /// A run by its name and its history.
-pub(crate) fn run_of<W: Workflow>(
+pub(crate) fn run_of(
     rt: &impl Abort,
     alloc: Global,
     name: &str,
     history: &'static str,
-) -> Run<W> {
+) -> Run<Still> {
     let key = key(alloc, name).expect(rt, "memory");
     let events = events(alloc, history).expect(rt, history);
     match Run::from_first(alloc, key, events, &mut Meter::new()) {
@@ -57,7 +57,7 @@ pub(crate) fn run_of<W: Workflow>(
 }
 
 /// The names of the runs that had to go.
-fn gone<W: Workflow>(rt: &impl Abort, alloc: Global, runs: &[Run<W>]) -> String {
+fn gone(rt: &impl Abort, alloc: Global, runs: &[Run<Still>]) -> String {
     let mut names = String::from_str(alloc, "gone").expect(rt, "memory");
     for run in runs {
         add(rt, &mut names, " ");
@@ -67,7 +67,7 @@ fn gone<W: Workflow>(rt: &impl Abort, alloc: Global, runs: &[Run<W>]) -> String 
 }
 
 /// What became of a run that was put into a cache.
-pub(crate) fn put_word<W: Workflow>(rt: &impl Abort, alloc: Global, put: &Put<W>) -> String {
+pub(crate) fn put_word(rt: &impl Abort, alloc: Global, put: &Put<Still>) -> String {
     let word = match put {
         Put::Kept => "kept",
         Put::PushedOut(runs) => return gone(rt, alloc, runs.get()),
@@ -80,12 +80,7 @@ pub(crate) fn put_word<W: Workflow>(rt: &impl Abort, alloc: Global, put: &Put<W>
 }
 
 /// Puts a run by its name and its history into a cache, and says what became of it.
-fn put<W: Workflow>(
-    rt: &impl Abort,
-    alloc: Global,
-    cache: &mut Sticky<W>,
-    run: &'static str,
-) -> String {
+fn put(rt: &impl Abort, alloc: Global, cache: &mut Sticky<Still>, run: &'static str) -> String {
     let (name, history) = run.split_once(' ').expect(rt, run);
     let put = cache.put(run_of(rt, alloc, name, history));
     let word = put_word(rt, alloc, &put);
@@ -94,12 +89,7 @@ fn put<W: Workflow>(
 }
 
 /// How many events the run of a name holds that is taken out of a cache.
-fn take<W: Workflow>(
-    rt: &impl Abort,
-    alloc: Global,
-    cache: &mut Sticky<W>,
-    name: &str,
-) -> Option<usize> {
+fn take(rt: &impl Abort, alloc: Global, cache: &mut Sticky<Still>, name: &str) -> Option<usize> {
     let key = key(alloc, name).expect(rt, "memory");
     let run = cache.take(&key);
     let length = run.as_ref().map(|run| run.held_len());
@@ -107,24 +97,19 @@ fn take<W: Workflow>(
     length
 }
 
-fn peek<W: Workflow>(
-    rt: &impl Abort,
-    alloc: Global,
-    cache: &Sticky<W>,
-    name: &str,
-) -> Option<usize> {
+fn peek(rt: &impl Abort, alloc: Global, cache: &Sticky<Still>, name: &str) -> Option<usize> {
     cache.peek_len(&key(alloc, name).expect(rt, "memory"))
 }
 
-fn evict<W: Workflow>(rt: &impl Abort, alloc: Global, cache: &mut Sticky<W>, name: &str) -> bool {
+fn evict(rt: &impl Abort, alloc: Global, cache: &mut Sticky<Still>, name: &str) -> bool {
     cache.evict(&key(alloc, name).expect(rt, "memory"))
 }
 
 /// What a cache answers to a step with a run of some name.
-fn answered<W: Workflow>(
+fn answered(
     rt: &impl Abort,
     alloc: Global,
-    cache: &mut Sticky<W>,
+    cache: &mut Sticky<Still>,
     step: &'static str,
 ) -> String {
     let (word, run) = step.split_once(' ').unwrap_or((step, ""));
@@ -138,10 +123,10 @@ fn answered<W: Workflow>(
 }
 
 /// Takes a step, and tells the answer and how many events the cache then holds.
-fn step_text<W: Workflow>(
+fn step_text(
     rt: &impl Abort,
     alloc: Global,
-    cache: &mut Sticky<W>,
+    cache: &mut Sticky<Still>,
     step: &'static str,
 ) -> String {
     let answer = answered(rt, alloc, cache, step);
@@ -150,7 +135,7 @@ fn step_text<W: Workflow>(
 }
 
 /// Takes the steps, and compares what a cache answers.
-fn follows<W: Workflow>(rt: &impl Abort, alloc: Global, mut cache: Sticky<W>, steps: &'static str) {
+fn follows(rt: &impl Abort, alloc: Global, mut cache: Sticky<Still>, steps: &'static str) {
     for line in steps.lines() {
         let (step, wanted) = row(rt, line);
         let text = step_text(rt, alloc, &mut cache, step);
@@ -159,18 +144,18 @@ fn follows<W: Workflow>(rt: &impl Abort, alloc: Global, mut cache: Sticky<W>, st
 }
 
 /// Opens a cache, and compares what it answers.
-fn answers<W: Workflow>(rt: &impl Abort, alloc: Global, given: &'static str) {
+fn answers(rt: &impl Abort, alloc: Global, given: &'static str) {
     let mut steps = given;
     let runs = next_number(rt, &mut steps) as usize;
     let events = number(rt, cut(&mut steps, "\n"));
     assert!(rt; runs <= MOST_RUNS && events <= MOST_CACHED_EVENTS);
-    let cache = Sticky::<W>::open(alloc, runs, events).expect(rt, "memory");
+    let cache = Sticky::<Still>::open(alloc, runs, events).expect(rt, "memory");
     follows(rt, alloc, cache, steps);
 }
 
 #[test]
 fn caches_answer(rt: HostRuntime) {
     for given in CACHES.split("\n\n") {
-        answers::<Still>(&rt, rt.alloc(), given);
+        answers(&rt, rt.alloc(), given);
     }
 }

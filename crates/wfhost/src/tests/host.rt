@@ -118,7 +118,7 @@ fn place_of(rt: &impl Abort, tasks: &[Task], name: TaskName) -> usize {
 }
 
 /// How many events a run held that is let go, 0 where there was none.
-fn held_len<W: Workflow>(run: Option<Run<W>>) -> usize {
+fn held_len(run: Option<Run<Still>>) -> usize {
     let length = match &run {
         Some(run) => run.held_len(),
         None => 0,
@@ -128,7 +128,7 @@ fn held_len<W: Workflow>(run: Option<Run<W>>) -> usize {
 }
 
 /// The answer to a run that is given back.
-fn given_word<W: Workflow>(rt: &impl Abort, alloc: Global, given: &Given<W>) -> String {
+fn given_word(rt: &impl Abort, alloc: Global, given: &Given<Still>) -> String {
     let word = match given {
         Given::Put(put) => return put_word(rt, alloc, put),
         Given::Marked(_) => "marked",
@@ -138,28 +138,28 @@ fn given_word<W: Workflow>(rt: &impl Abort, alloc: Global, given: &Given<W>) -> 
 }
 
 /// Reserves a place.
-fn reserve<W: Workflow, T: Ledger, C: Ledger, F: Ledger>(
+fn reserve<T: Ledger, C: Ledger, F: Ledger>(
     rt: &impl Abort,
-    state: &mut HostState<W, T, C, F>,
+    state: &mut HostState<Still, T, C, F>,
     kind: SlotKind,
 ) -> Permit {
     state.reserve(kind).expect(rt, "reserve")
 }
 
 /// Gives a reserved place back.
-fn release<W: Workflow, T: Ledger, C: Ledger, F: Ledger>(
+fn release<T: Ledger, C: Ledger, F: Ledger>(
     rt: &impl Abort,
-    state: &mut HostState<W, T, C, F>,
+    state: &mut HostState<Still, T, C, F>,
     permit: Permit,
 ) {
     assert!(rt; state.release(permit).is_ok());
 }
 
 /// Uses a reserved place for a task of a run: how many events its run holds, or why not.
-fn use_place<W: Workflow, T: Ledger, C: Ledger, F: Ledger>(
+fn use_place<T: Ledger, C: Ledger, F: Ledger>(
     rt: &impl Abort,
     alloc: Global,
-    state: &mut HostState<W, T, C, F>,
+    state: &mut HostState<Still, T, C, F>,
     seat: &mut Seat<T, C, F>,
     permit: Permit,
     name: TaskName,
@@ -173,10 +173,10 @@ fn use_place<W: Workflow, T: Ledger, C: Ledger, F: Ledger>(
 }
 
 /// Takes the task of a run in hand at a reserved place, and tells how many events its run holds.
-fn hold<W: Workflow, T: Ledger, C: Ledger, F: Ledger>(
+fn hold<T: Ledger, C: Ledger, F: Ledger>(
     rt: &impl Abort,
     alloc: Global,
-    state: &mut HostState<W, T, C, F>,
+    state: &mut HostState<Still, T, C, F>,
     seat: &mut Seat<T, C, F>,
     tasks: &mut Vec<Task>,
     permit: Permit,
@@ -191,10 +191,10 @@ fn hold<W: Workflow, T: Ledger, C: Ledger, F: Ledger>(
 }
 
 /// The second use of a name is refused, the permit comes back, and nothing is counted.
-fn repeat<W: Workflow, T: Ledger, C: Ledger, F: Ledger>(
+fn repeat<T: Ledger, C: Ledger, F: Ledger>(
     rt: &impl Abort,
     alloc: Global,
-    state: &mut HostState<W, T, C, F>,
+    state: &mut HostState<Still, T, C, F>,
     seat: &mut Seat<T, C, F>,
     name: TaskName,
     run: &str,
@@ -216,12 +216,12 @@ fn held_of<'a>(rt: &impl Abort, tasks: &'a [Task], name: TaskName) -> &'a Held {
 }
 
 /// Gives a run back under a task in hand.
-fn give_back<W: Workflow, T: Ledger, C: Ledger, F: Ledger>(
+fn give_back<T: Ledger, C: Ledger, F: Ledger>(
     rt: &impl Abort,
     alloc: Global,
-    state: &mut HostState<W, T, C, F>,
+    state: &mut HostState<Still, T, C, F>,
     held: &Held,
-    run: Run<W>,
+    run: Run<Still>,
 ) -> String {
     let given = state.give_run(held, run);
     let word = given_word(rt, alloc, &given);
@@ -230,10 +230,10 @@ fn give_back<W: Workflow, T: Ledger, C: Ledger, F: Ledger>(
 }
 
 /// Gives a run back under the task of a name.
-fn give<W: Workflow, T: Ledger, C: Ledger, F: Ledger>(
+fn give<T: Ledger, C: Ledger, F: Ledger>(
     rt: &impl Abort,
     alloc: Global,
-    state: &mut HostState<W, T, C, F>,
+    state: &mut HostState<Still, T, C, F>,
     tasks: &[Task],
     name: TaskName,
     run: &'static str,
@@ -244,9 +244,9 @@ fn give<W: Workflow, T: Ledger, C: Ledger, F: Ledger>(
 }
 
 /// Ends the task of a name.
-fn finish<W: Workflow, T: Ledger, C: Ledger, F: Ledger>(
+fn finish<T: Ledger, C: Ledger, F: Ledger>(
     rt: &impl Abort,
-    state: &mut HostState<W, T, C, F>,
+    state: &mut HostState<Still, T, C, F>,
     seat: &mut Seat<T, C, F>,
     tasks: &mut Vec<Task>,
     name: TaskName,
@@ -258,10 +258,10 @@ fn finish<W: Workflow, T: Ledger, C: Ledger, F: Ledger>(
     state.finish(task.held, outcome, seat).is_ok()
 }
 
-fn counts_text<W: Workflow, T: Ledger, C: Ledger, F: Ledger>(
+fn counts_text<T: Ledger, C: Ledger, F: Ledger>(
     rt: &impl Abort,
     alloc: Global,
-    state: &mut HostState<W, T, C, F>,
+    state: &mut HostState<Still, T, C, F>,
     seat: &mut Seat<T, C, F>,
 ) -> String {
     let counts = state.counts(seat);
@@ -272,10 +272,10 @@ fn counts_text<W: Workflow, T: Ledger, C: Ledger, F: Ledger>(
     text.expect(rt, "memory")
 }
 
-fn evict<W: Workflow, T: Ledger, C: Ledger, F: Ledger>(
+fn evict<T: Ledger, C: Ledger, F: Ledger>(
     rt: &impl Abort,
     alloc: Global,
-    state: &mut HostState<W, T, C, F>,
+    state: &mut HostState<Still, T, C, F>,
     run: &str,
 ) -> Evict {
     let key = key(alloc, run).expect(rt, "memory");
@@ -283,10 +283,10 @@ fn evict<W: Workflow, T: Ledger, C: Ledger, F: Ledger>(
 }
 
 /// Takes the task of a run in hand at the next place, and tells how many events its run holds.
-fn hold_next<W: Workflow, T: Ledger, C: Ledger, F: Ledger>(
+fn hold_next<T: Ledger, C: Ledger, F: Ledger>(
     rt: &impl Abort,
     alloc: Global,
-    state: &mut HostState<W, T, C, F>,
+    state: &mut HostState<Still, T, C, F>,
     seat: &mut Seat<T, C, F>,
     tasks: &mut Vec<Task>,
     name: TaskName,
@@ -297,10 +297,10 @@ fn hold_next<W: Workflow, T: Ledger, C: Ledger, F: Ledger>(
 }
 
 /// What a host answers to a step about the task of a name: a word, the name, and most often a run.
-fn task_step<W: Workflow, T: Ledger, C: Ledger, F: Ledger>(
+fn task_step<T: Ledger, C: Ledger, F: Ledger>(
     rt: &impl Abort,
     alloc: Global,
-    state: &mut HostState<W, T, C, F>,
+    state: &mut HostState<Still, T, C, F>,
     seat: &mut Seat<T, C, F>,
     tasks: &mut Vec<Task>,
     word: &str,
@@ -327,10 +327,10 @@ fn task_step<W: Workflow, T: Ledger, C: Ledger, F: Ledger>(
 }
 
 /// What a host answers to a step.
-fn answered<W: Workflow, T: Ledger, C: Ledger, F: Ledger>(
+fn answered<T: Ledger, C: Ledger, F: Ledger>(
     rt: &impl Abort,
     alloc: Global,
-    state: &mut HostState<W, T, C, F>,
+    state: &mut HostState<Still, T, C, F>,
     seat: &mut Seat<T, C, F>,
     tasks: &mut Vec<Task>,
     step: &'static str,
@@ -343,10 +343,10 @@ fn answered<W: Workflow, T: Ledger, C: Ledger, F: Ledger>(
 }
 
 /// Each step is answered as its line says.
-fn follows<W: Workflow, T: Ledger, C: Ledger, F: Ledger>(
+fn follows<T: Ledger, C: Ledger, F: Ledger>(
     rt: &impl Abort,
     alloc: Global,
-    state: &mut HostState<W, T, C, F>,
+    state: &mut HostState<Still, T, C, F>,
     seat: &mut Seat<T, C, F>,
     tasks: &mut Vec<Task>,
     steps: &'static str,
@@ -359,10 +359,10 @@ fn follows<W: Workflow, T: Ledger, C: Ledger, F: Ledger>(
 }
 
 /// Places of activities are numbered from 1 upwards, until the host drains.
-fn places_are_numbered<W: Workflow, T: Ledger, C: Ledger, F: Ledger>(
+fn places_are_numbered<T: Ledger, C: Ledger, F: Ledger>(
     rt: &impl Abort,
     alloc: Global,
-    state: &mut HostState<W, T, C, F>,
+    state: &mut HostState<Still, T, C, F>,
 ) {
     let kind = SlotKind::Activity;
     let first = reserve(rt, state, kind);
@@ -384,10 +384,10 @@ fn places_are_numbered<W: Workflow, T: Ledger, C: Ledger, F: Ledger>(
 
 /// How many events the run of the last task holds, of run `c`, at a place that was reserved before
 /// the host drained.
-fn last_task<R: Wait + Abort, W: Workflow, T: Ledger, C: Ledger, F: Ledger>(
+fn last_task<R: Wait + Abort, T: Ledger, C: Ledger, F: Ledger>(
     rt: &R,
     alloc: Global,
-    host: &Host<W, T, C, F>,
+    host: &Host<Still, T, C, F>,
     seat: &mut Seat<T, C, F>,
     tasks: &mut Vec<Task>,
     permit: Permit,
@@ -401,10 +401,10 @@ fn last_task<R: Wait + Abort, W: Workflow, T: Ledger, C: Ledger, F: Ledger>(
 }
 
 /// Follows the steps of a day, and then numbers places. One place stays reserved.
-fn works<R: Wait + Abort, W: Workflow, T: Ledger, C: Ledger, F: Ledger>(
+fn works<R: Wait + Abort, T: Ledger, C: Ledger, F: Ledger>(
     rt: &R,
     alloc: Global,
-    host: &Host<W, T, C, F>,
+    host: &Host<Still, T, C, F>,
     seat: &mut Seat<T, C, F>,
     tasks: &mut Vec<Task>,
     steps: &'static str,
@@ -418,11 +418,11 @@ fn works<R: Wait + Abort, W: Workflow, T: Ledger, C: Ledger, F: Ledger>(
 }
 
 /// A host that is closed with a seat missing comes back, with the seats that are there.
-fn not_closed<W: Workflow, T: Ledger, C: Ledger, F: Ledger>(
+fn not_closed<T: Ledger, C: Ledger, F: Ledger>(
     rt: &impl Abort,
-    host: Host<W, T, C, F>,
+    host: Host<Still, T, C, F>,
     seats: Vec<Seat<T, C, F>>,
-) -> (Host<W, T, C, F>, Vec<Seat<T, C, F>>) {
+) -> (Host<Still, T, C, F>, Vec<Seat<T, C, F>>) {
     match host.close(seats) {
         Ok(_) => panic!(rt; "closed with a seat missing"),
         Err((host, seats, _missing)) => (host, seats),
@@ -472,7 +472,7 @@ struct Day {
 /// How a day ends: how many events the cache holds of run `c`, and what the host has counted. It is
 /// closed twice, first with a seat missing: the host that comes back serves one more task, of a run
 /// that it may still cache.
-fn day_text<R: Wait + Abort, W: Workflow, T: Ledger, C: Ledger, F: Ledger>(
+fn day_text<R: Wait + Abort, T: Ledger, C: Ledger, F: Ledger>(
     rt: &R,
     alloc: Global,
     day: &Day,
@@ -485,7 +485,9 @@ fn day_text<R: Wait + Abort, W: Workflow, T: Ledger, C: Ledger, F: Ledger>(
         × (completed.parts ≡ day.now.config.seats) }
     requires failed { (failed.name ≡ F.name) × (failed.parts ≡ F.parts) × (failed.parts ≡ day.now.config.seats) }
 {
-    let (host, mut seats) = open::<R, W, T, C, F>(rt, alloc, day.config, taken, completed, failed);
+    let (host, mut seats) = open::<R, Still, T, C, F>(
+        rt, alloc, day.config, taken, completed, failed,
+    );
     let mut seat = seats.pop().expect(rt, "seat");
     let mut tasks = Vec::new(alloc);
     let permit = works(rt, alloc, &host, &mut seat, &mut tasks, day.steps);
@@ -503,7 +505,7 @@ fn days_of_a_host(rt: HostRuntime) {
         let config = sizes(&rt, &mut words);
         let day = Day { config, steps };
         let seats = day.config.seats as u64;
-        let text = day_text::<HostRuntime, Still, Brand, Brand, Brand>(
+        let text = day_text::<HostRuntime, Brand, Brand, Brand>(
             &rt,
             rt.alloc(),
             &day,
@@ -516,7 +518,7 @@ fn days_of_a_host(rt: HostRuntime) {
 }
 
 /// Why no host of these sizes is opened, `None` where one is.
-fn fault_of<W: Workflow, T: Ledger, C: Ledger, F: Ledger>(
+fn fault_of<T: Ledger, C: Ledger, F: Ledger>(
     alloc: Global,
     config: Config,
     taken: Blank,
@@ -527,7 +529,7 @@ fn fault_of<W: Workflow, T: Ledger, C: Ledger, F: Ledger>(
     requires completed { (completed.name ≡ C.name) × (completed.parts ≡ C.parts) × (completed.parts ≡ config.seats) }
     requires failed { (failed.name ≡ F.name) × (failed.parts ≡ F.parts) × (failed.parts ≡ config.seats) }
 {
-    HostState::<W, T, C, F>::open(alloc, config, taken, completed, failed).err()
+    HostState::<Still, T, C, F>::open(alloc, config, taken, completed, failed).err()
 }
 
 /// Sizes of a host, and why it is not opened: within their limits, too many seats, and no place for
@@ -544,7 +546,7 @@ fn sizes_are_judged(rt: HostRuntime) {
         let (mut words, wanted) = row(&rt, line);
         let config = sizes(&rt, &mut words);
         let seats = config.seats as u64;
-        let fault = fault_of::<Still, Brand, Brand, Brand>(
+        let fault = fault_of::<Brand, Brand, Brand>(
             rt.alloc(),
             config,
             Blank::new(seats),
