@@ -4,4 +4,5 @@ pub mod Scripted
 pub mod Tasks
 pub mod Printable
 pub mod One
+pub mod Alike
 pub mod Agreeing

@@ -1,8 +1,9 @@
 //! What is sent beside what is recorded.
-ghost use Rattle.std.specs.Prelude.{◌≡◌, if◌then◌else◌, IfOk};
+ghost use Rattle.std.specs.Prelude.{◌≡◌, ◌++◌, ◌∷◌, [], List, if◌then◌else◌, IfOk, OnOk, IsOkAnd};
 ghost use Rattle.std.specs.List.{list_any};
-ghost use Rattle.wh_events.specs.Cuts.{commanded};
-ghost use Rattle.wh_explain.specs.declared.explanation.Pairing.TheVariants.{Alike, Different, CommandMissing};
+ghost use Rattle.wh_events.specs.declared.event.Event.{Event};
+ghost use Rattle.wh_events.specs.Cuts.{is_commanded, commanded};
+ghost use Rattle.wh_explain.specs.declared.explanation.Pairing.TheVariants.{Alike, Different, CommandMissing, CommandExtra};
 ghost use Rattle.wh_explain.specs.Pairings.{referred_id, recorded_event, pairing_of, pairings, differs};
 
 use crate::explanation::{Pairing, RecordedEvent};
@@ -76,6 +77,72 @@ fn alone(alloc: Global, history: &[Event], event: &Event) -> Result<Pairing, Out
     })
 }
 
+/// A command for which no event is left.
+fn extra(command: &Command) -> Result<Pairing, OutOfMemory>
+    ensures { IfOk result (λ pairing. pairing ≡ CommandExtra command.now) }
+{
+    Ok(Pairing::CommandExtra {
+        command: command.try_copy()?,
+    })
+}
+
+/// Adds a pairing to those paired, if there was memory for it.
+fn add(pairing: Result<Pairing, OutOfMemory>, paired: &mut Vec<Pairing>) -> Result<(), OutOfMemory>
+    ensures { OnOk result (IsOkAnd pairing (λ pairing. paired.new.items ≡ paired.old.items ++ pairing ∷ [])) }
+{
+    match pairing {
+        Ok(pairing) => Ok(paired.push(pairing)?),
+        Err(full) => Err(full),
+    }
+}
+
+/// Adds the first of the commands for which no event is left, if there is one, to those paired.
+fn add_extra(left: &[Command], paired: &mut Vec<Pairing>) -> Result<(), OutOfMemory>
+    ensures { (history : List Event) →
+        OnOk result (paired.new.items ≡ paired.old.items ++ pairings history left.now []) }
+{
+    match left.first() {
+        Some(command) => add(extra(command), paired),
+        None => Ok(()),
+    }
+}
+
+/// Whether a command gave the event.
+fn is_commanded(event: &Event) -> bool
+    ensures { result ≡ is_commanded event.now }
+{
+    matches!(event.class(), Class::Commanded)
+}
+
+/// Adds what is sent beside the commanded events, up to the first difference, to those paired.
+fn add_pairs(
+    alloc: Global,
+    history: &[Event],
+    sent: &[Command],
+    events: &[Event],
+    paired: &mut Vec<Pairing>,
+) -> Result<(), OutOfMemory>
+    ensures { let here = pairings history.now sent.now (commanded events.now) in
+        OnOk result (paired.new.items ≡ paired.old.items ++ here) }
+{
+    let mut index = 0;
+    for event in events {
+        if !is_commanded(event) {
+            continue;
+        }
+        if index == sent.len() {
+            return add(alone(alloc, history, event), paired);
+        }
+        let command = &sent[index];
+        add(pair(alloc, history, command, event), paired)?;
+        if !command.names(history, &event.body) {
+            return Ok(());
+        }
+        index += 1;
+    }
+    add_extra(&sent[index..], paired)
+}
+
 /// What is sent beside the commanded events, up to the first difference.
 pub(crate) fn pair_up(
     alloc: Global,
@@ -86,27 +153,7 @@ pub(crate) fn pair_up(
     ensures { IfOk result (λ paired. paired.items ≡ pairings history.now sent.now (commanded events.now)) }
 {
     let mut paired = Vec::new(alloc);
-    let mut index = 0;
-    for event in events {
-        if matches!(event.class(), Class::Commanded) {
-            paired.reserve(1)?;
-            if index == sent.len() {
-                paired.push_reserved(alone(alloc, history, event)?);
-                return Ok(paired);
-            }
-            paired.push_reserved(pair(alloc, history, &sent[index], event)?);
-            if !sent[index].names(history, &event.body) {
-                return Ok(paired);
-            }
-            index += 1;
-        }
-    }
-    if index < sent.len() {
-        paired.reserve(1)?;
-        paired.push_reserved(Pairing::CommandExtra {
-            command: sent[index].try_copy()?,
-        });
-    }
+    add_pairs(alloc, history, sent, events, &mut paired)?;
     Ok(paired)
 }
 
