@@ -128,7 +128,6 @@ fn write_sent<O: Write>(sent: &[Command], writer: &mut O) -> io::Result<()>
 }
 
 /// Writes the line of a command and the event in its place.
-#[tactic(auto, unfolding(crate::specs::Texts::pairing_line))]
 fn write_pairing<O: Write>(pairing: &Pairing, writer: &mut O) -> io::Result<()>
     ensures { OnOk result (Appends (O.contents writer.old) (O.contents writer.new) (pairing_line pairing.now)) }
 {
