@@ -10,6 +10,7 @@ mod blink;
 mod calls;
 mod comparing;
 mod cuts;
+mod folder;
 mod generated;
 mod growing;
 mod keeper;

@@ -2,6 +2,7 @@
 //! are written as letters, and generated ones.
 use crate::blink::Blink;
 use crate::comparing::{Counts, compare, compare_all};
+use crate::folder::files_of;
 use crate::generated::{changed, of_letters};
 use crate::notation::{ROWS, events_of};
 use rand_pcg::Pcg32;
@@ -10,7 +11,6 @@ use std::io;
 use std::io::{ErrorKind, Print};
 use std::rt::Files;
 use wh_events::{Event, OutOfMemory};
-use wh_files::read_files;
 use wh_json::read_events;
 use wh_sample_workflows::All;
 use wh_workflow::{Pair, Workflow};
@@ -41,7 +41,7 @@ fn push_histories(
 
 /// The histories of the folder.
 fn read_histories<R: Files + AllocGlobal + Clone + Drop>(rt: &R) -> io::Result<Vec<Vec<Event>>> {
-    let Ok(files) = read_files(rt, FOLDER) else {
+    let Some(files) = files_of(rt, FOLDER) else {
         return Err(ErrorKind::NotFound.into());
     };
     let mut histories = Vec::new(rt.alloc());

@@ -7,6 +7,7 @@ mod hits;
 mod judging;
 mod serving;
 
+use crate::folder::files_of;
 use crate::soak::histories::{File, keys_of, sources_of, tasks_of};
 use crate::soak::judging::judge;
 use crate::soak::serving::{Findings, serve};
@@ -18,7 +19,6 @@ use std::sync::Wait;
 use std::thread::Threads;
 use std::time::Clock;
 use wh_events::RunKey;
-use wh_files::read_files;
 use wh_sample_workflows::All;
 
 /// A soak to be done.
@@ -128,7 +128,7 @@ fn run<R: Runtime + AllocGlobal + Threads + Wait + Sync>(
     rt: &R,
     soak: Soak<'_>,
 ) -> io::Result<Result<(), &'static str>> {
-    let Ok(files) = read_files(rt, soak.dir) else {
+    let Some(files) = files_of(rt, soak.dir) else {
         return Err(ErrorKind::NotFound.into());
     };
     let judged = soak_files(rt, rt.alloc(), soak, files.as_slice());

@@ -107,10 +107,6 @@ fn unreadable(path: Text, fault: FolderFault) -> Failure {
             dir: path,
             entry: None,
         },
-        FolderFault::UnreadableEntry { name } => Failure::Unreadable {
-            dir: path,
-            entry: Some(name),
-        },
         FolderFault::OutOfMemory => Failure::OutOfMemory,
     }
 }

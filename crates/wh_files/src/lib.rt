@@ -15,15 +15,10 @@ use std::{fs, io};
 const READ_LIMIT: u64 = 67_108_865;
 
 /// Why a file, or the files of a folder, are not there.
-#[derive(Debug, Drop)]
+#[derive(Clone, Copy, Debug)]
 pub enum FolderFault {
     /// The file or the folder cannot be read.
     Unreadable,
-    /// The folder can be read, and its entry of this name cannot.
-    UnreadableEntry {
-        /// The name of the entry, without the folder.
-        name: String,
-    },
     /// There is no memory for a name or for the bytes of a file.
     OutOfMemory,
 }
@@ -101,6 +96,14 @@ pub enum InputFault {
     OutOfMemory,
 }
 
+/// Adds the name of an entry, if it ends in `.json`.
+fn push_name(alloc: Global, names: &mut Vec<String>, name: &str) -> Result<(), AllocError> {
+    if name.ends_with(".json") {
+        names.push(String::from_str(alloc, name)?)?;
+    }
+    Ok(())
+}
+
 /// The names in a folder that end in `.json`, in the order of their bytes.
 fn names_in<R: Files + AllocGlobal + Clone + Drop>(
     rt: &R,
@@ -108,13 +111,7 @@ fn names_in<R: Files + AllocGlobal + Clone + Drop>(
 ) -> Result<Vec<String>, FolderFault> {
     let mut names = Vec::new(rt.alloc());
     for entry in fs::read_dir(rt, dir)? {
-        let entry = entry?;
-        let name = entry.file_name();
-        if name.ends_with(".json") {
-            let Ok(()) = names.push(String::from_str(rt.alloc(), name)?) else {
-                return Err(FolderFault::OutOfMemory);
-            };
-        }
+        push_name(rt.alloc(), &mut names, entry?.file_name())?;
     }
     names.sort()?;
     Ok(names)
@@ -141,26 +138,6 @@ fn read_entry<R: Files + AllocGlobal>(
 ) -> Result<Vec<u8>, FolderFault> {
     let path = format!(in rt.alloc(); "{dir}/{name}")?;
     read_file(rt, path.as_str())
-}
-
-/// The files of a folder whose names end in `.json`, by name and bytes, in the order of the bytes
-/// of their names. Nothing is kept where one of them cannot be read, which the fault names.
-pub fn read_files<R: Files + AllocGlobal + Clone + Drop>(
-    rt: &R,
-    dir: &str,
-) -> Result<Vec<(String, Vec<u8>)>, FolderFault> {
-    let mut files = Vec::new(rt.alloc());
-    for name in names_in(rt, dir)? {
-        let bytes = match read_entry(rt, dir, name.as_str()) {
-            Ok(bytes) => bytes,
-            Err(FolderFault::Unreadable) => return Err(FolderFault::UnreadableEntry { name }),
-            Err(fault) => return Err(fault),
-        };
-        let Ok(()) = files.push((name, bytes)) else {
-            return Err(FolderFault::OutOfMemory);
-        };
-    }
-    Ok(files)
 }
 
 /// The bytes of the standard input, up to `READ_LIMIT` of them.

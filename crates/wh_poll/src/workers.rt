@@ -386,8 +386,7 @@ pub(crate) fn run_jobs<
         rt,
         jobs,
         &|job: Job<T, C, F, S, A, O>| -> Ended<T, C, F, S, A, O>
-            requires workflow { IsSend W.row }
-            requires state { IsSend W.State.row }
+            requires { IsSend W.row × IsSend W.State.row }
             ensures { IsWorked W.program S.tells S.delivers S.answers S.failures S.comes_from A.may O.hears
                 job result }
         { work_job(rt, alloc, host, gate, job) },

@@ -1,13 +1,17 @@
-use Rattle.std.proofs.Common.{◌≡◌, length, rules}
+use Rattle.std.proofs.Common.{◌≡◌, arith, length}
+use Rattle.std.proofs.lemmas.Grind.{common_steps}
 use Rattle.wh_poll.proofs.Jobs.{in_order}
 use Rattle.wh_poll.proofs.workers.posts_of.Goals as goal
 
 pub returns-clause-sources : goal.returns-clause-sources
 returns-clause-sources g c =
-    let none : length c.loop-source.sources.items ≡ 0 = search rules in
+    let none : length c.loop-source.sources.items ≡ 0 = grind (arith, common_steps) in
     in_order (λ post. post.source) c.loop-source.sources.items c.args.sources.items c.loop-source.posts.items c.reverse.new.self.items c.loop-source.invariant.sources none c.reverse.ensures.items
 
 pub returns-clause-turns : goal.returns-clause-turns
 returns-clause-turns g c =
-    let none : length c.loop-source.turns.items ≡ 0 = search rules in
+    let none : length c.loop-source.turns.items ≡ 0 = grind (arith, common_steps) in
     in_order (λ post. post.turns) c.loop-source.turns.items c.args.turns.items c.loop-source.posts.items c.reverse.new.self.items c.loop-source.invariant.turns none c.reverse.ensures.items
+
+pub loop-source-preserved : goal.loop-source-preserved
+loop-source-preserved g c = grind (arith, common_steps)

@@ -1,0 +1,17 @@
+//! The files of a folder.
+
+use std::rt::Files;
+use wh_files::{Input, folder_inputs, read_input};
+
+/// The files of a folder whose names end in `.json`, by name and bytes, in the order of the bytes
+/// of their names. `None` where one of them can't be read.
+pub(crate) fn files_of<R: Files + AllocGlobal + Clone + Drop>(
+    rt: &R,
+    dir: &str,
+) -> Option<Vec<(String, Vec<u8>)>> {
+    let mut files = Vec::new(rt.alloc());
+    for Input { name, origin } in folder_inputs(rt, dir, false).ok()? {
+        files.push((name, read_input(rt, origin).ok()?)).ok()?;
+    }
+    Some(files)
+}
