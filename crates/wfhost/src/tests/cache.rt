@@ -1,11 +1,12 @@
 //! What the cache keeps, and what has to go.
 
-use crate::tests::rows::{add, cut, next_number, number, row, same, shown};
+use crate::tests::rows::{
+    add, cut, made, next_number, number, recorded, row, run_key, same, shown, string,
+};
 use crate::tests::workflows::Still;
 use std::alloc::Global;
 use std::process::Abort;
 use wh_cache::{MOST_CACHED_EVENTS, MOST_RUNS, Put, Sticky};
-use wh_histories::{events, key};
 use wh_replay::Run;
 use wh_workflow::Meter;
 
@@ -42,23 +43,16 @@ put a start:Still S*7 T => kept, holds 9
 put a start:Still S T => off, holds 0";
 
 /// A run by its name and its history.
-pub(crate) fn run_of(
-    rt: &impl Abort,
-    alloc: Global,
-    name: &str,
-    history: &'static str,
-) -> Run<Still> {
-    let key = key(alloc, name).expect(rt, "memory");
-    let events = events(alloc, history).expect(rt, history);
-    match Run::from_first(alloc, key, events, &mut Meter::new()) {
-        Ok(run) => run,
-        Err(fault) => panic!(rt; "{fault:?}"),
-    }
+pub(crate) fn run_of(rt: &impl Abort, alloc: Global, run: &'static str) -> Run<Still> {
+    let mut history = run;
+    let key = run_key(rt, alloc, cut(&mut history, " "));
+    let events = recorded(rt, alloc, history, 0);
+    Run::from_first(alloc, key, events, &mut Meter::new()).expect(rt, run)
 }
 
 /// The names of the runs that had to go.
 fn gone(rt: &impl Abort, alloc: Global, runs: &[Run<Still>]) -> String {
-    let mut names = String::from_str(alloc, "gone").expect(rt, "memory");
+    let mut names = string(rt, alloc, "gone");
     for run in runs {
         add(rt, &mut names, " ");
         add(rt, &mut names, run.key().workflow_id.get());
@@ -76,33 +70,25 @@ pub(crate) fn put_word(rt: &impl Abort, alloc: Global, put: &Put<Still>) -> Stri
         Put::TooLarge(_) => "too large",
         Put::NoMemory(_) => "no memory",
     };
-    String::from_str(alloc, word).expect(rt, "memory")
+    string(rt, alloc, word)
 }
 
 /// Puts a run by its name and its history into a cache, and says what became of it.
 fn put(rt: &impl Abort, alloc: Global, cache: &mut Sticky<Still>, run: &'static str) -> String {
-    let (name, history) = run.split_once(' ').expect(rt, run);
-    let put = cache.put(run_of(rt, alloc, name, history));
+    let put = cache.put(run_of(rt, alloc, run));
     let word = put_word(rt, alloc, &put);
     drop(put);
     word
 }
 
-/// How many events the run of a name holds that is taken out of a cache.
-fn take(rt: &impl Abort, alloc: Global, cache: &mut Sticky<Still>, name: &str) -> Option<usize> {
-    let key = key(alloc, name).expect(rt, "memory");
-    let run = cache.take(&key);
-    let length = run.as_ref().map(|run| run.held_len());
+/// How many events a run held that is let go, if there was one.
+pub(crate) fn held_len(run: Option<Run<Still>>) -> Option<usize> {
+    let length = match &run {
+        Some(run) => Some(run.held_len()),
+        None => None,
+    };
     drop(run);
     length
-}
-
-fn peek(rt: &impl Abort, alloc: Global, cache: &Sticky<Still>, name: &str) -> Option<usize> {
-    cache.peek_len(&key(alloc, name).expect(rt, "memory"))
-}
-
-fn evict(rt: &impl Abort, alloc: Global, cache: &mut Sticky<Still>, name: &str) -> bool {
-    cache.evict(&key(alloc, name).expect(rt, "memory"))
 }
 
 /// What a cache answers to a step with a run of some name.
@@ -113,11 +99,14 @@ fn answered(
     step: &'static str,
 ) -> String {
     let (word, run) = step.split_once(' ').unwrap_or((step, ""));
+    if word == "put" {
+        return put(rt, alloc, cache, run);
+    }
+    let key = run_key(rt, alloc, run);
     match word {
-        "put" => put(rt, alloc, cache, run),
-        "peek" => shown(rt, alloc, &peek(rt, alloc, cache, run)),
-        "take" => shown(rt, alloc, &take(rt, alloc, cache, run)),
-        "evict" => shown(rt, alloc, &evict(rt, alloc, cache, run)),
+        "peek" => shown(rt, alloc, &cache.peek_len(&key)),
+        "take" => shown(rt, alloc, &held_len(cache.take(&key))),
+        "evict" => shown(rt, alloc, &cache.evict(&key)),
         _ => shown(rt, alloc, &cache.len()),
     }
 }
@@ -131,7 +120,7 @@ fn step_text(
 ) -> String {
     let answer = answered(rt, alloc, cache, step);
     let held = cache.held();
-    format!(in alloc; "{answer}, holds {held}").expect(rt, "memory")
+    made(rt, format!(in alloc; "{answer}, holds {held}"))
 }
 
 /// Takes the steps, and compares what a cache answers.

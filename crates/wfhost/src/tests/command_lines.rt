@@ -1,6 +1,6 @@
 //! Command lines.
 
-use crate::tests::rows::{add, row, same};
+use crate::tests::rows::{add, made, push, row, same, string};
 use std::alloc::Global;
 use std::process::Abort;
 use wh_cli::{Plan, Refusal, parse};
@@ -69,7 +69,7 @@ serve d --slots 1001 => slots 1 1000
 
 /// A plan to replay, in words.
 fn replay_text(rt: &impl Abort, alloc: Global, dir: &Text, more: &[Text], json: bool) -> String {
-    let mut text = String::from_str(alloc, "replay ").expect(rt, "memory");
+    let mut text = string(rt, alloc, "replay ");
     add(rt, &mut text, dir.get());
     for path in more {
         add(rt, &mut text, " ");
@@ -93,12 +93,12 @@ fn serve_text(
     let text = format!(in alloc;
         "serve {dir}, workers {workers}, cache {cache}, cache events {cache_events}, slots {slots}"
     );
-    text.expect(rt, "memory")
+    made(rt, text)
 }
 
 /// A word, and what stands behind it.
 fn joined(rt: &impl Abort, alloc: Global, word: &str, rest: &str) -> String {
-    let mut text = String::from_str(alloc, word).expect(rt, "memory");
+    let mut text = string(rt, alloc, word);
     add(rt, &mut text, rest);
     text
 }
@@ -115,7 +115,7 @@ fn plan_text(rt: &impl Abort, alloc: Global, plan: &Plan) -> String {
             cache_events,
             slots,
         } => serve_text(rt, alloc, dir, *workers, *cache, *cache_events, *slots),
-        Plan::Help { .. } => joined(rt, alloc, "help", ""),
+        Plan::Help { .. } => string(rt, alloc, "help"),
     }
 }
 
@@ -123,23 +123,17 @@ fn plan_text(rt: &impl Abort, alloc: Global, plan: &Plan) -> String {
 fn refusal_text(rt: &impl Abort, alloc: Global, refusal: &Refusal) -> String {
     match refusal {
         Refusal::BadLine { text } => joined(rt, alloc, "bad line\n", text.get()),
-        Refusal::FewSlots => joined(rt, alloc, "too few slots", ""),
-        Refusal::OutOfMemory => joined(rt, alloc, "out of memory", ""),
+        Refusal::FewSlots => string(rt, alloc, "too few slots"),
+        Refusal::OutOfMemory => string(rt, alloc, "out of memory"),
     }
-}
-
-/// Adds a word.
-fn push(rt: &impl Abort, alloc: Global, words: &mut Vec<String>, word: &str) {
-    let word = String::from_str(alloc, word).expect(rt, "memory");
-    assert!(rt; words.push(word).is_ok());
 }
 
 /// The words of a line behind the program's name, and that name before them.
 fn words_of(rt: &impl Abort, alloc: Global, line: &str) -> Vec<String> {
     let mut words = Vec::new(alloc);
-    push(rt, alloc, &mut words, "wfhost");
+    push(rt, &mut words, string(rt, alloc, "wfhost"));
     for word in line.split_whitespace() {
-        push(rt, alloc, &mut words, word);
+        push(rt, &mut words, string(rt, alloc, word));
     }
     words
 }
@@ -156,10 +150,11 @@ fn answer_text(rt: &impl Abort, alloc: Global, words: &[String]) -> String {
 fn has_words(rt: &impl Abort, line: &str, answer: &str, first: &str, others: &str) {
     let (word, text) = answer.split_once('\n').unwrap_or((answer, ""));
     same(rt, line, word, first);
+    let mut has_all = text.is_empty() || text.ends_with('\n');
     for other in others.split_whitespace() {
-        assert!(rt; text.contains(other), "{line}: {text}");
+        has_all = has_all && text.contains(other);
     }
-    assert!(rt; text.is_empty() || text.ends_with('\n'), "{line}: {text}");
+    assert!(rt; has_all, "{line}: {text}");
 }
 
 /// The answer to the words of a line behind the program's name has this first line, and these words

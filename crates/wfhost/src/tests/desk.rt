@@ -1,7 +1,7 @@
 //! What a host is tried with: a gate, a source and a handler of activities that note each call that
 //! a worker makes of them.
 
-use crate::tests::rows::{cut, number, recorded, row, shown, text};
+use crate::tests::rows::{cut, made, number, push, recorded, row, run_key, shown, string, text};
 use crate::tests::scripted::Scripted;
 use std::alloc::Global;
 use std::fmt::Debug;
@@ -10,8 +10,7 @@ use std::sync::ledger::Ledger;
 use std::sync::{Mutex, Wait};
 use std::{mem, thread};
 use wh_events::{Event, Items, OutOfMemory, Payload, RunKey};
-use wh_histories::key;
-use wh_host::{Evict, Host};
+use wh_host::Host;
 use wh_poll::{
     ActivityAnswer, ActivityHandler, ActivityTask, Gate, Polled, SourceFault, TaskSource,
     WorkflowTask, last_number,
@@ -25,21 +24,20 @@ use wh_workflow::Pair;
 fn file_of(rt: &impl Abort, alloc: Global, line: &'static str) -> (u64, String, Vec<Event>) {
     let (file, history) = row(rt, line);
     let (index, name) = file.split_once(' ').expect(rt, line);
-    let name = String::from_str(alloc, name).expect(rt, "memory");
-    (number(rt, index), name, recorded(rt, alloc, history, 0))
+    (
+        number(rt, index),
+        string(rt, alloc, name),
+        recorded(rt, alloc, history, 0),
+    )
 }
 
 /// A source of histories, between each two of which stands a comma.
 pub(crate) fn script(rt: &impl Abort, alloc: Global, table: &'static str) -> ScriptSource {
     let mut histories = Vec::new(alloc);
     for line in table.split(", ") {
-        histories.reserve(1).expect(rt, "memory");
-        histories.push_reserved(file_of(rt, alloc, line));
+        push(rt, &mut histories, file_of(rt, alloc, line));
     }
-    match ScriptSource::new(alloc, histories) {
-        Ok(source) => source,
-        Err(_) => panic!(rt; "memory"),
-    }
+    ScriptSource::new(alloc, histories).expect(rt, "memory")
 }
 
 /// The workflows of a host: the samples, and what signals name.
@@ -78,14 +76,14 @@ impl<'r, 'h, R: Wait + Abort, T: Ledger, C: Ledger, F: Ledger> Notebook<'r, 'h, 
     fn note(&self, call: &str) {
         drop(self.host.lock(self.rt));
         let noted = self.calls.lock(self.rt).push_str(call);
-        assert!(self.rt; noted.is_ok());
+        noted.expect(self.rt, "memory");
     }
 
     /// Notes what a task is answered.
     fn note_answer<A: Debug>(&self, name: TaskName, answer: &A) {
         let answer = shown(self.rt, self.alloc, answer);
         let call = format!(in self.alloc; "answer {} {answer}, ", name.0);
-        self.note(call.expect(self.rt, "memory").as_str());
+        self.note(made(self.rt, call).as_str());
     }
 
     /// The calls since this was asked last.
@@ -102,25 +100,21 @@ impl<'r, 'h, R: Wait + Abort, T: Ledger, C: Ledger, F: Ledger> Notebook<'r, 'h, 
     /// Waits until a call is noted, for ten million looks at most. Each look takes the lock of the
     /// notes.
     fn await_call(&self, call: &str) {
-        let call = format!(in self.alloc; "{call}, ").expect(self.rt, "memory");
+        let call = made(self.rt, format!(in self.alloc; "{call}, "));
         for _look in 0..10_000_000 {
             if self.is_noted(call.as_str()) {
                 return;
             }
             thread::yield_now();
         }
-        panic!(self.rt; "no call: {call}");
-    }
-
-    /// What the host answers where the run of a key is to be evicted.
-    fn evicted(&self, key: &RunKey) -> Evict {
-        self.host.lock(self.rt).evict(key)
+        self.rt.panic(call.as_str())
     }
 
     /// Evicts the run of a name.
     fn evict(&self, run: &str) {
-        let answer = self.evicted(&key(self.alloc, run).expect(self.rt, "memory"));
-        let call = format!(in self.alloc; "evict {run} {answer:?}, ").expect(self.rt, "memory");
+        let key = run_key(self.rt, self.alloc, run);
+        let answer = self.host.lock(self.rt).evict(&key);
+        let call = made(self.rt, format!(in self.alloc; "evict {run} {answer:?}, "));
         self.note(call.as_str());
     }
 
@@ -137,7 +131,7 @@ impl<'r, 'h, R: Wait + Abort, T: Ledger, C: Ledger, F: Ledger> Notebook<'r, 'h, 
 impl<'r, 'h, R: Wait + Abort, T: Ledger, C: Ledger, F: Ledger> Gate
     for Notebook<'r, 'h, R, T, C, F> {
     fn enter<Q: Wait>(&self, _rt: &Q, name: TaskName) {
-        let call = format!(in self.alloc; "enter {}, ", name.0).expect(self.rt, "memory");
+        let call = made(self.rt, format!(in self.alloc; "enter {}, ", name.0));
         self.note(call.as_str());
         for deed in self.deeds.split("; ") {
             if let Some(deed) = deed.strip_prefix(call.as_str()) {
@@ -167,7 +161,7 @@ fn workflow_task(rt: &impl Abort, alloc: Global, word: &'static str) -> Workflow
     let events = recorded(rt, alloc, history, 0);
     WorkflowTask {
         name: TaskName(u128::from(last_number(events.as_slice()))),
-        run: key(alloc, run).expect(rt, "memory"),
+        run: run_key(rt, alloc, run),
         events: Items::new(events),
     }
 }
@@ -185,7 +179,7 @@ fn one_payload(rt: &impl Abort, alloc: Global) -> Items<Payload> {
 pub(crate) fn activity_task(rt: &impl Abort, alloc: Global, word: &'static str) -> ActivityTask {
     ActivityTask {
         name: TaskName(u128::from(number(rt, word))),
-        run: key(alloc, "w").expect(rt, "memory"),
+        run: run_key(rt, alloc, "w"),
         id: text(rt, alloc, "1"),
         activity: text(rt, alloc, "greet"),
         input: one_payload(rt, alloc),
@@ -227,7 +221,7 @@ impl<'b, 'r, 'h, R: Wait + Abort, T: Ledger, C: Ledger, F: Ledger> TaskSource
     fn whole(&mut self, key: &RunKey, up_to: u64) -> Result<Vec<Event>, SourceFault> {
         let run = key.workflow_id.get();
         let call = format!(in self.book.alloc; "whole {run} {up_to}, ");
-        self.book.note(call.expect(self.book.rt, "memory").as_str());
+        self.book.note(made(self.book.rt, call).as_str());
         self.script.whole(key, up_to)
     }
 

@@ -1,7 +1,7 @@
 //! What is explained of histories, line by line.
 
 use crate::tests::replaying::{bytes_of, with_status};
-use crate::tests::rows::same;
+use crate::tests::rows::{same, string};
 use crate::tests::scripted::Scripted;
 use std::alloc::Global;
 use std::process::Abort;
@@ -389,20 +389,13 @@ task at 14
 x.json: ok, 3 tasks
 status 0";
 
-/// The text that explains a file, with the status behind it.
-fn explained<W: Workflow>(rt: &impl Abort, alloc: Global, bytes: &[u8]) -> String {
-    let name = String::from_str(alloc, "x.json").expect(rt, "memory");
-    let mut out = Vec::new(alloc);
-    match explain_command::<W, _>(alloc, name, bytes, &mut out) {
-        Ok(status) => with_status(rt, out, status),
-        Err(_) => panic!(rt; "refused"),
-    }
-}
-
-/// The text that explains a history.
+/// The text that explains a history, with the status behind it.
 fn explanation<W: Workflow>(rt: &impl Abort, alloc: Global, history: &'static str) -> String {
     let bytes = bytes_of(rt, alloc, history);
-    explained::<W>(rt, alloc, bytes.as_slice())
+    let name = string(rt, alloc, "x.json");
+    let mut out = Vec::new(alloc);
+    let status = explain_command::<W, _>(alloc, name, bytes.as_slice(), &mut out);
+    with_status(rt, out, status.expect(rt, "refused"))
 }
 
 /// Explains the history that each block begins with, and compares the text with the block's.

@@ -2,18 +2,16 @@
 
 ghost use Rattle.std.specs.Prelude.{◌≡◌};
 
-use crate::tests::cache::{put_word, run_of};
-use crate::tests::rows::{next_number, row, same, shown, wants};
+use crate::tests::cache::{held_len, put_word, run_of};
+use crate::tests::rows::{made, next_number, push, row, run_key, same, shown, string, wants};
 use crate::tests::workflows::Still;
 use std::alloc::Global;
 use std::marker::Brand;
 use std::process::Abort;
 use std::sync::Wait;
 use std::sync::ledger::{Blank, Ledger};
-use wh_histories::key;
-use wh_host::{Config, Evict, Given, Host, HostState, OpenFault, Outcome, Totals};
+use wh_host::{Config, Counts, Given, Host, HostState, OpenFault, Outcome, Totals};
 use wh_ledger::Seat;
-use wh_replay::Run;
 use wh_slots::{Held, Permit, SlotKind, TaskName, UseFault};
 use wh_workflow::Workflow;
 
@@ -111,20 +109,12 @@ pub(crate) fn next_name(rt: &impl Abort, words: &mut &'static str) -> TaskName {
 
 /// The place of the task of a name among those in hand.
 fn place_of(rt: &impl Abort, tasks: &[Task], name: TaskName) -> usize {
-    let place = tasks.iter().position(|task| task.name == name);
-    let place = place.expect(rt, "no such task");
-    assert!(rt; place < tasks.len());
-    place
-}
-
-/// How many events a run held that is let go, 0 where there was none.
-fn held_len(run: Option<Run<Still>>) -> usize {
-    let length = match &run {
-        Some(run) => run.held_len(),
-        None => 0,
-    };
-    drop(run);
-    length
+    for place in 0..tasks.len() {
+        if tasks[place].name == name {
+            return place;
+        }
+    }
+    panic!(rt; "no such task")
 }
 
 /// The answer to a run that is given back.
@@ -134,7 +124,7 @@ fn given_word(rt: &impl Abort, alloc: Global, given: &Given<Still>) -> String {
         Given::Marked(_) => "marked",
         Given::NotHeld(_) => "not held",
     };
-    String::from_str(alloc, word).expect(rt, "memory")
+    string(rt, alloc, word)
 }
 
 /// Reserves a place.
@@ -152,10 +142,11 @@ fn release<T: Ledger, C: Ledger, F: Ledger>(
     state: &mut HostState<Still, T, C, F>,
     permit: Permit,
 ) {
-    assert!(rt; state.release(permit).is_ok());
+    state.release(permit).expect(rt, "release");
 }
 
-/// Uses a reserved place for a task of a run: how many events its run holds, or why not.
+/// Uses a reserved place for a task of a run: how many events its run holds, 0 where there is none,
+/// or why not.
 fn use_place<T: Ledger, C: Ledger, F: Ledger>(
     rt: &impl Abort,
     alloc: Global,
@@ -165,9 +156,9 @@ fn use_place<T: Ledger, C: Ledger, F: Ledger>(
     name: TaskName,
     run: &str,
 ) -> Result<(Held, usize), (Permit, UseFault)> {
-    let key = key(alloc, run).expect(rt, "memory");
+    let key = run_key(rt, alloc, run);
     match state.use_workflow(permit, name, key, seat) {
-        Ok((held, run)) => Ok((held, held_len(run))),
+        Ok((held, run)) => Ok((held, held_len(run).unwrap_or(0))),
         Err((permit, _key, fault)) => Err((permit, fault)),
     }
 }
@@ -186,7 +177,7 @@ fn hold<T: Ledger, C: Ledger, F: Ledger>(
     let Ok((held, length)) = use_place(rt, alloc, state, seat, permit, name, run) else {
         panic!(rt; "use")
     };
-    assert!(rt; tasks.push(Task { name, held }).is_ok());
+    push(rt, tasks, Task { name, held });
     length
 }
 
@@ -216,31 +207,17 @@ fn held_of<'a>(rt: &impl Abort, tasks: &'a [Task], name: TaskName) -> &'a Held {
 }
 
 /// Gives a run back under a task in hand.
-fn give_back<T: Ledger, C: Ledger, F: Ledger>(
-    rt: &impl Abort,
-    alloc: Global,
-    state: &mut HostState<Still, T, C, F>,
-    held: &Held,
-    run: Run<Still>,
-) -> String {
-    let given = state.give_run(held, run);
-    let word = given_word(rt, alloc, &given);
-    drop(given);
-    word
-}
-
-/// Gives a run back under the task of a name.
 fn give<T: Ledger, C: Ledger, F: Ledger>(
     rt: &impl Abort,
     alloc: Global,
     state: &mut HostState<Still, T, C, F>,
-    tasks: &[Task],
-    name: TaskName,
+    held: &Held,
     run: &'static str,
 ) -> String {
-    let (key, history) = run.split_once(' ').expect(rt, run);
-    let run = run_of(rt, alloc, key, history);
-    give_back(rt, alloc, state, held_of(rt, tasks, name), run)
+    let given = state.give_run(held, run_of(rt, alloc, run));
+    let word = given_word(rt, alloc, &given);
+    drop(given);
+    word
 }
 
 /// Ends the task of a name.
@@ -258,28 +235,13 @@ fn finish<T: Ledger, C: Ledger, F: Ledger>(
     state.finish(task.held, outcome, seat).is_ok()
 }
 
-fn counts_text<T: Ledger, C: Ledger, F: Ledger>(
-    rt: &impl Abort,
-    alloc: Global,
-    state: &mut HostState<Still, T, C, F>,
-    seat: &mut Seat<T, C, F>,
-) -> String {
-    let counts = state.counts(seat);
+/// What a host has counted, in words.
+fn counts_text(rt: &impl Abort, alloc: Global, counts: &Counts) -> String {
     let text = format!(in alloc;
         "taken {}, completed {}, cached {}, cached events {}",
         counts.taken, counts.completed, counts.cached, counts.cached_events
     );
-    text.expect(rt, "memory")
-}
-
-fn evict<T: Ledger, C: Ledger, F: Ledger>(
-    rt: &impl Abort,
-    alloc: Global,
-    state: &mut HostState<Still, T, C, F>,
-    run: &str,
-) -> Evict {
-    let key = key(alloc, run).expect(rt, "memory");
-    state.evict(&key)
+    made(rt, text)
 }
 
 /// Takes the task of a run in hand at the next place, and tells how many events its run holds.
@@ -309,7 +271,7 @@ fn task_step<T: Ledger, C: Ledger, F: Ledger>(
     let mut run = rest;
     let name = next_name(rt, &mut run);
     if word == "give" {
-        return give(rt, alloc, state, tasks.as_slice(), name, run);
+        return give(rt, alloc, state, held_of(rt, tasks.as_slice(), name), run);
     }
     if word == "repeat" {
         return shown(rt, alloc, &repeat(rt, alloc, state, seat, name, run));
@@ -336,8 +298,8 @@ fn answered<T: Ledger, C: Ledger, F: Ledger>(
     step: &'static str,
 ) -> String {
     match step.split_once(' ') {
-        None => counts_text(rt, alloc, state, seat),
-        Some(("evict", run)) => shown(rt, alloc, &evict(rt, alloc, state, run)),
+        None => counts_text(rt, alloc, &state.counts(seat)),
+        Some(("evict", run)) => shown(rt, alloc, &state.evict(&run_key(rt, alloc, run))),
         Some((word, rest)) => task_step(rt, alloc, state, seat, tasks, word, rest),
     }
 }
@@ -436,7 +398,7 @@ pub(crate) fn closed<W: Workflow, T: Ledger, C: Ledger, F: Ledger>(
     mut seats: Vec<Seat<T, C, F>>,
     seat: Seat<T, C, F>,
 ) -> Totals {
-    assert!(rt; seats.push(seat).is_ok());
+    push(rt, &mut seats, seat);
     match host.close(seats) {
         Ok(totals) => totals,
         Err(_) => panic!(rt; "not closed"),
@@ -456,17 +418,7 @@ pub(crate) fn open<R: Abort, W: Workflow, T: Ledger, C: Ledger, F: Ledger>(
     requires completed { (completed.name ≡ C.name) × (completed.parts ≡ C.parts) × (completed.parts ≡ config.seats) }
     requires failed { (failed.name ≡ F.name) × (failed.parts ≡ F.parts) × (failed.parts ≡ config.seats) }
 {
-    match Host::open(alloc, config, taken, completed, failed) {
-        Ok(opened) => opened,
-        Err(_) => panic!(rt; "open"),
-    }
-}
-
-/// The sizes of a host, and what is done with it.
-#[derive(Drop)]
-struct Day {
-    config: Config,
-    steps: &'static str,
+    Host::open(alloc, config, taken, completed, failed).expect(rt, "open")
 }
 
 /// How a day ends: how many events the cache holds of run `c`, and what the host has counted. It is
@@ -475,26 +427,24 @@ struct Day {
 fn day_text<R: Wait + Abort, T: Ledger, C: Ledger, F: Ledger>(
     rt: &R,
     alloc: Global,
-    day: &Day,
+    config: Config,
+    steps: &'static str,
     taken: Blank,
     completed: Blank,
     failed: Blank,
 ) -> String
-    requires taken { (taken.name ≡ T.name) × (taken.parts ≡ T.parts) × (taken.parts ≡ day.now.config.seats) }
-    requires completed { (completed.name ≡ C.name) × (completed.parts ≡ C.parts)
-        × (completed.parts ≡ day.now.config.seats) }
-    requires failed { (failed.name ≡ F.name) × (failed.parts ≡ F.parts) × (failed.parts ≡ day.now.config.seats) }
+    requires taken { (taken.name ≡ T.name) × (taken.parts ≡ T.parts) × (taken.parts ≡ config.seats) }
+    requires completed { (completed.name ≡ C.name) × (completed.parts ≡ C.parts) × (completed.parts ≡ config.seats) }
+    requires failed { (failed.name ≡ F.name) × (failed.parts ≡ F.parts) × (failed.parts ≡ config.seats) }
 {
-    let (host, mut seats) = open::<R, Still, T, C, F>(
-        rt, alloc, day.config, taken, completed, failed,
-    );
+    let (host, mut seats) = open::<R, Still, T, C, F>(rt, alloc, config, taken, completed, failed);
     let mut seat = seats.pop().expect(rt, "seat");
     let mut tasks = Vec::new(alloc);
-    let permit = works(rt, alloc, &host, &mut seat, &mut tasks, day.steps);
+    let permit = works(rt, alloc, &host, &mut seat, &mut tasks, steps);
     let (host, seats) = not_closed(rt, host, seats);
     let found = last_task(rt, alloc, &host, &mut seat, &mut tasks, permit);
     let totals = shown(rt, alloc, &closed(rt, host, seats, seat));
-    format!(in alloc; "{found} events, {totals}").expect(rt, "memory")
+    made(rt, format!(in alloc; "{found} events, {totals}"))
 }
 
 #[test]
@@ -503,12 +453,12 @@ fn days_of_a_host(rt: HostRuntime) {
         let (given, wanted) = line.split_once("\nend => ").expect(&rt, line);
         let (mut words, steps) = given.split_once("\n").expect(&rt, line);
         let config = sizes(&rt, &mut words);
-        let day = Day { config, steps };
-        let seats = day.config.seats as u64;
+        let seats = config.seats as u64;
         let text = day_text::<HostRuntime, Brand, Brand, Brand>(
             &rt,
             rt.alloc(),
-            &day,
+            config,
+            steps,
             Blank::new(seats),
             Blank::new(seats),
             Blank::new(seats),

@@ -4,16 +4,16 @@ ghost use Rattle.std.specs.Prelude.{◌≡◌};
 
 use crate::tests::desk::{Desk, Echo, Notebook, Workflows, script};
 use crate::tests::host::{closed, next_name, open, sizes};
-use crate::tests::rows::{cut, next_number, number, row, same, shown};
+use crate::tests::rows::{
+    add, cut, made, next_number, number, push, row, run_key, same, shown, string,
+};
 use crate::tests::runs;
 use std::alloc::Global;
 use std::marker::Brand;
 use std::process::Abort;
 use std::sync::Wait;
 use std::sync::ledger::{Blank, Ledger};
-use wh_events::RunKey;
-use wh_histories::key;
-use wh_host::{Config, Counts, Host, Outcome};
+use wh_host::{Config, Counts, Host, Outcome, Totals};
 use wh_ledger::Seat;
 use wh_poll::{SourceFault, Worker, serve_one, work};
 use wh_replay::Run;
@@ -196,8 +196,13 @@ pub(crate) fn close<R: Wait + Abort, T: Ledger, C: Ledger, F: Ledger>(
 ) -> Counts {
     let counts = host.lock(rt).counts(&mut seat);
     let totals = closed(rt, host, seats, seat);
-    assert!(rt; totals.taken == counts.taken && totals.completed == counts.completed);
-    assert!(rt; totals.failed == counts.failed && totals.in_hand == counts.in_hand);
+    let sums = Totals {
+        taken: counts.taken,
+        completed: counts.completed,
+        failed: counts.failed,
+        in_hand: counts.in_hand,
+    };
+    assert!(rt; totals == sums);
     counts
 }
 
@@ -210,7 +215,7 @@ fn end_text(
     counts: &Counts,
 ) -> String {
     let counts = shown(rt, alloc, counts);
-    format!(in alloc; "{calls}{fault:?}, {counts}").expect(rt, "memory")
+    made(rt, format!(in alloc; "{calls}{fault:?}, {counts}"))
 }
 
 /// The source of a day.
@@ -238,8 +243,7 @@ fn turn<R: Wait + Abort, T: Ledger, C: Ledger, F: Ledger>(
     let mut handler = Echo { book };
     let served = serve_one(rt, alloc, book.host, seat, source, &mut handler, book, kind);
     let mut text = book.calls();
-    let served = shown(rt, alloc, &served);
-    assert!(rt; text.push_str(served.as_str()).is_ok());
+    add(rt, &mut text, shown(rt, alloc, &served).as_str());
     text
 }
 
@@ -252,29 +256,6 @@ fn reserved<R: Wait + Abort, T: Ledger, C: Ledger, F: Ledger>(
     reserved.expect(book.rt, "reserve")
 }
 
-/// Keeps a task in hand.
-fn keep(rt: &impl Abort, tasks: &mut Vec<Held>, held: Held) {
-    assert!(rt; tasks.push(held).is_ok());
-}
-
-/// A workflow task in hand, and its run, if one is cached.
-fn used<R: Wait + Abort, T: Ledger, C: Ledger, F: Ledger>(
-    book: &Notebook<'_, '_, R, T, C, F>,
-    seat: &mut Seat<T, C, F>,
-    permit: Permit,
-    name: TaskName,
-    key: RunKey,
-) -> (Held, Option<Run<Workflows>>) {
-    let used = book
-        .host
-        .lock(book.rt)
-        .use_workflow(permit, name, key, seat);
-    match used {
-        Ok(used) => used,
-        Err(_) => panic!(book.rt; "use"),
-    }
-}
-
 /// Takes a workflow task in hand, and gives its run, if one is cached.
 fn hold<R: Wait + Abort, T: Ledger, C: Ledger, F: Ledger>(
     book: &Notebook<'_, '_, R, T, C, F>,
@@ -283,38 +264,16 @@ fn hold<R: Wait + Abort, T: Ledger, C: Ledger, F: Ledger>(
     name: TaskName,
     run: &str,
 ) -> Option<Run<Workflows>> {
-    let key = key(book.alloc, run).expect(book.rt, "memory");
+    let rt = book.rt;
+    let key = run_key(rt, book.alloc, run);
     let permit = reserved(book, SlotKind::Workflow);
-    let (held, run) = used(book, seat, permit, name, key);
-    keep(book.rt, tasks, held);
+    let used = book.host.lock(rt).use_workflow(permit, name, key, seat);
+    let (held, run) = used.expect(rt, "use");
+    push(rt, tasks, held);
     run
 }
 
-/// Takes an activity task in hand.
-fn hold_activity<R: Wait + Abort, T: Ledger, C: Ledger, F: Ledger>(
-    book: &Notebook<'_, '_, R, T, C, F>,
-    seat: &mut Seat<T, C, F>,
-    tasks: &mut Vec<Held>,
-    name: TaskName,
-) {
-    let permit = reserved(book, SlotKind::Activity);
-    let used = book.host.lock(book.rt).use_activity(permit, name, seat);
-    let Ok(held) = used else {
-        panic!(book.rt; "use")
-    };
-    keep(book.rt, tasks, held);
-}
-
 /// Ends the task that was taken in hand last, and says whether it could be.
-fn finish_text<R: Wait + Abort, T: Ledger, C: Ledger, F: Ledger>(
-    book: &Notebook<'_, '_, R, T, C, F>,
-    seat: &mut Seat<T, C, F>,
-    tasks: &mut Vec<Held>,
-) -> String {
-    shown(book.rt, book.alloc, &finish(book, seat, tasks))
-}
-
-/// Ends the task that was taken in hand last.
 fn finish<R: Wait + Abort, T: Ledger, C: Ledger, F: Ledger>(
     book: &Notebook<'_, '_, R, T, C, F>,
     seat: &mut Seat<T, C, F>,
@@ -365,23 +324,28 @@ fn hold_text<R: Wait + Abort, T: Ledger, C: Ledger, F: Ledger>(
     shown(book.rt, book.alloc, &is_cached)
 }
 
-/// Takes an activity task in hand, by its name.
-fn hold_activity_text<R: Wait + Abort, T: Ledger, C: Ledger, F: Ledger>(
+/// Takes an activity task in hand, by its name, and says that it could be.
+fn hold_activity<R: Wait + Abort, T: Ledger, C: Ledger, F: Ledger>(
     book: &Notebook<'_, '_, R, T, C, F>,
     seat: &mut Seat<T, C, F>,
     tasks: &mut Vec<Held>,
     task: &'static str,
 ) -> String {
+    let rt = book.rt;
     let mut rest = task;
-    hold_activity(book, seat, tasks, next_name(book.rt, &mut rest));
-    shown(book.rt, book.alloc, &true)
+    let permit = reserved(book, SlotKind::Activity);
+    let name = next_name(rt, &mut rest);
+    let used = book.host.lock(rt).use_activity(permit, name, seat);
+    push(rt, tasks, used.expect(rt, "use"));
+    string(rt, book.alloc, "true")
 }
 
 /// Drains the host.
-fn drain_text<R: Wait + Abort, T: Ledger, C: Ledger, F: Ledger>(
+fn drain<R: Wait + Abort, T: Ledger, C: Ledger, F: Ledger>(
     book: &Notebook<'_, '_, R, T, C, F>,
 ) -> String {
-    shown(book.rt, book.alloc, &book.host.lock(book.rt).drain())
+    book.host.lock(book.rt).drain();
+    string(book.rt, book.alloc, "()")
 }
 
 /// What a step answers: a word, and most often what it is about.
@@ -399,24 +363,11 @@ fn answered<R: Wait + Abort, T: Ledger, C: Ledger, F: Ledger>(
         "counts" => counts_text(book, seat),
         "advance" => advance(book, seat, tasks, rest),
         "hold" => hold_text(book, seat, tasks, rest),
-        "hold_activity" => hold_activity_text(book, seat, tasks, rest),
-        "finish" => finish_text(book, seat, tasks),
-        "drain" => drain_text(book),
-        _ => panic!(book.rt; "no step: {step}"),
+        "hold_activity" => hold_activity(book, seat, tasks, rest),
+        "finish" => shown(book.rt, book.alloc, &finish(book, seat, tasks)),
+        "drain" => drain(book),
+        _ => book.rt.panic(step),
     }
-}
-
-/// Takes a step, and compares what it answers.
-fn take_step<R: Wait + Abort, T: Ledger, C: Ledger, F: Ledger>(
-    book: &Notebook<'_, '_, R, T, C, F>,
-    seat: &mut Seat<T, C, F>,
-    source: &mut FaultySource<Desk<'_, '_, '_, R, T, C, F>>,
-    tasks: &mut Vec<Held>,
-    line: &'static str,
-) {
-    let (step, wanted) = row(book.rt, line);
-    let text = answered(book, seat, source, tasks, step);
-    same(book.rt, step, text.as_str(), wanted);
 }
 
 /// Takes the steps of a day, and compares what each of them answers.
@@ -428,7 +379,9 @@ fn take_steps<R: Wait + Abort, T: Ledger, C: Ledger, F: Ledger>(
     let mut source = desk(book, day);
     let mut tasks = Vec::new(book.alloc);
     for line in day.steps.lines() {
-        take_step(book, seat, &mut source, &mut tasks, line);
+        let (step, wanted) = row(book.rt, line);
+        let text = answered(book, seat, &mut source, &mut tasks, step);
+        same(book.rt, step, text.as_str(), wanted);
     }
 }
 
@@ -439,8 +392,23 @@ pub(crate) fn left<T: Ledger, C: Ledger, F: Ledger, S: Drop>(
     (worker.seat, worker.fault)
 }
 
-/// Spends a day: takes its steps, lets a worker do so many turns over a source of its own, closes
-/// the host, and tells how it ended.
+/// Takes the steps of a day, and then lets a worker do so many turns over a source of its own: the
+/// seat comes back, with the first fault of the source and the calls of the worker.
+fn worked<R: Wait + Abort, T: Ledger, C: Ledger, F: Ledger>(
+    book: &Notebook<'_, '_, R, T, C, F>,
+    mut seat: Seat<T, C, F>,
+    day: &Day,
+) -> (Seat<T, C, F>, Option<SourceFault>, String) {
+    take_steps(book, &mut seat, day);
+    let source = desk(book, day);
+    let handler = Echo { book };
+    let (rt, alloc) = (book.rt, book.alloc);
+    let worker = work(rt, alloc, book.host, seat, source, handler, book, day.turns);
+    let (seat, fault) = left(worker);
+    (seat, fault, book.calls())
+}
+
+/// Spends a day, closes the host, and tells how the day ended.
 fn spend<R: Wait + Abort, T: Ledger, C: Ledger, F: Ledger>(
     rt: &R,
     alloc: Global,
@@ -457,13 +425,9 @@ fn spend<R: Wait + Abort, T: Ledger, C: Ledger, F: Ledger>(
     let (host, mut seats) = open::<R, Workflows, T, C, F>(
         rt, alloc, day.config, taken, completed, failed,
     );
-    let mut seat = seats.pop().expect(rt, "seat");
+    let seat = seats.pop().expect(rt, "seat");
     let book = Notebook::new(rt, alloc, &host, day.deeds);
-    take_steps(&book, &mut seat, day);
-    let source = desk(&book, day);
-    let handler = Echo { book: &book };
-    let (seat, fault) = left(work(rt, alloc, &host, seat, source, handler, &book, day.turns));
-    let calls = book.calls();
+    let (seat, fault, calls) = worked(&book, seat, day);
     drop(book);
     let counts = close(rt, host, seats, seat);
     end_text(rt, alloc, calls, fault, &counts)

@@ -1,6 +1,6 @@
 //! What texts are read as.
 
-use crate::tests::rows::{add, number, row, same, shown, wants};
+use crate::tests::rows::{made, number, push, repeated, row, same, shown, wants};
 use std::alloc::Global;
 use std::process::Abort;
 use wh_json::read_events;
@@ -264,16 +264,14 @@ WorkflowPropertiesModified EVENT_TYPE_WORKFLOW_PROPERTIES_MODIFIED  => Inert
 
 /// A form with other texts in place of its `@` and its `%`.
 fn filled(rt: &impl Abort, alloc: Global, form: &str, first: &str, second: &str) -> String {
-    let text = form.replace(alloc, "@", first).expect(rt, "memory");
-    text.as_str()
-        .replace(alloc, "%", second)
-        .expect(rt, "memory")
+    let text = made(rt, form.replace(alloc, "@", first));
+    made(rt, text.as_str().replace(alloc, "%", second))
 }
 
 /// How many events there are, or the fault.
 fn answer(rt: &impl Abort, alloc: Global, bytes: &[u8]) -> String {
     match read_events(alloc, bytes) {
-        Ok(events) => format!(in alloc; "{} events", events.len()).expect(rt, "memory"),
+        Ok(events) => made(rt, format!(in alloc; "{} events", events.len())),
         Err(fault) => shown(rt, alloc, &fault),
     }
 }
@@ -398,10 +396,8 @@ const DEPTHS: &str = "\
 
 /// As many lists within one another.
 fn nested(rt: &impl Abort, alloc: Global, depth: usize) -> String {
-    let mut text = "[".repeat(alloc, depth).expect(rt, "memory");
-    let close = "]".repeat(alloc, depth).expect(rt, "memory");
-    add(rt, &mut text, close.as_str());
-    text
+    let close = repeated(rt, alloc, "]", depth, "");
+    repeated(rt, alloc, "[", depth, close.as_str())
 }
 
 #[test]
@@ -417,6 +413,6 @@ fn bounds_the_nesting(rt: HostRuntime) {
 fn bounds_the_length(rt: HostRuntime) {
     let mut bytes = vec![in rt.alloc(); b' '; 67_108_864].expect(&rt, "memory");
     answers(&rt, rt.alloc(), bytes.as_slice(), "BadJson");
-    assert!(rt; bytes.push(b' ').is_ok());
+    push(&rt, &mut bytes, b' ');
     answers(&rt, rt.alloc(), bytes.as_slice(), "TooLong");
 }

@@ -2,6 +2,7 @@
 
 ghost use Rattle.std.specs.Prelude.{◌≡◌};
 
+use crate::tests::rows::push;
 use std::alloc::Global;
 use std::marker::Brand;
 use std::process::Abort;
@@ -54,9 +55,9 @@ fn day<T: Ledger, C: Ledger, F: Ledger>(
     books.add_completed(&mut first);
     books.add_failed(&mut second);
     let totals = books.totals();
-    assert!(rt; seats.push(second).is_ok());
+    push(rt, &mut seats, second);
     let (books, mut seats) = not_gathered(rt, books, seats);
-    assert!(rt; seats.push(first).is_ok());
+    push(rt, &mut seats, first);
     (totals, gathered(rt, books, seats))
 }
 

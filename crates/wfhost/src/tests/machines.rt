@@ -1,10 +1,9 @@
 //! Which events are in place, and where things stand.
 
-use crate::tests::rows::{numbered, row, text, track_of, wants};
+use crate::tests::rows::{self, made, numbered, recorded, row, text, track_of, wants};
 use std::alloc::Global;
 use std::process::Abort;
 use wh_events::{Event, EventKind, Items, OpenKind, Status, Text};
-use wh_histories::events;
 use wh_machines::{PushFault, Track};
 
 /// A history, what becomes of further events, each pushed with the next number, and how many events
@@ -34,9 +33,8 @@ fn pushes(
 ) -> (Vec<Result<(), PushFault>>, usize) {
     let mut track = track_of(rt, alloc, history);
     let mut answers = Vec::new(alloc);
-    for event in events(alloc, further).expect(rt, further) {
-        let answer = push(rt, &mut track, event.body);
-        assert!(rt; answers.push(answer).is_ok());
+    for event in recorded(rt, alloc, further, 0) {
+        rows::push(rt, &mut answers, push(rt, &mut track, event.body));
     }
     (answers, track.into_events().len())
 }
@@ -51,16 +49,17 @@ fn judges_places(rt: HostRuntime) {
     }
 }
 
-/// Starts a timer of the id, which is in place.
-fn start_timer(rt: &impl Abort, alloc: Global, track: &mut Track, id: &str) {
-    let id = text(rt, alloc, id);
-    assert!(rt; push(rt, track, EventKind::TimerStarted { id }).is_ok());
-}
-
 /// Fires the timer that was started last.
 fn fire(rt: &impl Abort, track: &mut Track) {
     let started = track.len() as u64;
-    assert!(rt; push(rt, track, EventKind::TimerFired { started }).is_ok());
+    push(rt, track, EventKind::TimerFired { started }).expect(rt, "in place");
+}
+
+/// Starts a timer of the id, and fires it.
+fn start_and_fire(rt: &impl Abort, alloc: Global, track: &mut Track, id: &str) {
+    let id = text(rt, alloc, id);
+    push(rt, track, EventKind::TimerStarted { id }).expect(rt, "in place");
+    fire(rt, track);
 }
 
 /// Whether a value may go to another thread.
@@ -82,7 +81,7 @@ fn stands(rt: &impl Abort, alloc: Global, track: &Track, opened: u64, status: &s
 /// A copy of a track of six events takes a seventh, and the first has six still.
 fn copies(rt: &impl Abort, track: &Track) {
     let mut copy = track.try_copy().expect(rt, "memory");
-    assert!(rt; push(rt, &mut copy, EventKind::WorkflowTaskScheduled).is_ok());
+    push(rt, &mut copy, EventKind::WorkflowTaskScheduled).expect(rt, "in place");
     assert!(rt; copy.len() == 7 && track.len() == 6);
     drop(copy);
 }
@@ -126,8 +125,7 @@ fn finds_each_nap(rt: &impl Abort, track: &Track) {
 fn walks_back_over_timers_of_one_id(rt: HostRuntime) {
     let mut track = track_of(&rt, rt.alloc(), "nap/6");
     for _ in 3..100u64 {
-        start_timer(&rt, rt.alloc(), &mut track, "nap");
-        fire(&rt, &mut track);
+        start_and_fire(&rt, rt.alloc(), &mut track, "nap");
     }
     finds_each_nap(&rt, &track);
     assert!(rt; track.last_at(OpenKind::Timer, "nap", 4).is_none());
@@ -137,9 +135,8 @@ fn walks_back_over_timers_of_one_id(rt: HostRuntime) {
 fn full_track(rt: &impl Abort, alloc: Global) -> Track {
     let mut track = track_of(rt, alloc, "start:Nap");
     for pair in 1..25_600u64 {
-        let id = format!(in alloc; "{pair}").expect(rt, "memory");
-        start_timer(rt, alloc, &mut track, id.as_str());
-        fire(rt, &mut track);
+        let id = made(rt, format!(in alloc; "{pair}"));
+        start_and_fire(rt, alloc, &mut track, id.as_str());
     }
     track
 }
@@ -169,7 +166,7 @@ fn holds_the_most_events(rt: HostRuntime) {
 fn new_timer(rt: &impl Abort, alloc: Global, number: u64) -> EventKind {
     let id = match format!(in alloc; "timer {number}") {
         Ok(id) => id,
-        Err(_) => format!(in alloc; "timer {number}").expect(rt, "memory"),
+        Err(_) => made(rt, format!(in alloc; "timer {number}")),
     };
     EventKind::TimerStarted { id: Text::new(id) }
 }
@@ -186,7 +183,7 @@ fn start(alloc: Global) -> EventKind {
 fn started(rt: &impl Abort, alloc: Global) -> Track {
     let mut track = Track::new(alloc);
     if push(rt, &mut track, start(alloc)).is_err() {
-        assert!(rt; push(rt, &mut track, start(alloc)).is_ok());
+        push(rt, &mut track, start(alloc)).expect(rt, "in place");
     }
     track
 }
@@ -197,7 +194,7 @@ fn pushes_again(rt: &impl Abort, alloc: Global, track: &mut Track, number: u64, 
     assert!(rt; fault == PushFault::OutOfMemory);
     assert!(rt; (track.len() as u64).saturating_add(1) == number);
     stands(rt, alloc, track, number, "None");
-    assert!(rt; push(rt, track, new_timer(rt, alloc, number)).is_ok());
+    push(rt, track, new_timer(rt, alloc, number)).expect(rt, "in place");
 }
 
 /// Each timer is open after its push. A growth is refused only where the tests are run so, and then

@@ -1,6 +1,8 @@
 //! What a task may command, which versions it is told, and whether commands match their record.
 
-use crate::tests::rows::{add, cut, number, numbered, row, same, shown, text, track_of, wants};
+use crate::tests::rows::{
+    add, cut, made, number, numbered, push, row, same, shown, text, track_of, wants,
+};
 use std::alloc::Global;
 use std::process::Abort;
 use wh_events::{Event, EventNo, Items};
@@ -26,31 +28,20 @@ late from 11 to 8 gives cancel_timer:t cancel_activity:1 => Some(NotOpen) None s
 late from 3 to 20 gives cancel_activity:1 timer:t => None None sends [StartTimer id: t, seconds: 30]
 ";
 
-/// The command to start an activity.
-fn start_activity(rt: &impl Abort, alloc: Global, id: &str, activity: &str) -> Command {
-    Command::StartActivity {
-        id: text(rt, alloc, id),
-        activity: text(rt, alloc, activity),
-        input: Items::new(Vec::new(alloc)),
-    }
-}
-
 /// A command by a short word: what it does, and what it names.
 fn command(rt: &impl Abort, alloc: Global, word: &str) -> Command {
     let (deed, names) = word.split_once(':').unwrap_or((word, ""));
     let (name, second) = names.split_once(':').unwrap_or((names, ""));
+    let id = text(rt, alloc, name);
     match deed {
-        "activity" => start_activity(rt, alloc, name, second),
-        "cancel_activity" => Command::CancelActivity {
-            id: text(rt, alloc, name),
+        "activity" => Command::StartActivity {
+            id,
+            activity: text(rt, alloc, second),
+            input: Items::new(Vec::new(alloc)),
         },
-        "timer" => Command::StartTimer {
-            id: text(rt, alloc, name),
-            seconds: 30,
-        },
-        "cancel_timer" => Command::CancelTimer {
-            id: text(rt, alloc, name),
-        },
+        "cancel_activity" => Command::CancelActivity { id },
+        "timer" => Command::StartTimer { id, seconds: 30 },
+        "cancel_timer" => Command::CancelTimer { id },
         _ => Command::Complete {
             result: Items::new(Vec::new(alloc)),
         },
@@ -86,7 +77,7 @@ fn asked(
     let max = max.parse::<i32>().expect(rt, range);
     let answer = shown(rt, alloc, &script.ask(recorded, versions, "chg", min, max));
     let settled = shown(rt, alloc, &versions.get("chg"));
-    format!(in alloc; "{answer} {settled}").expect(rt, "memory")
+    made(rt, format!(in alloc; "{answer} {settled}"))
 }
 
 /// What a script answers to a word. An ask is one of a live task, a recall one of a recorded task.
@@ -163,7 +154,8 @@ fn takes_as_many_asks_as_commands(rt: HostRuntime) {
     let mut versions = Versions::new(alloc);
     let mut script = Script::new(alloc, 0, numbered(&rt, 3));
     for _ in 0..4096u32 {
-        assert!(rt; script.ask(None, &mut versions, "chg", -1, 1) == Ok(1));
+        let version = script.ask(None, &mut versions, "chg", -1, 1);
+        assert!(rt; version.expect(&rt, "an ask") == 1);
     }
     let refused = script.ask(None, &mut versions, "chg", -1, 1);
     wants(
@@ -184,17 +176,11 @@ start:Racer S T C activity:1:race timer:t timer:x => Err(CommandMissing event: 7
 start:Racer S T C activity:1:greets => Err(Different event: 5)
 ";
 
-/// Adds a command by its short word.
-fn push(rt: &impl Abort, alloc: Global, commands: &mut Vec<Command>, word: &str) {
-    commands.reserve(1).expect(rt, "memory");
-    commands.push_reserved(command(rt, alloc, word));
-}
-
 /// The commands to race, which a run that begins gives.
 fn race(rt: &impl Abort, alloc: Global) -> Vec<Command> {
     let mut commands = Vec::new(alloc);
-    push(rt, alloc, &mut commands, "activity:1:race");
-    push(rt, alloc, &mut commands, "timer:t");
+    push(rt, &mut commands, command(rt, alloc, "activity:1:race"));
+    push(rt, &mut commands, command(rt, alloc, "timer:t"));
     commands
 }
 

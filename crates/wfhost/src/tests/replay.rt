@@ -1,11 +1,10 @@
 //! Runs, how often they are stepped, and histories that are checked.
 
-use crate::tests::rows::{recorded, row, same, shown};
+use crate::tests::rows::{made, recorded, row, run_key, same, shown};
 use crate::tests::workflows::Still;
 use std::alloc::Global;
 use std::process::Abort;
 use wh_events::Event;
-use wh_histories::{events, key};
 use wh_replay::{Run, check};
 use wh_samples::All;
 use wh_workflow::{Meter, Workflow};
@@ -24,13 +23,9 @@ fn first_task<W: Workflow>(
     history: &'static str,
     meter: &mut Meter,
 ) -> Run<W> {
-    let mut events = events(alloc, history).expect(rt, history);
+    let mut events = recorded(rt, alloc, history, 0);
     events.truncate(2);
-    let key = key(alloc, "w").expect(rt, "memory");
-    match Run::from_first(alloc, key, events, meter) {
-        Ok(run) => run,
-        Err(fault) => panic!(rt; "{fault:?}"),
-    }
+    Run::from_first(alloc, run_key(rt, alloc, "w"), events, meter).expect(rt, history)
 }
 
 /// A run that goes on, whose advance has no fault.
@@ -56,7 +51,7 @@ fn steps<W: Workflow>(rt: &impl Abort, alloc: Global, history: &'static str) -> 
     let then = meter.count();
     let held = run.held_len();
     drop(run);
-    format!(in alloc; "{first}, then {then}, holds {held}").expect(rt, "memory")
+    made(rt, format!(in alloc; "{first}, then {then}, holds {held}"))
 }
 
 #[test]
@@ -115,8 +110,11 @@ C signal:s T | 'eventId':'3' -> 'eventId':'5' | 'eventId':'2' -> 'eventId':'4' |
 
 /// What a history has, or its fault.
 fn checked_text<W: Workflow>(rt: &impl Abort, alloc: Global, history: &'static str) -> String {
-    let events = events(alloc, history).expect(rt, history);
-    shown(rt, alloc, &check::<W>(alloc, events))
+    shown(
+        rt,
+        alloc,
+        &check::<W>(alloc, recorded(rt, alloc, history, 0)),
+    )
 }
 
 /// Checks the history of each row.

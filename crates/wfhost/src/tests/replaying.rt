@@ -1,6 +1,6 @@
 //! What the command `replay` writes of histories in short words.
 
-use crate::tests::rows::{row, same};
+use crate::tests::rows::{made, push, row, same, string, written};
 use std::alloc::Global;
 use std::io::Write;
 use std::process::Abort;
@@ -25,10 +25,8 @@ pub(crate) fn push_file(
     name: &str,
     bytes: &[u8],
 ) {
-    let name = String::from_str(alloc, name).expect(rt, "memory");
     let bytes = Vec::from_slice(alloc, bytes).expect(rt, "memory");
-    files.reserve(1).expect(rt, "memory");
-    files.push_reserved((name, bytes));
+    push(rt, files, (string(rt, alloc, name), bytes));
 }
 
 /// Adds a file with a history.
@@ -45,11 +43,8 @@ pub(crate) fn push_history(
 
 /// A report with its status behind it.
 pub(crate) fn with_status(rt: &impl Abort, mut out: Vec<u8>, status: u8) -> String {
-    assert!(rt; write!(out, "status {status}").is_ok());
-    match String::from_utf8(out) {
-        Ok(report) => report,
-        Err(_) => panic!(rt; "no text"),
-    }
+    write!(out, "status {status}").expect(rt, "written");
+    written(rt, out)
 }
 
 /// What the command writes of the files, with its status behind it.
@@ -59,28 +54,25 @@ pub(crate) fn replayed<W: Workflow + Send, R: Threads + Sync + Abort>(
     files: Vec<(String, Vec<u8>)>,
 ) -> String {
     let mut out = Vec::new(alloc);
-    match replay_command::<W, _, _>(rt, alloc, files, &mut out) {
-        Ok(status) => with_status(rt, out, status),
-        Err(_) => panic!(rt; "refused"),
-    }
+    let status = replay_command::<W, _, _>(rt, alloc, files, &mut out);
+    with_status(rt, out, status.expect(rt, "refused"))
 }
 
-/// What the command writes of one file, `x.json`, with its status behind it.
-fn report_of<W: Workflow + Send, R: Threads + Sync + Abort>(
-    rt: &R,
-    alloc: Global,
-    bytes: &[u8],
-) -> String {
+/// One file, `x.json`.
+fn one_file(rt: &impl Abort, alloc: Global, bytes: &[u8]) -> Vec<(String, Vec<u8>)> {
     let mut files = Vec::new(alloc);
     push_file(rt, alloc, &mut files, "x.json", bytes);
-    replayed::<W, R>(rt, alloc, files)
+    files
 }
 
 /// A line of one file, the totals that fit it, and the status.
 fn report_with(rt: &impl Abort, alloc: Global, line: &str) -> String {
     let good = u8::from(line.starts_with("x.json: ok, "));
     let bad = 1 - good;
-    format!(in alloc; "{line}\n1 files, {good} ok\nstatus {bad}").expect(rt, "memory")
+    made(
+        rt,
+        format!(in alloc; "{line}\n1 files, {good} ok\nstatus {bad}"),
+    )
 }
 
 /// The command writes this line of one file, the totals that fit it, and its status.
@@ -91,20 +83,9 @@ pub(crate) fn reads<W: Workflow + Send, R: Threads + Sync + Abort>(
     bytes: &[u8],
     line: &str,
 ) {
-    let report = report_of::<W, R>(rt, alloc, bytes);
+    let report = replayed::<W, R>(rt, alloc, one_file(rt, alloc, bytes));
     let wanted = report_with(rt, alloc, line);
     same(rt, given, report.as_str(), wanted.as_str());
-}
-
-/// Replays a history, and compares the line of the report.
-fn replays_one<W: Workflow + Send, R: Threads + Sync + Abort>(
-    rt: &R,
-    alloc: Global,
-    history: &'static str,
-    line: &str,
-) {
-    let bytes = bytes_of(rt, alloc, history);
-    reads::<W, R>(rt, alloc, history, bytes.as_slice(), line);
 }
 
 /// Replays the history of each row, and compares the line of the report.
@@ -115,6 +96,7 @@ pub(crate) fn replays<W: Workflow + Send, R: Threads + Sync + Abort>(
 ) {
     for line in table.lines() {
         let (history, wanted) = row(rt, line);
-        replays_one::<W, R>(rt, alloc, history, wanted);
+        let bytes = bytes_of(rt, alloc, history);
+        reads::<W, R>(rt, alloc, history, bytes.as_slice(), wanted);
     }
 }

@@ -1,7 +1,7 @@
 //! Reports of several files.
 
 use crate::tests::replaying::{push_history, replayed};
-use crate::tests::rows::{add, row, same};
+use crate::tests::rows::{made, repeated, row, same};
 use std::alloc::Global;
 use std::process::Abort;
 use std::thread::Threads;
@@ -38,10 +38,7 @@ pub(crate) fn named_files(
 /// The report of files, as one line.
 fn report_line<R: Threads + Sync + Abort>(rt: &R, alloc: Global, list: &'static str) -> String {
     let report = replayed::<All, _>(rt, alloc, named_files(rt, alloc, list));
-    report
-        .as_str()
-        .replace(alloc, "\n", ", ")
-        .expect(rt, "memory")
+    made(rt, report.as_str().replace(alloc, "\n", ", "))
 }
 
 #[test]
@@ -66,9 +63,9 @@ fn naps(rt: &impl Abort, alloc: Global, count: usize) -> Vec<(String, Vec<u8>)> 
 fn many_files_are_replayed(rt: HostRuntime) {
     let alloc = rt.alloc();
     let report = replayed::<All, _>(&rt, alloc, naps(&rt, alloc, 3_000));
-    let lines = "nap.json: ok, 2 tasks\n".repeat(alloc, 3_000);
-    let mut wanted = lines.expect(&rt, "memory");
-    add(&rt, &mut wanted, "3000 files, 3000 ok\nstatus 0");
+    let line = "nap.json: ok, 2 tasks\n";
+    let end = "3000 files, 3000 ok\nstatus 0";
+    let wanted = repeated(&rt, alloc, line, 3_000, end);
     same(&rt, "many files", report.as_str(), wanted.as_str());
 }
 

@@ -1,10 +1,10 @@
 //! Tables of rows, each of which says what is given and what is wanted of it.
 
-use std::alloc::Global;
+use std::alloc::{AllocError, Global};
 use std::fmt::Debug;
 use std::process::Abort;
-use wh_events::{Event, EventNo, Text};
-use wh_histories::{events, events_behind};
+use wh_events::{Event, EventNo, RunKey, Text};
+use wh_histories::{events, events_behind, key};
 use wh_machines::Track;
 
 /// What is given in a row, and what is wanted of it.
@@ -30,6 +30,16 @@ pub(crate) fn next_number(rt: &impl Abort, text: &mut &'static str) -> u64 {
     number(rt, cut(text, " "))
 }
 
+/// A text for which there was memory.
+pub(crate) fn made(rt: &impl Abort, text: Result<String, AllocError>) -> String {
+    text.expect(rt, "memory")
+}
+
+/// A text with these words.
+pub(crate) fn string(rt: &impl Abort, alloc: Global, words: &str) -> String {
+    made(rt, String::from_str(alloc, words))
+}
+
 /// What a derived text has around its names and numbers.
 const MARKS: [&str; 6] = [
     "Text { text: ",
@@ -42,16 +52,16 @@ const MARKS: [&str; 6] = [
 
 /// A value as its derived text says it, with nothing around its names and numbers.
 pub(crate) fn shown<T: Debug>(rt: &impl Abort, alloc: Global, value: &T) -> String {
-    let mut text = format!(in alloc; "{value:?}").expect(rt, "memory");
+    let mut text = made(rt, format!(in alloc; "{value:?}"));
     for mark in MARKS {
-        text = text.as_str().replace(alloc, mark, "").expect(rt, "memory");
+        text = made(rt, text.as_str().replace(alloc, mark, ""));
     }
     text
 }
 
 /// The words are what is wanted of what is given.
 pub(crate) fn same(rt: &impl Abort, given: &str, words: &str, wanted: &str) {
-    assert_eq!(rt; words, wanted, "{given}");
+    assert!(rt; words == wanted, "{given}: {words} in place of {wanted}");
 }
 
 /// The value of a row is what is wanted, in words.
@@ -73,12 +83,41 @@ pub(crate) fn numbered(rt: &impl Abort, number: u64) -> EventNo {
 
 /// A text with what these words say.
 pub(crate) fn text(rt: &impl Abort, alloc: Global, content: &str) -> Text {
-    Text::new(String::from_str(alloc, content).expect(rt, "memory"))
+    Text::new(string(rt, alloc, content))
+}
+
+/// The key of the run of a name.
+pub(crate) fn run_key(rt: &impl Abort, alloc: Global, name: &str) -> RunKey {
+    key(alloc, name).expect(rt, "memory")
+}
+
+/// Adds a value to a list.
+pub(crate) fn push<T: Drop>(rt: &impl Abort, list: &mut Vec<T>, value: T) {
+    list.reserve(1).expect(rt, "memory");
+    list.push_reserved(value);
 }
 
 /// Adds words to a text.
 pub(crate) fn add(rt: &impl Abort, text: &mut String, words: &str) {
     text.push_str(words).expect(rt, "memory");
+}
+
+/// These words as often as this, and others behind them.
+pub(crate) fn repeated(
+    rt: &impl Abort,
+    alloc: Global,
+    words: &str,
+    count: usize,
+    end: &str,
+) -> String {
+    let mut text = made(rt, words.repeat(alloc, count));
+    add(rt, &mut text, end);
+    text
+}
+
+/// A text that was written as bytes.
+pub(crate) fn written(rt: &impl Abort, bytes: Vec<u8>) -> String {
+    String::from_utf8(bytes).expect(rt, "a text")
 }
 
 /// The events of a history behind as many as it says itself, else behind so many.

@@ -1,10 +1,9 @@
 //! Runs, from their first event and as they go on.
 
-use crate::tests::rows::{number, numbered, recorded, row, same, shown};
+use crate::tests::rows::{made, number, numbered, recorded, row, run_key, same, shown};
 use std::alloc::Global;
 use std::process::Abort;
 use wh_events::EventNo;
-use wh_histories::key;
 use wh_replay::{AdvanceFault, Run, RunFault};
 use wh_samples::{All, Flood};
 use wh_workflow::{Meter, Workflow};
@@ -97,7 +96,7 @@ caller/8 at 5 => Some(Closed by: 6)
 /// The version of the change `chg`, if there is one.
 fn version_text(rt: &impl Abort, alloc: Global, version: Option<i32>) -> String {
     match version {
-        Some(version) => format!(in alloc; ", chg is {version}").expect(rt, "memory"),
+        Some(version) => made(rt, format!(in alloc; ", chg is {version}")),
         None => String::new(alloc),
     }
 }
@@ -114,7 +113,10 @@ fn run_text<W: Workflow>(
     let held = run.held_len();
     let commands = shown(rt, alloc, &run.commands());
     let version = version_text(rt, alloc, run.version("chg"));
-    format!(in alloc; "{word}{steps} steps, holds {held}, {commands}{version}").expect(rt, "memory")
+    made(
+        rt,
+        format!(in alloc; "{word}{steps} steps, holds {held}, {commands}{version}"),
+    )
 }
 
 /// The run of a history from its first event.
@@ -124,7 +126,7 @@ fn begun<W: Workflow>(
     history: &'static str,
     meter: &mut Meter,
 ) -> Result<Run<W>, RunFault> {
-    let key = key(alloc, "nap").expect(rt, "memory");
+    let key = run_key(rt, alloc, "nap");
     Run::from_first(alloc, key, recorded(rt, alloc, history, 0), meter)
 }
 
@@ -152,10 +154,7 @@ fn begun_text<W: Workflow>(rt: &impl Abort, alloc: Global, history: &'static str
 
 /// The run of a history that has no fault.
 fn good<W: Workflow>(rt: &impl Abort, alloc: Global, history: &'static str) -> Run<W> {
-    match begun(rt, alloc, history, &mut Meter::new()) {
-        Ok(run) => run,
-        Err(fault) => panic!(rt; "{history}: {fault:?}"),
-    }
+    begun(rt, alloc, history, &mut Meter::new()).expect(rt, history)
 }
 
 /// What came of a run that was advanced in so many steps.

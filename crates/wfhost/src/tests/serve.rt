@@ -147,8 +147,7 @@ fn serve<R: Threads + Wait + Abort + Sync, O: Write>(
     writer: &mut O,
 ) -> Result<u8, CommandFault> {
     let (workers, cache, cache_events) = (sizes.workers, sizes.cache, sizes.cache_events);
-    assert!(rt; 1 <= workers && workers <= 4);
-    assert!(rt; cache <= 100 && cache_events <= 100);
+    assert!(rt; 1 <= workers && workers <= 4 && cache <= 100 && cache_events <= 100);
     serve_command::<All, _, _>(
         rt,
         alloc,
@@ -161,35 +160,29 @@ fn serve<R: Threads + Wait + Abort + Sync, O: Write>(
     )
 }
 
+/// The sizes that a line says.
+fn sizes_of(rt: &impl Abort, line: &'static str) -> Sizes {
+    let mut words = line;
+    Sizes {
+        workers: next_number(rt, &mut words),
+        cache: next_number(rt, &mut words),
+        cache_events: next_number(rt, &mut words),
+    }
+}
+
 /// The report of all samples, with its status behind it.
 fn samples_served<R: Threads + Wait + Abort + Sync>(rt: &R, alloc: Global, sizes: Sizes) -> String {
     let mut out = Vec::new(alloc);
     let files = named_files(rt, alloc, SAMPLES);
-    match serve(rt, alloc, files, sizes, &mut out) {
-        Ok(status) => with_status(rt, out, status),
-        Err(_) => panic!(rt; "refused"),
-    }
-}
-
-/// All samples are reported with the sizes of a line.
-fn serves_samples<R: Threads + Wait + Abort + Sync>(rt: &R, alloc: Global, line: &'static str) {
-    let mut words = line;
-    let workers = next_number(rt, &mut words);
-    let cache = next_number(rt, &mut words);
-    let cache_events = next_number(rt, &mut words);
-    let sizes = Sizes {
-        workers,
-        cache,
-        cache_events,
-    };
-    let report = samples_served(rt, alloc, sizes);
-    same(rt, line, report.as_str(), SAMPLES_SERVED);
+    let status = serve(rt, alloc, files, sizes, &mut out);
+    with_status(rt, out, status.expect(rt, "refused"))
 }
 
 #[test]
 fn samples_are_served_whatever_the_sizes(rt: HostRuntime) {
     for line in SIZES.lines() {
-        serves_samples(&rt, rt.alloc(), line);
+        let report = samples_served(&rt, rt.alloc(), sizes_of(&rt, line));
+        same(&rt, line, report.as_str(), SAMPLES_SERVED);
     }
 }
 
@@ -209,14 +202,14 @@ fn service<R: Threads + Wait + Abort + Sync>(
     }
 }
 
-/// Writes what else is told of a service behind its report, and gives the status.
-fn tell(rt: &impl Abort, end: ServiceEnd, out: &mut Vec<u8>) -> u8 {
+/// The report of a service with what else is told of it behind it.
+fn told(rt: &impl Abort, end: &ServiceEnd, mut out: Vec<u8>) -> String {
     for failure in &end.failures {
-        assert!(rt; write!(out, "{failure}\n").is_ok());
+        write!(out, "{failure}\n").expect(rt, "written");
     }
     let uncompared = end.uncompared;
-    assert!(rt; write!(out, "not compared: {uncompared}\n").is_ok());
-    end.status
+    write!(out, "not compared: {uncompared}\n").expect(rt, "written");
+    with_status(rt, out, end.status)
 }
 
 /// What is told of a service is the text below its first line.
@@ -225,8 +218,7 @@ fn is_served<R: Threads + Wait + Abort + Sync>(rt: &R, alloc: Global, block: &'s
     let workers = next_number(rt, &mut files);
     let mut out = Vec::new(alloc);
     let end = service(rt, alloc, files, workers, &mut out);
-    let status = tell(rt, end, &mut out);
-    let told = with_status(rt, out, status);
+    let told = told(rt, &end, out);
     same(rt, files, told.as_str(), wanted);
 }
 

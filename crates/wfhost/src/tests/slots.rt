@@ -20,7 +20,7 @@ fn reserve_fails(rt: &impl Abort, alloc: Global, slots: &mut Slots, wanted: &str
 
 /// Gives a reserved place back.
 fn release(rt: &impl Abort, slots: &mut Slots, permit: Permit) {
-    assert!(rt; slots.release(permit).is_ok());
+    slots.release(permit).expect(rt, "release");
 }
 
 /// The one place is held, for task 7.
@@ -42,7 +42,7 @@ fn a_slot_is_reserved_used_and_freed(rt: HostRuntime) {
     release(&rt, &mut slots, permit);
     let permit = reserve(&rt, alloc, &mut slots, "Permit kind: Workflow, number: 2");
     let held = holds(&rt, alloc, &mut slots, permit);
-    assert!(rt; slots.free(held).is_ok());
+    slots.free(held).expect(&rt, "free");
     slots.drain();
     reserve_fails(&rt, alloc, &mut slots, "Some(Draining)");
 }

@@ -1,9 +1,8 @@
 //! Where the tasks of a history are.
 
-use crate::tests::rows::{cut, next_number, number, numbered, row, wants};
+use crate::tests::rows::{cut, next_number, number, numbered, recorded, row, wants};
 use std::alloc::Global;
 use std::process::Abort;
-use wh_histories::events;
 use wh_split::{cuts, is_live, next_cut};
 
 /// A history, an event and another one: its tasks, the first of them after the one event, and
@@ -23,7 +22,7 @@ fn splits(rt: &impl Abort, alloc: Global, given: &'static str, wanted: &'static 
     let history = cut(&mut given, " after ");
     let from = number(rt, cut(&mut given, " at "));
     let at = numbered(rt, next_number(rt, &mut given));
-    let events = events(alloc, history).expect(rt, history);
+    let events = recorded(rt, alloc, history, 0);
     wants(
         rt,
         alloc,

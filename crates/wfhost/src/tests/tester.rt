@@ -1,6 +1,6 @@
 //! What the report looks like.
 
-use crate::tests::rows::{numbered, same, text};
+use crate::tests::rows::{numbered, push, repeated, same, text, written};
 use std::alloc::Global;
 use std::process::Abort;
 use wh_events::PlaceFault;
@@ -120,17 +120,14 @@ a: ok, 2 tasks: out of memory
 
 fn add(rt: &impl Abort, alloc: Global, lines: &mut Vec<Line>, name: &str, verdict: Verdict) {
     let name = text(rt, alloc, name);
-    assert!(rt; lines.push(Line { name, verdict }).is_ok());
+    push(rt, lines, Line { name, verdict });
 }
 
 /// The report of these lines.
 fn report_of(rt: &impl Abort, alloc: Global, lines: &[Line]) -> String {
     let mut out = Vec::new(alloc);
-    assert!(rt; write_report(lines, &mut out).is_ok());
-    match String::from_utf8(out) {
-        Ok(report) => report,
-        Err(_) => panic!(rt; "no text"),
-    }
+    write_report(lines, &mut out).expect(rt, "written");
+    written(rt, out)
 }
 
 /// The report of these lines is this text.
@@ -258,11 +255,9 @@ fn add_good(
 
 /// Of a name of 256 such characters the first 255 are shown.
 fn cuts(rt: &impl Abort, alloc: Global, character: &str, shown: &str) {
-    let name = character.repeat(alloc, 256).expect(rt, "memory");
-    let mut wanted = shown.repeat(alloc, 255).expect(rt, "memory");
-    wanted
-        .push_str(": ok, 1 tasks, last live\n1 files, 1 ok\n")
-        .expect(rt, "memory");
+    let name = repeated(rt, alloc, character, 256, "");
+    let end = ": ok, 1 tasks, last live\n1 files, 1 ok\n";
+    let wanted = repeated(rt, alloc, shown, 255, end);
     let mut lines = Vec::new(alloc);
     add_good(rt, alloc, &mut lines, name.as_str(), 1, true);
     reports(rt, alloc, lines.as_slice(), wanted.as_str());
@@ -296,14 +291,6 @@ fn keeps_the_order(rt: HostRuntime) {
     reports(&rt, alloc, lines.as_slice(), ORDERED);
 }
 
-/// The report of 3,000 good files.
-fn many(rt: &impl Abort, alloc: Global) -> String {
-    let text = "nap.json: ok, 2 tasks\n".repeat(alloc, 3000);
-    let mut text = text.expect(rt, "memory");
-    text.push_str("3000 files, 3000 ok\n").expect(rt, "memory");
-    text
-}
-
 #[test]
 fn reports_many_files(rt: HostRuntime) {
     let alloc = rt.alloc();
@@ -311,7 +298,8 @@ fn reports_many_files(rt: HostRuntime) {
     for _ in 0..3000 {
         add_good(&rt, alloc, &mut lines, "nap.json", 2, false);
     }
-    let wanted = many(&rt, alloc);
+    let line = "nap.json: ok, 2 tasks\n";
+    let wanted = repeated(&rt, alloc, line, 3000, "3000 files, 3000 ok\n");
     reports(&rt, alloc, lines.as_slice(), wanted.as_str());
 }
 
@@ -343,7 +331,7 @@ fn json_lines(rt: HostRuntime) {
     add_each(&rt, alloc, &mut lines);
     add(&rt, alloc, &mut lines, "x.json", Verdict::OutOfMemory);
     let mut out = Vec::new(alloc);
-    assert!(rt; write_json_report(lines.as_slice(), &mut out).is_ok());
-    let report = String::from_utf8(out).expect(&rt, "a text");
+    write_json_report(lines.as_slice(), &mut out).expect(&rt, "written");
+    let report = written(&rt, out);
     same(&rt, "a report", report.as_str(), JSON);
 }
