@@ -421,26 +421,35 @@ pub(crate) fn open<R: Abort, W: Workflow, T: Ledger, C: Ledger, F: Ledger>(
     Host::open(alloc, config, taken, completed, failed).expect(rt, "open")
 }
 
+/// The sizes of a host, and what is done with it.
+#[derive(Drop)]
+struct Day {
+    config: Config,
+    steps: &'static str,
+}
+
 /// How a day ends: how many events the cache holds of run `c`, and what the host has counted. It is
 /// closed twice, first with a seat missing: the host that comes back serves one more task, of a run
 /// that it may still cache.
 fn day_text<R: Wait + Abort, T: Ledger, C: Ledger, F: Ledger>(
     rt: &R,
     alloc: Global,
-    config: Config,
-    steps: &'static str,
+    day: &Day,
     taken: Blank,
     completed: Blank,
     failed: Blank,
 ) -> String
-    requires taken { (taken.name ≡ T.name) × (taken.parts ≡ T.parts) × (taken.parts ≡ config.seats) }
-    requires completed { (completed.name ≡ C.name) × (completed.parts ≡ C.parts) × (completed.parts ≡ config.seats) }
-    requires failed { (failed.name ≡ F.name) × (failed.parts ≡ F.parts) × (failed.parts ≡ config.seats) }
+    requires taken { (taken.name ≡ T.name) × (taken.parts ≡ T.parts) × (taken.parts ≡ day.now.config.seats) }
+    requires completed { (completed.name ≡ C.name) × (completed.parts ≡ C.parts)
+        × (completed.parts ≡ day.now.config.seats) }
+    requires failed { (failed.name ≡ F.name) × (failed.parts ≡ F.parts) × (failed.parts ≡ day.now.config.seats) }
 {
-    let (host, mut seats) = open::<R, Still, T, C, F>(rt, alloc, config, taken, completed, failed);
+    let (host, mut seats) = open::<R, Still, T, C, F>(
+        rt, alloc, day.config, taken, completed, failed,
+    );
     let mut seat = seats.pop().expect(rt, "seat");
     let mut tasks = Vec::new(alloc);
-    let permit = works(rt, alloc, &host, &mut seat, &mut tasks, steps);
+    let permit = works(rt, alloc, &host, &mut seat, &mut tasks, day.steps);
     let (host, seats) = not_closed(rt, host, seats);
     let found = last_task(rt, alloc, &host, &mut seat, &mut tasks, permit);
     let totals = shown(rt, alloc, &closed(rt, host, seats, seat));
@@ -453,12 +462,12 @@ fn days_of_a_host(rt: HostRuntime) {
         let (given, wanted) = line.split_once("\nend => ").expect(&rt, line);
         let (mut words, steps) = given.split_once("\n").expect(&rt, line);
         let config = sizes(&rt, &mut words);
-        let seats = config.seats as u64;
+        let day = Day { config, steps };
+        let seats = day.config.seats as u64;
         let text = day_text::<HostRuntime, Brand, Brand, Brand>(
             &rt,
             rt.alloc(),
-            config,
-            steps,
+            &day,
             Blank::new(seats),
             Blank::new(seats),
             Blank::new(seats),
