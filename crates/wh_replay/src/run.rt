@@ -198,6 +198,13 @@ impl<W: Workflow> Run<W> {
         self.history.len()
     }
 
+    /// The held events.
+    pub fn events(&self) -> &[Event]
+        ensures { result.now ≡ self.now.events }
+    {
+        self.history.events()
+    }
+
     /// The held event of a number.
     pub fn event(&self, number: EventNo) -> Option<&Event>
         ensures { option_map (λ event. event.now) result ≡ slice_get self.now.events (number - 1) }

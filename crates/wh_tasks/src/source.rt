@@ -84,7 +84,7 @@ pub enum SourceFault {
 }
 
 /// A source of tasks, one for each worker: what a worker polls, and what it answers. It has a list
-/// of the answers that it was sent, a count of its failures, which no call lowers, two relations
+/// of the answers that it took, a count of its failures, which no call lowers, two relations
 /// that no call changes: which tasks it delivers, and which histories it tells, and one that no
 /// call leads out of: which sources it comes from. That it tells the truth about its histories is
 /// its own promise.
@@ -97,7 +97,7 @@ pub trait TaskSource {
     ghost use Rattle.wh_tasks.specs.Source.{Delivery, Workflow, Activity, SameTasks, IfTask, FailsOnly};
     ghost use Rattle.wh_tasks.specs.Source.{KeepsOrigin};
 
-    /// The answers that were sent, with their tasks' names.
+    /// The answers that were taken, with their tasks' names.
     ghost answers: { Self → List (TaskName × Sent) };
 
     /// How often a call failed.
@@ -138,7 +138,7 @@ pub trait TaskSource {
         ensures same { SameTasks (delivers self.old) (tells self.old) (delivers self.new) (tells self.new) }
         ensures origin { KeepsOrigin comes_from self.old self.new };
 
-    /// Sends the answer to the workflow task of a name. After a fault nothing was sent.
+    /// Sends the answer to the workflow task of a name. After a fault nothing was taken.
     fn answer_workflow(&mut self, name: TaskName, answer: &Answer) -> Result<(), SourceFault>
         ensures sent { OnOk result (answers self.new ≡ answers self.old ++ (name, OfWorkflow answer.now) ∷ []) }
         ensures unsent { OnErr result (answers self.new ≡ answers self.old) }
@@ -146,7 +146,26 @@ pub trait TaskSource {
         ensures same { SameTasks (delivers self.old) (tells self.old) (delivers self.new) (tells self.new) }
         ensures origin { KeepsOrigin comes_from self.old self.new };
 
-    /// Sends the answer to the activity task of a name. After a fault nothing was sent.
+    /// Sends the answer to the workflow task of a name, and shows the events that it was replayed
+    /// from: those of the run that replay gave, and none where it gave no run. A source that has to
+    /// know them, as for the number of the event that a cancelled activity was scheduled by, answers
+    /// here; for every other one this is `answer_workflow`.
+    fn answer_replayed(
+        &mut self,
+        name: TaskName,
+        answer: &Answer,
+        _events: &[Event],
+    ) -> Result<(), SourceFault>
+        ensures sent { OnOk result (answers self.new ≡ answers self.old ++ (name, OfWorkflow answer.now) ∷ []) }
+        ensures unsent { OnErr result (answers self.new ≡ answers self.old) }
+        ensures failures { FailsOnly result (failures self.old) (failures self.new) }
+        ensures same { SameTasks (delivers self.old) (tells self.old) (delivers self.new) (tells self.new) }
+        ensures origin { KeepsOrigin comes_from self.old self.new }
+    {
+        self.answer_workflow(name, answer)
+    }
+
+    /// Sends the answer to the activity task of a name. After a fault nothing was taken.
     fn answer_activity(
         &mut self,
         name: TaskName,

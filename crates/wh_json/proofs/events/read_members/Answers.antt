@@ -4,7 +4,7 @@ use Rattle.serde_json.specs.View.{view}
 use Rattle.wh_json.specs.Outcome.{all_of}
 use Rattle.wh_json.specs.Events.{members_from}
 use Rattle.wh_json.proofs.Outcomes.{with_front, member_on, member_stops, members_all}
-use Rattle.wh_json.proofs.events.each_event.Goals as goal
+use Rattle.wh_json.proofs.events.read_members.Goals as goal
 
 pub loop-index-preserved : goal.loop-index-preserved
 loop-index-preserved c =
