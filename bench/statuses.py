@@ -1,6 +1,6 @@
 #!/usr/bin/env python3
 """Starts the built program in each way that ends with another status, and compares the status and both streams with what
-docs/USAGE.md says of statuses and complaints. It is no part of the gate. It ends with status 1 where something differs."""
+docs/USAGE.md says of statuses and complaints. It is part of `./test`. It ends with status 1 where something differs."""
 
 import json
 import resource
@@ -79,6 +79,53 @@ taken 2, completed 1, failed 1, in hand 0
 NAMES = [".json", "B.json", "a.json", "C.JSON", "d.json.bak", "e.txt", "xjson"]
 
 
+# Files that are no history, and one that is.
+HOSTILE = {
+    "byte_255.json": NAP.replace(b'"events"', b'"e\xffents"'),
+    "byte_order_mark.json": b"\xef\xbb\xbf[]",
+    "empty.json": b"",
+    "event_empty.json": b"[{}]",
+    "event_null.json": b"[null]",
+    "event_number.json": b"[5]",
+    "events_empty.json": b'{"events":[]}',
+    "events_null.json": b'{"events":null}',
+    "list_empty.json": b"[]",
+    "list_open.json": b"[",
+    "lists_nested_100.json": b"[" * 100 + b"]" * 100,
+    "lists_nested_1000.json": b"[" * 1000 + b"]" * 1000,
+    "nap.json": NAP,
+    "no_events.json": b"{}",
+    "number.json": b"5",
+    "two_lists.json": b"[{}] []",
+}
+HOSTILE_REPORT = """byte_255.json: unreadable, not JSON
+byte_order_mark.json: unreadable, not JSON
+empty.json: unreadable, not JSON
+event_empty.json: unreadable, event 1 has a bad number
+event_null.json: unreadable, event 1 has a bad number
+event_number.json: unreadable, event 1 has a bad number
+events_empty.json: unreadable, no events
+events_null.json: unreadable, no events
+list_empty.json: unreadable, no events
+list_open.json: unreadable, not JSON
+lists_nested_100.json: unreadable, event 1 has a bad number
+lists_nested_1000.json: unreadable, not JSON
+nap.json: ok, 2 tasks
+no_events.json: unreadable, no events
+number.json: unreadable, no events
+two_lists.json: unreadable, not JSON
+16 files, 1 ok
+"""
+# The recursion of JSON ends at the 128th list, and a byte that is no UTF-8 is seen at the end of its text.
+HOSTILE_PLACES = """wfhost: byte_255.json: not JSON at line 1 column 9
+wfhost: byte_order_mark.json: not JSON at line 1 column 1
+wfhost: empty.json: not JSON at line 1 column 0
+wfhost: list_open.json: not JSON at line 1 column 1
+wfhost: lists_nested_1000.json: not JSON at line 1 column 128
+wfhost: two_lists.json: not JSON at line 1 column 6
+"""
+
+
 def up_to(history, number):
     """A history up to the event of this number."""
     events = json.loads(history)["events"]
@@ -116,7 +163,9 @@ def cases(room):
     none = f"wfhost: no .json file in {empty}\n"
     cannot = "wfhost: cannot read "
     examples = str(TOP / "examples/histories")
+    hostile = folder_with(room, "hostile", HOSTILE)
     return [
+        (["replay", hostile], 1, HOSTILE_REPORT, HOSTILE_PLACES, {}),
         (["replay", well], 0, "nap.json: ok, 2 tasks\n1 files, 1 ok\n", "", {}),
         (["serve", well], 0, SERVED, UNCOMPARED, {}),
         (["serve", live], 0, SERVED_LIVE, "", {}),
