@@ -1,28 +1,35 @@
 #!/usr/bin/env python3
-"""Starts the built program in each way that ends with another status, and compares the status and both streams with what
-docs/USAGE.md says of statuses and complaints. It is part of `./test`. It ends with status 1 where something differs."""
+"""Starts the built program in the ways that no contract speaks of, and compares its status and both streams with what
+docs/USAGE.md and docs/DEFINITIONS.md say: which files are read and in which order, what is told and in which order,
+sizes, links and pipes, streams that fail, and whether the options of `serve` reach the host. It is a part of `./test`:
+its last line is `N tried, M wrong`, and its status is 1 where something is wrong.
+
+    bench/statuses.py [PROGRAM [GROUP..]]"""
 
 import json
+import os
+import re
 import resource
+import shutil
 import subprocess
 import sys
 import tempfile
+import time
+from itertools import count
 from pathlib import Path
 
 TOP = Path(__file__).resolve().parent.parent
 PROGRAM = TOP / "crates/wfhost/out/wfhost"
-NAP = (TOP / "examples/histories/nap.json").read_bytes()
+EXAMPLES = TOP / "examples/histories"
+NAP = (EXAMPLES / "nap.json").read_bytes()
+RACER = (EXAMPLES / "racer.json").read_bytes()
 LIMIT_SECONDS = 60
+MOST_BYTES = 67_108_864
 # Too little for a file of this size, and enough for the program to start.
 SMALL_MEMORY = 64 << 20
 LARGE_FILE = b'{"events":[' + b'"' + b"x" * (60 << 20) + b'"]}'
+NOBODY = 65534
 
-SERVED = "nap.json: 2 tasks, 2 completed, 0 failed\ntaken 2, completed 2, failed 0, in hand 0\n"
-SERVED_LIVE = "nap.json: 1 tasks, 1 completed, 0 failed\ntaken 1, completed 1, failed 0, in hand 0\n"
-UNREAD = "nap.json: unreadable, not JSON\n"
-STOPPED = "wfhost: nap.json: not JSON at line 1 column 1\n"
-EMPTY = "wfhost: -: not JSON at line 1 column 0\n"
-AS_JSON = '{"file":"nap.json","verdict":"ok","tasks":2,"live":false}\n{"files":1,"ok":1}\n'
 HELP = """Usage: wfhost [COMMAND]
 
 Commands:
@@ -40,7 +47,51 @@ Status:
   1  the report names a file or a task that has one
   2  there is no report; standard error says why
 """
+REPLAY_HELP = """Replays each history of folders and files, and prints a line for each
+
+Usage: wfhost replay [OPTIONS] <PATH>...
+
+Arguments:
+  <PATH>...  A folder whose .json files are read, a file, or - for the standard input
+
+Options:
+      --json  Prints the report as JSON
+  -h, --help  Print help
+"""
+EXPLAIN_HELP = """Replays a history, and prints what the workflow was told and gave, task by task
+
+Usage: wfhost explain <FILE>
+
+Arguments:
+  <FILE>  The history file that is read, or - for the standard input
+
+Options:
+  -h, --help  Print help
+"""
+SERVE_HELP = """Serves each history of a folder as workflow tasks, and prints how they ended
+
+Usage: wfhost serve [OPTIONS] <DIR>
+
+Arguments:
+  <DIR>  The folder whose .json files are read
+
+Options:
+      --workers <N>       How many workers poll at once, 1 to 64 [default: 1]
+      --cache <N>         How many runs are kept between their tasks, 0 to 10000 [default: 100]
+      --cache-events <N>  How many events the kept runs hold together, where 0 is no bound, 0 to 512000000 [default: 0]
+      --slots <N>         How many tasks of each kind are in hand at once, 1 to 1000 [default: 100]
+  -h, --help              Print help
+"""
 VERSION = "wfhost 0.1.0 (rattle-kit-13f logic dac8208d650f15bf)\n"
+NO_COMMAND = "error: a command is needed\n\nUsage: wfhost [COMMAND]\n\nFor more information, try '--help'.\n"
+FEW_SLOTS = "wfhost: slots must be at least workers\n"
+NOT_TAKEN = "wfhost: cannot write\n"
+NO_MEMORY = "wfhost: out of memory\n"
+UNCOMPARED = "wfhost: the last task of a recorded history is not compared with its record; replay does that\n"
+
+REPLAYED = "nap.json: ok, 2 tasks\n1 files, 1 ok\n"
+REPLAYED_JSON = '{"file":"nap.json","verdict":"ok","tasks":2,"live":false}\n{"files":1,"ok":1}\n'
+SERVED = "nap.json: 2 tasks, 2 completed, 0 failed\ntaken 2, completed 2, failed 0, in hand 0\n"
 EXPLAINED = """task at 3
   told Time 1714557603000000000 ns
   told Start Nap
@@ -53,7 +104,7 @@ task at 8
   sends Complete, recorded 10 WorkflowExecutionCompleted
 nap.json: ok, 2 tasks
 """
-EXAMPLES = """branch.json: ok, 2 tasks
+REPLAYED_EXAMPLES = """branch.json: ok, 2 tasks
 caller.json: ok, 2 tasks
 family.json: ok, 3 tasks
 greet.json: ok, 2 tasks
@@ -71,13 +122,6 @@ nap.json: 2 tasks, 2 completed, 0 failed
 racer.json: 4 tasks, 4 completed, 0 failed
 taken 17, completed 17, failed 0, in hand 0
 """
-UNCOMPARED = "wfhost: the last task of a recorded history is not compared with its record; replay does that\n"
-SERVED_BADLY = """nap.json: 2 tasks, 1 completed, 1 failed
-taken 2, completed 1, failed 1, in hand 0
-"""
-# Of these the first three are histories, in the order of the bytes of their names.
-NAMES = [".json", "B.json", "a.json", "C.JSON", "d.json.bak", "e.txt", "xjson"]
-
 
 # Files that are no history, and one that is.
 HOSTILE = {
@@ -98,7 +142,7 @@ HOSTILE = {
     "number.json": b"5",
     "two_lists.json": b"[{}] []",
 }
-HOSTILE_REPORT = """byte_255.json: unreadable, not JSON
+REPLAYED_HOSTILE = """byte_255.json: unreadable, not JSON
 byte_order_mark.json: unreadable, not JSON
 empty.json: unreadable, not JSON
 event_empty.json: unreadable, event 1 has a bad number
@@ -116,149 +160,574 @@ number.json: unreadable, no events
 two_lists.json: unreadable, not JSON
 16 files, 1 ok
 """
-# The recursion of JSON ends at the 128th list, and a byte that is no UTF-8 is seen at the end of its text.
-HOSTILE_PLACES = """wfhost: byte_255.json: not JSON at line 1 column 9
+HOSTILE_PLACES = """wfhost: byte_255.json: not JSON at line 1 column 4
 wfhost: byte_order_mark.json: not JSON at line 1 column 1
 wfhost: empty.json: not JSON at line 1 column 0
 wfhost: list_open.json: not JSON at line 1 column 1
-wfhost: lists_nested_1000.json: not JSON at line 1 column 128
+wfhost: lists_nested_1000.json: not JSON at line 1 column *
 wfhost: two_lists.json: not JSON at line 1 column 6
 """
 
 
-def up_to(history, number):
-    """A history up to the event of this number."""
-    events = json.loads(history)["events"]
-    return json.dumps({"events": events[:number]}).encode()
+def up_to(history, number, *others):
+    """A history up to the event of this number, and other events behind it."""
+    events = json.loads(history)["events"][:number]
+    return json.dumps({"events": events + list(others)}).encode()
 
 
-def folder_with(room, name, files):
-    """A folder below the room, with these files."""
-    made = Path(room, name)
-    made.mkdir()
-    for file, data in files.items():
-        (made / file).write_bytes(data)
-    return str(made)
+def padded(size):
+    """The history of a nap with blanks behind it, so many bytes in all."""
+    return NAP + b" " * (size - len(NAP))
 
 
-def cases(room):
-    """What is tried: the words, the status, the standard output, what the standard error begins with, and how."""
-    well = folder_with(room, "well", {"nap.json": NAP})
-    empty = folder_with(room, "empty", {})
-    bad = folder_with(room, "bad", {"nap.json": b"{"})
-    stopped = f"wfhost: {bad}/nap.json: not JSON at line 1 column 1\n"
-    second = folder_with(room, "second", {"nap.json": b'{"events":\n[ ,]}'})
-    strange = folder_with(room, "strange", {"nap.json": NAP.replace(b'"timerId":"nap"', b'"timerId":"nip"')})
-    live = folder_with(room, "live", {"nap.json": up_to(NAP, 3)})
-    large = folder_with(room, "large", {"large.json": LARGE_FILE})
-    broken = folder_with(room, "broken", {"nap.json": NAP})
-    Path(broken, "gone.json").symlink_to("nowhere")
-    inner = folder_with(room, "inner", {"nap.json": NAP})
-    Path(inner, "folder.json").mkdir()
-    missing = str(Path(room, "missing"))
-    mixed = folder_with(room, "mixed", {name: NAP for name in reversed(NAMES)})
-    chosen = "".join(f"{name}: ok, 2 tasks\n" for name in NAMES[:3]) + "3 files, 3 ok\n"
-    paths = [well, str(Path(mixed, "C.JSON")), "-", empty]
-    several = f"{well}/nap.json: ok, 2 tasks\n{paths[1]}: ok, 2 tasks\n-: ok, 2 tasks\n3 files, 3 ok\n"
-    none = f"wfhost: no .json file in {empty}\n"
-    cannot = "wfhost: cannot read "
-    examples = str(TOP / "examples/histories")
-    hostile = folder_with(room, "hostile", HOSTILE)
+OTHER_TIMER = {
+    "eventId": "6",
+    "eventTime": "2024-05-01T10:00:06Z",
+    "eventType": "TimerStarted",
+    "timerStartedEventAttributes": {"timerId": "x"},
+}
+NOT_JSON = b'{"events":\n[ ,]}'
+DIFFERENT = NAP.replace(b'"timerId":"nap"', b'"timerId":"nip"')
+# A file of each kind of verdict.
+VERDICTS = {
+    "a.json": NAP,
+    "b.json": up_to(NAP, 3),
+    "c.json": NOT_JSON,
+    "d.json": DIFFERENT,
+    "e.json": NAP.replace(b'"name":"Nap"', b'"name":"Nope"'),
+    "f.json": NAP.replace(b'"startedEventId":"5"', b'"startedEventId":"9"'),
+    "g.json": NAP.replace(b'{"timerId":"nap"}', b"{}"),
+    "h.json": up_to(RACER, 5),
+    "i.json": up_to(NAP, 5, OTHER_TIMER),
+    "j.json": NAP.replace(b"EVENT_TYPE_WORKFLOW_TASK_COMPLETED", b"A\\nB\\\"C\\\\D", 1),
+}
+REPLAYED_VERDICTS = """a.json: ok, 2 tasks
+b.json: ok, 1 tasks, last live
+c.json: unreadable, not JSON
+d.json: fault, event 5 differs
+e.json: fault, task at 1: UnknownWorkflow
+f.json: fault, event 6 is not in place: NoSuchRef
+g.json: unreadable, event 5 lacks a field
+h.json: fault, command 2 of the task at 3 has no event
+i.json: fault, event 6 has no command
+j.json: unreadable, event 4 has the unsupported type A?B"C\\D
+10 files, 2 ok
+"""
+REPLAYED_VERDICTS_JSON = r"""{"file":"a.json","verdict":"ok","tasks":2,"live":false}
+{"file":"b.json","verdict":"ok","tasks":1,"live":true}
+{"file":"c.json","verdict":"unreadable","fault":"not JSON"}
+{"file":"d.json","verdict":"fault","event":5,"fault":"event 5 differs"}
+{"file":"e.json","verdict":"fault","task":1,"fault":"task at 1: UnknownWorkflow"}
+{"file":"f.json","verdict":"fault","event":6,"fault":"event 6 is not in place: NoSuchRef"}
+{"file":"g.json","verdict":"unreadable","event":5,"fault":"event 5 lacks a field"}
+{"file":"h.json","verdict":"fault","task":3,"fault":"command 2 of the task at 3 has no event"}
+{"file":"i.json","verdict":"fault","event":6,"fault":"event 6 has no command"}
+{"file":"j.json","verdict":"unreadable","event":4,"fault":"event 4 has the unsupported type A?B\"C\\D"}
+{"files":10,"ok":2}
+"""
+SERVED_VERDICTS = """a.json: 2 tasks, 2 completed, 0 failed
+b.json: 1 tasks, 1 completed, 0 failed
+c.json: unreadable, not JSON
+d.json: 2 tasks, 1 completed, 1 failed
+e.json: 2 tasks, 0 completed, 2 failed
+f.json: 2 tasks, 1 completed, 1 failed
+g.json: unreadable, event 5 lacks a field
+h.json: 1 tasks, 1 completed, 0 failed
+i.json: 1 tasks, 1 completed, 0 failed
+j.json: unreadable, event 4 has the unsupported type A?B"C\\D
+taken 11, completed 7, failed 4, in hand 0
+"""
+STOPPED_VERDICTS = "wfhost: c.json: not JSON at line 2 column 3\n"
+# Where files are no JSON, then why tasks failed, and then the hint.
+TOLD_VERDICTS = f"""{STOPPED_VERDICTS}wfhost: d.json: task at 8: event 5 differs
+wfhost: e.json: task at 3: task at 1: UnknownWorkflow
+wfhost: e.json: task at 8: task at 1: UnknownWorkflow
+wfhost: f.json: task at 8: event 6 is not in place: NoSuchRef
+{UNCOMPARED}"""
+STARTED = "task at 3\n  told Time 1714557603000000000 ns\n  told Start "
+EXPLAINED_VERDICTS = {
+    "b.json": f"""{STARTED}Nap
+    gives StartTimer nap (60 s)
+  sends StartTimer nap (60 s)
+  not recorded yet
+""",
+    "c.json": "",
+    "d.json": f"""{STARTED}Nap
+    gives StartTimer nap (60 s)
+  sends StartTimer nap (60 s), recorded 5 TimerStarted nip, differs
+""",
+    "e.json": "no code for the workflow type Nope\n",
+    "f.json": "",
+    "g.json": "",
+    "h.json": f"""{STARTED}Racer
+    gives StartActivity 1 race
+    gives StartTimer t (30 s)
+  sends StartActivity 1 race, recorded 5 ActivityTaskScheduled 1 race
+  sends StartTimer t (30 s), recorded nothing, differs
+""",
+    "i.json": f"""{STARTED}Nap
+    gives StartTimer nap (60 s)
+  sends StartTimer nap (60 s), recorded 5 TimerStarted nap
+  sends nothing, recorded 6 TimerStarted x, differs
+""",
+    "j.json": "",
+}
+
+# Names in the order of their bytes. Those that end in `.json` are read.
+NAMES = [".json", "B.json", "C.JSON", "a-b.json", "a.json", "ab.json", "d.json.bak", "e.txt", "json", "xjson"]
+READ_NAMES = [".json", "B.json", "a-b.json", "a.json", "ab.json"]
+# By the numbers of their characters as Windows and Java order them, the last two would stand the other way round.
+STRANGE_NAMES = {"\x1f\n.json": NAP, '"\\.json': NAP, "\uffff.json": NAP, "\U00010000.json": b"5"}
+REPLAYED_STRANGE = '??.json: ok, 2 tasks\n"\\.json: ok, 2 tasks\n?.json: ok, 2 tasks\n?.json: unreadable, no events\n4 files, 3 ok\n'
+LONG_NAME = "n" * 250 + ".json"
+
+
+class Like(str):
+    """A text with any others in the places of its stars."""
+
+
+class Room:
+    """A folder in which folders are made, and the program that is tried."""
+
+    def __init__(self, path, program):
+        self.path, self.numbers = Path(path), count(1)
+        self.path.chmod(0o755)
+        self.program = self.path / "wfhost"
+        shutil.copyfile(program, self.program)
+        self.program.chmod(0o755)
+
+    def new(self):
+        """A path that is not there."""
+        return self.path / str(next(self.numbers))
+
+    def folder(self, files):
+        """A folder with these files: each by its bytes, or by a call that makes it at its path."""
+        made = self.new()
+        made.mkdir()
+        for name, file in files.items():
+            if isinstance(file, bytes):
+                (made / name).write_bytes(file)
+            else:
+                file(made / name)
+        return str(made)
+
+
+def link_to(target):
+    """What makes a link to a path."""
+    return lambda path: path.symlink_to(target)
+
+
+def cannot_read(*paths):
+    """What is said of a path, or of a folder and of what is in it, that can't be read."""
+    return "".join(f"wfhost: cannot read {path}\n" for path in paths)
+
+
+def command_lines(room):
+    """Helps, and lines that ask for nothing that can be done."""
+    well = room.folder({"nap.json": NAP})
+    bad = [
+        ["explain"],
+        ["explain", well, well],
+        ["replay"],
+        ["replay", "--json"],
+        ["replay", well, "--json", "--json"],
+        ["serve"],
+        ["serve", well, well],
+        ["serve", well, "--json"],
+        ["no-such-command"],
+        *(["serve", well, "--workers", number] for number in ("0", "65", "x", "")),
+        *(["serve", well, "--cache", number] for number in ("-1", "10001")),
+        ["serve", well, "--cache-events", "512000001"],
+        *(["serve", well, "--slots", number] for number in ("0", "1001", "18446744073709551616")),
+    ]
     return [
-        (["replay", hostile], 1, HOSTILE_REPORT, HOSTILE_PLACES, {}),
-        (["replay", well], 0, "nap.json: ok, 2 tasks\n1 files, 1 ok\n", "", {}),
-        (["serve", well], 0, SERVED, UNCOMPARED, {}),
-        (["serve", live], 0, SERVED_LIVE, "", {}),
-        (["serve", strange], 1, SERVED_BADLY, "wfhost: nap.json: task at 8: event 5 differs\n" + UNCOMPARED, {}),
-        (["replay", mixed], 0, chosen, "", {}),
-        (["replay", examples], 0, EXAMPLES, "", {}),
-        (["serve", examples, "--workers", "4"], 0, SERVED_EXAMPLES, UNCOMPARED, {}),
-        (["serve", examples, "--cache-events", "3"], 0, SERVED_EXAMPLES, UNCOMPARED, {}),
-        (["replay", str(Path(well, "nap.json"))], 0, "nap.json: ok, 2 tasks\n1 files, 1 ok\n", "", {}),
-        (["replay", well, "--json"], 0, AS_JSON, "", {}),
-        (["replay", "-"], 0, "-: ok, 2 tasks\n1 files, 1 ok\n", "", {"given": NAP}),
-        (["replay", *paths], 0, several, none, {"given": NAP}),
-        (["replay", empty, empty], 0, "0 files, 0 ok\n", none + none, {}),
-        (["replay", "-", bad], 1, f"-: unreadable, not JSON\n{bad}/{UNREAD}2 files, 0 ok\n", EMPTY + stopped, {}),
-        (["explain", "-"], 0, EXPLAINED.replace("nap.json", "-"), "", {"given": NAP}),
-        (["explain", "-"], 1, "-: unreadable, not JSON\n", EMPTY, {}),
-        (["--help"], 0, HELP, "", {}),
-        (["--version"], 0, VERSION, "", {}),
-        (["explain", str(Path(well, "nap.json"))], 0, EXPLAINED, "", {}),
-        (["explain", str(Path(bad, "nap.json"))], 1, UNREAD, STOPPED, {}),
-        (["replay", empty], 0, "0 files, 0 ok\n", f"wfhost: no .json file in {empty}\n", {}),
-        (["serve", empty], 0, "taken 0, completed 0, failed 0, in hand 0\n", f"wfhost: no .json file in {empty}\n", {}),
-        (["replay", bad], 1, UNREAD + "1 files, 0 ok\n", STOPPED, {}),
-        (["serve", bad], 1, UNREAD + "taken 0, completed 0, failed 0, in hand 0\n", STOPPED, {}),
-        (["replay", second], 1, UNREAD + "1 files, 0 ok\n", "wfhost: nap.json: not JSON at line 2 column 3\n", {}),
-        ([], 2, "", "error: a command is needed\n\nUsage: wfhost [COMMAND]\n", {}),
-        (["explain"], 2, "", "error: ", {}),
-        (["explain", missing], 2, "", f"{cannot}{missing}\n", {}),
-        (["explain", well], 2, "", f"{cannot}{well}\n", {}),
-        (["replay"], 2, "", "error: ", {}),
-        (["replay", well, "--json", "--json"], 2, "", "error: ", {}),
-        (["no-such-command"], 2, "", "error: ", {}),
-        (["serve", well, "--workers", "0"], 2, "", "error: ", {}),
-        (["serve", well, "--workers", "65"], 2, "", "error: ", {}),
-        (["serve", well, "--cache-events", "512000001"], 2, "", "error: ", {}),
-        (["serve", well, "--workers", "4", "--slots", "3"], 2, "", "wfhost: slots must be at least workers\n", {}),
-        ([b"replay", b"\xff"], 2, "", "wfhost: arguments must be UTF-8 text\n", {}),
-        (["replay", missing], 2, "", f"{cannot}{missing}\n", {}),
-        (["serve", missing], 2, "", f"{cannot}{missing}\n", {}),
-        (["replay", broken], 2, "", f"{cannot}{broken}\n{cannot}{broken}/gone.json\n", {}),
-        (["replay", inner], 2, "", f"{cannot}{inner}\n{cannot}{inner}/folder.json\n", {}),
-        (["replay", well, missing], 2, "", f"{cannot}{missing}\n", {}),
-        (["replay", missing, inner], 2, "", f"{cannot}{missing}\n", {}),
-        (["replay", well, broken, inner], 2, "", f"{cannot}{broken}\n{cannot}{broken}/gone.json\n", {}),
-        (["replay", "/dev/null"], 2, "", f"{cannot}/dev/null\n", {}),
-        (["replay", well], 2, None, "wfhost: cannot write\n", {"full": True}),
-        (["serve", well], 2, None, "wfhost: cannot write\n", {"full": True}),
-        (["--help"], 2, None, "wfhost: cannot write\n", {"full": True}),
-        (["replay", large], 2, "", "wfhost: out of memory\n", {"memory": SMALL_MEMORY}),
-        (["serve", large], 2, "", "wfhost: out of memory\n", {"memory": SMALL_MEMORY}),
+        *((words, 0, HELP, "") for words in (["--help"], ["-h"], ["help"])),
+        *((words, 0, VERSION, "") for words in (["--version"], ["-V"])),
+        *((words, 0, REPLAY_HELP, "") for words in (["replay", "--help"], ["help", "replay"])),
+        *((words, 0, EXPLAIN_HELP, "") for words in (["explain", "--help"], ["help", "explain"])),
+        *((words, 0, SERVE_HELP, "") for words in (["serve", "--help"], ["help", "serve"])),
+        ([], 2, "", NO_COMMAND),
+        *((words, 2, "", Like("error: *")) for words in bad),
+        (["serve", well, "--workers", "4", "--slots", "3"], 2, "", FEW_SLOTS),
+        (["serve", str(room.new()), "--workers", "4", "--slots", "3"], 2, "", FEW_SLOTS),
+        ([b"replay", b"\xff"], 2, "", "wfhost: arguments must be UTF-8 text\n"),
     ]
 
 
-def run(words, full=False, memory=0, given=b""):
-    """Runs the program with this standard input, with a device that takes nothing as its standard output or a limit on
-    its memory where wanted."""
+def reports(room):
+    """What is reported of files of each kind, and what is said beside it."""
+    well, live = room.folder({"nap.json": NAP}), room.folder({"nap.json": up_to(NAP, 3)})
+    hostile, verdicts = room.folder(HOSTILE), room.folder(VERDICTS)
+    lines = dict(line.split(": ", 1) for line in REPLAYED_VERDICTS.splitlines()[:-1])
+    examples = str(EXAMPLES)
+    return [
+        (["replay", str(TOP / "crates/wfhost/data/histories")], 0, REPLAYED, ""),
+        (["replay", well, "--json"], 0, REPLAYED_JSON, ""),
+        (["replay", f"{well}/nap.json"], 0, REPLAYED, ""),
+        (["explain", f"{well}/nap.json"], 0, EXPLAINED, ""),
+        (["serve", well], 0, SERVED, UNCOMPARED),
+        (["serve", live], 0, SERVED.replace("2", "1"), ""),
+        (["replay", examples], 0, REPLAYED_EXAMPLES, ""),
+        (["serve", examples, "--workers", "4"], 0, SERVED_EXAMPLES, UNCOMPARED),
+        (["serve", examples, "--cache-events", "3"], 0, SERVED_EXAMPLES, UNCOMPARED),
+        (["replay", hostile], 1, REPLAYED_HOSTILE, Like(HOSTILE_PLACES)),
+        (["replay", verdicts], 1, REPLAYED_VERDICTS, STOPPED_VERDICTS),
+        (["replay", "--json", verdicts], 1, REPLAYED_VERDICTS_JSON, STOPPED_VERDICTS),
+        *(
+            (["serve", verdicts, *options], 1, SERVED_VERDICTS, TOLD_VERDICTS)
+            for options in ([], ["--workers", "3"], ["--workers", "64", "--slots", "64"], ["--cache", "0"])
+        ),
+        *(
+            (
+                ["explain", f"{verdicts}/{name}"],
+                int("ok" not in lines[name]),
+                f"{tasks}{name}: {lines[name]}\n",
+                STOPPED_VERDICTS if name == "c.json" else "",
+            )
+            for name, tasks in EXPLAINED_VERDICTS.items()
+        ),
+        # The report first, and then what is said beside it.
+        (["replay", verdicts], 1, REPLAYED_VERDICTS + STOPPED_VERDICTS, "", {"merged": True}),
+        (["serve", verdicts], 1, SERVED_VERDICTS + TOLD_VERDICTS, "", {"merged": True}),
+        (["explain", f"{verdicts}/c.json"], 1, f"c.json: unreadable, not JSON\n{STOPPED_VERDICTS}", "", {"merged": True}),
+    ]
+
+
+def files(room):
+    """Which files are read, in which order, and how they are called."""
+    well, empty = room.folder({"nap.json": NAP}), room.folder({})
+    bad = room.folder({"nap.json": b"{"})
+    mixed = room.folder({name: NAP for name in reversed(NAMES)} | {"folder": lambda path: path.mkdir()})
+    Path(mixed, "folder", "inner.json").write_bytes(NAP)
+    strange = room.folder(dict(reversed(STRANGE_NAMES.items())))
+    strange_json = "".join(
+        f'{{"file":"{name}","verdict":{verdict}}}\n'
+        for name, verdict in [
+            ("??.json", '"ok","tasks":2,"live":false'),
+            (r"\"\\.json", '"ok","tasks":2,"live":false'),
+            ("?.json", '"ok","tasks":2,"live":false'),
+            ("?.json", '"unreadable","fault":"no events"'),
+        ]
+    )
+    long = room.folder({LONG_NAME: NAP, "x.json": b"["})
+    replayed, _, replay_stopped = many_texts(1000, 3000)
+    _, served, stopped = many_texts(1000, 1200)
+    paths = [well, f"{mixed}/C.JSON", "-", empty]
+    several = f"{well}/nap.json: ok, 2 tasks\n{mixed}/C.JSON: ok, 2 tasks\n-: ok, 2 tasks\n3 files, 3 ok\n"
+    twice = f"{mixed}/a.json: ok, 2 tasks\n{well}/nap.json: ok, 2 tasks\n{mixed}/a.json: ok, 2 tasks\n3 files, 3 ok\n"
+    none = f"wfhost: no .json file in {empty}\n"
+    both_bad = f"{bad}/nap.json: unreadable, not JSON\n-: unreadable, not JSON\n2 files, 0 ok\n"
+    both_stopped = f"wfhost: {bad}/nap.json: not JSON at line 1 column 1\nwfhost: -: not JSON at line 1 column 0\n"
+    listed = "".join(f"{name}: ok, 2 tasks\n" for name in READ_NAMES) + "5 files, 5 ok\n"
+    served_names = "".join(f"{name}: 2 tasks, 2 completed, 0 failed\n" for name in READ_NAMES)
+    dash = room.folder({"-": lambda path: path.mkdir()})
+    dash_file = room.folder({"-": NAP})
+    return [
+        (["replay", mixed], 0, listed, ""),
+        (["serve", mixed], 0, f"{served_names}taken 10, completed 10, failed 0, in hand 0\n", UNCOMPARED),
+        (["replay", "."], 0, listed, "", {"folder": mixed}),
+        (["replay", strange], 1, REPLAYED_STRANGE, ""),
+        (["replay", strange, "--json"], 1, f'{strange_json}{{"files":4,"ok":3}}\n', ""),
+        (["replay", long], 1, f"{LONG_NAME}: ok, 2 tasks\nx.json: unreadable, not JSON\n2 files, 1 ok\n", "wfhost: x.json: not JSON at line 1 column 1\n"),
+        (["replay", f"{long}/{LONG_NAME}", "-"], 0, f"{long}/{LONG_NAME}"[:255] + ": ok, 2 tasks\n-: ok, 2 tasks\n2 files, 2 ok\n", "", {"given": NAP}),
+        (["replay", many_files(room, 1000, 3000)], 1, replayed, replay_stopped),
+        (["serve", many_files(room, 1000, 1200), "--workers", "3"], 1, served, stopped + UNCOMPARED),
+        (["replay", *paths], 0, several, none, {"given": NAP}),
+        (["replay", f"{mixed}/a.json", well, f"{mixed}/a.json"], 0, twice, ""),
+        (["replay", empty], 0, "0 files, 0 ok\n", none),
+        (["replay", empty, empty], 0, "0 files, 0 ok\n", none + none),
+        (["replay", empty, "--json"], 0, '{"files":0,"ok":0}\n', none),
+        (["serve", empty], 0, "taken 0, completed 0, failed 0, in hand 0\n", none),
+        (["replay", bad, "-"], 1, both_bad, both_stopped),
+        (["replay", "-"], 0, REPLAYED.replace("nap.json", "-"), "", {"given": NAP}),
+        (["replay", "-"], 0, REPLAYED.replace("nap.json", "-"), "", {"given": NAP, "folder": dash}),
+        (["replay", "./-"], 0, REPLAYED.replace("nap.json", "-"), "", {"given": b"5", "folder": dash_file}),
+        (["explain", "-"], 0, EXPLAINED.replace("nap.json", "-"), "", {"given": NAP}),
+        (["explain", "-"], 1, "-: unreadable, not JSON\n", "wfhost: -: not JSON at line 1 column 0\n"),
+    ]
+
+
+def many_files(room, first, end):
+    """A folder with files of these numbers, made in another order than theirs, of which each seventh is no JSON."""
+    numbers = sorted(range(first, end), key=lambda number: number * 7919 % 10007)
+    return room.folder({f"{number}.json": NOT_JSON if number % 7 == 0 else NAP for number in numbers})
+
+
+def many_texts(first, end):
+    """The reports of such a folder, and what is said of the files that are no JSON."""
+    replayed, served, stopped, good = "", "", "", 0
+    for number in range(first, end):
+        if number % 7 == 0:
+            replayed += f"{number}.json: unreadable, not JSON\n"
+            served += f"{number}.json: unreadable, not JSON\n"
+            stopped += f"wfhost: {number}.json: not JSON at line 2 column 3\n"
+        else:
+            good += 1
+            replayed += f"{number}.json: ok, 2 tasks\n"
+            served += f"{number}.json: 2 tasks, 2 completed, 0 failed\n"
+    replayed += f"{end - first} files, {good} ok\n"
+    served += f"taken {2 * good}, completed {2 * good}, failed 0, in hand 0\n"
+    return replayed, served, stopped
+
+
+def links_and_pipes(room):
+    """Links are followed. What is no file then can't be read."""
+    well = room.folder({"nap.json": NAP})
+    linked = room.folder({"nap.json": link_to(f"{well}/nap.json"), "other": link_to(well)})
+    unread = {
+        "a folder": lambda path: path.mkdir(),
+        "a pipe": os.mkfifo,
+        "a link to nothing": link_to("nowhere"),
+        "a link to itself": link_to("x.json"),
+        "a link to a folder": link_to(well),
+        "a link to a device": link_to("/dev/zero"),
+    }
+    cases = [
+        (["replay", linked], 0, REPLAYED, ""),
+        (["serve", linked], 0, SERVED, UNCOMPARED),
+        (["replay", f"{linked}/other"], 0, REPLAYED, ""),
+        (["serve", f"{linked}/other"], 0, SERVED, UNCOMPARED),
+        (["explain", f"{linked}/nap.json"], 0, EXPLAINED, ""),
+        *(([command, "/dev/zero"], 2, "", cannot_read("/dev/zero")) for command in ("replay", "explain", "serve")),
+        *(([command, missing := str(room.new())], 2, "", cannot_read(missing)) for command in ("replay", "explain", "serve")),
+        (["explain", well], 2, "", cannot_read(well)),
+        (["serve", f"{well}/nap.json"], 2, "", cannot_read(f"{well}/nap.json")),
+        (["replay", well, missing], 2, "", cannot_read(missing)),
+    ]
+    for make in unread.values():
+        folder = room.folder({"a.json": NAP, "x.json": make, "y.json": link_to("nowhere"), "z.json": NOT_JSON})
+        cases += [
+            (["replay", folder], 2, "", cannot_read(folder, f"{folder}/x.json")),
+            (["serve", folder, "--workers", "2"], 2, "", cannot_read(folder, f"{folder}/x.json")),
+            (["replay", missing, folder], 2, "", cannot_read(missing)),
+            (["replay", well, folder], 2, "", cannot_read(folder, f"{folder}/x.json")),
+            (["explain", f"{folder}/x.json"], 2, "", cannot_read(f"{folder}/x.json")),
+        ]
+    strange = room.folder({"\x1b.json": link_to("nowhere")})
+    pipe = room.folder({"x.json": os.mkfifo}) + "/x.json"
+    return [
+        *cases,
+        (["replay", strange], 2, "", cannot_read(strange, f"{strange}/?.json")),
+        (["replay", pipe], 2, "", cannot_read(pipe)),
+    ]
+
+
+def rights(room):
+    """What is closed to the one who reads can't be read."""
+    well = room.folder({"nap.json": NAP})
+    folder, file = room.folder({"nap.json": NAP}), room.folder({"a.json": NAP, "b.json": NAP, "c.json": NOT_JSON})
+    Path(folder).chmod(0)
+    Path(file, "b.json").chmod(0)
+    entry = cannot_read(file, f"{file}/b.json")
+    return [
+        (["replay", well], 0, REPLAYED, "", {"as_nobody": True}),
+        *((["replay", *words, folder], 2, "", cannot_read(folder), {"as_nobody": True}) for words in ([], [well])),
+        (["serve", folder], 2, "", cannot_read(folder), {"as_nobody": True}),
+        (["replay", file], 2, "", entry, {"as_nobody": True}),
+        (["serve", file], 2, "", entry, {"as_nobody": True}),
+        (["explain", f"{file}/b.json"], 2, "", cannot_read(f"{file}/b.json"), {"as_nobody": True}),
+    ]
+
+
+def sizes(room):
+    """Files of the largest size, of one byte more, and of much more."""
+    well = room.folder({"nap.json": padded(MOST_BYTES)})
+    over = room.folder({"nap.json": padded(MOST_BYTES + 1)})
+    huge = room.folder({"nap.json": lambda path: path.write_bytes(NAP) and os.truncate(path, 1 << 34)})
+    unread = "nap.json: unreadable, file too long\n"
+    served = f"{unread}taken 0, completed 0, failed 0, in hand 0\n"
+    dash = REPLAYED.replace("nap.json", "-")
+    return [
+        (["replay", well], 0, REPLAYED, ""),
+        (["serve", well], 0, SERVED, UNCOMPARED),
+        (["replay", "-"], 0, dash, "", {"given": padded(MOST_BYTES)}),
+        (["replay", over], 1, f"{unread}1 files, 0 ok\n", ""),
+        (["serve", over], 1, served, ""),
+        (["explain", f"{over}/nap.json"], 1, unread, ""),
+        (["replay", "-"], 1, "-: unreadable, file too long\n1 files, 0 ok\n", "", {"given": padded(MOST_BYTES + 1)}),
+        (["replay", huge], 1, f"{unread}1 files, 0 ok\n", "", {"memory": 1 << 32}),
+        (["serve", huge], 1, served, "", {"memory": 1 << 32}),
+    ]
+
+
+def streams(room):
+    """Streams that take nothing, and memory that does not suffice."""
+    well, bad = room.folder({"nap.json": NAP}), room.folder({"nap.json": NOT_JSON})
+    many = room.folder({f"{number}.json": NAP for number in range(1000, 5000)})
+    large = room.folder({"large.json": LARGE_FILE})
+    commands = [["replay", well], ["replay", bad], ["replay", well, "--json"], ["serve", well], ["explain", f"{well}/nap.json"], ["--help"]]
+    return [
+        *((words, 2, None, NOT_TAKEN, {"out": out}) for words in commands for out in ("full", "broken")),
+        (["replay", many], 2, None, NOT_TAKEN, {"out": "broken"}),
+        (["replay", bad], 1, "nap.json: unreadable, not JSON\n1 files, 0 ok\n", None, {"error": "full"}),
+        (["serve", well], 0, SERVED, None, {"error": "full"}),
+        (["serve", well], 0, SERVED, None, {"error": "broken"}),
+        (["replay"], 2, "", None, {"error": "full"}),
+        (["replay", large], 2, "", NO_MEMORY, {"memory": SMALL_MEMORY}),
+        (["serve", large], 2, "", NO_MEMORY, {"memory": SMALL_MEMORY}),
+        (["explain", f"{large}/large.json"], 2, "", NO_MEMORY, {"memory": SMALL_MEMORY}),
+    ]
+
+
+def end_of(kind):
+    """The end of a stream that takes nothing: a device that is full, or a pipe that nobody reads."""
+    if kind == "full":
+        return os.open("/dev/full", os.O_WRONLY)
+    read, write = os.pipe()
+    os.close(read)
+    return write
+
+
+def run(room, words, given=b"", folder=None, out=None, error=None, merged=False, memory=0, as_nobody=False):
+    """Runs the program with this standard input in a folder, with streams that take nothing, with one stream for all, with a
+    limit on its memory or as nobody where wanted."""
     before = (lambda: resource.setrlimit(resource.RLIMIT_AS, (memory, memory))) if memory else None
-    with open("/dev/full", "w") as device:
-        out = device if full else subprocess.PIPE
+    who = {"user": NOBODY, "group": NOBODY, "extra_groups": []} if as_nobody and os.geteuid() == 0 else {}
+    ends = [end_of(kind) for kind in (out, error) if kind]
+    try:
         return subprocess.run(
-            [PROGRAM, *words],
+            [room.program, *words],
             input=given,
-            stdout=out,
-            stderr=subprocess.PIPE,
+            cwd=folder,
+            stdout=ends[0] if out else subprocess.PIPE,
+            stderr=ends[-1] if error else subprocess.STDOUT if merged else subprocess.PIPE,
             timeout=LIMIT_SECONDS,
             preexec_fn=before,
+            **who,
         )
+    finally:
+        for end in ends:
+            os.close(end)
 
 
-def differs(ran, status, out, error):
+def is_text(written, wanted):
+    """Whether a stream has the text that is wanted of it."""
+    if isinstance(wanted, Like):
+        return re.fullmatch(re.escape(wanted).replace(r"\*", ".*"), written, re.DOTALL) is not None
+    return written == wanted
+
+
+def differs(room, words, status, out, error, how):
     """What is not as it should be."""
-    stdout, stderr = (ran.stdout or b"").decode(), ran.stderr.decode()
+    try:
+        ran = run(room, words, **how)
+    except subprocess.TimeoutExpired:
+        return f"no end in {LIMIT_SECONDS} seconds"
+    stdout, stderr = ((written or b"").decode(errors="replace") for written in (ran.stdout, ran.stderr))
     if ran.returncode != status:
-        return f"status {ran.returncode}, not {status}"
-    if out is not None and stdout != out:
-        return f"standard output {stdout!r}"
-    if not stderr.startswith(error) or bool(stderr) != bool(error):
-        return f"standard error {stderr!r}"
+        return f"status {ran.returncode}, not {status}; standard error {shown(stderr)}"
+    if out is not None and not is_text(stdout, out):
+        return f"standard output {shown(stdout)}, not {shown(out)}"
+    if error is not None and not is_text(stderr, error):
+        return f"standard error {shown(stderr)}, not {shown(error)}"
     return ""
 
 
+def shown(text):
+    """A text, or its beginning where it is long."""
+    return repr(text if len(text) < 2000 else text[:2000] + " ..")
+
+
+def day(tasks):
+    """The history of a nap with so many workflow tasks."""
+    events = ["WorkflowExecutionStarted"]
+    for number in range(tasks):
+        events += ["WorkflowTaskScheduled", "WorkflowTaskStarted", "WorkflowTaskCompleted"]
+        events += ["TimerStarted"] * (number == 0)
+    told = {
+        "WorkflowExecutionStarted": {"workflowExecutionStartedEventAttributes": {"workflowType": {"name": "Nap"}}},
+        "TimerStarted": {"timerStartedEventAttributes": {"timerId": "nap"}},
+    }
+    numbered = [
+        {"eventId": str(number), "eventTime": "2024-05-01T10:00:01Z", "eventType": kind} | told.get(kind, {})
+        for number, kind in enumerate(events, 1)
+    ]
+    return json.dumps({"events": numbered}).encode()
+
+
+def day_report(files, tasks):
+    """The report of a service of so many days with so many tasks each."""
+    served = "".join(f"{number}.json: {tasks} tasks, {tasks} completed, 0 failed\n" for number in range(100, 100 + files))
+    return f"{served}taken {files * tasks}, completed {files * tasks}, failed 0, in hand 0\n"
+
+
+def measured(room, words):
+    """The status and the standard output of a run, the seconds of a processor that it took, and how many threads it had at most."""
+    most = 0
+    with tempfile.TemporaryFile(dir=room.path) as out:
+        started = subprocess.Popen([room.program, *words], stdin=subprocess.DEVNULL, stdout=out, stderr=subprocess.DEVNULL)
+        ended, begun = 0, time.monotonic()
+        while not ended:
+            time.sleep(0.001)
+            try:
+                most = max(most, len(os.listdir(f"/proc/{started.pid}/task")))
+            except OSError:
+                pass
+            if time.monotonic() > begun + LIMIT_SECONDS:
+                started.kill()
+            ended, status, used = os.wait4(started.pid, os.WNOHANG)
+        started.returncode = os.waitstatus_to_exitcode(status)
+        out.seek(0)
+        return started.returncode, out.read().decode(), used.ru_utime + used.ru_stime, most
+
+
+def host_options(room):
+    """Whether the host has the sizes that were asked for, as far as it can be seen: a task whose run is not cached costs the
+    replay of all events before it, a worker is a thread, and a worker without a slot passes a turn. Gives what was tried, with
+    what is not as it should be."""
+    tasks, events = 800, 2 + 3 * 800
+    two = room.folder({f"{number}.json": day(tasks) for number in (100, 101)})
+    many = room.folder({f"{number}.json": day(150) for number in range(100, 140)})
+    uncached = measured(room, ["serve", two, "--cache", "0"])[2]
+    rows = [
+        (["--cache", "0"], True),
+        ([], False),
+        (["--cache", "1"], True),
+        (["--cache", "2"], False),
+        (["--cache-events", str(events)], True),
+        (["--cache-events", str(2 * events)], False),
+    ]
+    for options, is_slow in rows:
+        words = ["serve", two, *options]
+        for _ in range(3):
+            status, out, seconds, threads = measured(room, words)
+            if (seconds > uncached / 3) == is_slow:
+                break
+        why = f"{seconds:.2f} seconds, where a host without a cache takes {uncached:.2f}" if (seconds > uncached / 3) != is_slow else ""
+        why = why or (f"{threads} threads" if threads > os.cpu_count() + 2 else "")
+        yield words, why or ("" if (status, out) == (0, day_report(2, tasks)) else f"status {status}, {shown(out)}")
+    for _ in range(3):
+        words = ["serve", many, "--cache", "0", "--workers", "40", "--slots", "40"]
+        status, out, seconds, threads = measured(room, words)
+        if threads > 40:
+            break
+    yield words, f"{threads} threads" if threads <= 40 else "" if (status, out) == (0, day_report(40, 150)) else f"status {status}, {shown(out)}"
+
+
+def compared(room, group):
+    """What a group of the table tries, each with what is not as it should be."""
+    for words, status, out, error, *how in group(room):
+        how = how[0] if how else {}
+        yield [*words, *how.keys()], differs(room, words, status, out, error, how)
+
+
 def main():
-    if not PROGRAM.exists():
+    program = Path(sys.argv[1]) if sys.argv[1:] else PROGRAM
+    if not program.exists():
         sys.exit("the program is not built: start ./wfhost once")
-    wrong = 0
-    with tempfile.TemporaryDirectory() as room:
-        tried = cases(room)
-        for words, status, out, error, how in tried:
-            why = differs(run(words, **how), status, out, error)
-            if why:
-                wrong += 1
-                print(f"wfhost {words} {how}: {why}")
-    print(f"{len(tried)} tried, {wrong} wrong")
+    tables = (command_lines, reports, files, links_and_pipes, rights, sizes, streams)
+    groups = {table.__name__: lambda room, table=table: compared(room, table) for table in tables}
+    groups["host_options"] = host_options
+    tried = wrong = 0
+    with tempfile.TemporaryDirectory() as path:
+        room = Room(path, program)
+        for name in sys.argv[2:] or groups:
+            for words, why in groups[name](room):
+                tried += 1
+                if why:
+                    wrong += 1
+                    print(f"wfhost {words}: {why}")
+    print(f"{tried} tried, {wrong} wrong")
     return 1 if wrong else 0
 
 
