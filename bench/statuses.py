@@ -167,6 +167,14 @@ wfhost: list_open.json: not JSON at line 1 column 1
 wfhost: lists_nested_1000.json: not JSON at line 1 column *
 wfhost: two_lists.json: not JSON at line 1 column 6
 """
+# Bytes that are no JSON, and where the reader stops: columns count bytes, and where the file ends too soon it is its last byte.
+PLACES = {
+    "[1,\n": "line 2 column 0",
+    "[1,\n 2": "line 2 column 2",
+    '["\u00e9" x': "line 1 column 7",
+    "\r\n\r\n}": "line 3 column 1",
+    '{"events":[]}\n]': "line 2 column 1",
+}
 
 
 def up_to(history, number, *others):
@@ -358,6 +366,9 @@ def reports(room):
     """What is reported of files of each kind, and what is said beside it."""
     well, live = room.folder({"nap.json": NAP}), room.folder({"nap.json": up_to(NAP, 3)})
     hostile, verdicts = room.folder(HOSTILE), room.folder(VERDICTS)
+    places = room.folder({f"{number}.json": text.encode() for number, text in enumerate(PLACES)})
+    unread = "".join(f"{number}.json: unreadable, not JSON\n" for number in range(len(PLACES)))
+    stopped = "".join(f"wfhost: {number}.json: not JSON at {place}\n" for number, place in enumerate(PLACES.values()))
     lines = dict(line.split(": ", 1) for line in REPLAYED_VERDICTS.splitlines()[:-1])
     examples = str(EXAMPLES)
     return [
@@ -371,6 +382,8 @@ def reports(room):
         (["serve", examples, "--workers", "4"], 0, SERVED_EXAMPLES, UNCOMPARED),
         (["serve", examples, "--cache-events", "3"], 0, SERVED_EXAMPLES, UNCOMPARED),
         (["replay", hostile], 1, REPLAYED_HOSTILE, Like(HOSTILE_PLACES)),
+        (["replay", places], 1, f"{unread}5 files, 0 ok\n", stopped),
+        (["serve", places], 1, f"{unread}taken 0, completed 0, failed 0, in hand 0\n", stopped),
         (["replay", verdicts], 1, REPLAYED_VERDICTS, STOPPED_VERDICTS),
         (["replay", "--json", verdicts], 1, REPLAYED_VERDICTS_JSON, STOPPED_VERDICTS),
         *(
@@ -530,7 +543,7 @@ def rights(room):
 
 
 def sizes(room):
-    """Files of the largest size, of one byte more, and of much more."""
+    """Files of the largest size, of one byte more, and of much more. Of one that is too long it is not told that it is no JSON."""
     well = room.folder({"nap.json": padded(MOST_BYTES)})
     over = room.folder({"nap.json": padded(MOST_BYTES + 1)})
     huge = room.folder({"nap.json": lambda path: path.write_bytes(NAP) and os.truncate(path, 1 << 34)})
@@ -547,6 +560,7 @@ def sizes(room):
         (["replay", "-"], 1, "-: unreadable, file too long\n1 files, 0 ok\n", "", {"given": padded(MOST_BYTES + 1)}),
         (["replay", huge], 1, f"{unread}1 files, 0 ok\n", "", {"memory": 1 << 32}),
         (["serve", huge], 1, served, "", {"memory": 1 << 32}),
+        (["explain", f"{huge}/nap.json"], 1, unread, "", {"memory": 1 << 32}),
     ]
 
 
