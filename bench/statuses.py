@@ -689,9 +689,9 @@ def host_options(room):
     """Whether the host has the sizes that were asked for, as far as it can be seen: a task whose run is not cached costs the
     replay of all events before it, a worker is a thread, and a worker without a slot passes a turn. Gives what was tried, with
     what is not as it should be."""
-    tasks, events = 800, 2 + 3 * 800
+    tasks, events = 1500, 2 + 3 * 1500
     two = room.folder({f"{number}.json": day(tasks) for number in (100, 101)})
-    many = room.folder({f"{number}.json": day(150) for number in range(100, 140)})
+    many = room.folder({f"{number}.json": day(600) for number in range(100, 140)})
     uncached = measured(room, ["serve", two, "--cache", "0"])[2]
     rows = [
         (["--cache", "0"], True),
@@ -715,7 +715,7 @@ def host_options(room):
         status, out, seconds, threads = measured(room, words)
         if threads > 40:
             break
-    yield words, f"{threads} threads" if threads <= 40 else "" if (status, out) == (0, day_report(40, 150)) else f"status {status}, {shown(out)}"
+    yield words, f"{threads} threads" if threads <= 40 else "" if (status, out) == (0, day_report(40, 600)) else f"status {status}, {shown(out)}"
 
 
 def compared(room, group):
