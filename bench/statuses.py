@@ -286,7 +286,12 @@ NAMES = [".json", "B.json", "C.JSON", "a-b.json", "a.json", "ab.json", "d.json.b
 READ_NAMES = [".json", "B.json", "a-b.json", "a.json", "ab.json"]
 # By the numbers of their characters as Windows and Java order them, the last two would stand the other way round.
 STRANGE_NAMES = {"\x1f\n.json": NAP, '"\\.json': NAP, "\uffff.json": NAP, "\U00010000.json": b"5"}
-REPLAYED_STRANGE = '??.json: ok, 2 tasks\n"\\.json: ok, 2 tasks\n?.json: ok, 2 tasks\n?.json: unreadable, no events\n4 files, 3 ok\n'
+REPLAYED_STRANGE = r"""??.json: ok, 2 tasks
+"\.json: ok, 2 tasks
+?.json: ok, 2 tasks
+?.json: unreadable, no events
+4 files, 3 ok
+"""
 LONG_NAME = "n" * 250 + ".json"
 
 
@@ -402,7 +407,7 @@ def reports(room):
         # The report first, and then what is said beside it.
         (["replay", verdicts], 1, REPLAYED_VERDICTS + STOPPED_VERDICTS, "", {"merged": True}),
         (["serve", verdicts], 1, SERVED_VERDICTS + TOLD_VERDICTS, "", {"merged": True}),
-        (["explain", f"{verdicts}/c.json"], 1, f"c.json: unreadable, not JSON\n{STOPPED_VERDICTS}", "", {"merged": True}),
+        (["explain", f"{verdicts}/c.json"], 1, f"c.json: {lines['c.json']}\n{STOPPED_VERDICTS}", "", {"merged": True}),
     ]
 
 
@@ -422,7 +427,8 @@ def files(room):
             ("?.json", '"unreadable","fault":"no events"'),
         ]
     )
-    long = room.folder({LONG_NAME: NAP, "x.json": b"["})
+    long = room.folder({LONG_NAME: NAP})
+    long_path = f"{long}/{LONG_NAME}"
     replayed, _, replay_stopped = many_texts(1000, 3000)
     _, served, stopped = many_texts(1000, 1200)
     paths = [well, f"{mixed}/C.JSON", "-", empty]
@@ -441,8 +447,8 @@ def files(room):
         (["replay", "."], 0, listed, "", {"folder": mixed}),
         (["replay", strange], 1, REPLAYED_STRANGE, ""),
         (["replay", strange, "--json"], 1, f'{strange_json}{{"files":4,"ok":3}}\n', ""),
-        (["replay", long], 1, f"{LONG_NAME}: ok, 2 tasks\nx.json: unreadable, not JSON\n2 files, 1 ok\n", "wfhost: x.json: not JSON at line 1 column 1\n"),
-        (["replay", f"{long}/{LONG_NAME}", "-"], 0, f"{long}/{LONG_NAME}"[:255] + ": ok, 2 tasks\n-: ok, 2 tasks\n2 files, 2 ok\n", "", {"given": NAP}),
+        (["replay", long], 0, f"{LONG_NAME}: ok, 2 tasks\n1 files, 1 ok\n", ""),
+        (["replay", long_path, "-"], 0, f"{long_path[:255]}: ok, 2 tasks\n-: ok, 2 tasks\n2 files, 2 ok\n", "", {"given": NAP}),
         (["replay", many_files(room, 1000, 3000)], 1, replayed, replay_stopped),
         (["serve", many_files(room, 1000, 1200), "--workers", "3"], 1, served, stopped + UNCOMPARED),
         (["replay", *paths], 0, several, none, {"given": NAP}),
@@ -495,6 +501,7 @@ def links_and_pipes(room):
         "a link to a folder": link_to(well),
         "a link to a device": link_to("/dev/zero"),
     }
+    missing = str(room.new())
     cases = [
         (["replay", linked], 0, REPLAYED, ""),
         (["serve", linked], 0, SERVED, UNCOMPARED),
@@ -502,7 +509,7 @@ def links_and_pipes(room):
         (["serve", f"{linked}/other"], 0, SERVED, UNCOMPARED),
         (["explain", f"{linked}/nap.json"], 0, EXPLAINED, ""),
         *(([command, "/dev/zero"], 2, "", cannot_read("/dev/zero")) for command in ("replay", "explain", "serve")),
-        *(([command, missing := str(room.new())], 2, "", cannot_read(missing)) for command in ("replay", "explain", "serve")),
+        *(([command, missing], 2, "", cannot_read(missing)) for command in ("replay", "explain", "serve")),
         (["explain", well], 2, "", cannot_read(well)),
         (["serve", f"{well}/nap.json"], 2, "", cannot_read(f"{well}/nap.json")),
         (["replay", well, missing], 2, "", cannot_read(missing)),
@@ -543,10 +550,13 @@ def rights(room):
 
 
 def sizes(room):
-    """Files of the largest size, of one byte more, and of much more. Of one that is too long it is not told that it is no JSON."""
+    """Files of the largest size, of one byte more, and of much more. Of one that is too long nothing else is told, though it is
+    no JSON."""
     well = room.folder({"nap.json": padded(MOST_BYTES)})
-    over = room.folder({"nap.json": padded(MOST_BYTES + 1)})
-    huge = room.folder({"nap.json": lambda path: path.write_bytes(NAP) and os.truncate(path, 1 << 34)})
+    over, huge = (
+        room.folder({"nap.json": lambda path: path.write_bytes(NAP) and os.truncate(path, size)})
+        for size in (MOST_BYTES + 1, 1 << 34)
+    )
     unread = "nap.json: unreadable, file too long\n"
     served = f"{unread}taken 0, completed 0, failed 0, in hand 0\n"
     dash = REPLAYED.replace("nap.json", "-")
@@ -558,9 +568,9 @@ def sizes(room):
         (["serve", over], 1, served, ""),
         (["explain", f"{over}/nap.json"], 1, unread, ""),
         (["replay", "-"], 1, "-: unreadable, file too long\n1 files, 0 ok\n", "", {"given": padded(MOST_BYTES + 1)}),
-        (["replay", huge], 1, f"{unread}1 files, 0 ok\n", "", {"memory": 1 << 32}),
-        (["serve", huge], 1, served, "", {"memory": 1 << 32}),
-        (["explain", f"{huge}/nap.json"], 1, unread, "", {"memory": 1 << 32}),
+        (["replay", huge], 1, f"{unread}1 files, 0 ok\n", "", {"memory": 1 << 33}),
+        (["serve", huge], 1, served, "", {"memory": 1 << 33}),
+        (["explain", f"{huge}/nap.json"], 1, unread, "", {"memory": 1 << 33}),
     ]
 
 
@@ -569,7 +579,8 @@ def streams(room):
     well, bad = room.folder({"nap.json": NAP}), room.folder({"nap.json": NOT_JSON})
     many = room.folder({f"{number}.json": NAP for number in range(1000, 5000)})
     large = room.folder({"large.json": LARGE_FILE})
-    commands = [["replay", well], ["replay", bad], ["replay", well, "--json"], ["serve", well], ["explain", f"{well}/nap.json"], ["--help"]]
+    replays = [["replay", well], ["replay", bad], ["replay", well, "--json"]]
+    commands = [*replays, ["serve", well], ["explain", f"{well}/nap.json"], ["--help"]]
     return [
         *((words, 2, None, NOT_TAKEN, {"out": out}) for words in commands for out in ("full", "broken")),
         (["replay", many], 2, None, NOT_TAKEN, {"out": "broken"}),
@@ -666,10 +677,10 @@ def day_report(files, tasks):
 
 
 def measured(room, words):
-    """The status and the standard output of a run, the seconds of a processor that it took, and how many threads it had at most."""
-    most = 0
+    """The status and the standard output of a run, the seconds of a processor that it took, and its threads at most."""
+    most, null = 0, subprocess.DEVNULL
     with tempfile.TemporaryFile(dir=room.path) as out:
-        started = subprocess.Popen([room.program, *words], stdin=subprocess.DEVNULL, stdout=out, stderr=subprocess.DEVNULL)
+        started = subprocess.Popen([room.program, *words], stdin=null, stdout=out, stderr=null)
         ended, begun = 0, time.monotonic()
         while not ended:
             time.sleep(0.001)
@@ -685,14 +696,21 @@ def measured(room, words):
         return started.returncode, out.read().decode(), used.ru_utime + used.ru_stime, most
 
 
-def host_options(room):
-    """Whether the host has the sizes that were asked for, as far as it can be seen: a task whose run is not cached costs the
-    replay of all events before it, a worker is a thread, and a worker without a slot passes a turn. Gives what was tried, with
-    what is not as it should be."""
+def measured_until(room, words, is_right):
+    """What was measured of a run, of the first of three where it is right, or of the last."""
+    for _ in range(3):
+        status, out, seconds, threads = measured(room, words)
+        if is_right(seconds, threads):
+            break
+    return status, out, seconds, threads
+
+
+def cache_options(room):
+    """Whether the host has the cache that was asked for: a task whose run is not cached costs the replay of all events before
+    it, so a service of two long histories takes much longer where the cache is too small for both."""
     tasks, events = 1500, 2 + 3 * 1500
-    two = room.folder({f"{number}.json": day(tasks) for number in (100, 101)})
-    many = room.folder({f"{number}.json": day(600) for number in range(100, 140)})
-    uncached = measured(room, ["serve", two, "--cache", "0"])[2]
+    folder = room.folder({f"{number}.json": day(tasks) for number in (100, 101)})
+    uncached = measured(room, ["serve", folder, "--cache", "0"])[2]
     rows = [
         (["--cache", "0"], True),
         ([], False),
@@ -702,20 +720,28 @@ def host_options(room):
         (["--cache-events", str(2 * events)], False),
     ]
     for options, is_slow in rows:
-        words = ["serve", two, *options]
-        for _ in range(3):
-            status, out, seconds, threads = measured(room, words)
-            if (seconds > uncached / 3) == is_slow:
-                break
-        why = f"{seconds:.2f} seconds, where a host without a cache takes {uncached:.2f}" if (seconds > uncached / 3) != is_slow else ""
-        why = why or (f"{threads} threads" if threads > os.cpu_count() + 2 else "")
-        yield words, why or ("" if (status, out) == (0, day_report(2, tasks)) else f"status {status}, {shown(out)}")
-    for _ in range(3):
-        words = ["serve", many, "--cache", "0", "--workers", "40", "--slots", "40"]
-        status, out, seconds, threads = measured(room, words)
-        if threads > 40:
-            break
-    yield words, f"{threads} threads" if threads <= 40 else "" if (status, out) == (0, day_report(40, 600)) else f"status {status}, {shown(out)}"
+        words = ["serve", folder, *options]
+        slow = lambda seconds: seconds > uncached / 3
+        status, out, seconds, threads = measured_until(room, words, lambda seconds, _: slow(seconds) == is_slow)
+        if slow(seconds) != is_slow:
+            yield words, f"{seconds:.2f} seconds, where a host without a cache takes {uncached:.2f}"
+        elif threads > os.cpu_count() + 2:
+            yield words, f"{threads} threads for one worker"
+        else:
+            yield words, "" if (status, out) == (0, day_report(2, tasks)) else f"status {status}, {shown(out)}"
+
+
+def worker_options(room):
+    """Whether there are as many workers as were asked for, each with a thread, and a slot for each: a worker without a slot
+    passes a turn, and then not all tasks are served."""
+    workers, tasks = 40, 600
+    folder = room.folder({f"{number}.json": day(tasks) for number in range(100, 100 + workers)})
+    words = ["serve", folder, "--cache", "0", "--workers", str(workers), "--slots", str(workers)]
+    status, out, _, threads = measured_until(room, words, lambda _, threads: threads > workers)
+    if threads <= workers:
+        yield words, f"{threads} threads"
+    else:
+        yield words, "" if (status, out) == (0, day_report(workers, tasks)) else f"status {status}, {shown(out)}"
 
 
 def compared(room, group):
@@ -731,8 +757,9 @@ def main():
         sys.exit("the program is not built: start ./wfhost once")
     tables = (command_lines, reports, files, links_and_pipes, rights, sizes, streams)
     groups = {table.__name__: lambda room, table=table: compared(room, table) for table in tables}
-    groups["host_options"] = host_options
+    groups |= {"cache_options": cache_options, "worker_options": worker_options}
     tried = wrong = 0
+    os.umask(0o022)
     with tempfile.TemporaryDirectory() as path:
         room = Room(path, program)
         for name in sys.argv[2:] or groups:
