@@ -708,7 +708,7 @@ def measured_until(room, words, is_right):
 def cache_options(room):
     """Whether the host has the cache that was asked for: a task whose run is not cached costs the replay of all events before
     it, so a service of two long histories takes much longer where the cache is too small for both."""
-    tasks, events = 1500, 2 + 3 * 1500
+    tasks, events = 1000, 2 + 3 * 1000
     folder = room.folder({f"{number}.json": day(tasks) for number in (100, 101)})
     uncached = measured(room, ["serve", folder, "--cache", "0"])[2]
     rows = [
@@ -732,13 +732,14 @@ def cache_options(room):
 
 
 def worker_options(room):
-    """Whether there are as many workers as were asked for, each with a thread, and a slot for each: a worker without a slot
-    passes a turn, and then not all tasks are served."""
-    workers, tasks = 40, 600
+    """Whether there are as many workers as were asked for, each with a thread, of which some may have ended when they are
+    counted, and a slot for each: a worker without a slot passes a turn, and then not all tasks are served."""
+    workers, tasks = 40, 400
     folder = room.folder({f"{number}.json": day(tasks) for number in range(100, 100 + workers)})
     words = ["serve", folder, "--cache", "0", "--workers", str(workers), "--slots", str(workers)]
-    status, out, _, threads = measured_until(room, words, lambda _, threads: threads > workers)
-    if threads <= workers:
+    enough = workers * 9 // 10
+    status, out, _, threads = measured_until(room, words, lambda _, threads: threads >= enough)
+    if threads < enough:
         yield words, f"{threads} threads"
     else:
         yield words, "" if (status, out) == (0, day_report(workers, tasks)) else f"status {status}, {shown(out)}"
