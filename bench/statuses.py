@@ -87,6 +87,7 @@ NO_COMMAND = "error: a command is needed\n\nUsage: wfhost [COMMAND]\n\nFor more 
 FEW_SLOTS = "wfhost: slots must be at least workers\n"
 NOT_TAKEN = "wfhost: cannot write\n"
 NO_MEMORY = "wfhost: out of memory\n"
+WORKER_FAULT = "wfhost: a worker has a fault: a call of its source failed\n"
 UNCOMPARED = "wfhost: the last task of a recorded history is not compared with its record; replay does that\n"
 
 REPLAYED = "nap.json: ok, 2 tasks\n1 files, 1 ok\n"
@@ -603,10 +604,11 @@ def end_of(kind):
     return write
 
 
-def run(room, words, given=b"", folder=None, out=None, error=None, merged=False, memory=0, as_nobody=False):
+def run(room, words, given=b"", folder=None, out=None, error=None, merged=False, memory=0, data=0, as_nobody=False):
     """Runs the program with this standard input in a folder, with streams that take nothing, with one stream for all, with a
-    limit on its memory or as nobody where wanted."""
-    before = (lambda: resource.setrlimit(resource.RLIMIT_AS, (memory, memory))) if memory else None
+    limit on its addresses or on what it may write to, or as nobody where wanted."""
+    limit = (resource.RLIMIT_AS, memory) if memory else (resource.RLIMIT_DATA, data)
+    before = (lambda: resource.setrlimit(limit[0], (limit[1], limit[1]))) if limit[1] else None
     who = {"user": NOBODY, "group": NOBODY, "extra_groups": []} if as_nobody and os.geteuid() == 0 else {}
     ends = [end_of(kind) for kind in (out, error) if kind]
     try:
@@ -745,6 +747,35 @@ def worker_options(room):
         yield words, "" if (status, out) == (0, day_report(workers, tasks)) else f"status {status}, {shown(out)}"
 
 
+def short_memory_fault(ran, files, tasks):
+    """What is not as it should be where a service of so many days has too little memory: it ends without a report, or as with
+    ample memory, or with a report of tasks that failed, each of which is told, and then whether a worker has a fault."""
+    out, error = ran.stdout.decode(), ran.stderr.decode()
+    *rows, total = [[int(number) for number in re.findall(r"\d+", line.split(": ")[-1])] for line in out.splitlines() or [""]]
+    sums = [sum(column) for column in zip(*rows)]
+    failure = r"wfhost: \d+\.json: task at \d+: .+\n"
+    told = re.fullmatch(f"((?:{failure})*?)(?:{WORKER_FAULT})?{UNCOMPARED}", error)
+    is_right = {
+        0: (out, error) == (day_report(files, tasks), UNCOMPARED),
+        1: told and len(rows) == files and total == [*sums, 0] and sums[0] - sums[1] == sums[2] == told[1].count("\n") > 0,
+        2: (out, error) == ("", NO_MEMORY),
+    }
+    return "" if is_right.get(ran.returncode) else f"status {ran.returncode}, {shown(out)}, {shown(error)}"
+
+
+def short_memory(room):
+    """Services with less and less memory. With some of the limits a worker has a fault, and with others there is no report."""
+    files, tasks, statuses, faults = 20, 200, set(), 0
+    folder = room.folder({f"{number}.json": day(tasks) for number in range(100, 100 + files)})
+    words = ["serve", folder]
+    for data in range(8 << 20, 1 << 20, -(400 << 10)):
+        ran = run(room, words, data=data)
+        statuses.add(ran.returncode)
+        faults += WORKER_FAULT.encode() in ran.stderr
+        yield [*words, data], short_memory_fault(ran, files, tasks)
+    yield words, "" if statuses == {0, 1, 2} and faults else f"statuses {statuses}, and {faults} workers with faults"
+
+
 def compared(room, group):
     """What a group of the table tries, each with what is not as it should be."""
     for words, status, out, error, *how in group(room):
@@ -758,7 +789,7 @@ def main():
         sys.exit("the program is not built: start ./wfhost once")
     tables = (command_lines, reports, files, links_and_pipes, rights, sizes, streams)
     groups = {table.__name__: lambda room, table=table: compared(room, table) for table in tables}
-    groups |= {"cache_options": cache_options, "worker_options": worker_options}
+    groups |= {measure.__name__: measure for measure in (cache_options, worker_options, short_memory)}
     tried = wrong = 0
     os.umask(0o022)
     with tempfile.TemporaryDirectory() as path:
