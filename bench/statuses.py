@@ -11,6 +11,7 @@ import os
 import re
 import resource
 import shutil
+import signal
 import subprocess
 import sys
 import tempfile
@@ -23,7 +24,7 @@ PROGRAM = TOP / "crates/wfhost/out/wfhost"
 EXAMPLES = TOP / "examples/histories"
 NAP = (EXAMPLES / "nap.json").read_bytes()
 RACER = (EXAMPLES / "racer.json").read_bytes()
-LIMIT_SECONDS = 60
+LIMIT_SECONDS = 120
 MOST_BYTES = 67_108_864
 # Too little for a file of this size, and enough for the program to start.
 SMALL_MEMORY = 64 << 20
@@ -691,7 +692,7 @@ def measured(room, words):
             except OSError:
                 pass
             if time.monotonic() > begun + LIMIT_SECONDS:
-                started.kill()
+                os.kill(started.pid, signal.SIGKILL)
             ended, status, used = os.wait4(started.pid, os.WNOHANG)
         started.returncode = os.waitstatus_to_exitcode(status)
         out.seek(0)
