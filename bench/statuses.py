@@ -512,6 +512,7 @@ def links_and_pipes(room):
         (["explain", f"{linked}/nap.json"], 0, EXPLAINED, ""),
         *(([command, "/dev/zero"], 2, "", cannot_read("/dev/zero")) for command in ("replay", "explain", "serve")),
         *(([command, missing], 2, "", cannot_read(missing)) for command in ("replay", "explain", "serve")),
+        *(([command, ""], 2, "", cannot_read("")) for command in ("replay", "explain", "serve")),
         (["explain", well], 2, "", cannot_read(well)),
         (["serve", f"{well}/nap.json"], 2, "", cannot_read(f"{well}/nap.json")),
         (["replay", well, missing], 2, "", cannot_read(missing)),
@@ -586,6 +587,9 @@ def streams(room):
     return [
         *((words, 2, None, NOT_TAKEN, {"out": out}) for words in commands for out in ("full", "broken")),
         (["replay", many], 2, None, NOT_TAKEN, {"out": "broken"}),
+        *(([command, well], 2, "", NOT_TAKEN, {"closed": 1}) for command in ("replay", "serve")),
+        *(([command, "-"], 2, "", cannot_read("-"), {"closed": 0}) for command in ("replay", "explain")),
+        (["serve", well], 0, SERVED, "", {"closed": 2}),
         (["replay", bad], 1, "nap.json: unreadable, not JSON\n1 files, 0 ok\n", None, {"error": "full"}),
         (["serve", well], 0, SERVED, None, {"error": "full"}),
         (["serve", well], 0, SERVED, None, {"error": "broken"}),
@@ -605,11 +609,19 @@ def end_of(kind):
     return write
 
 
-def run(room, words, given=b"", folder=None, out=None, error=None, merged=False, memory=0, data=0, as_nobody=False):
+def run(
+    room, words, given=b"", folder=None, out=None, error=None, merged=False, closed=None, memory=0, data=0, as_nobody=False
+):
     """Runs the program with this standard input in a folder, with streams that take nothing, with one stream for all, with a
-    limit on its addresses or on what it may write to, or as nobody where wanted."""
-    limit = (resource.RLIMIT_AS, memory) if memory else (resource.RLIMIT_DATA, data)
-    before = (lambda: resource.setrlimit(limit[0], (limit[1], limit[1]))) if limit[1] else None
+    stream that is closed, with a limit on its addresses or on what it may write to, or as nobody where wanted."""
+
+    def before():
+        for what, limit in ((resource.RLIMIT_AS, memory), (resource.RLIMIT_DATA, data)):
+            if limit:
+                resource.setrlimit(what, (limit, limit))
+        if closed is not None:
+            os.close(closed)
+
     who = {"user": NOBODY, "group": NOBODY, "extra_groups": []} if as_nobody and os.geteuid() == 0 else {}
     ends = [end_of(kind) for kind in (out, error) if kind]
     try:
@@ -620,7 +632,7 @@ def run(room, words, given=b"", folder=None, out=None, error=None, merged=False,
             stdout=ends[0] if out else subprocess.PIPE,
             stderr=ends[-1] if error else subprocess.STDOUT if merged else subprocess.PIPE,
             timeout=LIMIT_SECONDS,
-            preexec_fn=before,
+            preexec_fn=before if memory or data or closed is not None else None,
             **who,
         )
     finally:
