@@ -29,6 +29,7 @@ MOST_BYTES = 67_108_864
 # Too little for a file of this size, and enough for the program to start.
 SMALL_MEMORY = 64 << 20
 LARGE_FILE = b'{"events":[' + b'"' + b"x" * (60 << 20) + b'"]}'
+THREAD_STACK = 64 << 20
 NOBODY = 65534
 
 HELP = """Usage: wfhost [COMMAND]
@@ -578,10 +579,12 @@ def sizes(room):
 
 
 def streams(room):
-    """Streams that take nothing, and memory that does not suffice."""
+    """Streams that take nothing, memory that does not suffice, and a folder that is larger than memory."""
     well, bad = room.folder({"nap.json": NAP}), room.folder({"nap.json": NOT_JSON})
     many = room.folder({f"{number}.json": NAP for number in range(1000, 5000)})
     large = room.folder({"large.json": LARGE_FILE})
+    wide = room.folder({f"{number}.json": padded(200_000) for number in range(100, 200)})
+    replayed = "".join(f"{number}.json: ok, 2 tasks\n" for number in range(100, 200)) + "100 files, 100 ok\n"
     replays = [["replay", well], ["replay", bad], ["replay", well, "--json"]]
     commands = [*replays, ["serve", well], ["explain", f"{well}/nap.json"], ["--help"]]
     return [
@@ -594,6 +597,8 @@ def streams(room):
         (["serve", well], 0, SERVED, None, {"error": "full"}),
         (["serve", well], 0, SERVED, None, {"error": "broken"}),
         (["replay"], 2, "", None, {"error": "full"}),
+        (["replay", wide], 0, replayed, "", {"data": 6 << 20}),
+        (["serve", wide], 0, long_report(100, 2), UNCOMPARED, {"data": 6 << 20}),
         (["replay", large], 2, "", NO_MEMORY, {"memory": SMALL_MEMORY}),
         (["serve", large], 2, "", NO_MEMORY, {"memory": SMALL_MEMORY}),
         (["explain", f"{large}/large.json"], 2, "", NO_MEMORY, {"memory": SMALL_MEMORY}),
@@ -613,12 +618,15 @@ def run(
     room, words, given=b"", folder=None, out=None, error=None, merged=False, closed=None, memory=0, data=0, as_nobody=False
 ):
     """Runs the program with this standard input in a folder, with streams that take nothing, with one stream for all, with a
-    stream that is closed, with a limit on its addresses or on what it may write to, or as nobody where wanted."""
+    stream that is closed, with a limit on its addresses, or on what it may write to, so that there is no memory for the stack
+    of a thread, or as nobody where wanted."""
 
     def before():
-        for what, limit in ((resource.RLIMIT_AS, memory), (resource.RLIMIT_DATA, data)):
-            if limit:
-                resource.setrlimit(what, (limit, limit))
+        if memory:
+            resource.setrlimit(resource.RLIMIT_AS, (memory, memory))
+        if data:
+            resource.setrlimit(resource.RLIMIT_STACK, (THREAD_STACK, resource.getrlimit(resource.RLIMIT_STACK)[1]))
+            resource.setrlimit(resource.RLIMIT_DATA, (data, data))
         if closed is not None:
             os.close(closed)
 
@@ -668,7 +676,7 @@ def shown(text):
     return repr(text if len(text) < 2000 else text[:2000] + " ..")
 
 
-def day(tasks):
+def long_nap(tasks):
     """The history of a nap with so many workflow tasks."""
     events = ["WorkflowExecutionStarted"]
     for number in range(tasks):
@@ -685,8 +693,8 @@ def day(tasks):
     return json.dumps({"events": numbered}).encode()
 
 
-def day_report(files, tasks):
-    """The report of a service of so many days with so many tasks each."""
+def long_report(files, tasks):
+    """The report of a service of so many long naps."""
     served = "".join(f"{number}.json: {tasks} tasks, {tasks} completed, 0 failed\n" for number in range(100, 100 + files))
     return f"{served}taken {files * tasks}, completed {files * tasks}, failed 0, in hand 0\n"
 
@@ -724,7 +732,7 @@ def cache_options(room):
     """Whether the host has the cache that was asked for: a task whose run is not cached costs the replay of all events before
     it, so a service of two long histories takes much longer where the cache is too small for both."""
     tasks, events = 1000, 2 + 3 * 1000
-    folder = room.folder({f"{number}.json": day(tasks) for number in (100, 101)})
+    folder = room.folder({f"{number}.json": long_nap(tasks) for number in (100, 101)})
     uncached = measured(room, ["serve", folder, "--cache", "0"])[2]
     rows = [
         (["--cache", "0"], True),
@@ -743,33 +751,33 @@ def cache_options(room):
         elif threads > os.cpu_count() + 2:
             yield words, f"{threads} threads for one worker"
         else:
-            yield words, "" if (status, out) == (0, day_report(2, tasks)) else f"status {status}, {shown(out)}"
+            yield words, "" if (status, out) == (0, long_report(2, tasks)) else f"status {status}, {shown(out)}"
 
 
 def worker_options(room):
     """Whether there are as many workers as were asked for, each with a thread, of which some may have ended when they are
     counted, and a slot for each: a worker without a slot passes a turn, and then not all tasks are served."""
     workers, tasks = 40, 400
-    folder = room.folder({f"{number}.json": day(tasks) for number in range(100, 100 + workers)})
+    folder = room.folder({f"{number}.json": long_nap(tasks) for number in range(100, 100 + workers)})
     words = ["serve", folder, "--cache", "0", "--workers", str(workers), "--slots", str(workers)]
     enough = workers * 9 // 10
     status, out, _, threads = measured_until(room, words, lambda _, threads: threads >= enough)
     if threads < enough:
         yield words, f"{threads} threads"
     else:
-        yield words, "" if (status, out) == (0, day_report(workers, tasks)) else f"status {status}, {shown(out)}"
+        yield words, "" if (status, out) == (0, long_report(workers, tasks)) else f"status {status}, {shown(out)}"
 
 
 def short_memory_fault(ran, files, tasks):
-    """What is not as it should be where a service of so many days has too little memory: it ends without a report, or as with
-    ample memory, or with a report of tasks that failed, each of which is told, and then whether a worker has a fault."""
+    """What is not as it should be where a service of so many long naps has too little memory: it ends without a report, or as
+    with ample memory, or with a report of tasks that failed, each of which is told, and then whether a worker has a fault."""
     out, error = ran.stdout.decode(), ran.stderr.decode()
     *rows, total = [[int(number) for number in re.findall(r"\d+", line.split(": ")[-1])] for line in out.splitlines() or [""]]
     sums = [sum(column) for column in zip(*rows)]
     failure = r"wfhost: \d+\.json: task at \d+: .+\n"
     told = re.fullmatch(f"((?:{failure})*?)(?:{WORKER_FAULT})?{UNCOMPARED}", error)
     is_right = {
-        0: (out, error) == (day_report(files, tasks), UNCOMPARED),
+        0: (out, error) == (long_report(files, tasks), UNCOMPARED),
         1: told and len(rows) == files and total == [*sums, 0] and sums[0] - sums[1] == sums[2] == told[1].count("\n") > 0,
         2: (out, error) == ("", NO_MEMORY),
     }
@@ -779,7 +787,7 @@ def short_memory_fault(ran, files, tasks):
 def short_memory(room):
     """Services with less and less memory. With some of the limits a worker has a fault, and with others there is no report."""
     files, tasks, statuses, faults = 20, 200, set(), 0
-    folder = room.folder({f"{number}.json": day(tasks) for number in range(100, 100 + files)})
+    folder = room.folder({f"{number}.json": long_nap(tasks) for number in range(100, 100 + files)})
     words = ["serve", folder]
     for data in range(8 << 20, 1 << 20, -(400 << 10)):
         ran = run(room, words, data=data)
