@@ -1,0 +1,15 @@
+//! What the lines of the report as JSON read as.
+ghost use Rattle.wh_tester.specs.JsonReading.{LinesReadBack, TotalsReadBack};
+
+/// The line of a file, without its line feed, is a text of JSON (RFC 8259), and it reads as the
+/// object of the file: its name as it is shown, and the members of its verdict, in their order.
+#[tactic(auto, using(crate::proofs::JsonReading::lines_read_back))]
+pub fn lines_read_back()
+    ensures { LinesReadBack }
+{}
+
+/// So is the line of the totals, and it reads as their object.
+#[tactic(auto, using(crate::proofs::JsonReading::totals_read_back))]
+pub fn totals_read_back()
+    ensures { TotalsReadBack }
+{}
