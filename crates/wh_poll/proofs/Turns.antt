@@ -1,5 +1,5 @@
 -- What turns of a worker have done.
-use Rattle.std.proofs.Common.{◌≡◌, ◌≤◌, inl, inr, arith, ℕ, Bool, List, [], ◌∷◌, ◌++◌, Option, Some, None, ap, subst, ◌∙◌, refl}
+use Rattle.std.proofs.Common.{◌≡◌, ◌≤◌, inr, arith, ℕ, Bool, false, List, [], ◌∷◌, ◌++◌, Option, Some, None, ap, subst, ◌∙◌, refl}
 use Rattle.std.specs.Prelude.{Result, Ok, Err, ◌+◌, length}
 use Rattle.std.proofs.lemmas.List.{length-append}
 use Rattle.wh_slots.specs.declared.TaskName.{TaskName}
@@ -21,8 +21,10 @@ use Rattle.wh_tasks.specs.declared.source.Sent.TheVariants.{Workflow as OfWorkfl
 use Rattle.wh_tasks.specs.Source.{Delivers, Tells, Answers, Workflow, SameTelling, FailsOnly, RoseIfFailed}
 use Rattle.wh_tasks.specs.Tasks.{Basis, Own, Nothing, Joined, Told, basis_of, StepsFrom, FailsOnlySource}
 use Rattle.wh_poll.specs.Serve.{Sends, ServesWorkflow, Counts, MayCount, with_taken, ended, served_workflow}
-use Rattle.wh_poll.specs.Workers.{first_fault}
-use Rattle.wh_poll.specs.Turns.{Leads}
+use Rattle.wh_slots.specs.declared.SlotKind.{SlotKind}
+use Rattle.wh_poll.specs.declared.workers.Rota.{Rota}
+use Rattle.wh_poll.specs.Workers.{first_fault, is_last, next_rota}
+use Rattle.wh_poll.specs.Turns.{Turn, GoesOn}
 
 -- what a task gives stays what it gives where the same is told
 StepsFrom-same : {S : Type 0} (program : Program S) (basis : Basis) (p q : Tells) (run : Option Held) (key : RunKey) (events : List Event) (stepped : Option Held) (fault : Option Fault) (hit : Bool) (before after : ℕ)
@@ -55,7 +57,7 @@ serves_sent program p q delivers old between new task run (Ok reply) delivered k
       };
       sent = sends.2 ∙ ap (λ l. l ++ (task.name, OfWorkflow sends.0) ∷ []) kept;
     }
-serves_sent program p q delivers old between new task run (Err OutOfMemory) delivered kept same sends = (sends ∙ kept, inl (task, delivered, refl))
+serves_sent program p q delivers old between new task run (Err OutOfMemory) delivered kept same sends = (sends ∙ kept, (task, delivered, refl))
 serves_sent program p q delivers old between new task run (Err (Source fault)) delivered kept same sends = sends ∙ kept
 
 -- what the seat counted of a workflow task that was taken
@@ -83,11 +85,15 @@ rose_kept (Some Unfed) (Ok served) first second third rose fails = omega (arith,
 rose_kept (Some Unfed) (Err Failing) first second third rose fails = omega (arith, rose, fails)
 rose_kept (Some Unfed) (Err Unfed) first second third rose fails = omega (arith, rose, fails)
 
--- one turn more leads on
-pub leads_on : {X T : Type 0} (step : X → T → X → Type 0) (first last next : X) (turns : List T) (turn : T)
-    → Leads step first turns last → step last turn next → Leads step first (turns ++ turn ∷ []) next
-leads_on step first last next [] turn led went = (next, subst (λ x. step x turn next) led went, refl)
-leads_on step first last next (t ∷ ts) turn led went = (led.0, led.1, leads_on step led.0 last next ts turn led.2 went)
+-- one turn more, which lets another follow, leads on
+pub goes_on_more : {X : Type 0} (step : SlotKind → X → Turn → X → Type 0) (rota next : Rota) (first last new : X) (turns : List Turn) (turn : Turn)
+    → GoesOn step rota first turns next last → step next.kind last turn new → is_last next.other_closed turn ≡ false
+    → GoesOn step rota first (turns ++ turn ∷ []) (next_rota next turn) new
+goes_on_more step rota next first last new [] turn led went more =
+    let at : step rota.kind first turn new = subst (λ x. step rota.kind x turn new) led.1 (subst (λ r. step r.kind last turn new) led.0 went) in
+    (new, at, subst (λ r. is_last r.other_closed turn ≡ false) led.0 more, (ap (λ r. next_rota r turn) led.0, refl))
+goes_on_more step rota next first last new (t ∷ ts) turn led went more =
+    (led.0, led.1, led.2, goes_on_more step (next_rota rota t) next led.0 last new ts turn led.3 went more)
 
 -- one turn more, and how many they are
 pub turn_more : {T : Type 0} (turns : List T) (turn : T) (count : ℕ) → length turns ≡ count → length (turns ++ turn ∷ []) ≡ count + 1

@@ -1,8 +1,10 @@
 -- What one turn of a worker does.
-use Rattle.std.specs.Prelude.{◌≡◌, ◌⊎◌, ℕ, ◌+◌, ◌≤◌, Bool, List, [], ◌∷◌, ◌++◌, Option, Result, Ok, Err, IfSome}
+use Rattle.std.specs.Prelude.{◌≡◌, ◌⊎◌, ℕ, ◌+◌, ◌≤◌, Bool, List, [], ◌∷◌, ◌++◌, Option, Some, None, Result, Ok, Err, IfSome}
 use Rattle.wh_slots.specs.declared.SlotKind.{SlotKind}
 use Rattle.wh_slots.specs.declared.SlotKind.TheVariants.{Workflow as WorkflowKind, Activity as ActivityKind}
 use Rattle.wh_slots.specs.declared.TaskName.{TaskName}
+use Rattle.wh_slots.specs.declared.ReserveFault.{ReserveFault}
+use Rattle.wh_slots.specs.declared.ReserveFault.TheVariants.{NoSlot as NoSlotIsFree, Draining as HostDrains, NumbersSpent as NoNumberIsLeft}
 use Rattle.wh_events.specs.declared.event.Event.{Event}
 use Rattle.wh_replay.specs.declared.fault.Fault.{Fault}
 use Rattle.wh_events.specs.declared.key.RunKey.{RunKey}
@@ -27,6 +29,11 @@ use Rattle.wh_poll.specs.declared.serve.Served.TheVariants.{Workflow, Activity, 
 use Rattle.wh_tasks.specs.declared.source.Sent.TheVariants.{Workflow as OfWorkflow, Activity as OfActivity}
 use Rattle.wh_tasks.specs.Source.{Delivers, Tells, Answerable, Answers, Workflow as WorkflowDelivery, Activity as ActivityDelivery, RoseIfFailed}
 use Rattle.wh_tasks.specs.Tasks.{Steps, IsAnswer}
+
+-- the events that a run holds, and none where there is no run
+abbrev pub held_by : Option Held → List Event
+held_by None = []
+held_by (Some run) = run.events
 
 -- a workflow task that is answered `Complete` is completed, else failed
 abbrev pub outcome_of : Answer → Outcome
@@ -76,52 +83,47 @@ pub record AnswersActivity (may : Answerable) (delivers : Delivers)
   pub ends : activity_outcome answer ≡ outcome
   pub sent : new ≡ old ++ (name, OfActivity answer) ∷ []
 
--- a task of this name is delivered
-abbrev pub IsDelivered : Delivers → TaskName → Type 0
-IsDelivered delivers name =
-    ((task : WorkflowTask) × delivers (WorkflowDelivery task) × (task.name ≡ name))
-    ⊎ ((task : ActivityTask) × delivers (ActivityDelivery task) × (task.name ≡ name))
+-- a task of this name and kind is delivered
+abbrev pub IsDelivered : SlotKind → Delivers → TaskName → Type 0
+IsDelivered WorkflowKind delivers name = (task : WorkflowTask) × delivers (WorkflowDelivery task) × (task.name ≡ name)
+IsDelivered ActivityKind delivers name = (task : ActivityTask) × delivers (ActivityDelivery task) × (task.name ≡ name)
 
--- nothing was sent, and a task that got no answer is a delivered one
-abbrev pub SendsNothing : Delivers → Answers → Answers → Result Served SourceFault → Type 0
-SendsNothing delivers old new (Ok (Workflow name hit steps outcome)) = ⊥
-SendsNothing delivers old new (Ok (Activity name outcome)) = ⊥
-SendsNothing delivers old new (Ok (NoMemory name)) = (new ≡ old) × IsDelivered delivers name
-SendsNothing delivers old new (Ok (Repeated name)) = (new ≡ old) × IsDelivered delivers name
-SendsNothing delivers old new (Ok Idle) = new ≡ old
-SendsNothing delivers old new (Ok Closed) = new ≡ old
-SendsNothing delivers old new (Ok NoSlot) = new ≡ old
-SendsNothing delivers old new (Ok Draining) = new ≡ old
-SendsNothing delivers old new (Ok NumbersSpent) = new ≡ old
-SendsNothing delivers old new (Err fault) = new ≡ old
+-- nothing was sent, and a task that got no answer is a delivered one of the kind
+abbrev pub SendsNothing : SlotKind → Delivers → Answers → Answers → Result Served SourceFault → Type 0
+SendsNothing kind delivers old new (Ok (Workflow name hit steps outcome)) = ⊥
+SendsNothing kind delivers old new (Ok (Activity name outcome)) = ⊥
+SendsNothing kind delivers old new (Ok (NoMemory name)) = (new ≡ old) × IsDelivered kind delivers name
+SendsNothing kind delivers old new (Ok (Repeated name)) = (new ≡ old) × IsDelivered kind delivers name
+SendsNothing kind delivers old new (Ok Idle) = new ≡ old
+SendsNothing kind delivers old new (Ok Closed) = new ≡ old
+SendsNothing kind delivers old new (Ok NoSlot) = new ≡ old
+SendsNothing kind delivers old new (Ok Draining) = new ≡ old
+SendsNothing kind delivers old new (Ok NumbersSpent) = new ≡ old
+SendsNothing kind delivers old new (Err fault) = new ≡ old
 
 -- one answer where a workflow task was served, and none otherwise
 abbrev pub ServesWorkflow : {S : Type 0} → Program S → Tells → Delivers → Answers → Answers
     → Result Served SourceFault → Type 0
 ServesWorkflow program tells delivers old new (Ok (Workflow name hit steps outcome)) =
     AnswersWorkflow program tells delivers old new name hit steps outcome
-ServesWorkflow program tells delivers old new served = SendsNothing delivers old new served
+ServesWorkflow program tells delivers old new served = SendsNothing WorkflowKind delivers old new served
 
 -- one answer where an activity task was served, and none otherwise
 abbrev pub ServesActivity : Answerable → Delivers → Answers → Answers → Result Served SourceFault → Type 0
 ServesActivity may delivers old new (Ok (Activity name outcome)) = AnswersActivity may delivers old new name outcome
-ServesActivity may delivers old new served = SendsNothing delivers old new served
+ServesActivity may delivers old new served = SendsNothing ActivityKind delivers old new served
 
--- one answer where a task was served, and none otherwise
-abbrev pub Serves : {S : Type 0} → Program S → Tells → Delivers → Answerable → Answers → Answers
+-- one answer where a task was served, which is of the kind that was asked for, and none otherwise
+abbrev pub Serves : {S : Type 0} → SlotKind → Program S → Tells → Delivers → Answerable → Answers → Answers
     → Result Served SourceFault → Type 0
-Serves program tells delivers may old new (Ok (Workflow name hit steps outcome)) =
-    AnswersWorkflow program tells delivers old new name hit steps outcome
-Serves program tells delivers may old new (Ok (Activity name outcome)) =
-    AnswersActivity may delivers old new name outcome
-Serves program tells delivers may old new served = SendsNothing delivers old new served
+Serves WorkflowKind program tells delivers may old new served = ServesWorkflow program tells delivers old new served
+Serves ActivityKind program tells delivers may old new served = ServesActivity may delivers old new served
 
 -- what a turn has served that got no slot
-abbrev pub HasNoSlot : Served → Type 0
-HasNoSlot NoSlot = Unit {0}
-HasNoSlot Draining = Unit {0}
-HasNoSlot NumbersSpent = Unit {0}
-HasNoSlot _ = ⊥
+abbrev pub unreserved : ReserveFault → Served
+unreserved NoSlotIsFree = NoSlot
+unreserved HostDrains = Draining
+unreserved NoNumberIsLeft = NumbersSpent
 
 -- what a turn has served whose poll gave no task
 abbrev pub HasNoTask : Result Served SourceFault → Type 0
@@ -135,19 +137,6 @@ abbrev pub IsRefused : TaskName → Served → Type 0
 IsRefused name (NoMemory own) = own ≡ name
 IsRefused name (Repeated own) = own ≡ name
 IsRefused name _ = ⊥
-
--- a task that was answered is of the kind
-abbrev pub IsOfKind : SlotKind → Result Served SourceFault → Type 0
-IsOfKind kind (Ok (Workflow name hit steps outcome)) = kind ≡ WorkflowKind
-IsOfKind kind (Ok (Activity name outcome)) = kind ≡ ActivityKind
-IsOfKind kind (Ok (NoMemory name)) = Unit {0}
-IsOfKind kind (Ok (Repeated name)) = Unit {0}
-IsOfKind kind (Ok Idle) = Unit {0}
-IsOfKind kind (Ok Closed) = Unit {0}
-IsOfKind kind (Ok NoSlot) = Unit {0}
-IsOfKind kind (Ok Draining) = Unit {0}
-IsOfKind kind (Ok NumbersSpent) = Unit {0}
-IsOfKind kind (Err fault) = Unit {0}
 
 -- the outcome was counted, or nothing
 abbrev pub MayCount : Shares → Shares → Outcome → Type 0

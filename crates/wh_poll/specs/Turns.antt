@@ -1,16 +1,20 @@
 -- The turns of a worker, one after the other.
-use Rattle.std.specs.Prelude.{◌≡◌, ℕ, ◌+◌, ◌≤◌, List, [], ◌∷◌, length, None, Result}
-use Rattle.std.specs.List.{AllZip}
+use Rattle.std.specs.Prelude.{◌≡◌, ◌⊎◌, ℕ, ◌+◌, ◌<◌, ◌≤◌, true, false, List, [], ◌∷◌, length, None, Result}
+use Rattle.std.specs.List.{AllZip, zip}
 use Rattle.wh_workflow.specs.Law.{Program}
+use Rattle.wh_slots.specs.declared.SlotKind.{SlotKind}
 use Rattle.wh_ledger.specs.declared.Shares.{Shares}
 use Rattle.wh_tasks.specs.declared.source.SourceFault.{SourceFault}
-use Rattle.wh_ledger.specs.Shares.{no_shares}
-use Rattle.wh_tasks.specs.Source.{Answers, Answerable, Delivers, Tells, KeepsOrigin, RoseIfFailed, SameTasks}
+use Rattle.wh_tasks.specs.Source.{Answers, Answerable, Delivers, Tells, FailsOnly, KeepsOrigin, RoseIfFailed, SameMay, SameTasks}
+use Rattle.wh_poll.specs.declared.observer.NoObserver.{NoObserver}
 use Rattle.wh_poll.specs.declared.serve.Served.{Served}
 use Rattle.wh_poll.specs.declared.post.Post.{Post}
 use Rattle.wh_poll.specs.declared.post.Left.{Left}
+use Rattle.wh_poll.specs.declared.workers.Rota.{Rota}
+use Rattle.wh_poll.specs.declared.workers.Worker.{Worker}
 use Rattle.wh_poll.specs.Serve.{Serves, Counts}
-use Rattle.wh_poll.specs.Workers.{first_fault}
+use Rattle.wh_poll.specs.Stations.{worker_of}
+use Rattle.wh_poll.specs.Workers.{first_fault, first_rota, is_last, next_rota}
 
 -- what a turn did
 abbrev pub Turn : Type 0
@@ -20,34 +24,51 @@ Turn = Result Served SourceFault
 abbrev pub Hears : Type 0 → Type 1
 Hears O = O → Turn → O → Type 0
 
--- one turn of a worker: the answer that it sends, what its seat counts, the fault that it keeps, and what its
--- observer is told
+-- one turn of a worker, of a kind: the answer that it sends, what its seat counts, what its source and its handler
+-- keep, the fault that it keeps, and what its observer is told
 pub record IsTurn {P S A O : Type 0} (program : Program P) (tells : S → Tells) (delivers : S → Delivers)
-    (answers : S → Answers) (may : A → Answerable) (hears : Hears O)
-    (old : Left S A O) (turn : Turn) (new : Left S A O) : Type 0 where
-  pub serves : Serves program (tells old.source) (delivers old.source) (may old.handler)
+    (answers : S → Answers) (failures : S → ℕ) (comes_from : S → S → Type 0) (may : A → Answerable) (hears : Hears O)
+    (kind : SlotKind) (old : Left S A O) (turn : Turn) (new : Left S A O) : Type 0 where
+  pub serves : Serves kind program (tells old.source) (delivers old.source) (may old.handler)
       (answers old.source) (answers new.source) turn
   pub counts : Counts old.counted new.counted turn
+  pub failed : FailsOnly turn (failures old.source) (failures new.source)
+  pub same : SameTasks (delivers old.source) (tells old.source) (delivers new.source) (tells new.source)
+  pub origin : KeepsOrigin comes_from old.source new.source
+  pub allows : SameMay (may old.handler) (may new.handler)
   pub kept : new.fault ≡ first_fault old.fault turn
   pub told : hears old.observer turn new.observer
 
--- one turn after the other leads from what a worker had to what it has
-abbrev pub Leads : {X T : Type 0} → (X → T → X → Type 0) → X → List T → X → Type 0
-Leads step old [] new = new ≡ old
-Leads step old (turn ∷ rest) new = (next : _) × step old turn next × Leads step next rest new
+-- turns lead from what a worker had to what it has, and from its rota to the next one: each is of the kind of the
+-- rota before it, and each lets another turn follow
+abbrev pub GoesOn : {X : Type 0} → (SlotKind → X → Turn → X → Type 0) → Rota → X → List Turn → Rota → X → Type 0
+GoesOn step rota old [] next new = (next ≡ rota) × (new ≡ old)
+GoesOn step rota old (turn ∷ rest) next new =
+    (between : _) × step rota.kind old turn between × (is_last rota.other_closed turn ≡ false)
+    × GoesOn step (next_rota rota turn) between rest next new
+
+-- no turn follows: so many were to be done and so many are, or one more is done, and it is the last
+abbrev pub Ends : {X : Type 0} → (SlotKind → X → Turn → X → Type 0) → ℕ → List Turn → Rota → X → X → Type 0
+Ends step count turns rota old new =
+    ((length turns ≡ count) × (new ≡ old))
+    ⊎ ((turn : Turn) × step rota.kind old turn new × (is_last rota.other_closed turn ≡ true) × (length turns < count))
 
 -- what a worker has at its post before its first turn
 abbrev pub at_first : {S A O : Type 0} → Shares → Post S A O → Left S A O
 at_first counted post =
     record { counted = counted; source = post.source; handler = post.handler; observer = post.observer; fault = None }
 
--- at most as many turns as the post has led to what is left, and its observer was told of each, in their order
+-- the turns of a post led to what is left: workflow and activity tasks by turns, workflow tasks first, a closed kind
+-- not again, until both are closed, the host drains or all turns are done; its observer was told of each turn
 pub record IsLedBy {P S A O : Type 0} (program : Program P) (tells : S → Tells) (delivers : S → Delivers)
-    (answers : S → Answers) (may : A → Answerable) (hears : Hears O)
+    (answers : S → Answers) (failures : S → ℕ) (comes_from : S → S → Type 0) (may : A → Answerable) (hears : Hears O)
     (counted : Shares) (post : Post S A O) (left : Left S A O) : Type 0 where
   pub turns : List Turn
-  pub within : length turns ≤ post.turns
-  pub led : Leads (IsTurn program tells delivers answers may hears) (at_first counted post) turns left
+  pub rota : Rota
+  pub before : Left S A O
+  pub led : GoesOn (IsTurn program tells delivers answers failures comes_from may hears)
+      first_rota (at_first counted post) turns rota before
+  pub ended : Ends (IsTurn program tells delivers answers failures comes_from may hears) post.turns turns rota before left
 
 -- what a worker's job, a seat with a post, has become: the seat, and what is left of the post
 pub record IsWorked {P S A O : Type 0} (program : Program P) (tells : S → Tells) (delivers : S → Delivers)
@@ -58,17 +79,44 @@ pub record IsWorked {P S A O : Type 0} (program : Program P) (tells : S → Tell
   pub fault : RoseIfFailed ended.1.fault (failures job.1.source) (failures ended.1.source)
   pub same : SameTasks (delivers job.1.source) (tells job.1.source) (delivers ended.1.source) (tells ended.1.source)
   pub origin : KeepsOrigin comes_from job.1.source ended.1.source
+  pub allows : SameMay (may job.1.handler) (may ended.1.handler)
   pub answered : length (answers ended.1.source) + job.0.taken ≤ length (answers job.1.source) + ended.0.taken
-  pub told : IsLedBy program tells delivers answers may hears job.0 job.1 ended.1
+  pub told : IsLedBy program tells delivers answers failures comes_from may hears job.0 job.1 ended.1
 
--- what workers leave of their posts, whose seats had counted nothing
+-- what workers leave of their posts, by what each seat had counted before
 pub record AreLeft {P S A O : Type 0} (program : Program P) (tells : S → Tells) (delivers : S → Delivers)
     (answers : S → Answers) (failures : S → ℕ) (comes_from : S → S → Type 0) (may : A → Answerable) (hears : Hears O)
-    (posts : List (Post S A O)) (lefts : List (Left S A O)) : Type 0 where
+    (seats : List Shares) (posts : List (Post S A O)) (lefts : List (Left S A O)) : Type 0 where
   pub count : length lefts ≡ length posts
-  pub turns : AllZip (λ post left. left.counted.taken ≤ post.turns) posts lefts
+  pub turns : AllZip (λ job left. left.counted.taken ≤ job.0.taken + job.1.turns) (zip seats posts) lefts
   pub faults : AllZip (λ post left. RoseIfFailed left.fault (failures post.source) (failures left.source)) posts lefts
+  pub same : AllZip (λ post left. SameTasks (delivers post.source) (tells post.source)
+      (delivers left.source) (tells left.source)) posts lefts
   pub origins : AllZip (λ post left. KeepsOrigin comes_from post.source left.source) posts lefts
-  pub answered : AllZip (λ post left. length (answers left.source) ≤ length (answers post.source) + left.counted.taken)
-      posts lefts
-  pub told : AllZip (IsLedBy program tells delivers answers may hears no_shares) posts lefts
+  pub handlers : AllZip (λ post left. SameMay (may post.handler) (may left.handler)) posts lefts
+  pub answered : AllZip (λ job left. length (answers left.source) + job.0.taken
+      ≤ length (answers job.1.source) + left.counted.taken) (zip seats posts) lefts
+  pub told : AllZip (λ job left. IsLedBy program tells delivers answers failures comes_from may hears job.0 job.1 left)
+      (zip seats posts) lefts
+
+-- what a worker without an observer hands back: what its turns led to
+pub record IsWorkOf {T C F P S A : Type 0} (program : Program P) (tells : S → Tells) (delivers : S → Delivers)
+    (answers : S → Answers) (failures : S → ℕ) (comes_from : S → S → Type 0) (may : A → Answerable)
+    (seat : Shares) (source : S) (handler : A) (turns : ℕ) (worker : Worker T C F S) : Type 0 where
+  pub post : Post S A NoObserver
+  pub source_is : post.source ≡ source
+  pub handler_is : post.handler ≡ handler
+  pub turns_are : post.turns ≡ turns
+  pub left : Left S A NoObserver
+  pub led : IsLedBy program tells delivers answers failures comes_from may (λ old turn new. new ≡ old) seat post left
+  pub worker_is : worker ≡ worker_of (left.counted, left)
+
+-- so do workers, each of the seat, the source, the handler and the turns of its place
+abbrev pub AreWorkOf : {T C F P S A : Type 0} → Program P → (S → Tells) → (S → Delivers) → (S → Answers) → (S → ℕ)
+    → (S → S → Type 0) → (A → Answerable) → List Shares → List S → List A → List ℕ → List (Worker T C F S) → Type 0
+AreWorkOf program tells delivers answers failures comes_from may [] [] [] [] [] = Unit {0}
+AreWorkOf program tells delivers answers failures comes_from may
+    (seat ∷ seats) (source ∷ sources) (handler ∷ handlers) (turn ∷ turns) (worker ∷ workers) =
+    IsWorkOf program tells delivers answers failures comes_from may seat source handler turn worker
+    × AreWorkOf program tells delivers answers failures comes_from may seats sources handlers turns workers
+AreWorkOf program tells delivers answers failures comes_from may _ _ _ _ _ = ⊥

@@ -18,6 +18,10 @@ abbrev pub other : SlotKind → SlotKind
 other WorkflowKind = ActivityKind
 other ActivityKind = WorkflowKind
 
+-- the first turn is for a workflow task, and no kind is closed
+abbrev pub first_rota : Rota
+first_rota = record { kind = WorkflowKind; other_closed = false }
+
 -- the source has no task of the kind, now or later
 abbrev pub is_closed : Result Served SourceFault → Bool
 is_closed (Ok Closed) = true

@@ -2,10 +2,10 @@
 ghost use Rattle.std.specs.Prelude.{◌≡◌, Err, IfOk, IfSome};
 ghost use Rattle.wh_tasks.specs.Source.{KeepsOrigin, SameTasks, SameMay};
 ghost use Rattle.wh_tasks.specs.Tasks.{IsAnswer, HasAnswer, FailsOnlySource};
-ghost use Rattle.wh_poll.specs.Serve.{outcome_of, activity_outcome, Sends, SendsAnswer, SendsActivity};
+ghost use Rattle.wh_poll.specs.Serve.{outcome_of, activity_outcome, held_by, Sends, SendsAnswer, SendsActivity};
 
 use std::alloc::Global;
-use wh_events::OutOfMemory;
+use wh_events::{Event, OutOfMemory};
 use wh_host::Outcome;
 use wh_replay::{Answer, Fault, Run};
 use wh_slots::TaskName;
@@ -99,11 +99,21 @@ fn send_answer<W: Workflow, S: TaskSource>(
 {
     let answer = answer_of(alloc, run, fault)?;
     let outcome = outcome_of(&answer);
-    let sent = source.answer_workflow(name, &answer);
+    let sent = source.answer_replayed(name, &answer, events_of(run));
     drop(answer);
     match sent {
         Ok(()) => Ok(outcome),
         Err(fault) => Err(StepFault::Source(fault)),
+    }
+}
+
+/// The events that an answer was replayed from: those of the run that replay gave.
+fn events_of<W: Workflow>(run: &Option<Run<W>>) -> &[Event]
+    ensures { result.now ≡ held_by run.now }
+{
+    match run {
+        Some(run) => run.events(),
+        None => &[],
     }
 }
 

@@ -1,9 +1,9 @@
 //! The posts of an open host, and a host in one call.
 ghost use Rattle.std.specs.Prelude.{◌≡◌, ◌≤◌, ◌+◌, ◌↔◌, IfOk, Err, OnErr, length, map, replicate, vec_len};
-ghost use Rattle.std.specs.List.{AllZip};
+ghost use Rattle.std.specs.List.{AllZip, zip};
 ghost use Rattle.wh_ledger.specs.Shares.{no_shares, sums_of};
 ghost use Rattle.wh_host.specs.Machine.{IsConfig, totals_of};
-ghost use Rattle.wh_tasks.specs.Source.{KeepsOrigin, RoseIfFailed};
+ghost use Rattle.wh_tasks.specs.Source.{KeepsOrigin, RoseIfFailed, SameMay, SameTasks};
 ghost use Rattle.wh_poll.specs.Turns.{AreLeft, IsLedBy};
 
 use crate::observer::Observer;
@@ -23,12 +23,12 @@ use wh_workflow::Workflow;
 
 /// Runs a worker in a thread of its own for each post, on a host that stays the caller's: another
 /// thread may lock it meanwhile, to evict runs or to drain it, and it is closed with the seats that
-/// come back. There is a seat for each post, in their order, and none has counted anything yet.
+/// come back. There is a seat for each post, in their order.
 ///
 /// The seats and what the workers leave come back in the order of the posts. Each worker leaves its
 /// post as its turns led to it, with its handler and its observer, which was told of each turn; its
-/// source comes from the one of the post, and was sent at most as many answers as the worker took
-/// tasks. `OutOfMemory` where no room was found. Then the seats and the posts are given up, so the
+/// source comes from the one of the post, delivers and tells the same, and was sent at most as many
+/// answers as the worker took tasks. `OutOfMemory` where no room was found. Then the seats and the posts are given up, so the
 /// host can't be closed any more, and what workers did until then they have done.
 pub fn run_posts<
     R: Threads + Wait + Sync,
@@ -48,22 +48,28 @@ pub fn run_posts<
     posts: Vec<Post<S, A, O>>,
     gate: &G,
 ) -> Result<(Vec<Seat<T, C, F>>, Vec<Left<S, A, O>>), OutOfMemory>
-    requires seats { seats.items ≡ replicate (vec_len posts) no_shares }
+    requires seats { vec_len seats ≡ vec_len posts }
     ensures seats { IfOk result (λ ended. vec_len ended.0 ≡ vec_len posts) }
     ensures count { IfOk result (λ ended. vec_len ended.1 ≡ vec_len posts) }
     ensures counted { IfOk result (λ ended. ended.0.items ≡ map (λ left. left.counted) ended.1.items) }
-    ensures turns { IfOk result (λ ended.
-        AllZip (λ post left. left.counted.taken ≤ post.turns) posts.items ended.1.items) }
+    ensures turns { IfOk result (λ ended. AllZip
+        (λ job left. left.counted.taken ≤ job.0.taken + job.1.turns) (zip seats.items posts.items) ended.1.items) }
     ensures faults { IfOk result (λ ended.
         AllZip (λ post left. RoseIfFailed left.fault (S.failures post.source) (S.failures left.source))
         posts.items ended.1.items) }
+    ensures same { IfOk result (λ ended.
+        AllZip (λ post left. SameTasks (S.delivers post.source) (S.tells post.source)
+        (S.delivers left.source) (S.tells left.source)) posts.items ended.1.items) }
     ensures origins { IfOk result (λ ended.
         AllZip (λ post left. KeepsOrigin S.comes_from post.source left.source) posts.items ended.1.items) }
-    ensures answered { IfOk result (λ ended.
-        AllZip (λ post left. length (S.answers left.source) ≤ length (S.answers post.source) + left.counted.taken)
-        posts.items ended.1.items) }
-    ensures told { IfOk result (λ ended.
-        AllZip (IsLedBy W.program S.tells S.delivers S.answers A.may O.hears no_shares) posts.items ended.1.items) }
+    ensures handlers { IfOk result (λ ended.
+        AllZip (λ post left. SameMay (A.may post.handler) (A.may left.handler)) posts.items ended.1.items) }
+    ensures answered { IfOk result (λ ended. AllZip
+        (λ job left. length (S.answers left.source) + job.0.taken
+        ≤ length (S.answers job.1.source) + left.counted.taken) (zip seats.items posts.items) ended.1.items) }
+    ensures told { IfOk result (λ ended. AllZip
+        (λ job left. IsLedBy W.program S.tells S.delivers S.answers S.failures S.comes_from A.may O.hears
+        job.0 job.1 left) (zip seats.items posts.items) ended.1.items) }
 {
     let jobs = zipped(alloc, seats, posts)?;
     let room = room_for(alloc, jobs.len())?;
@@ -84,8 +90,8 @@ pub struct HostEnd<S, A, O> {
 /// host once all have ended. The host has a seat for each post.
 ///
 /// Each worker leaves its post as its turns led to it, with its handler and its observer, which was
-/// told of each turn; its source comes from the one of the post, and was sent at most as many
-/// answers as the worker took tasks. The totals are the sums of what the workers counted.
+/// told of each turn; its source comes from the one of the post, delivers and tells the same, and
+/// was sent at most as many answers as the worker took tasks. The totals are the sums of what the workers counted.
 /// `BadConfig` where a size is not within its range, or the seats are not as many as the posts;
 /// `OutOfMemory` where no room was found. Then the posts are given up. (Temporal documentation,
 /// "Workers": a Worker Process.)
@@ -110,13 +116,19 @@ pub fn run_host<
     ensures faults { IfOk result (λ end.
         AllZip (λ post left. RoseIfFailed left.fault (S.failures post.source) (S.failures left.source))
         posts.items end.workers.items) }
+    ensures same { IfOk result (λ end.
+        AllZip (λ post left. SameTasks (S.delivers post.source) (S.tells post.source)
+        (S.delivers left.source) (S.tells left.source)) posts.items end.workers.items) }
     ensures origins { IfOk result (λ end.
         AllZip (λ post left. KeepsOrigin S.comes_from post.source left.source) posts.items end.workers.items) }
+    ensures handlers { IfOk result (λ end.
+        AllZip (λ post left. SameMay (A.may post.handler) (A.may left.handler)) posts.items end.workers.items) }
     ensures answered { IfOk result (λ end.
         AllZip (λ post left. length (S.answers left.source) ≤ length (S.answers post.source) + left.counted.taken)
         posts.items end.workers.items) }
-    ensures told { IfOk result (λ end.
-        AllZip (IsLedBy W.program S.tells S.delivers S.answers A.may O.hears no_shares) posts.items end.workers.items) }
+    ensures told { IfOk result (λ end. AllZip
+        (IsLedBy W.program S.tells S.delivers S.answers S.failures S.comes_from A.may O.hears no_shares)
+        posts.items end.workers.items) }
     ensures gathered { IfOk result (λ end.
         end.totals ≡ totals_of (sums_of (map (λ left. left.counted) end.workers.items))) }
     ensures balanced { IfOk result (λ end.
@@ -166,7 +178,7 @@ fn run_with<
     requires failed { (failed.name ≡ F.name) × (failed.parts ≡ F.parts) × (failed.parts ≡ config.seats) }
     ensures bad { (result ≡ Err OpenFault.BadConfig) ↔ (¬ IsConfig config) }
     ensures left { IfOk result (λ end. AreLeft W.program S.tells S.delivers S.answers S.failures S.comes_from
-        A.may O.hears posts.items end.workers.items) }
+        A.may O.hears (replicate (vec_len posts) no_shares) posts.items end.workers.items) }
     ensures gathered { IfOk result (λ end.
         end.totals ≡ totals_of (sums_of (map (λ left. left.counted) end.workers.items))) }
     ensures balanced { IfOk result (λ end.
@@ -199,7 +211,7 @@ fn run_open<
     requires parts { T.parts ≡ vec_len posts }
     ensures fault { OnErr result (result ≡ Err OpenFault.OutOfMemory) }
     ensures left { IfOk result (λ end. AreLeft W.program S.tells S.delivers S.answers S.failures S.comes_from
-        A.may O.hears posts.items end.workers.items) }
+        A.may O.hears (replicate (vec_len posts) no_shares) posts.items end.workers.items) }
     ensures gathered { IfOk result (λ end.
         end.totals ≡ totals_of (sums_of (map (λ left. left.counted) end.workers.items))) }
     ensures balanced { IfOk result (λ end.

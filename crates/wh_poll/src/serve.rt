@@ -3,9 +3,9 @@ ghost use Rattle.std.specs.Prelude.{◌≡◌, ◌≤◌, IfErr, IfOk, IfSome, M
 ghost use Rattle.wh_tasks.specs.Source.{KeepsOrigin, SameTasks, SameMay, FailsOnly};
 ghost use Rattle.wh_tasks.specs.Source.{Workflow as WorkflowDelivery, Activity as ActivityDelivery};
 ghost use Rattle.wh_tasks.specs.Tasks.{FailsOnlySource};
-ghost use Rattle.wh_poll.specs.Serve.{Serves, ServesWorkflow, ServesActivity, Sends, IsOfKind};
+ghost use Rattle.wh_poll.specs.Serve.{Serves, ServesWorkflow, ServesActivity, Sends};
 ghost use Rattle.wh_poll.specs.Serve.{Counts, MayCount, with_taken, ended, unanswered};
-ghost use Rattle.wh_poll.specs.Serve.{served_workflow, served_activity, HasNoSlot, HasNoTask, IsRefused};
+ghost use Rattle.wh_poll.specs.Serve.{served_workflow, served_activity, unreserved, HasNoTask, IsRefused};
 
 use crate::answer::{Answered, Reply, answer_by_handler, answer_by_replay};
 use std::alloc::Global;
@@ -70,8 +70,8 @@ pub enum Served {
 ///
 /// `Workflow` and `Activity` are answered where exactly one answer was sent, under the name of a
 /// task that the source delivers: that of `replay_task` with no run or one of the task's key, and
-/// of the handler. Everything else sends nothing. A task that is answered is of the kind that was
-/// asked for. The seat's taken share rises by one where a task was taken in hand, and its completed
+/// of the handler. Everything else sends nothing. A task that is answered, repeated or lost to want
+/// of memory is a delivered one of the kind that was asked for. The seat's taken share rises by one where a task was taken in hand, and its completed
 /// or failed share by at most one, as the task's outcome says. A fault is the source's, after which
 /// no slot is left reserved or held by this turn. (Temporal documentation, "Workers", "Task
 /// Queues", "Sticky Execution".)
@@ -94,9 +94,8 @@ pub fn serve_one<
     gate: &G,
     kind: SlotKind,
 ) -> Result<Served, SourceFault>
-    ensures serves { Serves W.program (S.tells source.old) (S.delivers source.old) (A.may handler.old)
+    ensures serves { Serves kind W.program (S.tells source.old) (S.delivers source.old) (A.may handler.old)
         (S.answers source.old) (S.answers source.new) result }
-    ensures kind { IsOfKind kind result }
     ensures counts { Counts seat.old seat.new result }
     ensures failures { FailsOnly result (S.failures source.old) (S.failures source.new) }
     ensures same { SameTasks (S.delivers source.old) (S.tells source.old) (S.delivers source.new) (S.tells source.new) }
@@ -116,7 +115,7 @@ pub fn serve_one<
 
 /// What a turn has served that got no slot.
 fn unreserved(fault: ReserveFault) -> Served
-    ensures { HasNoSlot result }
+    ensures { result ≡ unreserved fault }
 {
     match fault {
         ReserveFault::NoSlot => Served::NoSlot,

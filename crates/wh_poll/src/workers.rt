@@ -2,11 +2,11 @@
 ghost use Rattle.std.specs.Prelude.{◌≡◌, ◌≤◌, ◌<◌, ◌+◌, ℕ, [], None, IfOk, not, length, map, vec_capacity, vec_len, slice_index_or};
 ghost use Rattle.std.specs.Bool.{OnTrue};
 ghost use denote.Param.Send.{IsSend};
-ghost use Rattle.wh_tasks.specs.Source.{KeepsOrigin, SameTasks, FailsOnly, RoseIfFailed};
-ghost use Rattle.wh_poll.specs.Workers.{first_fault, other, is_last, next_rota};
+ghost use Rattle.wh_tasks.specs.Source.{KeepsOrigin, SameMay, SameTasks, FailsOnly, RoseIfFailed};
+ghost use Rattle.wh_poll.specs.Workers.{first_fault, first_rota, other, is_last, next_rota};
 ghost use Rattle.wh_poll.specs.Serve.{WithinTurns, AllRoseIfFailed, AllAnsweredWithin};
-ghost use Rattle.wh_poll.specs.Turns.{IsTurn, IsLedBy, IsWorked};
-ghost use Rattle.wh_poll.specs.Stations.{left_at};
+ghost use Rattle.wh_poll.specs.Turns.{IsTurn, IsLedBy, IsWorked, IsWorkOf, AreWorkOf};
+ghost use Rattle.wh_poll.specs.Stations.{left_at, worker_of};
 ghost use Rattle.std.specs.List.{AllZip};
 
 use crate::observer::{NoObserver, Observer};
@@ -69,10 +69,11 @@ impl<T: Ledger, C: Ledger, F: Ledger, S: TaskSource, A: ActivityHandler, O: Obse
         ensures same { SameTasks (S.delivers self.old.source) (S.tells self.old.source)
             (S.delivers self.new.source) (S.tells self.new.source) }
         ensures origin { KeepsOrigin S.comes_from self.old.source self.new.source }
+        ensures allows { SameMay (A.may self.old.handler) (A.may self.new.handler) }
         ensures answered { length (S.answers self.new.source) + self.old.seat.taken
             ≤ length (S.answers self.old.source) + self.new.seat.taken }
-        ensures turn { IsTurn W.program S.tells S.delivers S.answers A.may O.hears
-            (left_at self.old) result (left_at self.new) }
+        ensures turn { IsTurn W.program S.tells S.delivers S.answers S.failures S.comes_from A.may O.hears
+            kind (left_at self.old) result (left_at self.new) }
     {
         let seat = &mut self.seat;
         let source = &mut self.source;
@@ -110,6 +111,16 @@ struct Rota {
 }
 
 impl Rota {
+    /// The first turn is for a workflow task.
+    fn first() -> Rota
+        ensures { result ≡ first_rota }
+    {
+        Rota {
+            kind: SlotKind::Workflow,
+            other_closed: false,
+        }
+    }
+
     /// Goes on after a turn that served this: to the other kind, unless that one is closed. False
     /// where no turn follows.
     fn goes_on(&mut self, served: Result<Served, SourceFault>) -> bool
@@ -163,9 +174,11 @@ fn work_at<
     ensures same { SameTasks (S.delivers post.source) (S.tells post.source)
         (S.delivers result.source) (S.tells result.source) }
     ensures origin { KeepsOrigin S.comes_from post.source result.source }
+    ensures allows { SameMay (A.may post.handler) (A.may result.handler) }
     ensures answered { length (S.answers result.source) + seat.taken
         ≤ length (S.answers post.source) + result.seat.taken }
-    ensures turns { IsLedBy W.program S.tells S.delivers S.answers A.may O.hears seat post (left_at result) }
+    ensures turns { IsLedBy W.program S.tells S.delivers S.answers S.failures S.comes_from A.may O.hears
+        seat post (left_at result) }
 {
     let Post {
         source,
@@ -180,10 +193,7 @@ fn work_at<
         observer,
         fault: None,
     };
-    let mut rota = Rota {
-        kind: SlotKind::Workflow,
-        other_closed: false,
-    };
+    let mut rota = Rota::first();
     for _turn in 0..turns {
         let served = station.serve(rt, alloc, host, gate, rota.kind);
         if !rota.goes_on(served) {
@@ -244,8 +254,9 @@ fn leave<T: Ledger, C: Ledger, F: Ledger, S, A, O>(
 /// Serves tasks, at most one a turn: workflow and activity tasks by turns, workflow tasks first. A
 /// kind that is closed is not served again, and each later turn goes to the other. It ends when
 /// both are closed, when the host drains, or after so many turns. The first fault of the source is
-/// kept, and the work goes on. The source that comes back comes from the one that was handed in,
-/// delivers and tells the same, and was sent at most as many answers as the seat took tasks.
+/// kept, and the work goes on. What comes back is what the turns led to, each of which is one of
+/// `serve_one`. The source comes from the one that was handed in, delivers and tells the same, and
+/// was sent at most as many answers as the seat took tasks.
 pub fn work<
     R: Wait,
     W: Workflow,
@@ -270,6 +281,8 @@ pub fn work<
     ensures same { SameTasks (S.delivers source) (S.tells source) (S.delivers result.source) (S.tells result.source) }
     ensures origin { KeepsOrigin S.comes_from source result.source }
     ensures answered { length (S.answers result.source) + seat.taken ≤ length (S.answers source) + result.seat.taken }
+    ensures work { IsWorkOf W.program S.tells S.delivers S.answers S.failures S.comes_from A.may
+        seat source handler turns result }
 {
     let post = Post {
         source,
@@ -284,7 +297,7 @@ pub fn work<
 fn worker_of<T: Ledger, C: Ledger, F: Ledger, S, A: Drop>(
     ended: Ended<T, C, F, S, A, NoObserver>,
 ) -> Worker<T, C, F, S>
-    ensures { result ≡ record { seat = ended.0; source = ended.1.source; fault = ended.1.fault } }
+    ensures { result ≡ worker_of ended }
 {
     let (seat, left) = ended;
     let Left { source, fault, .. } = left;
@@ -298,8 +311,8 @@ fn worker_of<T: Ledger, C: Ledger, F: Ledger, S, A: Drop>(
 /// Runs a worker in a thread of its own for each seat, with the source, the handler and the turns
 /// of the same place. The four lists are equally long. The workers come back in the order of the
 /// seats, the taken share of each has risen by at most its turns, and where one kept a fault, its
-/// own source has failed. Each source comes from the one of its place, and was sent at most as many
-/// answers as its seat took tasks. `OutOfMemory` where no room was found; then the seats are given
+/// own source has failed. Each is what its turns led to, as in `work`: its source comes from the one
+/// of its place, and was sent at most as many answers as its seat took tasks. `OutOfMemory` where no room was found; then the seats are given
 /// up. (Temporal documentation, "Workers": a Worker Process runs many task executors.)
 pub fn run_workers<
     R: Threads + Wait + Sync,
@@ -332,6 +345,9 @@ pub fn run_workers<
     ensures answered { IfOk result (λ workers.
         AllAnsweredWithin (map (λ source. length (S.answers source)) sources.items) seats.items
         (map (λ worker. length (S.answers worker.source)) workers.items) (map (λ worker. worker.seat) workers.items)) }
+    ensures work { IfOk result (λ workers.
+        AreWorkOf W.program S.tells S.delivers S.answers S.failures S.comes_from A.may
+        seats.items sources.items handlers.items turns.items workers.items) }
 {
     let posts = posts_of(alloc, sources, handlers, turns)?;
     let jobs = zipped(alloc, seats, posts)?;
@@ -348,9 +364,7 @@ fn workers_of<T: Ledger, C: Ledger, F: Ledger, S: Drop, A: Drop>(
 ) -> Vec<Worker<T, C, F, S>>
     requires empty { workers.items ≡ [] }
     requires room { vec_len ended ≤ vec_capacity workers }
-    ensures seats { map (λ worker. worker.seat) result.items ≡ map (λ end. end.0) ended.items }
-    ensures sources { map (λ worker. worker.source) result.items ≡ map (λ end. end.1.source) ended.items }
-    ensures faults { map (λ worker. worker.fault) result.items ≡ map (λ end. end.1.fault) ended.items }
+    ensures { result.items ≡ map worker_of ended.items }
 {
     while let Some(end) = ended.pop() {
         workers.push_reserved(worker_of(end));
@@ -404,6 +418,7 @@ fn posts_of<S: Drop, A: Drop>(
     requires turns { vec_len turns ≡ vec_len sources }
     ensures count { IfOk result (λ posts. vec_len posts ≡ vec_len sources) }
     ensures sources { IfOk result (λ posts. map (λ post. post.source) posts.items ≡ sources.items) }
+    ensures handlers { IfOk result (λ posts. map (λ post. post.handler) posts.items ≡ handlers.items) }
     ensures turns { IfOk result (λ posts. map (λ post. post.turns) posts.items ≡ turns.items) }
 {
     let mut posts = Vec::new(alloc);

@@ -1,3 +1,4 @@
+pub mod Coming
 pub mod Ends
 pub mod Faults
 pub mod Given

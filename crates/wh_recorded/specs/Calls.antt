@@ -27,6 +27,11 @@ abbrev pub DoesAll : Stage → List Call → Stage → Type 0
 DoesAll first [] last = last ≡ first
 DoesAll first (call ∷ calls) last = (next : Stage) × Does first call next × DoesAll next calls last
 
+-- a source comes from another one: calls took that one to it
+pub record ComesFrom (later first : Stage) : Type 0 where
+  pub calls : List Call
+  pub made : DoesAll first calls later
+
 -- calls take a new source over histories to this one
 abbrev pub Makes : List Scripted → List Call → Stage → Type 0
 Makes histories calls last = DoesAll (opening_stage histories) calls last

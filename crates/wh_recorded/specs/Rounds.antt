@@ -130,13 +130,6 @@ Polls old (Task task) new =
 Polls old Nothing new = ⊥
 Polls old Closed new = (upcoming old ≡ None) × (new ≡ old)
 
--- a source comes from another one: it has the same histories, and first the answers that the other
--- one was sent
-pub record ComesFrom (later first : Stage) : Type 0 where
-  pub histories : later.histories ≡ first.histories
-  pub more : List (TaskName × Sent)
-  pub answers : later.answers ≡ first.answers ++ more
-
 -- the source gives the tasks of its histories, and no activity task
 abbrev pub Gives : List Scripted → Delivery → Type 0
 Gives histories (Workflow task) = IsTaskOf histories task

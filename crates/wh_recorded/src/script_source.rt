@@ -5,7 +5,8 @@ ghost use Rattle.wh_recorded.specs.Rounds.{scripted, opening_stage, with_answer,
 ghost use Rattle.wh_recorded.specs.Rounds.{begin_at, events_of, task_of, key_of, events_up_to, first_named};
 ghost use Rattle.wh_recorded.specs.Rounds.{first_tasks, completed_of, tally_of, deliveries_of, first_with};
 ghost use Rattle.wh_recorded.specs.Rounds.{polled_at, failed_of, failed_in, is_last_recorded, has_last_record};
-ghost use Rattle.wh_recorded.specs.Rounds.{upcoming, told, ComesFrom, Gives, Recounts, Polls};
+ghost use Rattle.wh_recorded.specs.Rounds.{upcoming, told, Gives, Recounts, Polls};
+ghost use Rattle.wh_recorded.specs.Calls.{ComesFrom};
 ghost use Rattle.wh_tasks.specs.Numbers.{last_number};
 ghost use Rattle.wh_tasks.specs.Source.{Delivery, FailsOnly, IfTask, KeepsOrigin, SameTasks};
 ghost use Rattle.wh_tasks.specs.declared.source.Polled.{Polled};
@@ -430,7 +431,8 @@ impl ScriptSource {
 }
 
 impl TaskSource for ScriptSource {
-    ghost use Rattle.wh_recorded.specs.Rounds.{Gives, Recounts, ComesFrom};
+    ghost use Rattle.wh_recorded.specs.Rounds.{Gives, Recounts};
+    ghost use Rattle.wh_recorded.specs.Calls.{ComesFrom};
 
     ghost answers = { λ source. source.answers };
 
@@ -494,6 +496,7 @@ impl TaskSource for ScriptSource {
         ensures stored { OnOk result (self.new ≡ with_answer self.old name (Sent.Workflow answer.now)) }
         ensures memory { IfErr result (λ fault. fault ≡ SourceFault.OutOfMemory) }
         ensures kept { OnErr result (self.new ≡ self.old) }
+        ensures origin { KeepsOrigin ComesFrom self.old self.new }
     {
         let Ok(copy) = answer.try_copy(self.alloc) else {
             return Err(SourceFault::OutOfMemory);
@@ -509,6 +512,7 @@ impl TaskSource for ScriptSource {
         ensures stored { OnOk result (self.new ≡ with_answer self.old name (Sent.Activity answer.now)) }
         ensures memory { IfErr result (λ fault. fault ≡ SourceFault.OutOfMemory) }
         ensures kept { OnErr result (self.new ≡ self.old) }
+        ensures origin { KeepsOrigin ComesFrom self.old self.new }
     {
         let Ok(copy) = answer.try_copy() else {
             return Err(SourceFault::OutOfMemory);

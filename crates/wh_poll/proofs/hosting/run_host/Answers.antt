@@ -1,6 +1,12 @@
-use Rattle.std.proofs.Common.{◌≡◌, ◌∙◌, sym, vec_len, rules}
+use Rattle.std.proofs.Common.{◌≡◌, ◌∙◌, ◌+◌, ◌≤◌, length, refl, arith, sym, vec_len, rules}
 use Rattle.std.proofs.lemmas.Result.{IfOk-weaker}
+use Rattle.wh_ledger.specs.Shares.{no_shares}
+use Rattle.wh_poll.specs.Turns.{IsLedBy}
+use Rattle.wh_poll.proofs.Jobs.{of_fresh, zip_weaker}
 use Rattle.wh_poll.proofs.hosting.run_host.Goals as goal
+
+none : no_shares.taken ≡ 0
+none = refl
 
 -- what the host over its ledgers leaves
 pub returns-clause-bad : goal.returns-clause-bad
@@ -13,19 +19,32 @@ pub returns-clause-count : goal.returns-clause-count
 returns-clause-count g c = IfOk-weaker c.run_with.result _ _ (λ end left. end.workers.ok.0 ∙ left.count ∙ sym c.args.posts.ok.0) c.run_with.ensures.left
 
 pub returns-clause-turns : goal.returns-clause-turns
-returns-clause-turns g c = IfOk-weaker c.run_with.result _ _ (λ end left. left.turns) c.run_with.ensures.left
+returns-clause-turns g c = IfOk-weaker c.run_with.result _ _ (λ end left.
+    zip_weaker (λ post left. left.counted.taken ≤ no_shares.taken + post.turns) _ c.args.posts.items end.workers.items
+    (of_fresh (λ counted post left. left.counted.taken ≤ counted.taken + post.turns) no_shares (vec_len c.args.posts) c.args.posts.items end.workers.items (sym c.args.posts.ok.0) left.turns)
+    (λ post left below. omega (arith, below, none))) c.run_with.ensures.left
 
 pub returns-clause-faults : goal.returns-clause-faults
 returns-clause-faults g c = IfOk-weaker c.run_with.result _ _ (λ end left. left.faults) c.run_with.ensures.left
 
+pub returns-clause-same : goal.returns-clause-same
+returns-clause-same g c = IfOk-weaker c.run_with.result _ _ (λ end left. left.same) c.run_with.ensures.left
+
 pub returns-clause-origins : goal.returns-clause-origins
 returns-clause-origins g c = IfOk-weaker c.run_with.result _ _ (λ end left. left.origins) c.run_with.ensures.left
 
+pub returns-clause-handlers : goal.returns-clause-handlers
+returns-clause-handlers g c = IfOk-weaker c.run_with.result _ _ (λ end left. left.handlers) c.run_with.ensures.left
+
 pub returns-clause-answered : goal.returns-clause-answered
-returns-clause-answered g c = IfOk-weaker c.run_with.result _ _ (λ end left. left.answered) c.run_with.ensures.left
+returns-clause-answered g c = IfOk-weaker c.run_with.result _ _ (λ end left.
+    zip_weaker (λ post left. length (g.S.TaskSource.answers left.source) + no_shares.taken ≤ length (g.S.TaskSource.answers post.source) + left.counted.taken) _ c.args.posts.items end.workers.items
+    (of_fresh (λ counted post left. length (g.S.TaskSource.answers left.source) + counted.taken ≤ length (g.S.TaskSource.answers post.source) + left.counted.taken) no_shares (vec_len c.args.posts) c.args.posts.items end.workers.items (sym c.args.posts.ok.0) left.answered)
+    (λ post left below. omega (arith, below, none))) c.run_with.ensures.left
 
 pub returns-clause-told : goal.returns-clause-told
-returns-clause-told g c = IfOk-weaker c.run_with.result _ _ (λ end left. left.told) c.run_with.ensures.left
+returns-clause-told g c = IfOk-weaker c.run_with.result _ _ (λ end left.
+    of_fresh (IsLedBy g.W.Workflow.program g.S.TaskSource.tells g.S.TaskSource.delivers g.S.TaskSource.answers g.S.TaskSource.failures g.S.TaskSource.comes_from g.A.ActivityHandler.may g.O.Observer.hears) no_shares (vec_len c.args.posts) c.args.posts.items end.workers.items (sym c.args.posts.ok.0) left.told) c.run_with.ensures.left
 
 pub returns-clause-gathered : goal.returns-clause-gathered
 returns-clause-gathered g c = c.run_with.ensures.gathered

@@ -8,6 +8,11 @@ returns-clause-sources g c =
     let none : length c.loop-source.sources.items ≡ 0 = grind (arith, common_steps) in
     in_order (λ post. post.source) c.loop-source.sources.items c.args.sources.items c.loop-source.posts.items c.reverse.new.self.items c.loop-source.invariant.sources none c.reverse.ensures.items
 
+pub returns-clause-handlers : goal.returns-clause-handlers
+returns-clause-handlers g c =
+    let none : length c.loop-source.handlers.items ≡ 0 = grind (arith, common_steps) in
+    in_order (λ post. post.handler) c.loop-source.handlers.items c.args.handlers.items c.loop-source.posts.items c.reverse.new.self.items c.loop-source.invariant.handlers none c.reverse.ensures.items
+
 pub returns-clause-turns : goal.returns-clause-turns
 returns-clause-turns g c =
     let none : length c.loop-source.turns.items ≡ 0 = grind (arith, common_steps) in

@@ -5,7 +5,8 @@ abbrev pub invariant-loop-source : goal.invariant-loop-source
 invariant-loop-source g l = record {
   sources : l.sources.items ++ reverse (map (λ post. post.source) l.posts.items) ≡ l.fn.sources.items;
   turns : l.turns.items ++ reverse (map (λ post. post.turns) l.posts.items) ≡ l.fn.turns.items;
-  handlers : vec_len l.handlers ≡ vec_len l.sources;
+  handlers : l.handlers.items ++ reverse (map (λ post. post.handler) l.posts.items) ≡ l.fn.handlers.items;
+  beside : vec_len l.handlers ≡ vec_len l.sources;
   counts : vec_len l.turns ≡ vec_len l.sources;
   all : vec_len l.posts + vec_len l.sources ≡ vec_len l.fn.sources;
   room : vec_len l.posts + vec_len l.sources ≤ vec_capacity l.posts;

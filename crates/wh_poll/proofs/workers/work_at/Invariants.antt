@@ -1,6 +1,7 @@
 use Rattle.std.proofs.Common.{◌≡◌, ◌+◌, ◌≤◌, List, length}
-use Rattle.wh_tasks.specs.Source.{KeepsOrigin, RoseIfFailed, SameTasks}
-use Rattle.wh_poll.specs.Turns.{Turn, IsTurn, Leads, at_first}
+use Rattle.wh_tasks.specs.Source.{KeepsOrigin, RoseIfFailed, SameMay, SameTasks}
+use Rattle.wh_poll.specs.Turns.{Turn, IsTurn, GoesOn, at_first}
+use Rattle.wh_poll.specs.Workers.{first_rota}
 use Rattle.wh_poll.specs.Stations.{left_at}
 use Rattle.wh_poll.proofs.workers.work_at.Given as goal
 
@@ -13,7 +14,9 @@ invariant-loop-turn g l = record {
   origin : KeepsOrigin g.S.TaskSource.comes_from l.fn.post.source l.station.source;
   answered : length (g.S.TaskSource.answers l.station.source) + l.fn.seat.taken
       ≤ length (g.S.TaskSource.answers l.fn.post.source) + l.station.seat.taken;
+  allows : SameMay (g.A.ActivityHandler.may l.fn.post.handler) (g.A.ActivityHandler.may l.station.handler);
   turns : (turns : List Turn) × (length turns ≡ l._turn)
-      × Leads (IsTurn g.W.Workflow.program g.S.TaskSource.tells g.S.TaskSource.delivers g.S.TaskSource.answers
-      g.A.ActivityHandler.may g.O.Observer.hears) (at_first l.fn.seat l.fn.post) turns (left_at l.station);
+      × GoesOn (IsTurn g.W.Workflow.program g.S.TaskSource.tells g.S.TaskSource.delivers g.S.TaskSource.answers
+      g.S.TaskSource.failures g.S.TaskSource.comes_from g.A.ActivityHandler.may g.O.Observer.hears)
+      first_rota (at_first l.fn.seat l.fn.post) turns l.rota (left_at l.station);
 }

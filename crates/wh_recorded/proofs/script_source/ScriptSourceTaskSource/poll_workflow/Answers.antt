@@ -1,5 +1,8 @@
 use Rattle.std.proofs.Common.{rules}
 use Rattle.std.proofs.lemmas.Option.{slice_get-get_or}
+use Rattle.wh_tasks.specs.declared.source.Polled.TheVariants.{Task}
+use Rattle.wh_recorded.specs.Calls.Call.{poll}
+use Rattle.wh_recorded.proofs.Coming.{comes_on}
 use Rattle.wh_recorded.proofs.script_source.ScriptSourceTaskSource.poll_workflow.Goals as goal
 
 pub returns-clause-next : goal.returns-clause-next
@@ -16,3 +19,6 @@ returns-clause-task c =
     let history = c.index.result.now in
     let at = slice_get-get_or c.args.self.now.histories place history in
     (place, c.in-Some.round, history, search (rules, at), search rules, search rules)
+
+pub returns-clause-origin : goal.returns-clause-origin
+returns-clause-origin c = comes_on c.args.self.now _ (poll (Task c.in-Ok.task)) (returns-clause-next c)
