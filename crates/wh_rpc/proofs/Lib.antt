@@ -1,0 +1,4 @@
+pub mod OneLine
+pub mod Listing
+pub mod ReadBack
+pub mod LineEnds

@@ -1,0 +1,122 @@
+-- What a line of the bridge says.
+use Rattle.std.specs.Prelude.{◌≡◌, ◌≢◌, ℕ, ℤ, ◌&&◌, List, Bool, codes, Option, Some, None, Result, Ok, Err, ⊤, nat_lt, length, is_some, option_and_then, string_bytes, if◌then◌else◌}
+use Rattle.std.specs.Str.{bytes_eq, is_utf8}
+use Rattle.serde_json.specs.Data.{Data}
+use Rattle.serde_json.specs.Find.{get, as_number, as_u64, as_i64, as_str, as_object}
+use Rattle.serde_json.specs.Read.{read}
+use Rattle.serde_json.specs.View.{view}
+use Rattle.wh_rpc.specs.declared.bad_line.BadLine.{BadLine}
+use Rattle.wh_rpc.specs.declared.bad_line.BadLine.TheVariants as bad
+use Rattle.wh_rpc.specs.declared.response.Outcome.{Outcome}
+use Rattle.wh_rpc.specs.declared.response.Outcome.TheVariants.{Given, Refused}
+use Rattle.wh_rpc.specs.declared.response.Response.{Response}
+use Rattle.wh_rpc.specs.declared.response.Line.{Line}
+use Rattle.wh_rpc.specs.declared.response.Line.TheVariants as lines
+
+-- ---- Lines as data
+
+-- what a response says
+pub data Answer : Type 0 where
+  given : Data → Answer
+  refused : ℤ → List ℕ → Answer
+
+-- what a line says: this answer to the call of this id, or that the bridge shuts down
+pub data Meaning : Type 0 where
+  answers : ℕ → Answer → Meaning
+  shutdown : Meaning
+
+abbrev pub answer_seen : Outcome → Answer
+answer_seen (Given value) = given (view value)
+answer_seen (Refused code message) = refused code (string_bytes message)
+
+abbrev pub response_seen : Response → Meaning
+response_seen response = answers response.id (answer_seen response.outcome)
+
+abbrev pub line_seen : Line → Meaning
+line_seen (lines.Response response) = response_seen response
+line_seen lines.Shutdown = shutdown
+
+-- ---- Reading
+
+-- go on with the value, or stop at the fault
+infixl 10 ◌>>=◌
+abbrev pub ◌>>=◌ : {A B : Type 0} → Result A BadLine → (A → Result B BadLine) → Result B BadLine
+(Ok x) >>= f = f x
+(Err e) >>= f = Err e
+
+-- the value, or this fault where there is none
+abbrev pub or_fault : {A : Type 0} → BadLine → Option A → Result A BadLine
+or_fault fault None = Err fault
+or_fault fault (Some x) = Ok x
+
+-- this fault, unless the test holds
+abbrev pub passes : BadLine → Bool → Result ⊤ BadLine
+passes fault test = if test then Ok tt else Err fault
+
+-- what a call returned, seen by view, is what reading gives, unless memory ran out
+abbrev pub Gives : {X Y : Type 0} → (X → Y) → Result X BadLine → Result Y BadLine → Type 0
+Gives view (Ok x) read = read ≡ Ok (view x)
+Gives view (Err e) read = e ≢ bad.OutOfMemory → read ≡ Err e
+
+-- the number of 64 bits that a value is
+abbrev pub code_of : Data → Option ℤ
+code_of error = option_and_then as_i64 (option_and_then as_number (get (codes "code") error))
+
+abbrev pub message_of : Data → Option (List ℕ)
+message_of error = option_and_then as_str (get (codes "message") error)
+
+-- an error has a code and a message
+unfoldable pub refusal_of : Data → Result Answer BadLine
+refusal_of error = do
+  code ← or_fault bad.BadError (code_of error)
+  message ← or_fault bad.BadError (message_of error)
+  Ok (refused code message)
+
+abbrev pub id_of : Data → Option ℕ
+id_of d = option_and_then as_u64 (option_and_then as_number (get (codes "id") d))
+
+-- the error, or else the result
+abbrev pub outcome_by : Option Data → Option Data → Result Answer BadLine
+outcome_by (Some error) result = refusal_of error
+outcome_by None (Some result) = Ok (given result)
+outcome_by None None = Err bad.NoOutcome
+
+unfoldable pub outcome_of : Data → Result Answer BadLine
+outcome_of d = outcome_by (get (codes "error") d) (get (codes "result") d)
+
+-- not both a result and an error
+abbrev pub has_two : Data → Bool
+has_two d = is_some (get (codes "result") d) && is_some (get (codes "error") d)
+
+-- a response has an id, and a result or an error
+unfoldable pub response_of : Data → Result Meaning BadLine
+response_of d =
+    if has_two d then Err bad.TwoOutcomes
+    else (or_fault bad.BadId (id_of d) >>= (λ id. outcome_of d >>= (λ answer. Ok (answers id answer))))
+
+-- the only method is that of a shutdown
+abbrev pub notice_by : Option (List ℕ) → Result Meaning BadLine
+notice_by None = Err bad.NotResponse
+notice_by (Some name) = if bytes_eq name (codes "shutdown") then Ok shutdown else Err bad.NotResponse
+
+abbrev pub notice_or_response : Option Data → Data → Result Meaning BadLine
+notice_or_response None d = response_of d
+notice_or_response (Some method) d = notice_by (as_str method)
+
+-- what a value says
+unfoldable pub said_by : Data → Result Meaning BadLine
+said_by d = if is_some (as_object d) then notice_or_response (get (codes "method") d) d else Err bad.NotObject
+
+-- bytes that are text in UTF-8
+abbrev pub text_of : List ℕ → Result (List ℕ) BadLine
+text_of bytes = if is_utf8 bytes then Ok bytes else Err bad.NotUtf8
+
+-- the most bytes of a line
+abbrev pub longest : ℕ
+longest = 134217728
+
+-- what a line says
+unfoldable pub meaning : List ℕ → Result Meaning BadLine
+meaning bytes =
+    if nat_lt longest (length bytes) then Err bad.TooLong
+    else (text_of bytes >>= (λ text. or_fault bad.NotJson (read text) >>= said_by))

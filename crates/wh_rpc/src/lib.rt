@@ -1,0 +1,22 @@
+//! Calls of JSON-RPC 2.0 by many threads over one pair of streams, one object a line.
+//!
+//! The host sends requests and the bridge answers them, in any order. A response goes to the call
+//! of its id, once. The bridge can tell that it shuts down, and its end is the end of all calls.
+#![tactic(auto)]
+
+mod bad_line;
+mod call_fault;
+mod calls;
+pub mod laws;
+mod open_calls;
+mod output;
+mod reader;
+mod request;
+mod response;
+
+pub use bad_line::BadLine;
+pub use call_fault::CallFault;
+pub use calls::{Caller, Calls};
+pub use reader::read_lines;
+pub use request::request_text;
+pub use response::{Line, MAX_LINE, Outcome, Response, read_line};

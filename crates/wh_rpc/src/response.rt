@@ -1,0 +1,180 @@
+//! What a line of the bridge says.
+
+ghost use Rattle.std.specs.Prelude.{◌≡◌, ◌≢◌, codes, option_map, IfOk, IfErr, Some, None, is_some};
+ghost use Rattle.serde_json.specs.Find.{get};
+ghost use Rattle.serde_json.specs.Read.{read};
+ghost use Rattle.serde_json.specs.View.{view};
+ghost use Rattle.wh_rpc.specs.Responses.{Gives, answer_seen, response_seen, line_seen, or_fault};
+ghost use Rattle.wh_rpc.specs.Responses.{refusal_of, outcome_of, has_two, response_of, notice_by};
+ghost use Rattle.wh_rpc.specs.Responses.{said_by, meaning, id_of, text_of};
+
+use crate::bad_line::BadLine;
+use serde_json::Value;
+use serde_json::error::Category;
+use std::alloc::Global;
+
+/// The most bytes of a line: 128 MiB.
+pub const MAX_LINE: usize = 134_217_728;
+
+/// What the other end says to a call.
+#[derive(Debug, Drop)]
+pub enum Outcome {
+    /// The call was done, with this result.
+    Given(Value),
+    /// The call was refused.
+    Refused {
+        /// Why, as a number.
+        code: i64,
+        /// Why, in words.
+        message: String,
+    },
+}
+
+/// What the other end says to the call of this id.
+#[derive(Debug, Drop)]
+pub struct Response {
+    /// The id of the call.
+    pub id: u64,
+    /// What is said to it.
+    pub outcome: Outcome,
+}
+
+/// What a line says.
+#[derive(Debug, Drop)]
+pub enum Line {
+    /// The answer to a call.
+    Response(Response),
+    /// The bridge shuts down.
+    Shutdown,
+}
+
+/// The refusal that an error is.
+#[tactic(auto, unfolding(crate::specs::Responses::refusal_of))]
+fn refusal_in(alloc: Global, error: &Value) -> Result<Outcome, BadLine>
+    ensures { Gives answer_seen result (refusal_of (view error.now)) }
+{
+    let Some(code) = error.get("code").and_then(Value::as_i64) else {
+        return Err(BadLine::BadError);
+    };
+    let Some(message) = error.get("message").and_then(Value::as_str) else {
+        return Err(BadLine::BadError);
+    };
+    let message = String::from_str(alloc, message)?;
+    Ok(Outcome::Refused { code, message })
+}
+
+/// The member `result`, if there is one.
+fn result_in(value: Value) -> Option<Value>
+    ensures { option_map view result ≡ get (codes "result") (view value) }
+{
+    match value {
+        Value::Object(mut members) => members.remove("result"),
+        _other => None,
+    }
+}
+
+/// The outcome that an object says: its error, or else its result.
+#[tactic(auto, unfolding(crate::specs::Responses::outcome_of))]
+fn outcome_in(alloc: Global, value: Value) -> Result<Outcome, BadLine>
+    ensures { Gives answer_seen result (outcome_of (view value)) }
+{
+    if let Some(error) = value.get("error") {
+        return refusal_in(alloc, error);
+    }
+    match result_in(value) {
+        Some(result) => Ok(Outcome::Given(result)),
+        None => Err(BadLine::NoOutcome),
+    }
+}
+
+/// Whether an object has both a result and an error.
+fn has_two(value: &Value) -> bool
+    ensures { result ≡ has_two (view value.now) }
+{
+    value.get("result").is_some() && value.get("error").is_some()
+}
+
+/// The id of an object.
+fn id_in(value: &Value) -> Result<u64, BadLine>
+    ensures { Gives (λ id. id) result (or_fault BadLine.BadId (id_of (view value.now))) }
+{
+    match value.get("id").and_then(Value::as_u64) {
+        Some(id) => Ok(id),
+        None => Err(BadLine::BadId),
+    }
+}
+
+/// The response that an object is.
+#[tactic(auto, unfolding(crate::specs::Responses::response_of))]
+fn response_in(alloc: Global, value: Value) -> Result<Response, BadLine>
+    ensures { Gives response_seen result (response_of (view value)) }
+{
+    if has_two(&value) {
+        return Err(BadLine::TwoOutcomes);
+    }
+    let id = id_in(&value)?;
+    let outcome = outcome_in(alloc, value)?;
+    Ok(Response { id, outcome })
+}
+
+/// The notice that a method's name is.
+fn notice_in(name: Option<&str>) -> Result<Line, BadLine>
+    ensures { Gives line_seen result (notice_by (option_map (λ name. name.now) name.entry)) }
+{
+    match name {
+        Some(name) if name == "shutdown" => Ok(Line::Shutdown),
+        _ => Err(BadLine::NotResponse),
+    }
+}
+
+/// What a value says.
+#[tactic(auto, unfolding(crate::specs::Responses::said_by))]
+fn line_in(alloc: Global, value: Value) -> Result<Line, BadLine>
+    ensures { Gives line_seen result (said_by (view value)) }
+{
+    if value.as_object().is_none() {
+        return Err(BadLine::NotObject);
+    }
+    if let Some(method) = value.get("method") {
+        return notice_in(method.as_str());
+    }
+    let response = response_in(alloc, value)?;
+    Ok(Line::Response(response))
+}
+
+/// The text that bytes are.
+fn text_in(bytes: &[u8]) -> Result<&str, BadLine>
+    ensures { Gives (λ text. text.now) result (text_of bytes.now) }
+{
+    match simdutf8::compat::from_utf8(bytes) {
+        Ok(text) => Ok(text),
+        Err(_) => Err(BadLine::NotUtf8),
+    }
+}
+
+/// The value of a text.
+fn value_in(alloc: Global, text: &str) -> Result<Value, BadLine>
+    ensures { Gives view result (or_fault BadLine.NotJson (read text.now)) }
+{
+    match Value::from_str(alloc, text) {
+        Ok(value) => Ok(value),
+        Err(e) => match e.classify() {
+            Category::Memory => Err(BadLine::OutOfMemory),
+            _ => Err(BadLine::NotJson),
+        },
+    }
+}
+
+/// Reads a line, given without its end. It gives what the line says, or the first reason why it
+/// says nothing. `OutOfMemory` can come in place of both, but of the first two reasons.
+#[tactic(auto, unfolding(crate::specs::Responses::meaning))]
+pub fn read_line(alloc: Global, bytes: &[u8]) -> Result<Line, BadLine>
+    ensures { Gives line_seen result (meaning bytes.now) }
+{
+    if MAX_LINE < bytes.len() {
+        return Err(BadLine::TooLong);
+    }
+    let text = text_in(bytes)?;
+    let value = value_in(alloc, text)?;
+    line_in(alloc, value)
+}
