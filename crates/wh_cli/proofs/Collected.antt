@@ -1,39 +1,88 @@
 -- What is collected of answers that may be faults.
 use Rattle.std.proofs.Common.{◌≡◌, ◌∙◌, List, [], ◌∷◌, ◌++◌, ap, map, sym, subst}
-use Rattle.std.specs.Prelude.{Vec, Result, Ok, Err, IfOk, MatchResult, Contains}
-use Rattle.std.specs.List.{AllZip}
+use Rattle.std.specs.Prelude.{Vec, Option, Result, Ok, Err, IfOk, MatchResult, Contains}
+use Rattle.std.specs.List.{AllZip, flat_map}
 use Rattle.std.specs.declared.alloc.Global.{Global}
-use Rattle.std.proofs.lemmas.List.{map-append}
+use Rattle.std.proofs.lemmas.Grind.{flat_map-append}
+use Rattle.std.proofs.lemmas.List.{append-nil, map-append}
+use Rattle.wh_cli.specs.declared.json_faults.JsonFault.{JsonFault}
+use Rattle.wh_cli.specs.Faults.{AreFaultsOf, AreMade, AreMadeOf, IsMadeOf, MayBeTold, told_of}
+use Rattle.wh_cli.specs.Services.{File}
 
--- where each input gave a value, the values are theirs, whatever stands beside them
-each_value : {A C B E : Type 0} (P : A → Result (C × B) E → Type 0) (inputs : List A) (told : List (C × B))
-    → AllZip P inputs (map {A = C × B} {B = Result (C × B) E} Ok told)
-    → AllZip (λ input one. (beside : B) × P input (Ok (one, beside))) inputs (map (λ both. both.0) told)
+-- where each input gave a value, the values are theirs
+each_value : {A B E : Type 0} (P : A → Result B E → Type 0) (inputs : List A) (told : List B)
+    → AllZip P inputs (map {A = B} {B = Result B E} Ok told)
+    → AllZip (λ input one. P input (Ok one)) inputs told
 each_value P [] [] h = tt
-each_value P (input ∷ inputs) (both ∷ told) h = ((both.1, h.0), each_value P inputs told h.1)
-each_value P [] (both ∷ told) h = absurd h
+each_value P (input ∷ inputs) (one ∷ told) h = (h.0, each_value P inputs told h.1)
+each_value P [] (one ∷ told) h = absurd h
 each_value P (input ∷ inputs) [] h = absurd h
 
--- what is collected is the values of the inputs, once what stands beside them is apart
-pub collected : {A C B E : Type 0} (P : A → Result (C × B) E → Type 0) (inputs : List A) (given : List (Result (C × B) E)) (answer : Result (Vec (C × B) Global) E) (told : Vec (C × B) Global) (ones : List C)
+-- what is collected is the values of the inputs, with what is told of each apart
+pub collected : {A U E : Type 0} (P : A → Result (U × Option JsonFault) E → Type 0) (inputs : List A) (given : List (Result (U × Option JsonFault) E)) (answer : Result (Vec (U × Option JsonFault) Global) E) (both : Vec (U × Option JsonFault) Global) (ones : List U) (faults : List JsonFault)
     → AllZip P inputs given
-    → MatchResult answer (λ all. (values : List (C × B)) × (given ≡ map Ok values) × (all.items ≡ values)) (λ e. Contains given (Err e))
-    → answer ≡ Ok told
-    → ones ≡ map (λ both. both.0) told.items
-    → AllZip (λ input one. (beside : B) × P input (Ok (one, beside))) inputs ones
-collected {A} {C} {B} {E} P inputs given answer told ones zipped gives is apart =
+    → MatchResult answer (λ all. (values : List (U × Option JsonFault)) × (given ≡ map Ok values) × (all.items ≡ values)) (λ e. Contains given (Err e))
+    → answer ≡ Ok both
+    → ones ≡ map (λ one. one.0) both.items
+    → faults ≡ flat_map told_of (map (λ one. one.1) both.items)
+    → AreMade (λ input one. P input (Ok one)) inputs ones faults
+collected {A} {U} {E} P inputs given answer both ones faults zipped gives is apart told =
     let h = rw is at gives in
-    let values = subst (λ (xs : List (Result (C × B) E)). AllZip P inputs xs) h.1 zipped in
-    let beside : A → C → Type 0 = λ input one. (beside : B) × P input (Ok (one, beside)) in
-    subst (λ (l : List C). AllZip beside inputs l) (sym apart)
-    (subst (λ (l : List (C × B)). AllZip beside inputs (map (λ both. both.0) l)) (sym h.2) (each_value P inputs h.0 values))
+    let values = subst (λ (xs : List (Result (U × Option JsonFault) E)). AllZip P inputs xs) h.1 zipped in
+    record {
+      both = both.items;
+      each = subst (λ (l : List (U × Option JsonFault)). AllZip (λ input one. P input (Ok one)) inputs l) (sym h.2) (each_value P inputs h.0 values);
+      ones = apart;
+      told = told;
+    }
 
--- a weaker fact of each pair
-pub weaker : {A C : Type 0} {P Q : A → C → Type 0} (xs : List A) (ys : List C) → ((x : A) (y : C) → P x y → Q x y) → AllZip P xs ys → AllZip Q xs ys
-weaker [] [] f zip = tt
-weaker (x ∷ xs) (y ∷ ys) f zip = (f x y zip.0, weaker xs ys f zip.1)
-weaker [] (y ∷ ys) f zip = absurd zip
-weaker (x ∷ xs) [] f zip = absurd zip
+-- the files of inputs of which something was made
+files_of : {A U : Type 0} (Reads : A → File → Type 0) (Gives : File → U → Type 0) (inputs : List A) (both : List (U × Option JsonFault))
+    → AllZip (IsMadeOf Reads Gives) inputs both
+    → (files : List File) × AllZip Reads inputs files × AllZip Gives files (map (λ one. one.0) both) × AllZip MayBeTold files (map (λ one. one.1) both)
+files_of Reads Gives [] [] h = ([], tt, tt, tt)
+files_of Reads Gives (input ∷ inputs) (one ∷ both) h =
+    let rest = files_of Reads Gives inputs both h.1 in
+    (h.0.file ∷ rest.0, (h.0.read, rest.1), (h.0.gives, rest.2), (h.0.told, rest.3))
+files_of Reads Gives [] (one ∷ both) h = absurd h
+files_of Reads Gives (input ∷ inputs) [] h = absurd h
+
+-- what was made of inputs was made of the files that they were read as, and is told of these
+pub of_files : {A U : Type 0} (Reads : A → File → Type 0) (Gives : File → U → Type 0) (inputs : List A) (made : List U) (faults : List JsonFault)
+    → AreMade (IsMadeOf Reads Gives) inputs made faults
+    → AreMadeOf Reads Gives inputs made faults
+of_files Reads Gives inputs made faults h =
+    let own = files_of Reads Gives inputs h.both h.each in
+    record {
+      files = own.0;
+      read = own.1;
+      gives = subst (λ l. AllZip Gives own.0 l) (sym h.ones) own.2;
+      told = record { told = map (λ one. one.1) h.both; each = own.3; all = h.told };
+    }
+
+-- what was made of files, of each beside what may be told of it
+beside : {U : Type 0} (Gives : File → U → Type 0) (files : List File) (both : List (U × Option JsonFault))
+    → AllZip (λ file one. Gives file one.0 × MayBeTold file one.1) files both
+    → AllZip Gives files (map (λ one. one.0) both) × AllZip MayBeTold files (map (λ one. one.1) both)
+beside Gives [] [] h = (tt, tt)
+beside Gives (file ∷ files) (one ∷ both) h =
+    let rest = beside Gives files both h.1 in
+    ((h.0.0, rest.0), (h.0.1, rest.1))
+beside Gives [] (one ∷ both) h = absurd h
+beside Gives (file ∷ files) [] h = absurd h
+
+-- what was made of files is theirs, and so is what is told of them
+pub made_of_each : {U : Type 0} (Gives : File → U → Type 0) (files : List File) (made : List U) (faults : List JsonFault)
+    → AreMade (λ file one. Gives file one.0 × MayBeTold file one.1) files made faults
+    → AllZip Gives files made
+made_of_each Gives files made faults h =
+    subst (λ l. AllZip Gives files l) (sym h.ones) (beside Gives files h.both h.each).0
+
+pub told_of_each : {U : Type 0} (Gives : File → U → Type 0) (files : List File) (made : List U) (faults : List JsonFault)
+    → AreMade (λ file one. Gives file one.0 × MayBeTold file one.1) files made faults
+    → AreFaultsOf files faults
+told_of_each Gives files made faults h =
+    record { told = map (λ one. one.1) h.both; each = (beside Gives files h.both h.each).1; all = h.told }
 
 -- what follows of the value
 pub all_ok : {X E : Type 0} {P Q : X → Type 0} (r : Result X E) → ((x : X) → P x → Q x) → IfOk r P → IfOk r Q
@@ -41,7 +90,16 @@ all_ok (Ok x) f p = f x p
 all_ok (Err e) f p = tt
 
 -- what comes first in one pair more stands behind what comes first in those before it
-pub firsts_push : {A B : Type 0} (pairs : List (A × B)) (both : A × B) (old new : List A) → new ≡ old ++ (both.0 ∷ []) → old ≡ map (λ both. both.0) pairs → new ≡ map (λ both. both.0) (pairs ++ (both ∷ []))
+pub firsts_push : {A B : Type 0} (pairs : List (A × B)) (both : A × B) (old new : List A) → new ≡ old ++ (both.0 ∷ []) → old ≡ map (λ one. one.0) pairs → new ≡ map (λ one. one.0) (pairs ++ (both ∷ []))
 firsts_push {A} {B} pairs both old new added firsts =
-    let first : A × B → A = λ both. both.0 in
+    let first : A × B → A = λ one. one.0 in
     added ∙ ap (λ (l : List A). l ++ (both.0 ∷ [])) firsts ∙ sym (map-append first pairs (both ∷ []))
+
+-- what is told of one pair more stands behind what is told of those before it
+pub told_push : {A : Type 0} (pairs : List (A × Option JsonFault)) (both : A × Option JsonFault) (old new : List JsonFault) → new ≡ old ++ told_of both.1 → old ≡ flat_map told_of (map (λ one. one.1) pairs) → new ≡ flat_map told_of (map (λ one. one.1) (pairs ++ (both ∷ [])))
+told_push {A} pairs both old new added told =
+    let second : A × Option JsonFault → Option JsonFault = λ one. one.1 in
+    added ∙ ap (λ (l : List JsonFault). l ++ told_of both.1) told
+    ∙ ap (λ (l : List JsonFault). flat_map told_of (map second pairs) ++ l) (sym (append-nil (told_of both.1)))
+    ∙ sym (flat_map-append told_of (map second pairs) (both.1 ∷ []))
+    ∙ ap (λ (l : List (Option JsonFault)). flat_map told_of l) (sym (map-append second pairs (both ∷ [])))

@@ -10,7 +10,9 @@ use Rattle.wh_json.specs.declared.fault.ReadFault.{ReadFault}
 use Rattle.wh_json.specs.declared.fault.ReadFault.TheVariants as faults
 use Rattle.wh_cli.specs.declared.reading.ReadFile.{ReadFile}
 use Rattle.wh_cli.specs.Services.{File, reading_of}
-use Rattle.wh_cli.specs.Readings.{plain, reading, IsReadingOfInput}
+use Rattle.wh_cli.specs.declared.json_faults.JsonFault.{JsonFault}
+use Rattle.wh_cli.specs.Faults.{AreMadeOf}
+use Rattle.wh_cli.specs.Readings.{plain, reading, AreRead, Gives as BytesBy, IsReadAs, IsReading}
 
 -- where room was found, what was read is the history or its fault
 pub plain_is : (outcome : Result (Vec Event Global) ReadFault) (read : Result (List Event) ReadFault) → outcome ≢ Err faults.OutOfMemory → Gives (λ events. events.items) outcome read → plain outcome ≡ read
@@ -18,15 +20,17 @@ plain_is (Ok events) read room gives = sym gives
 plain_is (Err fault) read room gives = sym (gives (λ e. room (ap Err e)))
 
 -- so it is with all files
-pub readings_are : (files : List File) (read : List ReadFile) → AllZip (λ file one. reading one ≡ reading_of file) files read → map reading read ≡ map reading_of files
+pub readings_are : (files : List File) (read : List ReadFile) → AllZip IsReading files read → map reading read ≡ map reading_of files
 readings_are [] [] zip = refl
 readings_are (f ∷ fs) (r ∷ rs) zip = rw (zip.0, readings_are fs rs zip.1) refl
 readings_are [] (r ∷ rs) zip = absurd zip
 readings_are (f ∷ fs) [] zip = absurd zip
 
 -- and with all inputs
-pub inputs_are : (inputs : List Input) (read : List ReadFile) → AllZip (λ input one. IsReadingOfInput input (reading one)) inputs read → AllZip IsReadingOfInput inputs (map reading read)
-inputs_are [] [] zip = tt
-inputs_are (i ∷ is) (r ∷ rs) zip = (zip.0, inputs_are is rs zip.1)
-inputs_are [] (r ∷ rs) zip = absurd zip
-inputs_are (i ∷ is) [] zip = absurd zip
+pub are_read : (gives : BytesBy) (inputs : List Input) (read : List ReadFile) (faults : List JsonFault) → AreMadeOf (IsReadAs gives) IsReading inputs read faults → AreRead gives inputs read faults
+are_read gives inputs read faults made = record {
+  files = made.files;
+  from = made.read;
+  readings = readings_are made.files read made.gives;
+  told = made.told;
+}

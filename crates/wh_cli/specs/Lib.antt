@@ -1,3 +1,7 @@
+pub mod Commands
+pub mod Complaints
+pub mod Faults
+pub mod Listings
 pub mod Readings
 pub mod Replays
 pub mod Served

@@ -1,12 +1,15 @@
 -- What is kept of a file that was read.
-use Rattle.std.specs.Prelude.{◌≡◌, ℕ, List, Result, Ok, Err, string_bytes, Vec}
+use Rattle.std.specs.Prelude.{◌≡◌, ℕ, List, map, Result, Ok, Err, string_bytes, Vec}
+use Rattle.std.specs.List.{AllZip}
 use Rattle.std.specs.declared.alloc.Global.{Global}
 use Rattle.wh_events.specs.declared.event.Event.{Event}
-use Rattle.wh_files.specs.Inputs.{IsReadFrom}
 use Rattle.wh_files.specs.declared.Input.{Input}
+use Rattle.wh_files.specs.declared.Origin.{Origin}
 use Rattle.wh_json.specs.declared.fault.ReadFault.{ReadFault}
+use Rattle.wh_cli.specs.declared.json_faults.JsonFault.{JsonFault}
 use Rattle.wh_cli.specs.declared.reading.ReadFile.{ReadFile}
-use Rattle.wh_cli.specs.Services.{Reading, reading_of}
+use Rattle.wh_cli.specs.Faults.{AreFaultsOf}
+use Rattle.wh_cli.specs.Services.{File, Reading, reading_of}
 
 -- a history as a list, or the fault
 abbrev pub plain : Result (Vec Event Global) ReadFault → Result (List Event) ReadFault
@@ -17,7 +20,22 @@ plain (Err fault) = Err fault
 abbrev pub reading : ReadFile → Reading
 reading file = (string_bytes file.name, plain file.outcome)
 
--- the reading of an input: that of its name, and of bytes that are read from where it comes from
-abbrev pub IsReadingOfInput : Input → Reading → Type 0
-IsReadingOfInput input read =
-    (bytes : Vec ℕ Global) × IsReadFrom input.origin bytes × (read ≡ reading_of (input.name, bytes))
+-- what was read of a file is its reading
+abbrev pub IsReading : File → ReadFile → Type 0
+IsReading file read = reading read ≡ reading_of file
+
+-- which bytes there may be where an input comes from
+abbrev pub Gives : Type 1
+Gives = Origin → Vec ℕ Global → Type 0
+
+-- an input as a file: by its name, with bytes that were given for where it comes from
+pub record IsReadAs (gives : Gives) (input : Input) (file : File) : Type 0 where
+  pub named : file.0 ≡ input.name
+  pub bytes : gives input.origin file.1
+
+-- what was read of inputs: each as a file, in their order, the readings of these files, and what is told of them
+pub record AreRead (gives : Gives) (inputs : List Input) (read : List ReadFile) (faults : List JsonFault) : Type 0 where
+  pub files : List File
+  pub from : AllZip (IsReadAs gives) inputs files
+  pub readings : map reading read ≡ map reading_of files
+  pub told : AreFaultsOf files faults

@@ -1,19 +1,27 @@
 -- What the command `serve` did: its report, and its status.
-use Rattle.std.specs.Prelude.{◌≡◌, ℕ, ◌+◌, ◌<◌, ◌≤◌, ◌%◌, ◌&&◌, List, [], ◌∷◌, ◌++◌, length, map, get_or, codes, decimal, Bool, false, Option, Some, None, is_none, Result, Ok, Err, String, string_bytes, Vec, if◌then◌else◌, eqb}
-use Rattle.std.specs.List.{flat_map, list_all, list_any}
+use Rattle.std.specs.Prelude.{◌≡◌, ℕ, ◌+◌, ◌<◌, ◌≤◌, ◌%◌, ◌&&◌, List, [], ◌∷◌, ◌++◌, length, map, get_or, codes, decimal, All, Bool, false, Option, Some, None, is_none, Result, Ok, Err, String, string_bytes, Vec, vec_len, if◌then◌else◌, eqb}
+use Rattle.std.specs.List.{AllZip, flat_map, list_all, list_any}
 use Rattle.std.specs.declared.alloc.Global.{Global}
 use Rattle.wh_json.specs.declared.fault.ReadFault.{ReadFault}
 use Rattle.wh_json.specs.Events.{history}
-use Rattle.wh_ledger.specs.declared.Shares.{Shares}
-use Rattle.wh_ledger.specs.Shares.{sums_of, no_shares}
+use Rattle.wh_ledger.specs.Shares.{no_shares, sums_of}
+use Rattle.wh_host.specs.declared.config.Config.{Config}
 use Rattle.wh_host.specs.declared.reply.Totals.{Totals}
-use Rattle.wh_host.specs.Machine.{totals_of}
-use Rattle.wh_tasks.specs.declared.source.SourceFault.{SourceFault}
+use Rattle.wh_host.specs.Machine.{IsConfig, totals_of}
+use Rattle.wh_tasks.specs.Source.{KeepsOrigin, RoseIfFailed}
+use Rattle.wh_tasks.specs.declared.handler.NoActivities.{NoActivities}
+use Rattle.wh_tasks.specs.declared.source.ActivityAnswer.TheVariants.{Failed}
+use Rattle.wh_poll.specs.declared.hosting.HostEnd.{HostEnd}
+use Rattle.wh_poll.specs.declared.observer.NoObserver.{NoObserver}
+use Rattle.wh_poll.specs.declared.post.Post.{Post}
+use Rattle.wh_poll.specs.Turns.{IsLedBy}
 use Rattle.wh_events.specs.declared.event.Event.{Event}
 use Rattle.wh_replay.specs.declared.fault.Fault.{Fault}
 use Rattle.wh_replay.specs.declared.fault.Fault.TheVariants.{Workflow as OfCommands}
-use Rattle.wh_recorded.specs.Rounds.{Stage, Scripted, ComesFrom, scripted, opening_stage, tally_of, failed_in, has_last_record}
+use Rattle.wh_recorded.specs.Rounds.{Stage, Scripted, Gives, Recounts, deliveries_of, scripted, opening_stage, tally_of, failed_in, has_last_record}
+use Rattle.wh_recorded.specs.Calls.{ComesFrom}
 use Rattle.wh_recorded.specs.declared.failed_task.FailedTask.{FailedTask}
+use Rattle.wh_workflow.specs.Law.{Program}
 use Rattle.wh_tester.specs.Faults.{replay_fault_text}
 use Rattle.wh_tester.specs.Report.{shown, line_text}
 use Rattle.wh_tester.specs.declared.line.Verdict.TheVariants.{Unreadable}
@@ -109,50 +117,87 @@ failures_from sources before [] = []
 failures_from sources before (file ∷ rest) =
     failures_of (source_at sources before) file ++ failures_from sources (before + 1) rest
 
--- what a worker leaves: what its seat counted, its source with the answers that it was sent, and
--- the first fault of the source, if there was one
-pub record Left : Type 0 where
-  pub counted : Shares
-  pub source : Stage
-  pub fault : Option SourceFault
+-- what a worker of a service begins with, and what is left of its host
+abbrev pub ServicePost : Type 0
+ServicePost = Post Stage NoActivities NoObserver
 
--- what a worker leaves that did nothing
-abbrev pub none_left : Left
-none_left = record { counted = no_shares; source = no_source; fault = None }
+abbrev pub ServiceHost : Type 0
+ServiceHost = HostEnd Stage NoActivities NoObserver
 
-abbrev pub left_of : Shares → Stage → Option SourceFault → Left
-left_of counted source fault = record { counted = counted; source = source; fault = fault }
+-- what a host of some sizes may leave of its posts
+abbrev pub HostsBy : Type 1
+HostsBy = Config → Vec ServicePost Global → ServiceHost → Type 0
 
--- what is gathered of the files and of what the workers leave: a row for each file, the sums of
--- what their seats counted, and whether none of them has a fault
-pub record IsGathered (left : List Left) (dealt : List Dealt) (rows : List Row) (totals : Totals)
+-- what runs a host: it may be called with posts for all seats of a host of good sizes, and what it leaves has a worker
+-- for each post
+pub record IsHost (may : Config → Vec ServicePost Global → Type 0) (leaves : HostsBy) : Type 0 where
+  pub runs : (config : Config) (posts : Vec ServicePost Global) → IsConfig config → config.seats ≡ vec_len posts
+      → may config posts
+  pub many : (config : Config) (posts : Vec ServicePost Global) (end : ServiceHost) → leaves config posts end
+      → vec_len end.workers ≡ vec_len posts
+
+-- what is left where a call that runs a host gives it
+abbrev pub leaves : {E : Type 0} → (Config → Vec ServicePost Global → Result ServiceHost E → Type 0) → HostsBy
+leaves gives config posts end = gives config posts (Ok end)
+
+-- a host of these sizes was opened, worked by a worker for each post, and closed: what each worker leaves is what turns
+-- with the program led to from its post, its source comes from that of the post by calls, with no more answers than its
+-- seat took tasks, and it has no fault but want of memory; the totals are the sums of what the seats counted
+pub record IsHosted {P : Type 0} (program : Program P) (config : Config) (posts : Vec ServicePost Global)
+    (end : ServiceHost) : Type 0 where
+  pub sizes : IsConfig config
+  pub seats : config.seats ≡ vec_len posts
+  pub workers : vec_len end.workers ≡ vec_len posts
+  pub led : AllZip (IsLedBy program (λ source. Recounts source.histories) (λ source. Gives source.histories)
+      (λ source. source.answers) (λ source. 0) ComesFrom
+      (λ handler task answer. answer ≡ Failed (codes "no activities")) (λ old turn new. new ≡ old) no_shares)
+      posts.items end.workers.items
+  pub origins : AllZip (λ post left. KeepsOrigin ComesFrom post.source left.source) posts.items end.workers.items
+  pub answered : AllZip (λ post left. length left.source.answers ≤ length post.source.answers + left.counted.taken)
+      posts.items end.workers.items
+  pub faults : AllZip (λ post left. RoseIfFailed left.fault 0 0) posts.items end.workers.items
+  pub sums : end.totals ≡ totals_of (sums_of (map (λ left. left.counted) end.workers.items))
+  pub balanced : end.totals.taken ≡ end.totals.completed + end.totals.failed + end.totals.in_hand
+
+-- a post has at least as many turns as its source has tasks
+abbrev pub IsLongEnough : ServicePost → Type 0
+IsLongEnough post = deliveries_of post.source.histories ≤ post.turns
+
+-- the posts of so many workers: each has a source over the histories that it was dealt, and no others, and turns for all
+-- of their tasks
+pub record ArePosts (count : ℕ) (readings : List Reading) (posts : List ServicePost) : Type 0 where
+  pub many : length posts ≡ count
+  pub sources : (worker : ℕ) → worker < count
+      → get_or (map (λ post. post.source) posts) worker no_source ≡ opening_stage (hand_in count worker readings)
+  pub turns : All IsLongEnough posts
+
+-- what is gathered of the files and of what is left of the host: a row for each file, the totals, and whether none of
+-- the workers has a fault
+pub record IsGathered (end : ServiceHost) (dealt : List Dealt) (rows : List Row) (totals : Totals)
     (faultless : Bool) : Type 0 where
-  pub told : rows ≡ rows_from (map (λ worker. worker.source) left) 0 dealt
-  pub sums : totals ≡ totals_of (sums_of (map (λ worker. worker.counted) left))
-  pub balanced : totals.taken ≡ totals.completed + totals.failed + totals.in_hand
-  pub no_fault : faultless ≡ list_all (λ worker. is_none worker.fault) left
+  pub told : rows ≡ rows_from (map (λ worker. worker.source) end.workers.items) 0 dealt
+  pub sums : totals ≡ end.totals
+  pub no_fault : faultless ≡ list_all (λ worker. is_none worker.fault) end.workers.items
 
--- what so many workers did with files, by what was read of these: each had a source over the
--- histories that it was dealt, and no others; the source that it leaves comes from that one, and was
--- sent at most as many answers as the worker's seat took tasks
-pub record IsService (readings : List Reading) (count : ℕ) (rows : List Row) (totals : Totals)
+-- a host of these sizes was run on posts over the files, by what was read of these, and the rest is gathered of what is
+-- left of it
+pub record IsService (hosts : HostsBy) (config : Config) (readings : List Reading) (rows : List Row) (totals : Totals)
     (faultless : Bool) : Type 0 where
-  pub left : List Left
-  pub workers : length left ≡ count
-  pub own : (worker : ℕ) → worker < count
-      → ComesFrom (get_or left worker none_left).source (opening_stage (hand_in count worker readings))
-  pub answered : (worker : ℕ) → worker < count
-      → length (get_or left worker none_left).source.answers ≤ (get_or left worker none_left).counted.taken
-  pub gathered : IsGathered left (map dealt_as readings) rows totals faultless
+  pub posts : Vec ServicePost Global
+  pub end : ServiceHost
+  pub opened : ArePosts config.seats readings posts.items
+  pub hosted : hosts config posts end
+  pub gathered : IsGathered end (map dealt_as readings) rows totals faultless
 
 -- a service with what is told of it beside its report: by the sources that the workers leave, the
 -- failed tasks of the files, and whether the last task of a history has a record, which it was not
 -- compared with
-pub record IsToldService (readings : List Reading) (count : ℕ) (rows : List Row) (totals : Totals) (faultless : Bool)
-    (failures : List FileFailure) (uncompared : Bool) : Type 0 where
-  pub service : IsService readings count rows totals faultless
-  pub failed : failures ≡ failures_from (map (λ worker. worker.source) service.left) 0 (map dealt_as readings)
-  pub last : uncompared ≡ list_any (λ worker. has_last_record worker.source) service.left
+pub record IsToldService (hosts : HostsBy) (config : Config) (readings : List Reading) (rows : List Row)
+    (totals : Totals) (faultless : Bool) (failures : List FileFailure) (uncompared : Bool) : Type 0 where
+  pub service : IsService hosts config readings rows totals faultless
+  pub failed : failures
+      ≡ failures_from (map (λ worker. worker.source) service.end.workers.items) 0 (map dealt_as readings)
+  pub last : uncompared ≡ list_any (λ worker. has_last_record worker.source) service.end.workers.items
 
 -- `<tasks> tasks, <completed> completed, <failed> failed`
 abbrev pub tally_text : Tally → List ℕ

@@ -2,11 +2,8 @@
 
 ghost use Rattle.std.specs.Prelude.{◌≡◌, ◌≢◌, ◌∷◌, [], Err, IfOk, OnOk, string_bytes};
 ghost use Rattle.std.specs.Io.KnownBytes.{Appends};
-ghost use Rattle.wh_json.specs.Events.{history};
-ghost use Rattle.wh_tester.specs.Verdicts.{IsVerdict};
-ghost use Rattle.wh_explain.specs.Explaining.{AreTasksIn, unknown_in};
 ghost use Rattle.wh_explain.specs.Texts.{explanation_text};
-ghost use Rattle.wh_explain.specs.declared.explanation.Explanation.{Explanation};
+ghost use Rattle.wh_cli.specs.Commands.{IsExplained};
 ghost use Rattle.wh_cli.specs.Statuses.{status_of};
 
 use crate::replaying::{CommandFault, status_of};
@@ -38,13 +35,8 @@ pub fn explain_command<W: Workflow, O: Write>(
     bytes: &[u8],
     writer: &mut O,
 ) -> Result<u8, CommandFault>
-    ensures explained { IfOk result (λ status. (explanation : Explanation)
-        × AreTasksIn W.program (history bytes.now) explanation.tasks
-        × (explanation.unknown ≡ unknown_in W.program (history bytes.now))
-        × (explanation.line.name ≡ string_bytes name)
-        × IsVerdict W.program bytes.now explanation.line.verdict
-        × Appends (O.contents writer.old) (O.contents writer.new) (explanation_text explanation)
-        × (status ≡ status_of (explanation.line ∷ []))) }
+    ensures explained { IfOk result
+        (IsExplained W.program (string_bytes name) bytes.now (O.contents writer.old) (O.contents writer.new)) }
     ensures unwritten { result ≡ Err CommandFault.OutOfMemory → writer.new ≡ writer.old }
 {
     let Ok(explanation) = explain::<W>(alloc, name, bytes) else {

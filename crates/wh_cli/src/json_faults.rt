@@ -1,7 +1,8 @@
 //! Files that are no JSON, and where.
 
-ghost use Rattle.std.specs.Prelude.{◌≡◌, ◌++◌, [], ◌∷◌, IfOk, OnOk, IfSome, None, Some, map};
-ghost use Rattle.wh_json.specs.Fields.{document};
+ghost use Rattle.std.specs.Prelude.{◌≡◌, ◌++◌, [], ◌∷◌, IfOk, OnOk, IfSome, Some, map};
+ghost use Rattle.std.specs.List.{flat_map};
+ghost use Rattle.wh_cli.specs.Faults.{IsFaultOf, told_of};
 ghost use Rattle.wh_cli.specs.Services.{json_fault_text};
 
 use crate::position::{Position, position_of};
@@ -32,7 +33,7 @@ impl fmt::Display for JsonFault {
 
 /// Where a file is no JSON, if it is none. Nothing is told where memory for that is refused.
 pub(crate) fn json_fault(alloc: Global, name: &str, bytes: &[u8]) -> Option<JsonFault>
-    ensures { IfSome result (λ fault. (fault.name ≡ name.now) × (document bytes.now ≡ None)) }
+    ensures { IfSome result (IsFaultOf name.now bytes.now) }
 {
     let Ok(Some(position)) = position_of(alloc, bytes) else {
         return None;
@@ -47,7 +48,9 @@ pub(crate) fn json_fault(alloc: Global, name: &str, bytes: &[u8]) -> Option<Json
 }
 
 /// Adds the fault of a file, if it is no JSON.
-fn add_fault(faults: &mut Vec<JsonFault>, fault: Option<JsonFault>) -> Result<(), OutOfMemory> {
+fn add_fault(faults: &mut Vec<JsonFault>, fault: Option<JsonFault>) -> Result<(), OutOfMemory>
+    ensures { OnOk result (faults.new.items ≡ faults.old.items ++ told_of fault) }
+{
     match fault {
         Some(fault) => Ok(faults.push(fault)?),
         None => Ok(()),
@@ -60,7 +63,8 @@ fn add_told<T: Drop>(
     faults: &mut Vec<JsonFault>,
     told: (T, Option<JsonFault>),
 ) -> Result<(), OutOfMemory>
-    ensures { OnOk result (made.new.items ≡ made.old.items ++ (told.0 ∷ [])) }
+    ensures made { OnOk result (made.new.items ≡ made.old.items ++ (told.0 ∷ [])) }
+    ensures faults { OnOk result (faults.new.items ≡ faults.old.items ++ told_of told.1) }
 {
     let (one, fault) = told;
     let added = made.push(one).is_ok();
@@ -68,12 +72,14 @@ fn add_told<T: Drop>(
     if added { Ok(()) } else { Err(OutOfMemory) }
 }
 
-/// What was made of files, and apart from it the faults of those that are no JSON.
+/// What was made of files, and apart from it the faults that are told of them, in the same order.
 pub(crate) fn parted<T: Drop>(
     alloc: Global,
     told: Vec<(T, Option<JsonFault>)>,
 ) -> Result<(Vec<T>, Vec<JsonFault>), OutOfMemory>
-    ensures { IfOk result (λ parts. parts.0.items ≡ map (λ both. both.0) told.items) }
+    ensures made { IfOk result (λ parts. parts.0.items ≡ map (λ one. one.0) told.items) }
+    ensures faults { IfOk result (λ parts.
+        parts.1.items ≡ flat_map told_of (map (λ one. one.1) told.items)) }
 {
     let mut made = Vec::new(alloc);
     let mut faults = Vec::new(alloc);

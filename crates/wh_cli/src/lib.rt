@@ -3,10 +3,16 @@
 //! line.
 #![tactic(auto)]
 
+mod commands;
+mod complaints;
 mod dealing;
 mod explaining;
+mod failures;
 mod gathering;
+mod hosts;
+mod inputs;
 mod json_faults;
+mod listing;
 mod parallel;
 mod position;
 mod program;

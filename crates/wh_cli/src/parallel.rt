@@ -1,8 +1,7 @@
 //! Files are worked on in threads.
 
-ghost use Rattle.std.specs.Prelude.{Ok, IfOk, Option};
-ghost use Rattle.std.specs.List.{AllZip};
-ghost use Rattle.wh_cli.specs.declared.json_faults.JsonFault.{JsonFault};
+ghost use Rattle.std.specs.Prelude.{Ok, IfOk};
+ghost use Rattle.wh_cli.specs.Faults.{AreMade};
 
 use crate::json_faults::{JsonFault, parted};
 use rayon::prelude::*;
@@ -27,7 +26,7 @@ pub(crate) fn all_made<
 ) -> Result<Result<(Vec<U>, Vec<JsonFault>), E>, OutOfMemory>
     requires { F.IsAlwaysCallable make }
     ensures { IfOk result (λ told. IfOk told (λ parts.
-        AllZip (λ file one. (fault : Option JsonFault) × F.post make file (Ok (one, fault))) files.items parts.0.items)) }
+        AreMade (λ file both. F.post make file (Ok both)) files.items parts.0.items parts.1.items)) }
 {
     let Ok(told) = files
         .into_par_iter()

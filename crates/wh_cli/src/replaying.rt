@@ -1,25 +1,26 @@
 //! The command `replay`.
 
-ghost use denote.Param.Send.{IsSend};
 ghost use Rattle.std.specs.Prelude.{◌≡◌, ◌≢◌, List, Err, IfOk, OnOk};
 ghost use Rattle.std.specs.List.{AllZip};
 ghost use Rattle.std.specs.Io.KnownBytes.{Appends};
 ghost use Rattle.wh_tester.specs.Report.{report};
-ghost use Rattle.wh_cli.specs.Replays.{IsLineOfInput, report_as};
+ghost use Rattle.wh_cli.specs.Faults.{AreMadeOf, IsMadeOf, MayBeTold};
+ghost use Rattle.wh_cli.specs.Readings.{IsReadAs};
+ghost use Rattle.wh_cli.specs.Replays.{report_as};
 ghost use Rattle.wh_cli.specs.Statuses.{status_of};
 ghost use Rattle.wh_tester.specs.Verdicts.{IsLineOf};
 ghost use Rattle.wh_tester.specs.declared.line.Line.{Line};
 
+use crate::inputs::ReadsInputs;
 use crate::json_faults::{JsonFault, json_fault};
 use crate::parallel::all_made;
 use std::alloc::Global;
 use std::io;
 use std::io::Write;
-use std::rt::Files;
 use std::thread::Threads;
 use thiserror::Error;
 use wh_events::Text;
-use wh_files::{Input, InputFault, read_input};
+use wh_files::{Input, InputFault};
 use wh_json::ReadFault;
 use wh_tester::{Line, Verdict, all_good, check_all, verdict, write_json_report, write_report};
 use wh_workflow::Workflow;
@@ -76,48 +77,53 @@ fn is_bad_json(verdict: &Verdict) -> bool {
     matches!(verdict, Verdict::Unreadable(ReadFault::BadJson))
 }
 
-/// The line of an input: its name, with the verdict on its bytes, which are kept no longer. Beside
-/// it where the input is no JSON, if that is the verdict.
-fn line_of<W: Workflow, R: Files + AllocGlobal>(
-    rt: &R,
-    input: Input,
-) -> Result<(Line, Option<JsonFault>), InputFault>
-    ensures { IfOk result (λ told. IsLineOfInput W.program input told.0) }
+/// The line of a file: its name, with the verdict on its bytes, which are kept no longer. Beside it
+/// where the file is no JSON, if that is the verdict.
+fn line_of<W: Workflow>(alloc: Global, file: (String, Vec<u8>)) -> (Line, Option<JsonFault>)
+    ensures line { IsLineOf W.program file result.0 }
+    ensures told { MayBeTold file result.1 }
 {
-    let Input { name, origin } = input;
-    let bytes = read_input(rt, origin)?;
-    let verdict = verdict::<W>(rt.alloc(), bytes.as_slice());
+    let (name, bytes) = file;
+    let verdict = verdict::<W>(alloc, bytes.as_slice());
     let fault = if is_bad_json(&verdict) {
-        json_fault(rt.alloc(), name.as_str(), bytes.as_slice())
+        json_fault(alloc, name.as_str(), bytes.as_slice())
     } else {
         None
     };
     let name = Text::new(name);
-    Ok((Line { name, verdict }, fault))
+    (Line { name, verdict }, fault)
+}
+
+/// Reads an input, and gives the line of its name and of the bytes that were read.
+fn line_from<W: Workflow, R: ReadsInputs + AllocGlobal>(
+    rt: &R,
+    input: Input,
+) -> Result<(Line, Option<JsonFault>), InputFault>
+    ensures { IfOk result (IsMadeOf (IsReadAs R.gives) (IsLineOf W.program) input) }
+{
+    let Input { name, origin } = input;
+    let bytes = rt.read(origin)?;
+    Ok(line_of::<W>(rt.alloc(), (name, bytes)))
 }
 
 /// The lines of inputs that are replayed with the code of `W`, in their order, and apart from these
 /// where inputs are no JSON. Each is read in the thread that replays it: so the bytes of no more
 /// files are there at once than there are threads. The fault is that of the first that cannot be
 /// read.
-pub(crate) fn lines_of<W: Workflow + Send, R: Files + AllocGlobal + Threads + Sync>(
+pub(crate) fn lines_of<W: Workflow + Send, R: ReadsInputs + AllocGlobal + Threads + Sync>(
     rt: &R,
     inputs: Vec<Input>,
 ) -> Result<(Vec<Line>, Vec<JsonFault>), InputFault>
-where
-    R::File: Send,
-    R::Dir: Send,
-    ensures { IfOk result (λ told. AllZip (IsLineOfInput W.program) inputs.items told.0.items) }
+    ensures { IfOk result (λ told.
+        AreMadeOf (IsReadAs R.gives) (IsLineOf W.program) inputs.items told.0.items told.1.items) }
 {
     let Ok(told) = all_made(
         rt,
         rt.alloc(),
         inputs,
         |input: Input| -> Result<(Line, Option<JsonFault>), InputFault>
-            requires file { IsSend R.File.row }
-            requires dir { IsSend R.Dir.row }
-            ensures { IfOk result (λ told. IsLineOfInput W.program input told.0) }
-        { line_of::<W, R>(rt, input) },
+            ensures { IfOk result (IsMadeOf (IsReadAs R.gives) (IsLineOf W.program) input) }
+        { line_from::<W, R>(rt, input) },
     ) else {
         return Err(InputFault::OutOfMemory);
     };

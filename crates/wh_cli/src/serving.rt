@@ -1,42 +1,43 @@
 //! The command `serve`.
 
-ghost use Rattle.std.specs.Prelude.{◌≡◌, ◌≢◌, List, Bool, Ok, Err, IfOk, OnErr, map};
-ghost use Rattle.std.specs.List.{AllZip};
+ghost use Rattle.std.specs.Prelude.{◌≡◌, ◌≢◌, Bool, List, Ok, Err, IfOk, OnErr, All, map, vec_len};
 ghost use Rattle.std.specs.Io.KnownBytes.{Appends};
+ghost use Rattle.wh_host.specs.Machine.{IsConfig};
 ghost use Rattle.wh_host.specs.declared.reply.Totals.{Totals};
-ghost use Rattle.wh_command_line.specs.Options.{AreWithinLimits};
-ghost use Rattle.wh_cli.specs.Services.{IsService, IsToldService, Reading, reading_of, service_text, status_of};
-ghost use Rattle.wh_cli.specs.Readings.{IsReadingOfInput, reading};
-ghost use Rattle.wh_cli.specs.Served.{IsServiceOf};
+ghost use Rattle.wh_command_line.specs.Options.{AreWithinLimits, config_of};
+ghost use Rattle.wh_cli.specs.Faults.{AreFaultsOf};
+ghost use Rattle.wh_cli.specs.Readings.{reading};
+ghost use Rattle.wh_cli.specs.Served.{HasServed, HasServedInputs, IsServiceOf, sizes_of};
+ghost use Rattle.wh_cli.specs.Services.{IsHost, IsHosted, IsLongEnough, IsService, leaves};
+ghost use Rattle.wh_cli.specs.Services.{reading_of, service_text, status_of};
 ghost use Rattle.wh_cli.specs.declared.service_report.Row.{Row};
 
 use crate::dealing::deal_sources;
 use crate::gathering::{Service, gather};
+use crate::hosts::{ServiceHost, ServicePost, host_of};
+use crate::inputs::ReadsInputs;
 use crate::json_faults::JsonFault;
 use crate::reading::{ReadFile, read_all, read_inputs};
 use crate::replaying::CommandFault;
 use crate::service_report::{FileFailure, all_served, write_service};
 use std::alloc::Global;
 use std::io::Write;
-use std::rt::Files;
 use std::sync::Wait;
 use std::thread::Threads;
 use wh_command_line::ServeOptions;
 use wh_events::OutOfMemory;
 use wh_files::{Input, InputFault};
-use wh_host::OpenFault;
-use wh_poll::{NoActivities, NoObserver, OpenGate, Post, run_host};
+use wh_host::Config;
+use wh_poll::{NoActivities, NoObserver, Post};
 use wh_recorded::ScriptSource;
 use wh_workflow::Workflow;
 
 /// A post for each source: without activities, without an observer, and with as many turns as the
 /// source has tasks, and one more for each kind of tasks, by which the worker learns that there are
 /// no more.
-fn posts_of(
-    alloc: Global,
-    sources: Vec<ScriptSource>,
-) -> Result<Vec<Post<ScriptSource, NoActivities, NoObserver>>, OutOfMemory>
-    ensures { IfOk result (λ posts. map (λ post. post.source) posts.items ≡ sources.items) }
+fn posts_of(alloc: Global, sources: Vec<ScriptSource>) -> Result<Vec<ServicePost>, OutOfMemory>
+    ensures sources { IfOk result (λ posts. map (λ post. post.source) posts.items ≡ sources.items) }
+    ensures turns { IfOk result (λ posts. All IsLongEnough posts.items) }
 {
     let mut posts = Vec::new(alloc);
     for source in sources {
@@ -51,23 +52,22 @@ fn posts_of(
     Ok(posts)
 }
 
-/// Serves the files with these options: a host runs until no worker's source has more tasks.
-fn serve_all<W: Workflow + Send, R: Threads + Wait + Sync>(
-    rt: &R,
+/// Serves the files with these options, by a host of the sizes that they ask for.
+fn serve_all<F: Fn(Config, Vec<ServicePost>) -> Result<ServiceHost, OutOfMemory>>(
     alloc: Global,
     files: Vec<ReadFile>,
     options: ServeOptions,
+    host: F,
 ) -> Result<Service, OutOfMemory>
-    ensures { IfOk result (IsServiceOf (map reading files.items) options.workers) }
+where
+    F: Drop,
+    requires { IsHost (F.pre host) (leaves (F.post host)) }
+    ensures { IfOk result (IsServiceOf (leaves (F.post host)) (sizes_of options) (map reading files.items)) }
 {
     let config = options.config();
     let (dealt, sources) = deal_sources(alloc, files, config.seats)?;
     let posts = posts_of(alloc, sources)?;
-    let end = match run_host::<W, _, _, _, _, _>(rt, alloc, config, posts, &OpenGate) {
-        Ok(end) => end,
-        Err(OpenFault::OutOfMemory) => return Err(OutOfMemory),
-        Err(OpenFault::BadConfig) => unreachable!(),
-    };
+    let end = host(config, posts)?;
     gather(alloc, dealt, end)
 }
 
@@ -110,7 +110,7 @@ fn report<O: Write>(
         Appends (O.contents writer.old) (O.contents writer.new) (service_text service.rows.items service.totals)
         × (end.status ≡ status_of service.faultless service.rows.items service.totals)
         × (end.failures.items ≡ service.failures.items) × (end.uncompared ≡ service.uncompared)
-        × (end.faultless ≡ service.faultless)) }
+        × (end.faultless ≡ service.faultless) × (end.json_faults.items ≡ json_faults.items)) }
     ensures output { result ≢ Err CommandFault.OutOfMemory }
 {
     let status = status_of(&service);
@@ -135,22 +135,23 @@ fn report<O: Write>(
 
 /// Serves the tasks of files that were read, some of which may be no JSON, and writes the report.
 /// Nothing is written where the answer is `OutOfMemory`.
-fn serve_read<W: Workflow + Send, R: Threads + Wait + Sync, O: Write>(
-    rt: &R,
+fn serve_read<F: Fn(Config, Vec<ServicePost>) -> Result<ServiceHost, OutOfMemory>, O: Write>(
     alloc: Global,
     read: (Vec<ReadFile>, Vec<JsonFault>),
     options: ServeOptions,
     writer: &mut O,
+    host: F,
 ) -> Result<ServiceEnd, CommandFault>
-    ensures report { IfOk result (λ end. (rows : List Row) × (totals : Totals)
-        × IsToldService (map reading read.0.items) options.workers rows totals end.faultless
-        end.failures.items end.uncompared
-        × Appends (O.contents writer.old) (O.contents writer.new) (service_text rows totals)
-        × (end.status ≡ status_of end.faultless rows totals)) }
+where
+    F: Drop,
+    requires { IsHost (F.pre host) (leaves (F.post host)) }
+    ensures report { IfOk result (HasServed (leaves (F.post host)) (sizes_of options) (map reading read.0.items)
+        (O.contents writer.old) (O.contents writer.new)) }
+    ensures faults { IfOk result (λ end. end.json_faults.items ≡ read.1.items) }
     ensures unwritten { result ≡ Err CommandFault.OutOfMemory → writer.new ≡ writer.old }
 {
     let (files, json_faults) = read;
-    let Ok(service) = serve_all::<W, R>(rt, alloc, files, options) else {
+    let Ok(service) = serve_all(alloc, files, options, host) else {
         return Err(CommandFault::OutOfMemory);
     };
     report(service, json_faults, writer)
@@ -172,51 +173,51 @@ pub fn serve_with_failures<W: Workflow + Send, R: Threads + Wait + Sync, O: Writ
     writer: &mut O,
 ) -> Result<ServiceEnd, CommandFault>
     requires { AreWithinLimits workers cache cache_events slots }
-    ensures report { IfOk result (λ end. (rows : List Row) × (totals : Totals)
-        × IsToldService (map reading_of files.items) workers rows totals end.faultless
-        end.failures.items end.uncompared
-        × Appends (O.contents writer.old) (O.contents writer.new) (service_text rows totals)
-        × (end.status ≡ status_of end.faultless rows totals)) }
+    ensures report { let config = config_of workers cache cache_events slots in IfOk result
+        (HasServed (IsHosted W.program) config (map reading_of files.items) (O.contents writer.old) (O.contents writer.new)) }
+    ensures faults { IfOk result (λ end. AreFaultsOf files.items end.json_faults.items) }
     ensures unwritten { result ≡ Err CommandFault.OutOfMemory → writer.new ≡ writer.old }
 {
     let options = ServeOptions::new(workers, cache, cache_events, slots);
     let Ok(read) = read_all(rt, alloc, files) else {
         return Err(CommandFault::OutOfMemory);
     };
-    serve_read::<W, R, O>(rt, alloc, read, options, writer)
+    serve_read(
+        alloc,
+        read,
+        options,
+        writer,
+        |config: Config, posts: Vec<ServicePost>| -> Result<ServiceHost, OutOfMemory>
+            requires sizes { IsConfig config }
+            requires seats { config.seats ≡ vec_len posts }
+            ensures { IfOk result (IsHosted W.program config posts) }
+        { host_of::<W, R>(rt, alloc, config, posts) },
+    )
 }
 
 /// Reads inputs, serves their tasks and writes the report, as `serve_with_failures` does with files
 /// that are there already. Nothing is written where an input cannot be read.
 pub(crate) fn serve_inputs<
-    W: Workflow + Send,
-    R: Files + AllocGlobal + Threads + Wait + Sync,
+    R: ReadsInputs + AllocGlobal + Threads + Sync,
+    F: Fn(Config, Vec<ServicePost>) -> Result<ServiceHost, OutOfMemory>,
     O: Write,
 >(
     rt: &R,
     inputs: Vec<Input>,
-    workers: u64,
-    cache: u64,
-    cache_events: u64,
-    slots: u64,
+    options: ServeOptions,
     writer: &mut O,
+    host: F,
 ) -> Result<Result<ServiceEnd, CommandFault>, InputFault>
 where
-    R::File: Send,
-    R::Dir: Send,
-    requires { AreWithinLimits workers cache cache_events slots }
-    ensures report { IfOk result (λ answer. IfOk answer (λ end.
-        (readings : List Reading) × (rows : List Row) × (totals : Totals)
-        × AllZip IsReadingOfInput inputs.items readings
-        × IsToldService readings workers rows totals end.faultless end.failures.items end.uncompared
-        × Appends (O.contents writer.old) (O.contents writer.new) (service_text rows totals)
-        × (end.status ≡ status_of end.faultless rows totals))) }
+    F: Drop,
+    requires { IsHost (F.pre host) (leaves (F.post host)) }
+    ensures report { IfOk result (λ answer. IfOk answer (HasServedInputs R.gives (leaves (F.post host))
+        (sizes_of options) inputs.items (O.contents writer.old) (O.contents writer.new))) }
     ensures unread { OnErr result (writer.new ≡ writer.old) }
     ensures unwritten { result ≡ Ok (Err CommandFault.OutOfMemory) → writer.new ≡ writer.old }
 {
-    let options = ServeOptions::new(workers, cache, cache_events, slots);
     let read = read_inputs(rt, inputs)?;
-    Ok(serve_read::<W, R, O>(rt, rt.alloc(), read, options, writer))
+    Ok(serve_read(rt.alloc(), read, options, writer, host))
 }
 
 /// Serves the tasks of the files and writes the report, as `serve_with_failures` does, and gives
@@ -233,7 +234,8 @@ pub fn serve_command<W: Workflow + Send, R: Threads + Wait + Sync, O: Write>(
 ) -> Result<u8, CommandFault>
     requires { AreWithinLimits workers cache cache_events slots }
     ensures report { IfOk result (λ status. (rows : List Row) × (totals : Totals) × (faultless : Bool)
-        × IsService (map reading_of files.items) workers rows totals faultless
+        × IsService (IsHosted W.program) (config_of workers cache cache_events slots) (map reading_of files.items)
+        rows totals faultless
         × Appends (O.contents writer.old) (O.contents writer.new) (service_text rows totals)
         × (status ≡ status_of faultless rows totals)) }
     ensures unwritten { result ≡ Err CommandFault.OutOfMemory → writer.new ≡ writer.old }

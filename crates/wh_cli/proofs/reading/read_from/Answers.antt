@@ -1,6 +1,11 @@
-use Rattle.std.proofs.Common.{rules}
+use Rattle.std.proofs.Common.{refl, rules}
 use Rattle.wh_cli.proofs.reading.read_from.Goals as goal
 
--- the bytes are those that were read
+-- the file is that of the input's name and of the bytes that were read
 pub returns : goal.returns
-returns g c = (c.in_ok-bytes.bytes, c.in_ok-bytes.ensures, search rules)
+returns g c = record {
+  file = (c.args.input.name, c.in_ok-bytes.bytes);
+  read = record { named = refl; bytes = c.in_ok-bytes.ensures };
+  gives = search rules;
+  told = search rules;
+}

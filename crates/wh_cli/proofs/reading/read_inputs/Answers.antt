@@ -1,9 +1,11 @@
-use Rattle.wh_cli.proofs.Collected.{all_ok, weaker}
-use Rattle.wh_cli.proofs.Readings.{inputs_are}
+use Rattle.wh_cli.specs.Readings.{IsReadAs, IsReading}
+use Rattle.wh_cli.proofs.Collected.{all_ok, of_files}
+use Rattle.wh_cli.proofs.Readings.{are_read}
 use Rattle.wh_cli.proofs.reading.read_inputs.Goals as goal
 
--- what is apart from them changes no readings
+-- what was read of the inputs is the readings of the files that they were read as
 pub returns : goal.returns
 returns g c =
     let inputs = c.args.inputs.items in
-    all_ok c.in-Ok.parts (λ parts made. inputs_are inputs parts.0.items (weaker inputs parts.0.items (λ input one told. told.1) made)) c.in-Ok.ensures
+    let gives = g.R.ReadsInputs.gives in
+    all_ok c.in-Ok.parts (λ parts made. are_read gives inputs parts.0.items parts.1.items (of_files (IsReadAs gives) IsReading inputs parts.0.items parts.1.items made)) c.in-Ok.ensures

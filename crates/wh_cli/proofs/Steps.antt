@@ -1,0 +1,137 @@
+-- What commands wrote and told, one step after the other.
+use Rattle.std.proofs.Common.{◌≡◌, ◌∙◌, ℕ, ◌+◌, ◌<◌, List, [], ◌∷◌, ◌++◌, length, map, None, Some, refl, sym, ap, arith, subst}
+use Rattle.std.specs.Prelude.{Bool, true, false, Option, Result, Ok, Err, IfOk, OnOk, Vec, string_bytes}
+use Rattle.std.specs.declared.alloc.Global.{Global}
+use Rattle.std.specs.Io.KnownBytes.{Appends, Keeps}
+use Rattle.std.proofs.KnownBytes.{Appends-nil, Appends-trans}
+use Rattle.std.proofs.lemmas.List.{append-nil, append_assoc}
+use Rattle.wh_files.specs.declared.Input.{Input}
+use Rattle.wh_host.specs.declared.config.Config.{Config}
+use Rattle.wh_workflow.specs.Law.{Program}
+use Rattle.wh_cli.specs.declared.complaints.Complaints.{Complaints}
+use Rattle.wh_cli.specs.declared.replaying.CommandFault.{CommandFault}
+use Rattle.wh_cli.specs.declared.serving.ServiceEnd.{ServiceEnd}
+use Rattle.wh_cli.specs.declared.failures.Failure.{Failure}
+use Rattle.wh_files.specs.Inputs.{IsCalled, IsOf, IsReadFrom, IsSingle}
+use Rattle.wh_cli.specs.Commands.{HasExplained, HasExplainedInput, HasExplainedPath, HasReplayed, HasReplayedPaths, HasServedAll, HasServedFolder}
+use Rattle.wh_cli.specs.Complaints.{Told, service_told}
+use Rattle.wh_cli.specs.Listings.{AreListed, IsListed, is_by_path}
+use Rattle.wh_cli.specs.Readings.{Gives}
+use Rattle.wh_cli.specs.Served.{HasServed, HasServedInputs}
+use Rattle.wh_cli.specs.Services.{HostsBy, IsHosted}
+use Rattle.wh_cli.proofs.Workers.{by_closure, served_by}
+
+-- what was written stays
+pub written_kept : (a b c : Option (List ℕ)) (text : List ℕ) → Appends a b text → Keeps b c → Appends a c text
+written_kept None b c text p q = tt
+written_kept (Some x) None c text p q = absurd p
+written_kept (Some x) (Some y) None text p q = absurd q
+written_kept (Some x) (Some y) (Some z) text p q = q ∙ p
+
+-- what is told behind a line, and where nothing is
+pub nothing_more : (a b : Option (List ℕ)) (xs ys : List ℕ) → Appends a b xs → ys ≡ [] → Appends a b (xs ++ ys)
+nothing_more a b xs ys p none = subst (λ l. Appends a b l) (sym (ap (λ l. xs ++ l) none ∙ append-nil xs)) p
+
+pub something_more : {X E : Type 0} (answer : Result X E) (a b c : Option (List ℕ)) (xs ys zs : List ℕ) → Appends a b xs → OnOk answer (Appends b c ys) → ys ≡ zs → OnOk answer (Appends a c (xs ++ zs))
+something_more (Ok x) a b c xs ys zs p q same = subst (λ l. Appends a c (xs ++ l)) same (Appends-trans a b c xs ys p q)
+something_more (Err e) a b c xs ys zs p q same = tt
+
+-- the inputs of the first path
+pub listed_one : {E : Type 0} (contents : E → Option (List ℕ)) (by_path : Bool) (path : List ℕ) (inputs : List Input) (old new : Complaints E)
+    → IsListed contents by_path path inputs old new → AreListed contents by_path (path ∷ []) inputs old new
+listed_one contents by_path path inputs old new is = (inputs, [], new, sym (append-nil inputs), is, (refl, refl))
+
+-- the inputs of one path more
+pub listed_push : {E : Type 0} (contents : E → Option (List ℕ)) (by_path : Bool) (paths : List (List ℕ)) (path : List ℕ) (inputs own : List Input) (old between new : Complaints E)
+    → AreListed contents by_path paths inputs old between
+    → IsListed contents by_path path own between new
+    → AreListed contents by_path (paths ++ (path ∷ [])) (inputs ++ own) old new
+listed_push contents by_path [] path inputs own old between new are is =
+    (own, [], new, ap (λ l. l ++ own) are.0 ∙ sym (append-nil own), subst (λ e. IsListed contents by_path path own e new) are.1 is, (refl, refl))
+listed_push contents by_path (p ∷ ps) path inputs own old between new are is =
+    let rest = listed_push contents by_path ps path are.1 own are.2 between new are.5 is in
+    (are.0, are.1 ++ own, are.2, ap (λ l. l ++ own) are.3 ∙ append_assoc are.0 are.1 own, are.4, rest)
+
+-- an input that was read as a file was explained
+pub explained_input : {S E : Type 0} (gives : Gives) (program : Program S) (input : Input) (bytes : Vec ℕ Global) (seen : List ℕ) (old new : Option (List ℕ)) (contents : E → Option (List ℕ)) (before after : Complaints E) (answer : Result ℕ Failure)
+    → gives input.origin bytes → seen ≡ bytes.items
+    → IfOk answer (HasExplained program (string_bytes input.name) seen old new contents before after)
+    → IfOk answer (HasExplainedInput gives program input old new contents before after)
+explained_input gives program input bytes seen old new contents before after (Ok status) given same h = record {
+  file = (input.name, bytes);
+  read = record { named = refl; bytes = given };
+  explained = subst (λ l. HasExplained program (string_bytes input.name) l old new contents before after status) same h;
+}
+explained_input gives program input bytes seen old new contents before after (Err failure) given same h = tt
+
+-- an input of a path was explained
+pub explained_path : {S E : Type 0} (program : Program S) (path : List ℕ) (input : Input) (old new : Option (List ℕ)) (contents : E → Option (List ℕ)) (before after : Complaints E) (answer : Result ℕ Failure)
+    → IsCalled false input → IsOf path input.origin → IsSingle input.origin
+    → IfOk answer (HasExplainedInput IsReadFrom program input old new contents before after)
+    → IfOk answer (HasExplainedPath program path old new contents before after)
+explained_path program path input old new contents before after (Ok status) called from single h =
+    record { input = input; called = called; from = from; single = single; explained = h }
+explained_path program path input old new contents before after (Err failure) called from single h = tt
+
+-- the inputs of paths were replayed
+pub replayed_paths : {S E : Type 0} (program : Program S) (first : List ℕ) (more : List (List ℕ)) (json : Bool) (inputs : List Input) (old new : Option (List ℕ)) (contents : E → Option (List ℕ)) (before between after : Complaints E) (answer : Result ℕ Failure)
+    → AreListed contents (is_by_path more) (first ∷ more) inputs before between
+    → IfOk answer (HasReplayed IsReadFrom program inputs json old new contents between after)
+    → IfOk answer (HasReplayedPaths program first more json old new contents before after)
+replayed_paths program first more json inputs old new contents before between after (Ok status) listed h =
+    record { inputs = inputs; between = between; listed = listed; replayed = h }
+replayed_paths program first more json inputs old new contents before between after (Err failure) listed h = tt
+
+-- what was written of a service stays
+pub served_kept : (gives : Gives) (hosts : HostsBy) (config : Config) (inputs : List Input) (old mid new : Option (List ℕ)) (end : ServiceEnd)
+    → HasServedInputs gives hosts config inputs old mid end → Keeps mid new → HasServedInputs gives hosts config inputs old new end
+served_kept gives hosts config inputs old mid new end h kept = record {
+  files = h.files;
+  from = h.from;
+  served = record {
+    rows = h.served.rows;
+    totals = h.served.totals;
+    service = h.served.service;
+    written = written_kept old mid new _ h.served.written kept;
+    ends = h.served.ends;
+  };
+  faults = h.faults;
+}
+
+-- inputs were served, and then the rest was told
+pub served_all : {E : Type 0} (gives : Gives) (hosts : HostsBy) (config : Config) (inputs : List Input) (old mid new : Option (List ℕ)) (contents : E → Option (List ℕ)) (before after : Complaints E) (answer : Result ServiceEnd CommandFault) (result : Result ℕ Failure)
+    → IfOk answer (HasServedInputs gives hosts config inputs old mid)
+    → Keeps mid new
+    → IfOk result (λ status. (end : ServiceEnd) × (answer ≡ Ok end) × (status ≡ end.status) × Told contents before after (service_told end))
+    → IfOk result (HasServedAll gives hosts config inputs old new contents before after)
+served_all gives hosts config inputs old mid new contents before after answer (Ok status) report kept h = record {
+  end = h.0;
+  served = served_kept gives hosts config inputs old mid new h.0 (subst (λ a. IfOk a (HasServedInputs gives hosts config inputs old mid)) h.1 report) kept;
+  told = h.3;
+  ends = h.2;
+}
+served_all gives hosts config inputs old mid new contents before after answer (Err failure) report kept h = tt
+
+-- the files of a folder were served by a host that runs the program
+pub served_folder : {S E : Type 0} (program : Program S) (dir : List ℕ) (config : Config) (inputs : List Input) (old new : Option (List ℕ)) (contents : E → Option (List ℕ)) (before between after : Complaints E) (answer : Result ℕ Failure)
+    → IsListed contents false dir inputs before between
+    → IfOk answer (HasServedAll IsReadFrom (by_closure (IsHosted program)) config inputs old new contents between after)
+    → IfOk answer (HasServedFolder program dir config old new contents before after)
+served_folder program dir config inputs old new contents before between after (Ok status) listed h =
+    record {
+      inputs = inputs;
+      between = between;
+      listed = listed;
+      served = record {
+        end = h.end;
+        served = record {
+          files = h.served.files;
+          from = h.served.from;
+          served = served_by (by_closure (IsHosted program)) (IsHosted program) config _ old new h.end (λ posts left hosted. hosted.2) h.served.served;
+          faults = h.served.faults;
+        };
+        told = h.told;
+        ends = h.ends;
+      };
+    }
+served_folder program dir config inputs old new contents before between after (Err failure) listed h = tt

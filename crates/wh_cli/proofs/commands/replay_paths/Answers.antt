@@ -1,0 +1,9 @@
+use Rattle.wh_cli.proofs.Steps.{replayed_paths}
+use Rattle.wh_cli.proofs.commands.replay_paths.Goals as goal
+
+-- the inputs are those of the paths
+pub returns : goal.returns
+returns g c =
+    replayed_paths g.W.Workflow.program c.args.first c.args.more.items c.args.json c.in_ok-inputs.inputs.items
+    (g.O.Write.contents c.args.output.now) (g.O.Write.contents c.replay.new.output) g.E.Write.contents c.args.errors.now c.all_inputs.new.errors c.replay.new.errors
+    c.replay.result c.in_ok-inputs.ensures c.replay.ensures

@@ -1,0 +1,11 @@
+use Rattle.wh_cli.specs.Served.{sizes_of}
+use Rattle.wh_cli.proofs.Steps.{served_folder}
+use Rattle.wh_cli.proofs.commands.serve_folder.Goals as goal
+
+-- the host is one that runs the program
+pub returns : goal.returns
+returns g c =
+    served_folder g.W.Workflow.program c.args.dir (sizes_of c.args.options) c.in_ok-inputs.inputs.items
+    (g.O.Write.contents c.args.output.now) (g.O.Write.contents c.serve.new.output)
+    g.E.Write.contents c.args.errors.now c.folder_of.new.errors c.serve.new.errors c.serve.result
+    c.in_ok-inputs.ensures c.serve.ensures

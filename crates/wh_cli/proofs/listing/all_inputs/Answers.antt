@@ -1,0 +1,37 @@
+use Rattle.std.proofs.Common.{◌≡◌, ◌∙◌, ◌∷◌, ◌++◌, [], ap, sym, subst}
+use Rattle.std.specs.Prelude.{◌==◌, not}
+use Rattle.std.proofs.lemmas.Iterator.Adapters.{YieldsList-from_vec}
+use Rattle.std.proofs.lemmas.Iterator.Consumers.{YieldsList-end}
+use Rattle.std.proofs.lemmas.List.{map-id}
+use Rattle.wh_cli.specs.Listings.{AreListed, is_by_path}
+use Rattle.wh_cli.proofs.Steps.{listed_one, listed_push}
+use Rattle.wh_cli.proofs.listing.all_inputs.Goals as goal
+
+pub loop-path-init : goal.loop-path-init
+loop-path-init g c =
+    listed_one g.E.Write.contents (not c.is_empty-by_path.result) c.args.first c.in_ok-inputs.inputs.items c.args.errors.now c.inputs_of.new.errors c.in_ok-inputs.ensures
+
+-- the inputs of one path more stand behind those before it
+pub loop-path-preserved : goal.loop-path-preserved
+loop-path-preserved g c =
+    let contents = g.E.Write.contents in
+    let by_path = not c.is_empty-by_path.result in
+    let new = c.inputs_of-in-loop-path.new.errors in
+    subst (λ l. AreListed contents by_path ((c.args.first ∷ c.loop-path.yielded) ++ (c.in-Some.path ∷ [])) l c.args.errors.now new) (sym c.in-Ok.ensures.items)
+    (listed_push contents by_path (c.args.first ∷ c.loop-path.yielded) c.in-Some.path c.loop-path.inputs.items c.in_ok-others.others.items c.args.errors.now c.loop-path.errors new
+    c.loop-path.invariant c.in_ok-others.ensures)
+
+-- all paths have been gone over, and files are called by their paths where there are more
+pub returns : goal.returns
+returns g c =
+    let contents = g.E.Write.contents in
+    let by_path = not c.is_empty-by_path.result in
+    let more = c.args.more.items in
+    let yielded = c.loop-path.yielded in
+    let given = c.into_iter-path-iterator.ensures.into_iter_gives in
+    let road = YieldsList-from_vec {s = c.into_iter-path-iterator.result} more given.0 (given.1 ∙ c.args.more.ok.0) in
+    let gone = (YieldsList-end road yielded c.loop-path.path-iterator c.loop-path.yielded_by c.next.result c.next.new.self c.in-None.is c.next.ensures.steps).0 in
+    let all : yielded ≡ more = sym (map-id yielded) ∙ gone in
+    let by : by_path ≡ is_by_path more = ap not c.is_empty-by_path.ensures ∙ ap (λ n. not (n == 0)) c.args.more.ok.0 in
+    subst (λ b. AreListed contents b (c.args.first ∷ more) c.loop-path.inputs.items c.args.errors.now c.loop-path.errors) by
+    (subst (λ l. AreListed contents by_path (c.args.first ∷ l) c.loop-path.inputs.items c.args.errors.now c.loop-path.errors) all c.loop-path.invariant)

@@ -1,6 +1,0 @@
-use Rattle.std.proofs.Common.{rules}
-use Rattle.wh_cli.proofs.replaying.line_of.Goals as goal
-
--- the bytes are those that were read
-pub returns : goal.returns
-returns g c = (c.in_ok-bytes.bytes, c.in_ok-bytes.ensures, search rules)

@@ -1,0 +1,294 @@
+//! The commands, each as what it writes, what it tells and its status.
+
+ghost use Rattle.std.specs.Prelude.{◌≡◌, Err, IfOk, Ok, string_bytes, vec_len};
+ghost use Rattle.std.specs.Io.KnownBytes.{Keeps};
+ghost use Rattle.wh_cli.specs.Commands.{HasExplained, HasExplainedInput, HasExplainedPath};
+ghost use Rattle.wh_cli.specs.Commands.{HasPrinted, HasReplayed, HasReplayedPaths, HasReported};
+ghost use Rattle.wh_cli.specs.Commands.{HasServedAll, HasServedFolder, HasToldOf, Obeys};
+ghost use Rattle.wh_cli.specs.Complaints.{Told, service_told};
+ghost use Rattle.wh_cli.specs.Served.{sizes_of};
+ghost use Rattle.wh_cli.specs.Services.{IsHost, IsHosted, leaves};
+ghost use Rattle.wh_cli.specs.declared.serving.ServiceEnd.{ServiceEnd};
+ghost use Rattle.wh_command_line.specs.Options.{IsWithinLimits};
+ghost use Rattle.wh_host.specs.Machine.{IsConfig};
+
+use crate::complaints::{Complaint, Complaints};
+use crate::explaining::explain_command;
+use crate::failures::Failure;
+use crate::hosts::{ServiceHost, ServicePost, host_of};
+use crate::inputs::ReadsInputs;
+use crate::json_faults::{JsonFault, json_fault};
+use crate::listing::{all_inputs, folder_of, input_of};
+use crate::replaying::{CommandFault, lines_of, report};
+use crate::serving::{ServiceEnd, serve_inputs};
+use std::alloc::Global;
+use std::io::Write;
+use std::rt::Runtime;
+use std::sync::Wait;
+use std::thread::Threads;
+use wh_command_line::{Plan, ServeOptions};
+use wh_events::{OutOfMemory, Text};
+use wh_files::Input;
+use wh_host::Config;
+use wh_json::{ReadFault, read_events};
+use wh_tester::Line;
+use wh_workflow::Workflow;
+
+/// The status of a command, once all that it wrote is out.
+fn flushed<O: Write>(answer: Result<u8, CommandFault>, output: &mut O) -> Result<u8, Failure>
+    ensures status { IfOk result (λ status. answer ≡ Ok status) }
+    ensures memory { answer ≡ Err CommandFault.OutOfMemory → result ≡ Err Failure.OutOfMemory }
+    ensures output { answer ≡ Err CommandFault.Output → result ≡ Err Failure.Output }
+    ensures kept { Keeps (O.contents output.old) (O.contents output.new) }
+{
+    let status = match answer {
+        Ok(status) => status,
+        Err(CommandFault::Output) => return Err(Failure::Output),
+        Err(CommandFault::OutOfMemory) => return Err(Failure::OutOfMemory),
+    };
+    match output.flush() {
+        Ok(()) => Ok(status),
+        Err(_) => Err(Failure::Output),
+    }
+}
+
+/// Prints a text that was asked for.
+fn print<O: Write>(text: &str, output: &mut O) -> Result<u8, Failure>
+    ensures { IfOk result (HasPrinted text.now (O.contents output.old) (O.contents output.new)) }
+{
+    match write!(output, "{text}") {
+        Ok(()) => flushed(Ok(0), output),
+        Err(_) => Err(Failure::Output),
+    }
+}
+
+/// Writes the report of lines, and once it is out, tells where files are no JSON.
+fn tell_report<O: Write, E: Write>(
+    lines: Vec<Line>,
+    faults: Vec<JsonFault>,
+    json: bool,
+    output: &mut O,
+    errors: &mut Complaints<E>,
+) -> Result<u8, Failure>
+    ensures { IfOk result (HasReported lines.items faults.items json (O.contents output.old) (O.contents output.new)
+        E.contents errors.old errors.new) }
+{
+    let answer = report(lines.as_slice(), json, output);
+    let status = flushed(answer, output)?;
+    errors.tell(Complaint::BadFiles { faults });
+    Ok(status)
+}
+
+/// Replays inputs, writes the report of their lines, and once it is out, tells where they are no
+/// JSON.
+fn replay<W: Workflow + Send, R: ReadsInputs + AllocGlobal + Threads + Sync, O: Write, E: Write>(
+    rt: &R,
+    inputs: Vec<Input>,
+    json: bool,
+    output: &mut O,
+    errors: &mut Complaints<E>,
+) -> Result<u8, Failure>
+    ensures { IfOk result (HasReplayed R.gives W.program inputs.items json
+        (O.contents output.old) (O.contents output.new) E.contents errors.old errors.new) }
+{
+    let (lines, faults) = lines_of::<W, R>(rt, inputs)?;
+    tell_report(lines, faults, json, output, errors)
+}
+
+/// Whether that is why bytes are not read: that they are no JSON.
+fn is_bad_json(alloc: Global, bytes: &[u8]) -> bool {
+    matches!(read_events(alloc, bytes), Err(ReadFault::BadJson))
+}
+
+/// Tells where a file is no JSON, if that is why it is not read.
+fn tell_if_bad<E: Write>(alloc: Global, name: &str, bytes: &[u8], errors: &mut Complaints<E>)
+    ensures { HasToldOf name.now bytes.now E.contents errors.old errors.new }
+{
+    if !is_bad_json(alloc, bytes) {
+        return;
+    }
+    if let Some(fault) = json_fault(alloc, name, bytes) {
+        errors.tell(Complaint::BadJson { fault });
+    }
+}
+
+/// Explains a file, and once that is out, tells where it is no JSON, if that is why it is not read.
+fn explain<W: Workflow, O: Write, E: Write>(
+    alloc: Global,
+    name: String,
+    bytes: &[u8],
+    output: &mut O,
+    errors: &mut Complaints<E>,
+) -> Result<u8, Failure>
+    ensures { IfOk result (HasExplained W.program (string_bytes name) bytes.now
+        (O.contents output.old) (O.contents output.new) E.contents errors.old errors.new) }
+{
+    let Ok(called) = String::from_str(alloc, name.as_str()) else {
+        return Err(Failure::OutOfMemory);
+    };
+    let answer = explain_command::<W, _>(alloc, name, bytes, output);
+    let status = flushed(answer, output)?;
+    if status != 0 {
+        tell_if_bad(alloc, called.as_str(), bytes, errors);
+    }
+    Ok(status)
+}
+
+/// Reads an input, and explains it.
+fn explain_input<W: Workflow, R: ReadsInputs + AllocGlobal, O: Write, E: Write>(
+    rt: &R,
+    input: Input,
+    output: &mut O,
+    errors: &mut Complaints<E>,
+) -> Result<u8, Failure>
+    ensures { IfOk result (HasExplainedInput R.gives W.program input
+        (O.contents output.old) (O.contents output.new) E.contents errors.old errors.new) }
+{
+    let Input { name, origin } = input;
+    let bytes = rt.read(origin)?;
+    explain::<W, O, E>(rt.alloc(), name, bytes.as_slice(), output, errors)
+}
+
+/// The status of a service, once its report is out and the rest is told.
+fn served<O: Write, E: Write>(
+    answer: Result<ServiceEnd, CommandFault>,
+    output: &mut O,
+    errors: &mut Complaints<E>,
+) -> Result<u8, Failure>
+    ensures end { IfOk result (λ status. (end : ServiceEnd) × (answer ≡ Ok end) × (status ≡ end.status)
+        × Told E.contents errors.old errors.new (service_told end)) }
+    ensures kept { Keeps (O.contents output.old) (O.contents output.new) }
+{
+    match answer {
+        Ok(end) => {
+            let status = flushed(Ok(end.status), output)?;
+            errors.tell(Complaint::Served { end });
+            Ok(status)
+        }
+        Err(fault) => flushed(Err(fault), output),
+    }
+}
+
+/// Serves inputs, writes the report, and once it is out, tells the rest.
+fn serve<
+    R: ReadsInputs + AllocGlobal + Threads + Sync,
+    F: Fn(Config, Vec<ServicePost>) -> Result<ServiceHost, OutOfMemory>,
+    O: Write,
+    E: Write,
+>(
+    rt: &R,
+    inputs: Vec<Input>,
+    options: ServeOptions,
+    host: F,
+    output: &mut O,
+    errors: &mut Complaints<E>,
+) -> Result<u8, Failure>
+where
+    F: Drop,
+    requires { IsHost (F.pre host) (leaves (F.post host)) }
+    ensures { IfOk result (HasServedAll R.gives (leaves (F.post host)) (sizes_of options) inputs.items
+        (O.contents output.old) (O.contents output.new) E.contents errors.old errors.new) }
+{
+    let answer = serve_inputs(rt, inputs, options, output, host)?;
+    served(answer, output, errors)
+}
+
+/// Replays what is at paths.
+fn replay_paths<W: Workflow + Send, R: Runtime + AllocGlobal + Threads + Sync, O: Write, E: Write>(
+    rt: &R,
+    first: Text,
+    more: Vec<Text>,
+    json: bool,
+    output: &mut O,
+    errors: &mut Complaints<E>,
+) -> Result<u8, Failure>
+where
+    R::File: Send,
+    R::Dir: Send,
+    ensures { IfOk result (HasReplayedPaths W.program first more.items json
+        (O.contents output.old) (O.contents output.new) E.contents errors.old errors.new) }
+{
+    let inputs = all_inputs(rt, first, more, errors)?;
+    replay::<W, R, O, E>(rt, inputs, json, output, errors)
+}
+
+/// Explains what is at a path.
+fn explain_path<W: Workflow, R: Runtime + AllocGlobal, O: Write, E: Write>(
+    rt: &R,
+    path: Text,
+    output: &mut O,
+    errors: &mut Complaints<E>,
+) -> Result<u8, Failure>
+    ensures { IfOk result (HasExplainedPath W.program path
+        (O.contents output.old) (O.contents output.new) E.contents errors.old errors.new) }
+{
+    let input = input_of(rt, path)?;
+    explain_input::<W, R, O, E>(rt, input, output, errors)
+}
+
+/// Serves the files of a folder.
+fn serve_folder<
+    W: Workflow + Send,
+    R: Runtime + AllocGlobal + Threads + Wait + Sync,
+    O: Write,
+    E: Write,
+>(
+    rt: &R,
+    dir: Text,
+    options: ServeOptions,
+    output: &mut O,
+    errors: &mut Complaints<E>,
+) -> Result<u8, Failure>
+where
+    R::File: Send,
+    R::Dir: Send,
+    ensures { IfOk result (HasServedFolder W.program dir (sizes_of options)
+        (O.contents output.old) (O.contents output.new) E.contents errors.old errors.new) }
+{
+    let inputs = folder_of(rt, dir, errors)?;
+    serve(
+        rt,
+        inputs,
+        options,
+        |config: Config, posts: Vec<ServicePost>| -> Result<ServiceHost, OutOfMemory>
+            requires sizes { IsConfig config }
+            requires seats { config.seats ≡ vec_len posts }
+            ensures { IfOk result (IsHosted W.program config posts) }
+        { host_of::<W, R>(rt, rt.alloc(), config, posts) },
+        output,
+        errors,
+    )
+}
+
+/// Does what is asked for, and gives the status. Where there is none, why.
+pub(crate) fn obey<
+    W: Workflow + Send,
+    R: Runtime + AllocGlobal + Threads + Wait + Sync,
+    O: Write,
+    E: Write,
+>(rt: &R, plan: Plan, output: &mut O, errors: &mut Complaints<E>) -> Result<u8, Failure>
+where
+    R::File: Send,
+    R::Dir: Send,
+    requires { IsWithinLimits plan }
+    ensures { IfOk result (Obeys W.program plan
+        (O.contents output.old) (O.contents output.new) E.contents errors.old errors.new) }
+{
+    match plan {
+        Plan::Replay { dir, more, json } => replay_paths::<W, R, O, E>(
+            rt, dir, more, json, output, errors,
+        ),
+        Plan::Explain { file } => explain_path::<W, R, O, E>(rt, file, output, errors),
+        Plan::Serve {
+            dir,
+            workers,
+            cache,
+            cache_events,
+            slots,
+        } => {
+            let options = ServeOptions::new(workers, cache, cache_events, slots);
+            serve_folder::<W, R, O, E>(rt, dir, options, output, errors)
+        }
+        Plan::Help { text } => print(text.get(), output),
+    }
+}

@@ -1,0 +1,56 @@
+//! Why a run ends without a full report.
+
+ghost use Rattle.std.specs.Prelude.{◌≡◌, None};
+
+use wh_events::Text;
+use wh_files::{FolderFault, InputFault};
+
+/// Why a run ends without a full report.
+#[derive(Drop)]
+pub(crate) enum Failure {
+    /// A bad command line. The text names what is wrong with it, and ends its own line.
+    BadLine { text: Text },
+    /// A word of the command line is no text.
+    BadArguments,
+    /// There are fewer slots than workers.
+    FewSlots,
+    /// A folder or a file, or the entry of the folder that is named, cannot be read.
+    Unreadable { dir: Text, entry: Option<String> },
+    /// The report cannot be written.
+    Output,
+    /// An allocation was refused.
+    OutOfMemory,
+}
+
+impl From<InputFault> for Failure {
+    ghost use Rattle.std.specs.Prelude.{◌≡◌, ◌↔◌};
+    ghost use Rattle.wh_files.specs.declared.InputFault.{InputFault};
+    ghost use Rattle.wh_cli.specs.declared.failures.Failure.{Failure};
+
+    ghost from_gives = { λ fault failure.
+        (failure ≡ Failure.OutOfMemory) ↔ (fault ≡ InputFault.OutOfMemory) };
+
+    fn from(fault: InputFault) -> Failure {
+        match fault {
+            InputFault::Unreadable { path, entry } => Failure::Unreadable {
+                dir: Text::new(path),
+                entry,
+            },
+            InputFault::OutOfMemory => Failure::OutOfMemory,
+        }
+    }
+}
+
+/// Why nothing can be read at a path.
+pub(crate) fn unreadable(path: Text, fault: FolderFault) -> Failure
+    ensures unreadable { fault ≡ FolderFault.Unreadable → result ≡ Failure.Unreadable path None }
+    ensures memory { fault ≡ FolderFault.OutOfMemory → result ≡ Failure.OutOfMemory }
+{
+    match fault {
+        FolderFault::Unreadable => Failure::Unreadable {
+            dir: path,
+            entry: None,
+        },
+        FolderFault::OutOfMemory => Failure::OutOfMemory,
+    }
+}

@@ -1,0 +1,27 @@
+//! What is read of inputs.
+
+use std::rt::Files;
+use wh_files::{InputFault, Origin, read_input};
+
+/// What reads inputs. A function over it knows of no bytes but those that it is given here.
+pub(crate) trait ReadsInputs {
+    ghost use Rattle.std.specs.Prelude.{IfOk};
+    ghost use Rattle.wh_cli.specs.Readings.{Gives};
+
+    /// Which bytes there may be where an input comes from.
+    ghost gives: { Gives };
+
+    /// The bytes of an input, by where it comes from.
+    fn read(&self, origin: Origin) -> Result<Vec<u8>, InputFault>
+        ensures { IfOk result (gives origin) };
+}
+
+impl<R: Files + AllocGlobal> ReadsInputs for R {
+    ghost use Rattle.wh_files.specs.Inputs.{IsReadFrom};
+
+    ghost gives = { IsReadFrom };
+
+    fn read(&self, origin: Origin) -> Result<Vec<u8>, InputFault> {
+        read_input(self, origin)
+    }
+}
