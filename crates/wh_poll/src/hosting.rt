@@ -28,8 +28,9 @@ use wh_workflow::Workflow;
 /// The seats and what the workers leave come back in the order of the posts. Each worker leaves its
 /// post as its turns led to it, with its handler and its observer, which was told of each turn; its
 /// source comes from the one of the post, delivers and tells the same, and was sent at most as many
-/// answers as the worker took tasks. `OutOfMemory` where no room was found. Then the seats and the posts are given up, so the
-/// host can't be closed any more, and what workers did until then they have done.
+/// answers as the worker took tasks. `OutOfMemory` where no room was found. Then the seats and the
+/// posts are given up, so the host can't be closed any more, and what workers did until then they
+/// have done.
 pub fn run_posts<
     R: Threads + Wait + Sync,
     W: Workflow + Send,
@@ -91,10 +92,10 @@ pub struct HostEnd<S, A, O> {
 ///
 /// Each worker leaves its post as its turns led to it, with its handler and its observer, which was
 /// told of each turn; its source comes from the one of the post, delivers and tells the same, and
-/// was sent at most as many answers as the worker took tasks. The totals are the sums of what the workers counted.
-/// `BadConfig` where a size is not within its range, or the seats are not as many as the posts;
-/// `OutOfMemory` where no room was found. Then the posts are given up. (Temporal documentation,
-/// "Workers": a Worker Process.)
+/// was sent at most as many answers as the worker took tasks. The totals are the sums of what the
+/// workers counted. `BadConfig` where a size is not within its range, or the seats are not as many
+/// as the posts; `OutOfMemory` where no room was found. Then the posts are given up. (Temporal
+/// documentation, "Workers": a Worker Process.)
 pub fn run_host<
     W: Workflow + Send,
     R: Threads + Wait + Sync,

@@ -71,10 +71,10 @@ pub enum Served {
 /// `Workflow` and `Activity` are answered where exactly one answer was sent, under the name of a
 /// task that the source delivers: that of `replay_task` with no run or one of the task's key, and
 /// of the handler. Everything else sends nothing. A task that is answered, repeated or lost to want
-/// of memory is a delivered one of the kind that was asked for. The seat's taken share rises by one where a task was taken in hand, and its completed
-/// or failed share by at most one, as the task's outcome says. A fault is the source's, after which
-/// no slot is left reserved or held by this turn. (Temporal documentation, "Workers", "Task
-/// Queues", "Sticky Execution".)
+/// of memory is a delivered one of the kind that was asked for. The seat's taken share rises by one
+/// where a task was taken in hand, and its completed or failed share by at most one, as the task's
+/// outcome says. A fault is the source's, after which no slot is left reserved or held by this
+/// turn. (Temporal documentation, "Workers", "Task Queues", "Sticky Execution".)
 pub fn serve_one<
     R: Wait,
     W: Workflow,

@@ -311,9 +311,10 @@ fn worker_of<T: Ledger, C: Ledger, F: Ledger, S, A: Drop>(
 /// Runs a worker in a thread of its own for each seat, with the source, the handler and the turns
 /// of the same place. The four lists are equally long. The workers come back in the order of the
 /// seats, the taken share of each has risen by at most its turns, and where one kept a fault, its
-/// own source has failed. Each is what its turns led to, as in `work`: its source comes from the one
-/// of its place, and was sent at most as many answers as its seat took tasks. `OutOfMemory` where no room was found; then the seats are given
-/// up. (Temporal documentation, "Workers": a Worker Process runs many task executors.)
+/// own source has failed. Each is what its turns led to, as in `work`: its source comes from the
+/// one of its place, and was sent at most as many answers as its seat took tasks. `OutOfMemory`
+/// where no room was found; then the seats are given up. (Temporal documentation, "Workers": a
+/// Worker Process runs many task executors.)
 pub fn run_workers<
     R: Threads + Wait + Sync,
     W: Workflow + Send,
