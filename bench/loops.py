@@ -1,0 +1,238 @@
+#!/usr/bin/env python3
+"""Closed loops: the stand-in of standin/ for a Temporal server runs many workflows with one worker process or more, makes
+trouble, and checks each answer as a server does. In the end each run has to be closed, each history has to replay with
+`ok`, the stand-in must have nothing to say against an answer, and the reports of the workers have to agree with what the
+stand-in has counted. Each loop prints a line; the last line is `N tried, M wrong`, and the status is 1 where one is wrong.
+
+    bench/loops.py --runs 2000 --samples --workers 1,4,16 --cache 0,10,1000 --trouble all
+    bench/loops.py --runs 2000 --orders --trouble all --kill
+    bench/loops.py --runs 200 --samples --trouble all --grpc
+
+The loops of a seed are not the same twice, since the workers' threads are not. Whoever looks for the cause of a wrong one
+finds its histories and what its workers said in the folder that is named by --keep.
+"""
+
+import argparse
+import json
+import random
+import re
+import shutil
+import subprocess
+import sys
+import tempfile
+import time
+from itertools import product
+from pathlib import Path
+
+TOP = Path(__file__).resolve().parent.parent
+sys.path.insert(0, str(TOP / "standin"))
+sys.dont_write_bytecode = True
+
+from peers import Settings  # noqa: E402
+from pipes import Pipes  # noqa: E402
+from server import Server  # noqa: E402
+from troubles import KINDS, Troubles, names_of  # noqa: E402
+from workflows import ORDERS, OUTSIDE, SAMPLES, STRANGE, World  # noqa: E402
+
+PROGRAMS = {"samples": TOP / "crates/wfhost/out/wfhost", "orders": TOP / "crates/order_worker/out/order_worker"}
+LIMIT_SECONDS = 600
+END_SECONDS = 30
+MOST_WRONG = 100
+REPORT = r"taken (\d+), completed (\d+), failed (\d+), in hand (\d+)"
+CALLS = r"polls (\d+), empty polls (\d+), answers not found (\d+), answers refused (\d+)"
+
+
+class Loop:
+    """One closed loop."""
+
+    def __init__(self, options, seed, workers, cache):
+        self.options, self.workers, self.cache = options, max(workers, 2) if cache else workers, cache
+        self.troubles = Troubles(seed, options.trouble)
+        kinds = ORDERS if options.orders else SAMPLES
+        self.world = World(self.troubles, kinds, options.runs, options.open, options.activity_workers > 0)
+        self.server = Server(Settings(is_sticky=cache > 0), self.troubles, self.world)
+        self.world.server = self.server
+        self.pipes = front(options)(self.server, self.troubles)
+        self.dice, self.begun, self.killed, self.count = random.Random(seed), time.monotonic(), 0, 0
+        self.title = f"seed {seed}, {workers} workers, cache {cache}"
+
+    def command(self, identity):
+        """The command of a worker."""
+        words = [*self.options.program, "work", "--task-queue", "q", "--namespace", "default", "--identity", identity]
+        words += ["--workers", self.workers, "--activity-workers", self.options.activity_workers, "--cache", self.cache]
+        words += ["--activity-timeout", 60, "--activity-attempts", 1, "--sticky-timeout", 10]
+        return [str(word) for word in words] + self.options.more
+
+    def start_worker(self):
+        self.count += 1
+        name = f"worker-{self.count}"
+        self.pipes.start(self.command(name), name, self.workers + self.options.activity_workers)
+
+    def living(self):
+        """The workers that are neither killed nor cut off."""
+        return [process for process in self.pipes.processes if not process.peer.is_gone]
+
+    def is_over(self):
+        """Whether all runs are closed, or it takes too long, or too much is wrong."""
+        is_late = time.monotonic() - self.begun > self.options.limit
+        return self.world.is_over() or is_late or len(self.server.wrong) > MOST_WRONG
+
+    def run(self):
+        """Runs the loop, and answers what is wrong."""
+        for _ in range(self.options.processes):
+            self.start_worker()
+        killed_at = time.monotonic()
+        while not self.is_over():
+            self.pipes.turn()
+            if self.options.kill and time.monotonic() - killed_at > self.options.kill:
+                killed_at = time.monotonic()
+                self.killed += 1
+                self.dice.choice([self.pipes.kill, self.pipes.cut])(self.dice.choice(self.living()))
+            while self.options.kill and len(self.living()) < self.options.processes:
+                self.start_worker()
+            if not self.living():
+                break
+        ended = self.pipes.stop_all(END_SECONDS)
+        self.keep(ended)
+        wrong = list(self.server.wrong)
+        wrong += [f"not closed: {run.kind} {run.workflow_id}" for run in self.server.runs if not run.closed]
+        wrong += self.world.failures
+        return wrong + self.replayed() + [what for process in ended for what in self.reported(process)]
+
+    def keep(self, ended):
+        """Writes what the workers said to the folder for it."""
+        if self.options.keep:
+            for process in ended:
+                Path(self.options.keep, f"{process.peer.name}.txt").write_text(process.report())
+
+    # Histories.
+
+    def replayed(self):
+        """What replay says against the histories."""
+        with tempfile.TemporaryDirectory() as room:
+            folder = Path(self.options.keep or room)
+            runs = [run for run in self.server.runs if run.kind not in (*OUTSIDE, STRANGE)]
+            for at, run in enumerate(runs):
+                Path(folder, f"{at:06}-{run.kind}.json").write_text(json.dumps({"events": run.events}))
+            ran = self.replay(folder)
+        bad = [line for line in ran if not re.search(r": ok, \d+ tasks$|^\d+ files, \d+ ok$", line)]
+        whole = f"{len(runs)} files, {len(runs)} ok"
+        return bad if ran and ran[-1] == whole else bad + [f"replay ends with {ran[-1:]}"]
+
+    def replay(self, folder):
+        words = [*self.options.program, "replay", str(folder)]
+        return subprocess.run(words, capture_output=True, text=True, timeout=LIMIT_SECONDS).stdout.splitlines()
+
+    # Reports.
+
+    def reported(self, process):
+        """What is wrong with the end of a worker and with its report."""
+        said, name, status = process.report(), process.peer.name, process.child.returncode
+        if status not in ((0, 1) if self.troubles.met.get("calls") else (0,)):
+            return [f"{name}: status {status}: {said[-500:]}"]
+        report, calls = re.search(REPORT, said), re.search(CALLS, said)
+        if not report or not calls:
+            return [f"{name}: no report: {said[-500:]}"]
+        taken, completed, failed, in_hand = map(int, report.groups())
+        rows = [("in hand", in_hand, 0), ("taken", taken, completed + failed)]
+        if not process.peer.is_cut:
+            # Of one whose input has ended nobody knows what it was still told.
+            rows += self.rows_of(process.peer.counts, calls)
+        wrong = [f"{name}: {what} {told}, by the server {counted}" for what, told, counted in rows if told != counted]
+        return wrong + self.bounds(process.peer, taken)
+
+    def rows_of(self, counts, calls):
+        """What a worker has counted of its calls, beside what the server has."""
+        _, empty, not_found, refused = map(int, calls.groups())
+        # The bridge gives an empty poll for one that is late.
+        late = counts["late polls"] if self.options.grpc else 0
+        yield "empty polls", empty, counts["empty"] + late
+        yield "answers not found", not_found, counts[5]
+        yield "answers refused", refused, counts[3]
+        if not self.troubles.met.get("calls"):
+            yield "sticky queues given up", counts["farewells"], int(self.cache > 0)
+
+    def bounds(self, peer, taken):
+        """A worker takes no more tasks than it was given, and no fewer than it answered."""
+        given = peer.counts["given"] + peer.counts["activities given"]
+        answers = peer.counts["answers"] + peer.counts["activity answers"]
+        if answers <= taken <= given:
+            return []
+        return [f"{peer.name}: taken {taken}, by the server {answers} answers to {given} tasks"]
+
+    def line(self):
+        """What the loop did."""
+        counts = self.server.counts
+        peers = self.server.peers
+        hits, misses = (sum(peer.counts[what] for peer in peers) for what in ("hits", "misses"))
+        refused = counts["unhandled"]
+        not_found = sum(peer.counts[5] for peer in peers)
+        seconds = time.monotonic() - self.begun
+        met = ", ".join(f"{name} {times}" for name, times in self.troubles.met.items() if times)
+        line = f"{self.title}: {len(self.server.runs)} runs, {counts['given']} tasks, {hits} hits, {misses} misses, "
+        line += f"{not_found} not found, {refused} refused, {self.killed} killed, {seconds:.1f} s"
+        return line + (f"; {met}" if met else "")
+
+
+def front(asked):
+    """What stands between the server and the workers."""
+    if not asked.grpc:
+        return Pipes
+    try:
+        from grpc_front import Front
+    except ImportError as missing:
+        sys.exit(f"{missing}: --grpc needs grpcio and protobuf, such as Debian's python3 has with python3-grpcio")
+    return Front
+
+
+def numbers(text):
+    return [int(word) for word in text.split(",")]
+
+
+def options():
+    """The command line."""
+    parser = argparse.ArgumentParser(description=__doc__, formatter_class=argparse.RawDescriptionHelpFormatter)
+    parser.add_argument("--runs", type=int, default=200, help="runs that are started in each loop")
+    parser.add_argument("--open", type=int, default=100, help="how many of them are open at once")
+    which = parser.add_mutually_exclusive_group()
+    which.add_argument("--samples", action="store_true", help="the six samples of wfhost (otherwise)")
+    which.add_argument("--orders", action="store_true", help="orders, by order_worker")
+    parser.add_argument("--workers", type=numbers, default=[4], help="numbers of workers, with commas")
+    parser.add_argument("--activity-workers", type=int, default=0, help="0: the stand-in serves the activities")
+    parser.add_argument("--cache", type=numbers, default=[10], help="capacities of the cache, with commas")
+    parser.add_argument("--trouble", type=names_of, default="all", help="all, none, or kinds with commas: " + ", ".join(KINDS))
+    parser.add_argument("--kill", type=float, nargs="?", const=1.0, default=0, help="every so many seconds kills a worker or ends its input")
+    parser.add_argument("--grpc", action="store_true", help="through the bridge, over gRPC")
+    parser.add_argument("--processes", type=int, default=1, help="worker processes on the one queue")
+    parser.add_argument("--seeds", type=numbers, default=[1], help="seeds, with commas")
+    parser.add_argument("--limit", type=float, default=LIMIT_SECONDS, help="seconds that a loop may take")
+    parser.add_argument("--program", type=str.split, help="another program, as words")
+    parser.add_argument("--more", type=str.split, default=[], help="more options of the worker, as words")
+    parser.add_argument("--keep", help="a folder for the histories and what the workers said")
+    found = parser.parse_args()
+    found.program = found.program or [str(PROGRAMS["orders" if found.orders else "samples"])]
+    if not shutil.which(found.program[0]):
+        parser.error(f"{found.program[0]} is not built")
+    return found
+
+
+def main():
+    asked = options()
+    if asked.keep:
+        Path(asked.keep).mkdir(parents=True, exist_ok=True)
+    tried = wrong = 0
+    for seed, workers, cache in product(asked.seeds, asked.workers, asked.cache):
+        loop = Loop(asked, seed, workers, cache)
+        faults = loop.run()
+        tried, wrong = tried + 1, wrong + bool(faults)
+        print(loop.line(), flush=True)
+        for fault in faults[:20]:
+            print(f"  {fault}", flush=True)
+        if len(faults) > 20:
+            print(f"  and {len(faults) - 20} more", flush=True)
+    print(f"{tried} tried, {wrong} wrong")
+    return 1 if wrong else 0
+
+
+if __name__ == "__main__":
+    sys.exit(main())

@@ -1,0 +1,194 @@
+#!/usr/bin/env python3
+"""Plays the talks of the folder work/ with `wfhost work`, and compares each request of it, byte for byte, with the one
+that stands there, written by hand. It ends with status 1 where something differs. Words behind its name are names of
+talks, all where there is none; --program WORDS tries another program.
+
+A talk is a file of lines:
+
+    # WORDS          a comment
+    run WORDS        the options of the command, behind those that all talks have
+    let NAME TEXT    $NAME stands for the text in what is sent
+    -> LINE          the next request, which has to be this line
+    => LINE          so too, but those that stand one behind another come in any order; @NAME in one is a number, and from
+                     then on that number
+    <- LINE          a line that is sent to the program
+    <% LINE          so too; \\xNN is a byte
+    <+ NUMBER        so too, of as many letters
+    end              its input ends here
+    status N         its exit status, otherwise 0
+    says TEXT        what is within one of the lines on its standard error
+"""
+
+import os
+import re
+import select
+import subprocess
+import sys
+import time
+from pathlib import Path
+
+HERE = Path(__file__).resolve().parent
+PROGRAM = HERE.parent / "crates/wfhost/out/wfhost"
+OPTIONS = ["--task-queue", "q", "--namespace", "default", "--identity", "me"]
+TIMES = ["--activity-timeout", "60", "--activity-attempts", "1", "--sticky-timeout", "10"]
+LIMIT_SECONDS = 20
+
+
+class Wrong(Exception):
+    """What is not as it should be."""
+
+
+class Worker:
+    """The program, by its pipes."""
+
+    def __init__(self, program, words):
+        command = [*program, "work", *OPTIONS, *TIMES, *words]
+        pipe = subprocess.PIPE
+        self.child = subprocess.Popen(command, stdin=pipe, stdout=pipe, stderr=pipe)
+        self.held = b""
+        self.until = time.monotonic() + LIMIT_SECONDS
+
+    def next_line(self):
+        """The next line of its output, without its end; none where the output has ended."""
+        while b"\n" not in self.held:
+            ready, _, _ = select.select([self.child.stdout], [], [], max(0, self.until - time.monotonic()))
+            if not ready:
+                raise Wrong("nothing comes")
+            some = os.read(self.child.stdout.fileno(), 65536)
+            if not some:
+                if self.held:
+                    raise Wrong(f"the last line has no end: {self.held!r}")
+                return None
+            self.held += some
+        line, _, self.held = self.held.partition(b"\n")
+        return line
+
+    def send(self, line):
+        try:
+            self.child.stdin.write(line + b"\n")
+            self.child.stdin.flush()
+        except BrokenPipeError:
+            raise Wrong(f"it has ended before {line.decode(errors='replace')}")
+
+    def end(self):
+        """Waits for its end: its status and what it has said."""
+        line = self.next_line()
+        if line is not None:
+            raise Wrong(f"one more request: {line.decode(errors='replace')}")
+        try:
+            _, said = self.child.communicate(timeout=max(1, self.until - time.monotonic()))
+        except subprocess.TimeoutExpired:
+            raise Wrong("it does not end")
+        return self.child.returncode, said.decode(errors="replace")
+
+
+def with_names(text, names, mark):
+    """The text with what the marked names stand for."""
+    return re.sub(mark + r"([a-z]+)", lambda found: names.get(found[1], found[0]), text)
+
+
+def same(request, wanted, numbers):
+    """Whether the request is the wanted line. Numbers that the line names for the first time are noted."""
+    parts = re.split(r"@([a-z]+)", with_names(wanted, numbers, "@"))
+    form = "".join(re.escape(part) if i % 2 == 0 else f"(?P<{part}>[0-9]+)" for i, part in enumerate(parts))
+    found = re.fullmatch(form, request)
+    if found:
+        numbers.update(found.groupdict())
+    return bool(found)
+
+
+def expect(worker, wanted, numbers):
+    """The next requests are the wanted lines, in any order."""
+    while wanted:
+        line = worker.next_line()
+        if line is None:
+            raise Wrong(f"it has ended in place of {wanted[0]}")
+        request = line.decode(errors="replace")
+        for one in wanted:
+            if same(request, one, numbers):
+                wanted.remove(one)
+                break
+        else:
+            raise Wrong(f"the request\n  {request}\nin place of\n  {wanted[0]}")
+
+
+def bytes_of(text):
+    """The bytes of a text in which \\xNN is a byte."""
+    return re.sub(rb"\\x([0-9a-f]{2})", lambda found: bytes.fromhex(found[1].decode()), text.encode())
+
+
+class Talk:
+    """A talk with a worker, line by line."""
+
+    def __init__(self, program, lines):
+        self.worker = Worker(program, next(line.split()[1:] for line in lines if line.startswith("run ")))
+        self.lines, self.texts, self.numbers = lines, {}, {}
+        self.status, self.says, self.wanted = 0, [], []
+
+    def play(self):
+        """Plays it to its end."""
+        try:
+            for line in self.lines:
+                word, _, rest = line.partition(" ")
+                if word != "=>" and self.wanted:
+                    expect(self.worker, self.wanted, self.numbers)
+                self.take(word, rest)
+            self.compare(*self.worker.end())
+        finally:
+            if self.worker.child.poll() is None:
+                self.worker.child.kill()
+                self.worker.child.wait()
+
+    def take(self, word, rest):
+        """Does what a line says."""
+        if word == "=>":
+            self.wanted.append(rest)
+        elif word == "->":
+            expect(self.worker, [rest], self.numbers)
+        elif word == "<-":
+            self.worker.send(with_names(with_names(rest, self.texts, r"\$"), self.numbers, "@").encode())
+        elif word == "<%":
+            self.worker.send(bytes_of(rest))
+        elif word == "<+":
+            self.worker.send(b"x" * int(rest))
+        elif word == "let":
+            name, _, text = rest.partition(" ")
+            self.texts[name] = text
+        elif word == "end":
+            self.worker.child.stdin.close()
+            self.worker.child.stdin = None
+        elif word == "status":
+            self.status = int(rest)
+        elif word == "says":
+            self.says.append(rest)
+
+    def compare(self, status, said):
+        """Its end has to be the one that the talk wants."""
+        if status != self.status:
+            raise Wrong(f"status {status}, not {self.status}; it says {said!r}")
+        for text in self.says:
+            if not any(text in line for line in said.splitlines()):
+                raise Wrong(f"it does not say {text!r}, but {said!r}")
+
+
+def main():
+    words = sys.argv[1:]
+    program = [str(PROGRAM)]
+    if words[:1] == ["--program"]:
+        program, words = words[1].split(), words[2:]
+    elif not PROGRAM.exists():
+        sys.exit("the program is not built: start ./wfhost once")
+    talks = sorted(path for path in (HERE / "work").glob("*.txt") if not words or path.stem in words)
+    wrong = 0
+    for path in talks:
+        try:
+            Talk(program, path.read_text().splitlines()).play()
+        except Wrong as why:
+            wrong += 1
+            print(f"{path.stem}: {why}", flush=True)
+    print(f"{len(talks)} tried, {wrong} wrong")
+    return 1 if wrong else 0
+
+
+if __name__ == "__main__":
+    sys.exit(main())

@@ -1,0 +1,224 @@
+"""Commands of a completed workflow task: what a server refuses of them, and what it does for them."""
+
+import base64
+import json
+
+from history import LAST_OF_ALL, Activity, Child, left_out
+from messages import command_in, seconds_of
+
+CLOSINGS = {
+    "COMPLETE_WORKFLOW_EXECUTION": "WorkflowExecutionCompleted",
+    "FAIL_WORKFLOW_EXECUTION": "WorkflowExecutionFailed",
+    "CANCEL_WORKFLOW_EXECUTION": "WorkflowExecutionCanceled",
+    "CONTINUE_AS_NEW_WORKFLOW_EXECUTION": "WorkflowExecutionContinuedAsNew",
+}
+
+
+class Check:
+    """What is open as the commands of one answer are looked at in their order."""
+
+    def __init__(self, run, settings):
+        self.run, self.settings = run, settings
+        self.activities = {activity.id for activity in run.activities.values()}
+        self.timers = set(run.timers)
+        self.closed = False
+
+    def fault(self, value):
+        """What is wrong with the next command, or nothing."""
+        kind, attributes, fault = command_in(value)
+        if fault:
+            return fault
+        if self.closed:
+            return f"{kind} stands behind a closing command"
+        self.closed = kind in CLOSINGS
+        look = getattr(self, kind.lower(), None)
+        return look(attributes) if look else ""
+
+    def schedule_activity_task(self, attributes):
+        name = attributes["activityId"]
+        if name in self.activities:
+            return f"the activity {name} is open already"
+        self.activities.add(name)
+        if attributes["startToCloseTimeout"] != self.settings.activity_timeout:
+            return f"startToCloseTimeout is {attributes['startToCloseTimeout']}"
+        if attributes.get("retryPolicy", {}).get("maximumAttempts", 0) != self.settings.activity_attempts:
+            return f"retryPolicy is {attributes.get('retryPolicy')}"
+        return self.queue(attributes)
+
+    def queue(self, attributes):
+        name = attributes["taskQueue"]["name"]
+        return "" if name == self.settings.queue else f"the task queue is {name}"
+
+    def request_cancel_activity_task(self, attributes):
+        scheduled = int(attributes["scheduledEventId"])
+        activity = self.run.activities.get(scheduled)
+        if activity is None and not has_held_end(self.run, scheduled):
+            return f"no activity is open that the event {scheduled} scheduled"
+        return "the activity is cancelled already" if activity and activity.cancelled else ""
+
+    def start_timer(self, attributes):
+        name = attributes["timerId"]
+        if name in self.timers:
+            return f"the timer {name} is open already"
+        self.timers.add(name)
+        return ""
+
+    def cancel_timer(self, attributes):
+        name = attributes["timerId"]
+        if name not in self.timers and not has_held_timer(self.run, name):
+            return f"the timer {name} is not open"
+        self.timers.discard(name)
+        return ""
+
+    def start_child_workflow_execution(self, attributes):
+        return self.queue(attributes) or self.namespace(attributes)
+
+    def namespace(self, attributes):
+        name = attributes["namespace"]
+        return "" if name == self.settings.namespace else f"the namespace is {name}"
+
+    def request_cancel_external_workflow_execution(self, attributes):
+        name = attributes["workflowId"]
+        if not any(child.workflow_id == name for child in self.run.children.values()) and not self.run.held:
+            return f"no child {name} is open"
+        return self.namespace(attributes)
+
+    def signal_external_workflow_execution(self, attributes):
+        return self.namespace(attributes)
+
+    def record_marker(self, attributes):
+        try:
+            change, version = (lone(attributes["details"][name]) for name in ("change-id", "version"))
+        except ValueError:
+            return "a marker's details are no JSON"
+        good = isinstance(change, str) and change and type(version) is int
+        return "" if good else f"a marker has {change!r} and {version!r}"
+
+    def continue_as_new_workflow_execution(self, attributes):
+        return self.queue(attributes)
+
+
+def lone(payloads):
+    """The JSON value of the only payload."""
+    (payload,) = payloads.get("payloads", [])
+    return json.loads(base64.b64decode(payload.get("data", "")))
+
+
+def has_held_end(run, scheduled):
+    """Whether the end of an activity was held back."""
+    ends = [attributes for kind, attributes, _, _ in run.held if kind in LAST_OF_ALL]
+    return any(attributes_of(one).get("scheduledEventId") == str(scheduled) for one in ends)
+
+
+def attributes_of(attributes):
+    return attributes() if callable(attributes) else attributes
+
+
+def has_held_timer(run, name):
+    """Whether the firing of a timer was held back."""
+    return any(kind == "TimerFired" and attributes["timerId"] == name for kind, attributes, _, _ in run.held)
+
+
+def fault_of(run, commands, settings):
+    """What is wrong with the first command that has a fault, or nothing."""
+    check = Check(run, settings)
+    faults = (check.fault(command) for command in commands)
+    return next((fault for fault in faults if fault), "")
+
+
+def closes(commands):
+    """Whether one of the commands closes the run."""
+    return any(command_in(command)[0] in CLOSINGS for command in commands)
+
+
+def left_held(run, commands):
+    """What is held back and not taken back by the cancel of a timer."""
+    kinds = [command_in(command)[:2] for command in commands]
+    cancelled = {attributes["timerId"] for kind, attributes in kinds if kind == "CANCEL_TIMER"} - set(run.timers)
+    return [one for one in run.held if one[0] != "TimerFired" or one[1]["timerId"] not in cancelled]
+
+
+class Effects:
+    """What the commands of a completed task do, one after another."""
+
+    def __init__(self, run):
+        self.run, self.server = run, run.server
+        self.completed = str(run.next_number - 1)
+        self.has_more = False
+
+    def do(self, value):
+        kind, attributes, _ = command_in(value)
+        getattr(self, kind.lower())({**attributes, "workflowTaskCompletedEventId": self.completed})
+
+    def schedule_activity_task(self, attributes):
+        number = self.run.append("ActivityTaskScheduled", attributes)
+        activity = self.run.activities[number] = Activity(number, attributes)
+        self.server.schedule_activity(self.run, activity)
+
+    def request_cancel_activity_task(self, attributes):
+        scheduled = int(attributes["scheduledEventId"])
+        self.run.append("ActivityTaskCancelRequested", attributes)
+        activity = self.run.activities.get(scheduled)
+        if activity is None:
+            return
+        activity.cancelled = True
+        if activity.started_at is None:
+            del self.run.activities[scheduled]
+            self.run.append("ActivityTaskCanceled", {"scheduledEventId": str(scheduled)})
+            self.has_more = True
+
+    def start_timer(self, attributes):
+        number = self.run.append("TimerStarted", attributes)
+        self.run.timers[attributes["timerId"]] = number
+        self.server.start_timer(self.run, attributes["timerId"], number, seconds_of(attributes["startToFireTimeout"]))
+
+    def cancel_timer(self, attributes):
+        name = attributes["timerId"]
+        number = self.run.timers.pop(name, None)
+        if number is None:
+            fired = next(one for one in self.run.held if one[0] == "TimerFired" and one[1]["timerId"] == name)
+            self.run.held.remove(fired)
+            number = int(fired[1]["startedEventId"])
+            self.server.counts["timers taken back"] += 1
+        self.run.append("TimerCanceled", {**attributes, "startedEventId": str(number)})
+
+    def start_child_workflow_execution(self, attributes):
+        number = self.run.append("StartChildWorkflowExecutionInitiated", attributes)
+        child = self.run.children[number] = Child(number, attributes["workflowId"])
+        self.server.start_child(self.run, child, attributes)
+
+    def request_cancel_external_workflow_execution(self, attributes):
+        made = {**attributes, "workflowExecution": {"workflowId": attributes["workflowId"]}}
+        del made["workflowId"]
+        number = self.run.append("RequestCancelExternalWorkflowExecutionInitiated", made)
+        self.server.cancel_child(self.run, number, attributes["workflowId"])
+
+    def signal_external_workflow_execution(self, attributes):
+        made = {**attributes, "workflowExecution": attributes["execution"]}
+        del made["execution"]
+        number = self.run.append("SignalExternalWorkflowExecutionInitiated", made)
+        self.server.signal_external(self.run, number, attributes)
+
+    def record_marker(self, attributes):
+        self.run.append("MarkerRecorded", attributes)
+
+    def complete_workflow_execution(self, attributes):
+        self.run.close("WorkflowExecutionCompleted", attributes)
+
+    def fail_workflow_execution(self, attributes):
+        self.run.close("WorkflowExecutionFailed", attributes)
+
+    def cancel_workflow_execution(self, attributes):
+        self.run.close("WorkflowExecutionCanceled", attributes)
+
+    def continue_as_new_workflow_execution(self, attributes):
+        self.run.close("WorkflowExecutionContinuedAsNew", left_out(attributes))
+
+
+def apply(run, commands):
+    """Writes the events of the commands of a task that was just completed, and then what was held back."""
+    effects = Effects(run)
+    for command in commands:
+        effects.do(command)
+    if run.closed is None and (run.flush() or effects.has_more):
+        run.need_task()

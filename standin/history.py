@@ -1,0 +1,239 @@
+"""Runs: their histories, what is open in them, and their workflow tasks.
+
+A run writes its events as a Temporal server does. What comes in from outside while a workflow task is in hand is held
+back, and stands behind the events of the task's commands, with its own earlier time. A task that follows a failed one
+directly is written only once it is completed: until then its two events are shown to the worker alone.
+"""
+
+from datetime import datetime, timedelta, timezone
+
+FIRST = datetime(2024, 5, 1, 10, 0, 0, tzinfo=timezone.utc)
+# Ends of activities and children are written behind all else that was held back.
+LAST_OF_ALL = ("ActivityTaskCompleted", "ActivityTaskFailed", "ActivityTaskTimedOut", "ActivityTaskCanceled")
+LAST_OF_ALL += tuple(f"ChildWorkflowExecution{end}" for end in ("Completed", "Failed", "Canceled", "TimedOut", "Terminated"))
+
+
+def time_text(now):
+    """A time in milliseconds from the beginning, as RFC 3339 writes it."""
+    moment = FIRST + timedelta(milliseconds=now)
+    return f"{moment:%Y-%m-%dT%H:%M:%S}.{now % 1000:03}Z"
+
+
+def type_name(kind):
+    """The name of an event's type, as proto3 JSON has it."""
+    return "EVENT_TYPE" + "".join("_" + letter.upper() if letter.isupper() else letter.upper() for letter in kind)
+
+
+def event_of(number, time, kind, attributes):
+    """An event in proto3 JSON."""
+    name = kind[0].lower() + kind[1:] + "EventAttributes"
+    return {"eventId": str(number), "eventTime": time_text(time), "eventType": type_name(kind), name: attributes}
+
+
+def left_out(members):
+    """The members without those that have no value, as proto3 JSON leaves them out."""
+    return {name: value for name, value in members.items() if value not in (None, "", [], 0)}
+
+
+class Activity:
+    """An activity that has not ended."""
+
+    def __init__(self, scheduled, attributes):
+        self.scheduled = scheduled
+        self.id = attributes["activityId"]
+        self.kind = attributes["activityType"]["name"]
+        self.queue = attributes["taskQueue"]["name"]
+        self.input = attributes.get("input")
+        self.most = attributes.get("retryPolicy", {}).get("maximumAttempts", 0)
+        self.attempt = 1
+        self.token = None
+        self.started_at = None
+        self.started = None
+        self.cancelled = False
+
+
+class Child:
+    """A child that has not ended, started or not."""
+
+    def __init__(self, initiated, workflow_id):
+        self.initiated = initiated
+        self.workflow_id = workflow_id
+        self.run = None
+        self.started = 0
+
+
+class Task:
+    """A workflow task that is scheduled or in hand."""
+
+    def __init__(self, scheduled, attempt, time, queue):
+        self.scheduled = scheduled
+        self.attempt = attempt
+        self.time = time
+        self.queue = queue
+        self.started = None
+        self.started_time = None
+        self.token = None
+        self.queries = {}
+
+    @property
+    def is_written(self):
+        return self.attempt == 1
+
+
+class Run:
+    """One run of a workflow."""
+
+    def __init__(self, server, workflow_id, run_id, kind, queue, parent=None, input=None, continued=None):
+        self.server = server
+        self.workflow_id, self.run_id, self.kind, self.queue = workflow_id, run_id, kind, queue
+        self.parent = parent
+        self.events, self.held = [], []
+        self.closed = None
+        self.task, self.attempt = None, 1
+        self.sticky = None
+        self.before = 0
+        self.activities, self.timers, self.due, self.children = {}, {}, {}, {}
+        self.is_cancelled = False
+        started = {
+            "workflowType": {"name": kind},
+            "taskQueue": {"name": queue, "kind": "TASK_QUEUE_KIND_NORMAL"},
+            "input": input,
+            "originalExecutionRunId": run_id,
+            "continuedExecutionRunId": continued,
+            "attempt": 1,
+            "workflowId": workflow_id,
+        }
+        if parent:
+            started["parentWorkflowExecution"] = parent[0].execution
+            started["parentInitiatedEventId"] = str(parent[1])
+        self.append("WorkflowExecutionStarted", left_out(started))
+
+    @property
+    def execution(self):
+        return {"workflowId": self.workflow_id, "runId": self.run_id}
+
+    @property
+    def next_number(self):
+        return len(self.events) + 1
+
+    @property
+    def is_in_hand(self):
+        return self.task is not None and self.task.started is not None
+
+    # Events.
+
+    def append(self, kind, attributes, time=None):
+        """Writes an event, and answers its number."""
+        number = self.next_number
+        self.events.append(event_of(number, self.server.now if time is None else time, kind, attributes))
+        return number
+
+    def come_in(self, kind, attributes, note=None):
+        """An event from outside: written, or held back while a task is in hand. The attributes may be a function, which
+        is called when the event is written, and `note` is told the number then."""
+        if self.is_in_hand:
+            self.held.append((kind, attributes, note, self.server.now))
+            return
+        self.write_down(kind, attributes, note, self.server.now)
+        self.need_task()
+
+    def write_down(self, kind, attributes, note, time):
+        number = self.append(kind, attributes() if callable(attributes) else attributes, time)
+        if note:
+            note(number)
+
+    def flush(self):
+        """Writes what was held back, and answers whether there was something."""
+        held, self.held = self.held, []
+        for last in (False, True):
+            for kind, attributes, note, time in held:
+                if (kind in LAST_OF_ALL) == last:
+                    self.write_down(kind, attributes, note, time)
+        return bool(held)
+
+    # Workflow tasks.
+
+    def need_task(self):
+        """Schedules a workflow task where there is none."""
+        if self.task is None and self.closed is None:
+            self.schedule_task()
+
+    def schedule_task(self):
+        queue = self.sticky[0] if self.sticky else self.queue
+        number = self.next_number
+        if self.attempt == 1:
+            self.append("WorkflowTaskScheduled", self.scheduled_attributes(queue, 1))
+        self.task = Task(number, self.attempt, self.server.now, queue)
+        self.server.offer(self)
+
+    def scheduled_attributes(self, queue, attempt):
+        return {"taskQueue": {"name": queue}, "startToCloseTimeout": "10s", "attempt": attempt}
+
+    def start_task(self, token, identity):
+        """A worker takes the task: the events that it is shown beyond the written ones."""
+        task = self.task
+        if not task.is_written and task.scheduled != self.next_number:
+            # Something came in since it was scheduled, so it is a task like a first one.
+            self.attempt = task.attempt = 1
+            task.scheduled = self.append("WorkflowTaskScheduled", self.scheduled_attributes(task.queue, 1), task.time)
+        started = {"scheduledEventId": str(task.scheduled), "identity": identity}
+        task.token, task.started_time = token, self.server.now
+        if task.is_written:
+            task.started = self.append("WorkflowTaskStarted", started)
+            return []
+        task.started = task.scheduled + 1
+        return self.unwritten()
+
+    def unwritten(self):
+        """The events of a task in hand that are not written yet."""
+        task = self.task
+        if not self.is_in_hand or task.is_written:
+            return []
+        attributes = self.scheduled_attributes(task.queue, task.attempt)
+        return [
+            event_of(task.scheduled, task.time, "WorkflowTaskScheduled", attributes),
+            event_of(task.started, task.started_time, "WorkflowTaskStarted", {"scheduledEventId": str(task.scheduled)}),
+        ]
+
+    def complete_task(self):
+        """The task in hand is completed: its events stand, and no task is there."""
+        task = self.task
+        self.events += self.unwritten()
+        completed = {"scheduledEventId": str(task.scheduled), "startedEventId": str(task.started)}
+        self.append("WorkflowTaskCompleted", completed)
+        self.before = task.started
+        self.task, self.attempt = None, 1
+
+    def end_task(self, kind, attributes):
+        """The task in hand failed or timed out: what was held back is written. The run is not sticky any more."""
+        task = self.task
+        self.task, self.sticky = None, None
+        numbers = {"scheduledEventId": str(task.scheduled), "startedEventId": str(task.started)}
+        if task.is_written:
+            self.append(kind, {**numbers, **attributes})
+        self.attempt = 1 if self.flush() else task.attempt + 1
+
+    def give_up_sticky(self, is_told):
+        """The task waits in a sticky queue that nobody takes it from: it goes to the normal queue, with an event that
+        tells so or without."""
+        task = self.task
+        self.sticky = None
+        if is_told:
+            self.task = None
+            timeout = {"scheduledEventId": str(task.scheduled), "timeoutType": "TIMEOUT_TYPE_SCHEDULE_TO_START"}
+            self.append("WorkflowTaskTimedOut", timeout)
+            self.schedule_task()
+        else:
+            task.queue = self.queue
+            self.server.offer(self)
+
+    # The end.
+
+    def close(self, kind, attributes):
+        """Closes the run, by a command or from outside."""
+        if self.is_in_hand:
+            self.end_task("WorkflowTaskFailed", {"cause": "WORKFLOW_TASK_FAILED_CAUSE_FORCE_CLOSE_COMMAND"})
+        self.append(kind, attributes)
+        self.task = None
+        self.closed = kind
+        self.server.closed(self, attributes)

@@ -1,0 +1,186 @@
+"""The stand-in over pipes: it starts workers, reads their requests and writes them the responses."""
+
+import json
+import os
+import selectors
+import subprocess
+import tempfile
+import time
+
+from peers import Peer
+
+# Lines that are no response to a call that waits. `%d` is the id of one that has its answer.
+HOSTILE = [
+    b"",
+    b"no JSON",
+    b"[]",
+    b"17",
+    b"{}",
+    b'{"jsonrpc":"2.0","id":1000000000,"result":{}}',
+    b'{"jsonrpc":"2.0","id":%d,"result":{}}',
+    b'{"jsonrpc":"2.0","id":"%d","result":{}}',
+    b'{"jsonrpc":"2.0","id":%d}',
+    b'{"jsonrpc":"2.0","id":-1,"result":{}}',
+    b'{"jsonrpc":"2.0","id":1.5,"result":{}}',
+    b'{"jsonrpc":"2.0","id":%d,"result":{},"error":{"code":5,"message":"both"}}',
+    b'{"jsonrpc":"2.0","id":%d,"error":{"code":"5","message":"letters"}}',
+    b'{"jsonrpc":"2.0","id":%d,"error":5}',
+    b'{"jsonrpc":"2.0","method":"restart"}',
+    b'{"jsonrpc":"2.0","id":%d,"result":{"taskToken":"\xff\xfe"}}',
+    b"[" * 1000,
+]
+
+
+class Process:
+    """A worker, its pipes, and what it is to the server."""
+
+    def __init__(self, command, name, pollers, environment=None):
+        self.peer = Peer(name, pollers)
+        self.said = tempfile.TemporaryFile()
+        self.child = subprocess.Popen(
+            command, stdin=subprocess.PIPE, stdout=subprocess.PIPE, stderr=self.said, env=environment
+        )
+        os.set_blocking(self.child.stdin.fileno(), False)
+        os.set_blocking(self.child.stdout.fileno(), False)
+        self.read, self.ready, self.unsent = b"", [], b""
+        self.ids, self.is_over, self.is_cut = set(), False, False
+
+    def report(self):
+        """What it has said on standard error."""
+        self.said.seek(0)
+        return self.said.read().decode(errors="replace")
+
+
+class Pipes:
+    """All workers, and the server between them."""
+
+    def __init__(self, server, troubles):
+        self.server, self.troubles = server, troubles
+        self.selector = selectors.DefaultSelector()
+        self.processes, self.ending, self.is_ending = [], [], False
+        self.last = time.monotonic()
+
+    def start(self, command, name, pollers):
+        """Starts a worker."""
+        process = Process(command, name, pollers)
+        self.processes.append(process)
+        self.server.peers.append(process.peer)
+        self.selector.register(process.child.stdout, selectors.EVENT_READ, process)
+        return process
+
+    def turn(self):
+        """Starts runs, reads what has come, answers it, and lets time go on where all wait."""
+        if not self.is_ending:
+            self.server.world.begin()
+        for process in self.processes:
+            self.write(process)
+        wait = 0 if self.server.all_wait() else 0.01
+        for key, _ in self.selector.select(wait):
+            self.take(key.data)
+        self.server.go_on(time.monotonic() - self.last)
+
+    def take(self, process):
+        """Takes what a worker has written."""
+        some = os.read(process.child.stdout.fileno(), 1 << 20)
+        self.last = time.monotonic()
+        if not some:
+            return self.close(process)
+        if process.is_cut:
+            return  # Nobody reads what it still writes.
+        lines = (process.read + some).split(b"\n")
+        process.read = lines.pop()
+        for line in lines:
+            self.request(process, line)
+
+    def request(self, process, line):
+        """A request, of the exact bytes that the host owes."""
+        try:
+            request = json.loads(line)
+            exact = json.dumps(request, sort_keys=True, separators=(",", ":"), ensure_ascii=False).encode() == line
+        except ValueError:
+            request, exact = None, False
+        if not exact or not isinstance(request, dict) or set(request) != {"id", "jsonrpc", "method", "params"}:
+            return self.server.blame(process.peer, f"no request: {line[:300]!r}")
+        number = request["id"]
+        if type(number) is not int or number < 1 or number in process.ids:
+            self.server.blame(process.peer, f"the id {number!r} is used again, or is none")
+        process.ids.add(number)
+        self.server.call(
+            process.peer, request["method"], request["params"], lambda result, error: self.reply(process, number, result, error)
+        )
+
+    def reply(self, process, number, result, error):
+        """A response, and perhaps a line that is none."""
+        outcome = {"result": result} if error is None else {"error": {"code": error[0], "message": error[1]}}
+        process.ready.append(json.dumps({"jsonrpc": "2.0", "id": number, **outcome}).encode())
+        if self.troubles.happens("hostile"):
+            line = self.troubles.dice.choice(HOSTILE)
+            # Behind its response, so that it answers a call that waits no more.
+            process.ready[-1] += b"\n" + (line.replace(b"%d", b"%d" % number))
+
+    def write(self, process):
+        """Writes what is ready, as far as the pipe takes it."""
+        if process.ready:
+            if self.troubles.happens("order"):
+                self.troubles.dice.shuffle(process.ready)
+            process.unsent += b"".join(line + b"\n" for line in process.ready)
+            process.ready = []
+        try:
+            while process.unsent and not (process.is_over or process.is_cut):
+                process.unsent = process.unsent[os.write(process.child.stdin.fileno(), process.unsent) :]
+        except BlockingIOError:
+            pass
+        except BrokenPipeError:
+            process.unsent = b""
+
+    def close(self, process):
+        """A worker has closed its output."""
+        if process.read:
+            self.server.blame(process.peer, f"its last line has no end: {process.read[:100]!r}")
+        if process.ids and len(process.ids) != max(process.ids):
+            self.server.blame(process.peer, f"{len(process.ids)} requests have ids up to {max(process.ids)}")
+        self.selector.unregister(process.child.stdout)
+        self.processes.remove(process)
+        process.is_over = True
+        self.server.leave(process.peer)
+
+    def kill(self, process):
+        """Kills a worker."""
+        process.child.kill()
+        process.child.wait()
+        process.read, process.ids = b"", set()
+        if process in self.processes:
+            self.close(process)
+
+    def cut(self, process):
+        """Ends the input of a worker, as where its bridge has died: it has to end by itself."""
+        process.child.stdin.close()
+        process.is_cut = process.peer.is_cut = True
+        process.read, process.ids = b"", set()
+        self.server.leave(process.peer)
+        self.ending.append(process)
+
+    def shut_down(self, process):
+        """Tells a worker to end."""
+        process.ready.append(b'{"jsonrpc":"2.0","method":"shutdown"}')
+        self.write(process)
+        self.server.close_polls(process.peer)
+
+    def stop_all(self, seconds):
+        """Tells all workers to end, and waits for it. Those that don't are killed, and answered."""
+        until, self.is_ending = time.monotonic() + seconds, True
+        left = list(self.processes)
+        for process in left:
+            if not process.is_cut:
+                self.shut_down(process)
+        while self.processes and time.monotonic() < until:
+            for process in list(self.processes):
+                self.server.close_polls(process.peer)
+            self.turn()
+        for process in list(self.processes):
+            self.server.blame(process.peer, "it does not end when it is told to")
+            self.kill(process)
+        ended = left + [process for process in self.ending if process not in left]
+        for process in ended:
+            process.child.wait()
+        return ended

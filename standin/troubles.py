@@ -1,0 +1,48 @@
+"""The kinds of trouble that the stand-in can make, each by its name, and how often."""
+
+import random
+
+# Of each name, how often it comes where it may come, and what it is.
+KINDS = {
+    "twice": (0.06, "a workflow task is given to two polls"),
+    "timeouts": (0.05, "a workflow task times out while it is in hand"),
+    "sticky": (0.10, "a sticky queue is dropped without a word, or nobody takes a task from it in time"),
+    "pages": (0.40, "a history comes in pages, some of them empty"),
+    "empty": (0.05, "a poll gets no task"),
+    "codes": (0.01, "a poll is refused for now, by one of the codes of an outage"),
+    "calls": (0.005, "an answer or the call for a page fails for good, by such a code, taken or not"),
+    "lost": (0.03, "an answer is taken and its response lost, or the result of a poll is lost"),
+    "hostile": (0.03, "a line that is no response to a call that waits"),
+    "order": (0.50, "responses come in another order than they were made"),
+    "queries": (0.03, "a query on its own, or beside a task"),
+    "during": (0.15, "a signal, a cancel or a timer comes while the task is in hand"),
+    "late": (0.30, "an activity's start is told at once, and not only with its end"),
+    "strangers": (0.03, "a run of a type that the workers have no code for"),
+    "outside": (0.10, "a run is terminated, times out or is asked to be cancelled"),
+}
+
+
+class Troubles:
+    """The kinds that are turned on, and the dice."""
+
+    def __init__(self, seed, names):
+        self.names = set(names)
+        self.dice = random.Random(seed)
+        self.met = dict.fromkeys(sorted(self.names), 0)
+
+    def happens(self, name):
+        """Whether a kind of trouble comes now."""
+        if name not in self.names or self.dice.random() >= KINDS[name][0]:
+            return False
+        self.met[name] += 1
+        return True
+
+
+def names_of(text):
+    """The kinds that a text names: `all`, `none`, or names with commas between. A ValueError where there is no such kind."""
+    if text == "all":
+        return list(KINDS)
+    names = [] if text == "none" else text.split(",")
+    if not set(names) <= set(KINDS):
+        raise ValueError(f"no kinds of trouble: {text}")
+    return names
