@@ -1,9 +1,9 @@
 -- What commands wrote and told, one step after the other.
-use Rattle.std.proofs.Common.{◌≡◌, ◌∙◌, ℕ, ◌+◌, ◌<◌, List, [], ◌∷◌, ◌++◌, length, map, None, Some, refl, sym, ap, arith, subst}
-use Rattle.std.specs.Prelude.{Bool, true, false, Option, Result, Ok, Err, IfOk, OnOk, Vec, string_bytes}
+use Rattle.std.proofs.Common.{◌≡◌, ◌∙◌, ℕ, List, [], ◌∷◌, ◌++◌, None, Some, refl, sym, ap, subst}
+use Rattle.std.specs.Prelude.{Bool, false, Option, Result, Ok, Err, IfOk, OnOk, Vec, string_bytes}
 use Rattle.std.specs.declared.alloc.Global.{Global}
 use Rattle.std.specs.Io.KnownBytes.{Appends, Keeps}
-use Rattle.std.proofs.KnownBytes.{Appends-nil, Appends-trans}
+use Rattle.std.proofs.KnownBytes.{Appends-trans}
 use Rattle.std.proofs.lemmas.List.{append-nil, append_assoc}
 use Rattle.wh_files.specs.declared.Input.{Input}
 use Rattle.wh_host.specs.declared.config.Config.{Config}
@@ -17,7 +17,7 @@ use Rattle.wh_cli.specs.Commands.{HasExplained, HasExplainedInput, HasExplainedP
 use Rattle.wh_cli.specs.Complaints.{Told, service_told}
 use Rattle.wh_cli.specs.Listings.{AreListed, IsListed, is_by_path}
 use Rattle.wh_cli.specs.Readings.{Gives}
-use Rattle.wh_cli.specs.Served.{HasServed, HasServedInputs}
+use Rattle.wh_cli.specs.Served.{HasServedInputs}
 use Rattle.wh_cli.specs.Services.{HostsBy, IsHosted}
 use Rattle.wh_cli.proofs.Workers.{by_closure, served_by}
 

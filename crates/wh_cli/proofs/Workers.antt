@@ -1,5 +1,5 @@
 -- What a service is, by what is left of its host.
-use Rattle.std.proofs.Common.{◌≡◌, ◌∙◌, ℕ, ◌<◌, ◌≤◌, List, [], ◌∷◌, length, map, refl, sym, ap, subst}
+use Rattle.std.proofs.Common.{◌≡◌, ◌∙◌, ℕ, ◌<◌, List, length, map, sym, ap, subst}
 use Rattle.std.specs.Prelude.{All, Bool, Vec, is_none, get_or, Option, Result, Ok, Err, IfOk}
 use Rattle.std.specs.declared.alloc.Global.{Global}
 use Rattle.std.specs.List.{list_all, list_any}
@@ -14,7 +14,7 @@ use Rattle.wh_command_line.specs.declared.options.ServeOptions.{ServeOptions}
 use Rattle.wh_command_line.specs.Options.{config_of}
 use Rattle.wh_cli.specs.Served.{HasServed, sizes_of}
 use Rattle.wh_cli.specs.declared.replaying.CommandFault.{CommandFault}
-use Rattle.wh_cli.specs.Services.{IsService, rows_from, failures_from, Reading, no_source, dealt_as, hand_in, HostsBy, ServicePost, ServiceHost, IsLongEnough, ArePosts, IsToldService}
+use Rattle.wh_cli.specs.Services.{rows_from, failures_from, Reading, no_source, dealt_as, hand_in, HostsBy, ServicePost, ServiceHost, IsLongEnough, ArePosts, IsToldService}
 
 -- what follows of five facts of a value
 pub all_five : {X E : Type 0} {P Q R S T U : X → Type 0} (r : Result X E) → ((x : X) → P x → Q x → R x → S x → T x → U x) → IfOk r P → IfOk r Q → IfOk r R → IfOk r S → IfOk r T → IfOk r U
