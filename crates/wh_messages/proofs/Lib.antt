@@ -1,0 +1,6 @@
+pub mod Answering
+pub mod Bytes
+pub mod Lists
+pub mod Reading
+pub mod Serving
+pub mod Tasks

@@ -1,0 +1,170 @@
+-- How commands are written.
+use Rattle.std.specs.Prelude.{ℕ, ℤ, List, [], ◌∷◌, ◌++◌, codes, decimal, nat_lt, true, Option, Some, None, Result, Ok, Err, if◌then◌else◌}
+use Rattle.serde_json.specs.Data.{Data, boolean, number, string, unsigned}
+use Rattle.serde_json.specs.Find.{of_integer}
+use Rattle.wh_events.specs.declared.event.Event.{Event}
+use Rattle.wh_events.specs.declared.event.Payload.{Payload}
+use Rattle.wh_events.specs.declared.place.Thing.TheVariants.{Activity}
+use Rattle.wh_events.specs.Machines.{last_named}
+use Rattle.wh_workflow.specs.declared.command.Command.{Command}
+use Rattle.wh_workflow.specs.declared.command.Command.TheVariants as commands
+use Rattle.wh_messages.specs.declared.names.ActivityOptions.{ActivityOptions}
+use Rattle.wh_messages.specs.declared.names.WorkerNames.{WorkerNames}
+use Rattle.wh_messages.specs.declared.fault.RequestFault.{RequestFault}
+use Rattle.wh_messages.specs.declared.fault.RequestFault.TheVariants.{TooLong, NotScheduled, NeverSent}
+use Rattle.wh_messages.specs.Objects.{object_of}
+use Rattle.wh_messages.specs.Outcome.{on_written}
+use Rattle.wh_messages.specs.Payloads.{payloads_written, json_payloads}
+
+-- ---- Parts
+
+-- an object that names a type, a queue or a run
+abbrev pub named : List ℕ → Data
+named name = object_of ((codes "name", string name) ∷ [])
+
+-- the longest duration of protobuf, in seconds
+abbrev pub longest_duration : ℕ
+longest_duration = 315576000000
+
+-- the text of a duration of whole seconds
+abbrev pub duration_text : ℕ → List ℕ
+duration_text seconds = decimal seconds ++ codes "s"
+
+-- how often an activity is tried, 0 for without end
+abbrev pub retry_policy : ℕ → Data
+retry_policy attempts = object_of ((codes "maximumAttempts", number (unsigned attempts)) ∷ [])
+
+-- another workflow, whichever its run is
+abbrev pub execution : List ℕ → Data
+execution workflow_id = object_of ((codes "workflowId", string workflow_id) ∷ [])
+
+-- why something failed; it is told by this program
+abbrev pub failure : List ℕ → Data
+failure message = object_of (
+    (codes "message", string message) ∷ (codes "source", string (codes "wfhost"))
+    ∷ (codes "applicationFailureInfo", object_of []) ∷ [])
+
+-- a command of a type, with its attributes under their name
+abbrev pub command_form : List ℕ → List ℕ → Data → Data
+command_form kind name attributes = object_of ((codes "commandType", string kind) ∷ (name, attributes) ∷ [])
+
+-- ---- The commands
+
+abbrev pub start_activity : WorkerNames → ActivityOptions → List ℕ → List ℕ → List Payload → Data
+start_activity names options id activity input =
+    command_form (codes "COMMAND_TYPE_SCHEDULE_ACTIVITY_TASK") (codes "scheduleActivityTaskCommandAttributes")
+    (object_of (
+    (codes "activityId", string id) ∷ (codes "activityType", named activity)
+    ∷ (codes "taskQueue", named names.task_queue) ∷ (codes "input", payloads_written input)
+    ∷ (codes "startToCloseTimeout", string (duration_text options.timeout))
+    ∷ (codes "retryPolicy", retry_policy options.attempts) ∷ []))
+
+abbrev pub cancel_activity : ℕ → Data
+cancel_activity scheduled =
+    command_form (codes "COMMAND_TYPE_REQUEST_CANCEL_ACTIVITY_TASK") (codes "requestCancelActivityTaskCommandAttributes")
+    (object_of ((codes "scheduledEventId", string (decimal scheduled)) ∷ []))
+
+abbrev pub start_timer : List ℕ → ℕ → Data
+start_timer id seconds =
+    command_form (codes "COMMAND_TYPE_START_TIMER") (codes "startTimerCommandAttributes")
+    (object_of ((codes "timerId", string id) ∷ (codes "startToFireTimeout", string (duration_text seconds)) ∷ []))
+
+abbrev pub cancel_timer : List ℕ → Data
+cancel_timer id =
+    command_form (codes "COMMAND_TYPE_CANCEL_TIMER") (codes "cancelTimerCommandAttributes")
+    (object_of ((codes "timerId", string id) ∷ []))
+
+abbrev pub start_child : WorkerNames → List ℕ → List ℕ → List Payload → Data
+start_child names workflow_id workflow input =
+    command_form (codes "COMMAND_TYPE_START_CHILD_WORKFLOW_EXECUTION")
+    (codes "startChildWorkflowExecutionCommandAttributes")
+    (object_of (
+    (codes "namespace", string names.namespace) ∷ (codes "workflowId", string workflow_id)
+    ∷ (codes "workflowType", named workflow) ∷ (codes "taskQueue", named names.task_queue)
+    ∷ (codes "input", payloads_written input) ∷ []))
+
+abbrev pub cancel_child : WorkerNames → List ℕ → Data
+cancel_child names workflow_id =
+    command_form (codes "COMMAND_TYPE_REQUEST_CANCEL_EXTERNAL_WORKFLOW_EXECUTION")
+    (codes "requestCancelExternalWorkflowExecutionCommandAttributes")
+    (object_of (
+    (codes "namespace", string names.namespace) ∷ (codes "workflowId", string workflow_id)
+    ∷ (codes "childWorkflowOnly", boolean true) ∷ []))
+
+abbrev pub signal_external : WorkerNames → List ℕ → List ℕ → List Payload → Data
+signal_external names workflow_id signal input =
+    command_form (codes "COMMAND_TYPE_SIGNAL_EXTERNAL_WORKFLOW_EXECUTION")
+    (codes "signalExternalWorkflowExecutionCommandAttributes")
+    (object_of (
+    (codes "namespace", string names.namespace)
+    ∷ (codes "execution", execution workflow_id)
+    ∷ (codes "signalName", string signal) ∷ (codes "input", payloads_written input) ∷ []))
+
+-- what a marker holds, in the form in which markers are read
+abbrev pub details : List ℕ → ℤ → Data
+details change_id version = object_of (
+    (codes "change-id", json_payloads (string change_id))
+    ∷ (codes "version", json_payloads (number (of_integer version))) ∷ [])
+
+abbrev pub marker : List ℕ → ℤ → Data
+marker change_id version =
+    command_form (codes "COMMAND_TYPE_RECORD_MARKER") (codes "recordMarkerCommandAttributes")
+    (object_of ((codes "markerName", string (codes "Version")) ∷ (codes "details", details change_id version) ∷ []))
+
+abbrev pub complete : List Payload → Data
+complete result =
+    command_form (codes "COMMAND_TYPE_COMPLETE_WORKFLOW_EXECUTION") (codes "completeWorkflowExecutionCommandAttributes")
+    (object_of ((codes "result", payloads_written result) ∷ []))
+
+abbrev pub fail : List ℕ → Data
+fail message =
+    command_form (codes "COMMAND_TYPE_FAIL_WORKFLOW_EXECUTION") (codes "failWorkflowExecutionCommandAttributes")
+    (object_of ((codes "failure", failure message) ∷ []))
+
+abbrev pub cancel : Data
+cancel =
+    command_form (codes "COMMAND_TYPE_CANCEL_WORKFLOW_EXECUTION") (codes "cancelWorkflowExecutionCommandAttributes")
+    (object_of [])
+
+abbrev pub continue_as_new : WorkerNames → List ℕ → List Payload → Data
+continue_as_new names workflow input =
+    command_form (codes "COMMAND_TYPE_CONTINUE_AS_NEW_WORKFLOW_EXECUTION")
+    (codes "continueAsNewWorkflowExecutionCommandAttributes")
+    (object_of (
+    (codes "workflowType", named workflow) ∷ (codes "taskQueue", named names.task_queue)
+    ∷ (codes "input", payloads_written input) ∷ []))
+
+-- a cancel of the activity of an id, by the number of the event that scheduled it, if there is one
+abbrev pub cancel_scheduled : List ℕ → Option ℕ → Result Data RequestFault
+cancel_scheduled id None = Err (NotScheduled id)
+cancel_scheduled id (Some scheduled) = Ok (cancel_activity scheduled)
+
+-- a timer that runs no longer than a duration may be
+abbrev pub start_timer_within : List ℕ → ℕ → Result Data RequestFault
+start_timer_within id seconds =
+    if nat_lt longest_duration seconds then Err (TooLong id) else Ok (start_timer id seconds)
+
+-- how a command is written after the events that were seen, or why it can't be
+abbrev pub written : WorkerNames → ActivityOptions → List Event → Command → Result Data RequestFault
+written names options events (commands.StartActivity id activity input) =
+    Ok (start_activity names options id activity input)
+written names options events (commands.CancelActivity id) = cancel_scheduled id (last_named events Activity id)
+written names options events (commands.StartTimer id seconds) = start_timer_within id seconds
+written names options events (commands.CancelTimer id) = Ok (cancel_timer id)
+written names options events (commands.StartChild workflow_id workflow input) =
+    Ok (start_child names workflow_id workflow input)
+written names options events (commands.CancelChild workflow_id) = Ok (cancel_child names workflow_id)
+written names options events (commands.SignalExternal workflow_id signal input) =
+    Ok (signal_external names workflow_id signal input)
+written names options events (commands.Ask change_id min max) = Err (NeverSent change_id)
+written names options events (commands.Marker change_id version) = Ok (marker change_id version)
+written names options events (commands.Complete result) = Ok (complete result)
+written names options events (commands.Fail message) = Ok (fail message)
+written names options events commands.Cancel = Ok cancel
+written names options events (commands.ContinueAsNew workflow input) = Ok (continue_as_new names workflow input)
+
+-- these, and how the commands behind them are written, one after another; or the first fault
+abbrev pub written_after : (Command → Result Data RequestFault) → List Data → List Command → Result (List Data) RequestFault
+written_after write before [] = Ok before
+written_after write before (command ∷ commands) =
+    on_written (write command) (λ d. written_after write (before ++ d ∷ []) commands)

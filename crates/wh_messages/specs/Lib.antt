@@ -1,0 +1,9 @@
+pub mod Objects
+pub mod Options
+pub mod Outcome
+pub mod Payloads
+pub mod Commands
+pub mod Requests
+pub mod Responses
+pub mod ReadBack
+pub mod Served

@@ -1,0 +1,8 @@
+-- What is there, or nothing.
+use Rattle.std.specs.Prelude.{Option, Some, None}
+
+-- go on with the value, if there is one
+infixl 10 ◌>>=◌
+abbrev pub ◌>>=◌ : {A B : Type 0} → Option A → (A → Option B) → Option B
+(Some x) >>= f = f x
+None >>= f = None
