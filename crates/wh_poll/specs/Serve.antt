@@ -15,7 +15,7 @@ use Rattle.wh_replay.specs.Runs.{Held, history_of, IsReplayed}
 use Rattle.wh_ledger.specs.declared.Shares.{Shares}
 use Rattle.wh_host.specs.declared.reply.Outcome.{Outcome}
 use Rattle.wh_host.specs.declared.reply.Outcome.TheVariants.{Completed, Failed}
-use Rattle.wh_host.specs.Machine.{with_outcome}
+use Rattle.wh_host.specs.Machine.{with_outcome, with_taken}
 use Rattle.wh_tasks.specs.declared.source.SourceFault.{SourceFault}
 use Rattle.wh_tasks.specs.declared.source.WorkflowTask.{WorkflowTask}
 use Rattle.wh_tasks.specs.declared.source.ActivityTask.{ActivityTask}
@@ -141,10 +141,6 @@ IsRefused name _ = ⊥
 -- the outcome was counted, or nothing
 abbrev pub MayCount : Shares → Shares → Outcome → Type 0
 MayCount old new outcome = (new ≡ old) ⊎ (new ≡ with_outcome outcome old)
-
--- one more task was taken
-abbrev pub with_taken : Shares → Shares
-with_taken old = record old { taken = old.taken + 1 }
 
 -- a task was taken, and at most its outcome was counted
 abbrev pub Takes : Shares → Shares → Outcome → Type 0

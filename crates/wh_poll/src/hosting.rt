@@ -81,6 +81,8 @@ pub fn run_posts<
 /// What is left of a host whose workers have ended.
 #[derive(Drop)]
 pub struct HostEnd<S, A, O> {
+    /// The sizes that the host was opened with.
+    pub config: Config,
     /// What each worker left, in the order of their posts.
     pub workers: Vec<Left<S, A, O>>,
     /// What all of them counted.
@@ -93,7 +95,7 @@ pub struct HostEnd<S, A, O> {
 /// Each worker leaves its post as its turns led to it, with its handler and its observer, which was
 /// told of each turn; its source comes from the one of the post, delivers and tells the same, and
 /// was sent at most as many answers as the worker took tasks. The totals are the sums of what the
-/// workers counted. `BadConfig` where a size is not within its range, or the seats are not as many
+/// workers counted, and the sizes are those that it was opened with. `BadConfig` where a size is not within its range, or the seats are not as many
 /// as the posts; `OutOfMemory` where no room was found. Then the posts are given up. (Temporal
 /// documentation, "Workers": a Worker Process.)
 pub fn run_host<
@@ -111,6 +113,7 @@ pub fn run_host<
     gate: &G,
 ) -> Result<HostEnd<S, A, O>, OpenFault>
     ensures bad { (result ≡ Err OpenFault.BadConfig) ↔ (¬ (IsConfig config × (config.seats ≡ vec_len posts))) }
+    ensures sizes { IfOk result (λ end. end.config ≡ config) }
     ensures count { IfOk result (λ end. vec_len end.workers ≡ vec_len posts) }
     ensures turns { IfOk result (λ end.
         AllZip (λ post left. left.counted.taken ≤ post.turns) posts.items end.workers.items) }
@@ -178,6 +181,7 @@ fn run_with<
         × (completed.parts ≡ config.seats) }
     requires failed { (failed.name ≡ F.name) × (failed.parts ≡ F.parts) × (failed.parts ≡ config.seats) }
     ensures bad { (result ≡ Err OpenFault.BadConfig) ↔ (¬ IsConfig config) }
+    ensures sizes { IfOk result (λ end. end.config ≡ config) }
     ensures left { IfOk result (λ end. AreLeft W.program S.tells S.delivers S.answers S.failures S.comes_from
         A.may O.hears (replicate (vec_len posts) no_shares) posts.items end.workers.items) }
     ensures gathered { IfOk result (λ end.
@@ -186,10 +190,10 @@ fn run_with<
         end.totals.taken ≡ end.totals.completed + end.totals.failed + end.totals.in_hand) }
 {
     let (host, seats) = Host::<W, T, C, F>::open(alloc, config, taken, completed, failed)?;
-    run_open(rt, alloc, host, seats, posts, gate)
+    run_open(rt, alloc, config, host, seats, posts, gate)
 }
 
-/// Runs the workers of a host that has just opened, and closes it.
+/// Runs the workers of a host that has just opened with these sizes, and closes it.
 fn run_open<
     W: Workflow + Send,
     R: Threads + Wait + Sync,
@@ -203,6 +207,7 @@ fn run_open<
 >(
     rt: &R,
     alloc: Global,
+    config: Config,
     host: Host<W, T, C, F>,
     seats: Vec<Seat<T, C, F>>,
     posts: Vec<Post<S, A, O>>,
@@ -211,6 +216,7 @@ fn run_open<
     requires seats { seats.items ≡ replicate (vec_len posts) no_shares }
     requires parts { T.parts ≡ vec_len posts }
     ensures fault { OnErr result (result ≡ Err OpenFault.OutOfMemory) }
+    ensures sizes { IfOk result (λ end. end.config ≡ config) }
     ensures left { IfOk result (λ end. AreLeft W.program S.tells S.delivers S.answers S.failures S.comes_from
         A.may O.hears (replicate (vec_len posts) no_shares) posts.items end.workers.items) }
     ensures gathered { IfOk result (λ end.
@@ -220,7 +226,11 @@ fn run_open<
 {
     let (seats, workers) = run_posts(rt, alloc, &host, seats, posts, gate)?;
     let totals = close(host, seats);
-    Ok(HostEnd { workers, totals })
+    Ok(HostEnd {
+        config,
+        workers,
+        totals,
+    })
 }
 
 /// Closes a host with all of its seats.

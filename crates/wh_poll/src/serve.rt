@@ -4,7 +4,8 @@ ghost use Rattle.wh_tasks.specs.Source.{KeepsOrigin, SameTasks, SameMay, FailsOn
 ghost use Rattle.wh_tasks.specs.Source.{Workflow as WorkflowDelivery, Activity as ActivityDelivery};
 ghost use Rattle.wh_tasks.specs.Tasks.{FailsOnlySource};
 ghost use Rattle.wh_poll.specs.Serve.{Serves, ServesWorkflow, ServesActivity, Sends};
-ghost use Rattle.wh_poll.specs.Serve.{Counts, MayCount, with_taken, ended, unanswered};
+ghost use Rattle.wh_host.specs.Machine.{with_taken};
+ghost use Rattle.wh_poll.specs.Serve.{Counts, MayCount, ended, unanswered};
 ghost use Rattle.wh_poll.specs.Serve.{served_workflow, served_activity, unreserved, HasNoTask, IsRefused};
 
 use crate::answer::{Answered, Reply, answer_by_handler, answer_by_replay};
@@ -181,7 +182,7 @@ fn polled_workflow<S: TaskSource>(
 }
 
 /// Answers a workflow task from the run that was cached, if one was, and gives the run to the
-/// cache.
+/// cache, unless the source keeps it from there.
 fn answer_held<R: Wait, W: Workflow, T: Ledger, C: Ledger, F: Ledger, S: TaskSource>(
     rt: &R,
     alloc: Global,
@@ -199,8 +200,17 @@ fn answer_held<R: Wait, W: Workflow, T: Ledger, C: Ledger, F: Ledger, S: TaskSou
     ensures origin { KeepsOrigin S.comes_from source.old source.new }
 {
     let Answered { run, sent } = answer_by_replay(alloc, cached, task, source);
-    give_back(rt, host, held, run);
+    give_back(rt, host, held, kept(source, run));
     sent
+}
+
+/// The run, where the source lets it be cached.
+fn kept<W: Workflow, S: TaskSource>(source: &S, run: Option<Run<W>>) -> Option<Run<W>> {
+    if !source.keeps_run() {
+        drop(run);
+        return None;
+    }
+    run
 }
 
 /// Serves an activity task under the permit.

@@ -165,6 +165,12 @@ pub trait TaskSource {
         self.answer_workflow(name, answer)
     }
 
+    /// Whether the run of the workflow task that was answered last may be cached. A source says no
+    /// where the answer does not count, so that the run may differ from the history that goes on.
+    fn keeps_run(&self) -> bool {
+        true
+    }
+
     /// Sends the answer to the activity task of a name. After a fault nothing was taken.
     fn answer_activity(
         &mut self,
