@@ -1,0 +1,4 @@
+pub mod Keeping
+pub mod Paging
+pub mod Posts
+pub mod Statuses

@@ -1,0 +1,112 @@
+//! The workers of a host.
+
+ghost use Rattle.std.specs.Prelude.{◌≡◌, ◌≤◌, ◌<◌, true, IfOk, Some, is_some, map, vec_len, replicate};
+ghost use Rattle.wh_ledger.specs.Shares.{no_shares};
+ghost use Rattle.wh_live.specs.Crews.{normal_workers, role_at, roles_of};
+
+use crate::connection::Connection;
+use crate::live_source::LiveSource;
+use crate::options::{LiveOptions, Role};
+use crate::tallies::Tally;
+use std::alloc::Global;
+use std::sync::Wait;
+use std::sync::ledger::Ledger;
+use std::thread::Threads;
+use wh_events::OutOfMemory;
+use wh_host::Host;
+use wh_ledger::Seat;
+use wh_poll::{ActivityHandler, Left, Observer, OpenGate, Post, run_posts};
+use wh_workflow::Workflow;
+
+/// How many of the workflow workers poll the queue that all workers poll: one in five and at least
+/// one, or all of them where runs are not cached. Where runs are cached, two workers or more poll
+/// both queues.
+pub(crate) fn normal_workers(workers: usize, has_cache: bool) -> usize
+    ensures is { result ≡ normal_workers workers has_cache }
+    ensures normal { 1 ≤ workers → (1 ≤ result) × (result ≤ workers) }
+    ensures sticky { (has_cache ≡ true) → 2 ≤ workers → result < workers }
+{
+    if has_cache {
+        usize::max(workers / 5, 1)
+    } else {
+        workers
+    }
+}
+
+/// What the worker at a place polls: first come those of the queue that all poll, then those of the
+/// sticky queue, and then those of activities.
+fn role_at(normal: usize, workers: usize, place: usize) -> Role
+    ensures { result ≡ role_at normal workers place }
+{
+    if workers <= place {
+        Role::Activities
+    } else if place < normal {
+        Role::Normal
+    } else {
+        Role::Sticky
+    }
+}
+
+/// A post for each worker, without an end to its turns. Each polls what is for its place.
+/// `OutOfMemory` where no room was found.
+pub(crate) fn posts_of<'a, L: Connection, A: Drop, O: Drop>(
+    alloc: Global,
+    line: &'a L,
+    options: &'a LiveOptions,
+    workers: usize,
+    crew: Vec<(A, O)>,
+) -> Result<Vec<Post<LiveSource<'a, L>, A, O>>, OutOfMemory>
+    ensures count { IfOk result (λ posts. vec_len posts ≡ vec_len crew) }
+    ensures members { IfOk result (λ posts. map (λ post. (post.handler, post.observer)) posts.items ≡ crew.items) }
+    ensures roles { IfOk result (λ posts. map (λ post. post.source.desk.role) posts.items
+        ≡ roles_of (normal_workers workers (is_some options.entry.now.sticky)) workers (vec_len crew)) }
+{
+    let normal = normal_workers(workers, options.sticky.is_some());
+    let mut posts = Vec::new(alloc);
+    for (handler, observer) in crew {
+        let role = role_at(normal, workers, posts.len());
+        let source = LiveSource::new(line, options, role);
+        posts.push(Post {
+            source,
+            handler,
+            observer,
+            turns: u64::MAX,
+        })?;
+    }
+    Ok(posts)
+}
+
+/// What all sources have counted.
+fn gathered<L: Connection, A, O>(left: &[Left<LiveSource<'_, L>, A, O>]) -> Tally {
+    let mut all = Tally::new();
+    for worker in left {
+        all.add(worker.source.tally());
+    }
+    all
+}
+
+/// Runs the workers, and gives the seats back and what their sources have counted.
+pub(crate) fn run_crew<
+    R: Threads + Wait + Sync,
+    W: Workflow + Send,
+    T: Ledger + Send,
+    K: Ledger + Send,
+    F: Ledger + Send,
+    L: Connection + Sync,
+    A: ActivityHandler + Send + Drop,
+    O: Observer + Send + Drop,
+>(
+    rt: &R,
+    alloc: Global,
+    host: &Host<W, T, K, F>,
+    seats: Vec<Seat<T, K, F>>,
+    posts: Vec<Post<LiveSource<'_, L>, A, O>>,
+) -> Result<(Vec<Seat<T, K, F>>, Tally), OutOfMemory>
+    requires { seats.items ≡ replicate (vec_len posts) no_shares }
+    ensures { IfOk result (λ ended. vec_len ended.0 ≡ vec_len posts.entry) }
+{
+    let (seats, left) = run_posts(rt, alloc, host, seats, posts, &OpenGate)?;
+    let tally = gathered(left.as_slice());
+    drop(left);
+    Ok((seats, tally))
+}

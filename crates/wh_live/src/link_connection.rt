@@ -1,0 +1,54 @@
+//! A connection over calls of a link.
+
+use crate::connection::Connection;
+use serde_json::Value;
+use std::alloc::Global;
+use std::sync::Wait;
+use std::thread;
+use std::time::{Clock, Duration};
+use wh_rpc::{CallFault, Caller, Outcome};
+
+/// A connection over calls of a link, whose person reads standard error. It holds the handle, since
+/// a poll is passed none.
+#[derive(Drop)]
+pub(crate) struct LinkConnection<'a, R, C> {
+    pub(crate) rt: &'a R,
+    pub(crate) calls: &'a C,
+}
+
+/// The time in whole seconds since 1970, 0 where there is no clock.
+fn seconds<R: Clock>(rt: &R) -> u64 {
+    match rt.since_1970() {
+        Ok(time) => time.as_secs(),
+        Err(_) => 0,
+    }
+}
+
+impl<R: Wait + Clock + Eprint, C: Caller> Connection for LinkConnection<'_, R, C> {
+    ghost gives = { λ method params value. Unit {0} };
+
+    fn allocator(&self) -> Global {
+        self.calls.allocator()
+    }
+
+    fn call(&self, method: &str, params: Value) -> Result<(u64, Outcome), CallFault> {
+        self.calls.call(self.rt, method, params)
+    }
+
+    fn poll(&self, method: &str, params: Value) -> Result<(u64, Outcome), CallFault> {
+        self.calls.poll(self.rt, method, params)
+    }
+
+    fn tell(&self, what: &str) {
+        let _ = eprintln!(self.rt; "wfhost: {what}");
+    }
+
+    fn log(&self, what: &str) {
+        let seconds = seconds(self.rt);
+        let _ = eprintln!(self.rt; "{seconds} {what}");
+    }
+
+    fn pause(&self, milliseconds: u64) {
+        thread::sleep(self.rt, Duration::from_millis(milliseconds));
+    }
+}

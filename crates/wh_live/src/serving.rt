@@ -1,0 +1,186 @@
+//! A host whose tasks a server gives.
+
+ghost use Rattle.std.specs.Prelude.{◌≡◌, ◌+◌, ◌↔◌, Err, IfOk, OnErr, replicate, vec_len};
+ghost use Rattle.wh_host.specs.Machine.{IsConfig};
+ghost use Rattle.wh_ledger.specs.Shares.{no_shares};
+
+use crate::connection::Connection;
+use crate::crews::{posts_of, run_crew};
+use crate::link_connection::LinkConnection;
+use crate::options::LiveOptions;
+use crate::tallies::Tally;
+use std::alloc::Global;
+use std::io::BufReader;
+use std::marker::Brand;
+use std::sync::Wait;
+use std::sync::ledger::{Blank, Ledger};
+use std::thread::Threads;
+use std::time::Clock;
+use wh_events::OutOfMemory;
+use wh_host::{Config, Host, OpenFault, Totals};
+use wh_ledger::Seat;
+use wh_messages::shutdown;
+use wh_poll::{ActivityHandler, Observer};
+use wh_rpc::{Caller, read_lines};
+use wh_workflow::Workflow;
+
+/// What is left of a host whose tasks a server gave.
+#[derive(Clone, Copy, Debug)]
+pub struct LiveEnd {
+    /// What its workers counted.
+    pub totals: Totals,
+    /// What their sources counted.
+    pub tally: Tally,
+}
+
+/// Reads what the other end writes, until it ends, and gives each response to the call that waits
+/// for it. Once the input has ended, or where it can't be read, all calls are closed.
+///
+/// It stands in a thread beside `serve_live`, which needs the responses to its last calls too. A
+/// program that is to end while its input is open lets that thread go: it does not join it.
+pub fn read_input<R: Wait + Input + Eprint, C: Caller>(rt: &R, alloc: Global, calls: &C) {
+    match BufReader::new(alloc, rt.reader()) {
+        Ok(input) => read_lines(rt, alloc, input, calls),
+        Err(_) => calls.close(rt),
+    }
+}
+
+/// Gives up the sticky queue, which spares the next process that it waits for this one.
+fn give_up_queue<L: Connection>(line: &L, options: &LiveOptions) {
+    if options.sticky.is_some() {
+        if let Ok(params) = shutdown(line.allocator(), &options.names) {
+            let _ = line.call("ShutdownWorker", params);
+        }
+    }
+}
+
+/// Runs the workers of an open host, and gives the seats back and what their sources have counted.
+fn run_open<
+    W: Workflow + Send,
+    R: Threads + Wait + Clock + Eprint + Sync,
+    C: Caller + Sync,
+    A: ActivityHandler + Send + Drop,
+    O: Observer + Send + Drop,
+    T: Ledger + Send,
+    K: Ledger + Send,
+    F: Ledger + Send,
+>(
+    rt: &R,
+    alloc: Global,
+    calls: &C,
+    host: &Host<W, T, K, F>,
+    seats: Vec<Seat<T, K, F>>,
+    options: &LiveOptions,
+    workers: usize,
+    crew: Vec<(A, O)>,
+) -> Result<(Vec<Seat<T, K, F>>, Tally), OutOfMemory>
+    requires { seats.items ≡ replicate (vec_len crew) no_shares }
+    ensures { IfOk result (λ ended. vec_len ended.0 ≡ vec_len crew) }
+{
+    let line = LinkConnection { rt, calls };
+    let posts = posts_of(alloc, &line, options, workers, crew)?;
+    let ended = run_crew(rt, alloc, host, seats, posts)?;
+    give_up_queue(&line, options);
+    Ok(ended)
+}
+
+/// Closes a host with all of its seats.
+fn close<W: Workflow, T: Ledger, K: Ledger, F: Ledger>(
+    host: Host<W, T, K, F>,
+    seats: Vec<Seat<T, K, F>>,
+) -> Totals
+    requires { T.parts ≡ vec_len seats }
+    ensures { result.taken ≡ result.completed + result.failed + result.in_hand }
+{
+    let Ok(totals) = host.close(seats) else {
+        unreachable!()
+    };
+    totals
+}
+
+/// Serves over these ledgers.
+fn serve_with<
+    W: Workflow + Send,
+    R: Threads + Wait + Clock + Eprint + Sync,
+    C: Caller + Sync,
+    A: ActivityHandler + Send + Drop,
+    O: Observer + Send + Drop,
+    T: Ledger + Send,
+    K: Ledger + Send,
+    F: Ledger + Send,
+>(
+    rt: &R,
+    alloc: Global,
+    config: Config,
+    calls: &C,
+    options: &LiveOptions,
+    workers: usize,
+    crew: Vec<(A, O)>,
+    taken: Blank,
+    completed: Blank,
+    failed: Blank,
+) -> Result<LiveEnd, OpenFault>
+    requires seats { config.seats ≡ vec_len crew }
+    requires taken { (taken.name ≡ T.name) × (taken.parts ≡ T.parts) × (taken.parts ≡ config.seats) }
+    requires completed { (completed.name ≡ K.name) × (completed.parts ≡ K.parts)
+        × (completed.parts ≡ config.seats) }
+    requires failed { (failed.name ≡ F.name) × (failed.parts ≡ F.parts) × (failed.parts ≡ config.seats) }
+    ensures bad { (result ≡ Err OpenFault.BadConfig) ↔ (¬ IsConfig config) }
+    ensures balanced { IfOk result (λ end.
+        end.totals.taken ≡ end.totals.completed + end.totals.failed + end.totals.in_hand) }
+{
+    let (host, seats) = Host::<W, T, K, F>::open(alloc, config, taken, completed, failed)?;
+    let (seats, tally) = run_open(rt, alloc, calls, &host, seats, options, workers, crew)?;
+    let totals = close(host, seats);
+    Ok(LiveEnd { totals, tally })
+}
+
+/// Opens a host of these sizes, runs a worker in a thread of its own for each member of the crew
+/// over the calls of a server, and closes the host once all have ended: where the calls are closed,
+/// and where no poll will do better.
+///
+/// The first members poll workflow tasks, as many as there are workers of workflows; the others
+/// poll activities. With a cache one worker of workflows in five, and at least one, polls the queue
+/// that all workers poll, and the others poll that of this process, which is given up at the end;
+/// without a cache all poll the first. So one worker of workflows alone polls no queue of its
+/// process: with it `options.sticky` is to be `None`, or the tasks of its runs wait there in vain.
+///
+/// `BadConfig` where a size is not within its range, or there are not as many seats as members of
+/// the crew; `OutOfMemory` where no room was found. Then the crew is given up. (Temporal
+/// documentation, "Workers": a Worker Process.)
+pub fn serve_live<
+    W: Workflow + Send,
+    R: Threads + Wait + Clock + Eprint + Sync,
+    C: Caller + Sync,
+    A: ActivityHandler + Send + Drop,
+    O: Observer + Send + Drop,
+>(
+    rt: &R,
+    alloc: Global,
+    config: Config,
+    calls: &C,
+    options: &LiveOptions,
+    workers: usize,
+    crew: Vec<(A, O)>,
+) -> Result<LiveEnd, OpenFault>
+    ensures bad { (result ≡ Err OpenFault.BadConfig) ↔ (¬ (IsConfig config × (config.seats ≡ vec_len crew))) }
+    ensures balanced { IfOk result (λ end.
+        end.totals.taken ≡ end.totals.completed + end.totals.failed + end.totals.in_hand) }
+{
+    let seats = config.seats;
+    if seats != crew.len() {
+        return Err(OpenFault::BadConfig);
+    }
+    serve_with::<W, R, C, A, O, Brand, Brand, Brand>(
+        rt,
+        alloc,
+        config,
+        calls,
+        options,
+        workers,
+        crew,
+        Blank::new(seats as u64),
+        Blank::new(seats as u64),
+        Blank::new(seats as u64),
+    )
+}

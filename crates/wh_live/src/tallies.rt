@@ -1,0 +1,86 @@
+//! What a source counts.
+
+ghost use Rattle.std.specs.Prelude.{◌≡◌, Err};
+ghost use Rattle.wh_tasks.specs.Source.{FailsOnly};
+
+use crate::codes::Receipt;
+use wh_tasks::SourceFault;
+
+/// What a source has counted.
+#[derive(Clone, Copy, PartialEq, Eq, Debug)]
+pub struct Tally {
+    /// Polls that got a result or an error.
+    pub polls: u64,
+    /// Polls that gave no task.
+    pub empty: u64,
+    /// Answers whose task was over.
+    pub not_found: u64,
+    /// Answers of which the server had failed the task itself.
+    pub refused: u64,
+    /// Calls of the source that failed, also where the link was closed.
+    pub failures: u64,
+    /// Calls of the source that failed while the link was open.
+    pub faults: u64,
+}
+
+impl Tally {
+    /// Nothing is counted.
+    pub(crate) fn new() -> Tally
+        ensures { result.failures ≡ 0 }
+    {
+        Tally {
+            polls: 0,
+            empty: 0,
+            not_found: 0,
+            refused: 0,
+            failures: 0,
+            faults: 0,
+        }
+    }
+
+    /// Adds what another source has counted.
+    pub(crate) fn add(&mut self, other: Tally) {
+        self.polls = self.polls.saturating_add(other.polls);
+        self.empty = self.empty.saturating_add(other.empty);
+        self.not_found = self.not_found.saturating_add(other.not_found);
+        self.refused = self.refused.saturating_add(other.refused);
+        self.failures = self.failures.saturating_add(other.failures);
+        self.faults = self.faults.saturating_add(other.faults);
+    }
+
+    /// Counts a poll.
+    pub(crate) fn polled(&mut self, is_empty: bool)
+        ensures { self.new.failures ≡ self.old.failures }
+    {
+        self.polls = self.polls.saturating_add(1);
+        if is_empty {
+            self.empty = self.empty.saturating_add(1);
+        }
+    }
+
+    /// Counts an answer.
+    pub(crate) fn answered(&mut self, receipt: Receipt)
+        ensures { self.new.failures ≡ self.old.failures }
+    {
+        if receipt == Receipt::NotFound {
+            self.not_found = self.not_found.saturating_add(1);
+        }
+        if receipt == Receipt::Invalid {
+            self.refused = self.refused.saturating_add(1);
+        }
+    }
+
+    /// Counts a call that failed, and says what the source says of it.
+    pub(crate) fn failed(&mut self, is_fault: bool) -> SourceFault
+        ensures { FailsOnly {A = Unit {0}} (Err result) self.old.failures self.new.failures }
+    {
+        if self.failures == u64::MAX {
+            return SourceFault::OutOfMemory;
+        }
+        self.failures += 1;
+        if is_fault {
+            self.faults = self.faults.saturating_add(1);
+        }
+        SourceFault::Source
+    }
+}

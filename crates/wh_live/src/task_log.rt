@@ -1,0 +1,86 @@
+//! A line for each task, for people.
+
+use crate::codes::Receipt;
+use crate::connection::Connection;
+use crate::desks::Desk;
+use crate::tasks::{OpenTask, workflow_type};
+use wh_events::Event;
+use wh_replay::Answer;
+use wh_tasks::ActivityAnswer;
+use wh_tester::Shown;
+
+/// How a task ended, in words.
+fn outcome_words(is_completed: bool, receipt: Receipt) -> &'static str {
+    match receipt {
+        Receipt::Acknowledged if is_completed => "completed",
+        Receipt::Acknowledged | Receipt::Replaced => "failed",
+        Receipt::Withheld => "failed again, not told",
+        Receipt::NotFound => "over before its answer",
+        Receipt::Invalid => "refused",
+        Receipt::Cut | Receipt::Lost => "answer lost",
+        Receipt::NoMemory => "out of memory",
+    }
+}
+
+/// How many commands an answer has.
+fn count_commands(answer: &Answer) -> usize {
+    match answer {
+        Answer::Complete(commands) => commands.get().len(),
+        Answer::Fail(_) => 0,
+    }
+}
+
+/// The type of a task's workflow: that of the events that it was replayed from, or else the one
+/// that was noted.
+fn type_of<'a>(open: &'a OpenTask, held: &'a [Event]) -> &'a str {
+    match workflow_type(held) {
+        Some(name) => name.get(),
+        None => open.what.get(),
+    }
+}
+
+impl<L: Connection> Desk<'_, L> {
+    /// Tells how a workflow task ended that was replayed from these events, where tasks are told:
+    /// its run and type, how many events it came with, and whether it was a hit of the cache.
+    pub(crate) fn log_workflow(
+        &self,
+        open: &OpenTask,
+        answer: &Answer,
+        held: &[Event],
+        receipt: Receipt,
+    ) {
+        if !self.options.verbose {
+            return;
+        }
+        let found = if open.from_first { "miss" } else { "hit" };
+        let is_completed = matches!(answer, Answer::Complete(_));
+        let what = Shown(type_of(open, held));
+        let (events, commands) = (open.events, count_commands(answer));
+        let outcome = outcome_words(is_completed, receipt);
+        if let Ok(text) = format!(in self.allocator();
+            "workflow {what}: {events} events, {found}, {commands} commands, {outcome}"
+        ) {
+            self.log_of(open, text.as_str());
+        }
+    }
+
+    /// Tells how an activity task ended, where tasks are told: its run and type.
+    pub(crate) fn log_activity(&self, open: &OpenTask, answer: &ActivityAnswer, receipt: Receipt) {
+        if !self.options.verbose {
+            return;
+        }
+        let is_completed = matches!(answer, ActivityAnswer::Completed(_));
+        let what = Shown(open.what.get());
+        let outcome = outcome_words(is_completed, receipt);
+        if let Ok(text) = format!(in self.allocator(); "activity {what}: {outcome}") {
+            self.log_of(open, text.as_str());
+        }
+    }
+
+    /// Tells something of a task with its run.
+    fn log_of(&self, open: &OpenTask, what: &str) {
+        if let Ok(text) = open.said(self.allocator(), what) {
+            self.line.log(text.as_str());
+        }
+    }
+}
