@@ -3,6 +3,7 @@
 
 ghost use Rattle.std.specs.Prelude.{◌≡◌, All, Bool, IfOk, codes};
 ghost use Rattle.wh_files.specs.Inputs.{IsCalled, IsEndOf, IsOf, IsReadFrom, IsSingle};
+ghost use Rattle.wh_files.specs.Reasons.{reason_of, reason_words};
 
 use std::alloc::{AllocError, Global};
 use std::fs::File;
@@ -18,25 +19,82 @@ const READ_LIMIT: u64 = 67_108_865;
 #[derive(Clone, Copy, Debug)]
 pub enum FolderFault {
     /// The file or the folder cannot be read.
-    Unreadable,
+    Unreadable {
+        /// Why not.
+        reason: Reason,
+    },
     /// There is no memory for a name or for the bytes of a file.
     OutOfMemory,
 }
 
-impl From<io::Error> for FolderFault {
-    ghost use Rattle.std.specs.Prelude.{◌≡◌, ◌↔◌};
-    ghost use Rattle.std.specs.IoError.{error_kind};
-    ghost use Rattle.std.specs.declared.io.ErrorKind.{ErrorKind};
-    ghost use Rattle.wh_files.specs.declared.FolderFault.{FolderFault};
+/// Why a file or a folder cannot be read, in the words of the system.
+#[derive(Clone, Copy, PartialEq, Eq, Debug)]
+pub enum Reason {
+    /// Nothing is there, or a folder on its way is none.
+    Missing,
+    /// It may not be read, or not be reached.
+    Forbidden,
+    /// It is a folder, where a file is asked for.
+    IsFolder,
+    /// It is no folder, where one is asked for.
+    NoFolder,
+    /// It is neither a file nor a folder, as a pipe or a device.
+    NoFile,
+    /// It is a link that leads round in a circle.
+    LinkLoop,
+    /// A name in it is no text.
+    BadName,
+    /// The system says something else.
+    Other,
+}
 
-    ghost from_gives = { λ error fault.
-        (fault ≡ FolderFault.OutOfMemory) ↔ (error_kind error ≡ ErrorKind.OutOfMemory) };
+impl Reason {
+    /// What is told of it.
+    pub fn words(self) -> &'static str
+        ensures { result.now ≡ reason_words self }
+    {
+        match self {
+            Reason::Missing => "no such file or folder",
+            Reason::Forbidden => "permission denied",
+            Reason::IsFolder => "is a folder",
+            Reason::NoFolder => "is no folder",
+            Reason::NoFile => "is no file",
+            Reason::LinkLoop => "too many links",
+            Reason::BadName => "a name is no text",
+            Reason::Other => "the system can't read it",
+        }
+    }
+}
+
+/// Why the system says that it can't read.
+fn reason_of(kind: ErrorKind) -> Reason
+    ensures { result ≡ reason_of kind }
+{
+    match kind {
+        ErrorKind::NotFound => Reason::Missing,
+        ErrorKind::PermissionDenied => Reason::Forbidden,
+        ErrorKind::IsADirectory => Reason::IsFolder,
+        ErrorKind::NotADirectory => Reason::NoFolder,
+        ErrorKind::FilesystemLoop => Reason::LinkLoop,
+        ErrorKind::InvalidFilename => Reason::BadName,
+        _ => Reason::Other,
+    }
+}
+
+impl From<io::Error> for FolderFault {
+    ghost use Rattle.std.specs.Prelude.{◌≡◌};
+    ghost use Rattle.std.specs.IoError.{error_kind};
+    ghost use Rattle.wh_files.specs.Reasons.{fault_of};
+
+    ghost from_gives = { λ error fault. fault ≡ fault_of (error_kind error) };
 
     fn from(error: io::Error) -> FolderFault {
-        if error.kind() == ErrorKind::OutOfMemory {
-            return FolderFault::OutOfMemory;
+        match error.kind() {
+            ErrorKind::OutOfMemory => FolderFault::OutOfMemory,
+            kind => FolderFault::Unreadable {
+                reason: reason_of(kind),
+            },
         }
-        FolderFault::Unreadable
     }
 }
 
@@ -91,6 +149,8 @@ pub enum InputFault {
         path: String,
         /// Its name in the folder, if it is one of a folder.
         entry: Option<String>,
+        /// Why not.
+        reason: Reason,
     },
     /// There is no memory for a name or for the bytes.
     OutOfMemory,
@@ -117,17 +177,42 @@ fn names_in<R: Files + AllocGlobal + Clone + Drop>(
     Ok(names)
 }
 
-/// The bytes of a file, up to `READ_LIMIT` of them. What is no file, as a folder or a pipe, cannot
-/// be read.
-pub fn read_file<R: Files + AllocGlobal>(rt: &R, path: &str) -> Result<Vec<u8>, FolderFault> {
-    if !fs::metadata(rt, path)?.is_file() {
-        return Err(FolderFault::Unreadable);
-    }
+/// The bytes of what can be read at a path, up to `READ_LIMIT` of them.
+fn read_path<R: Files + AllocGlobal>(rt: &R, path: &str) -> Result<Vec<u8>, FolderFault> {
     let mut bytes = Vec::new(rt.alloc());
     File::open(rt, path)?
         .take(READ_LIMIT)
         .read_to_end(&mut bytes)?;
     Ok(bytes)
+}
+
+/// That something at a path cannot be read: it is a folder, or no file either.
+fn no_file(is_dir: bool) -> FolderFault {
+    FolderFault::Unreadable {
+        reason: if is_dir {
+            Reason::IsFolder
+        } else {
+            Reason::NoFile
+        },
+    }
+}
+
+/// The bytes of a file, up to `READ_LIMIT` of them. What is no file, as a folder or a pipe, cannot
+/// be read.
+pub fn read_file<R: Files + AllocGlobal>(rt: &R, path: &str) -> Result<Vec<u8>, FolderFault> {
+    let metadata = fs::metadata(rt, path)?;
+    if !metadata.is_file() {
+        return Err(no_file(metadata.is_dir()));
+    }
+    read_path(rt, path)
+}
+
+/// The bytes of a file that was named itself: as of any file, and of a pipe too, until it ends.
+fn read_named<R: Files + AllocGlobal>(rt: &R, path: &str) -> Result<Vec<u8>, FolderFault> {
+    if fs::metadata(rt, path)?.is_dir() {
+        return Err(no_file(true));
+    }
+    read_path(rt, path)
 }
 
 /// The bytes of a file of a folder, as of any file.
@@ -256,18 +341,23 @@ pub fn inputs_at<R: Files + io::Input + AllocGlobal + Clone + Drop>(
 fn input_fault(fault: FolderFault, path: String, entry: Option<String>) -> InputFault {
     match fault {
         FolderFault::OutOfMemory => InputFault::OutOfMemory,
-        _ => InputFault::Unreadable { path, entry },
+        FolderFault::Unreadable { reason } => InputFault::Unreadable {
+            path,
+            entry,
+            reason,
+        },
     }
 }
 
-/// The bytes of an input, up to `READ_LIMIT` of them. What is no file, as a folder or a pipe,
-/// cannot be read, but for the standard input.
+/// The bytes of an input, up to `READ_LIMIT` of them. A folder cannot be read, nor what is no file
+/// in a folder, as a pipe, since it could be waited for without an end; a pipe that was named itself
+/// is read until it ends.
 pub fn read_input<R: Files + AllocGlobal>(rt: &R, origin: Origin) -> Result<Vec<u8>, InputFault>
     ensures { IfOk result (IsReadFrom origin) }
 {
     match origin {
         Origin::StandardInput { bytes } => Ok(bytes),
-        Origin::File { path } => match read_file(rt, path.as_str()) {
+        Origin::File { path } => match read_named(rt, path.as_str()) {
             Ok(bytes) => Ok(bytes),
             Err(fault) => Err(input_fault(fault, path, None)),
         },
