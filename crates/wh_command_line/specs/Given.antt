@@ -1,23 +1,27 @@
 -- What the words of a subcommand give under names: the rows in which `clap` puts them.
-use Rattle.std.specs.Prelude.{◌≡◌, ℕ, ◌≤◌, Bool, true, false, List, ◌∷◌, codes, Option, Some, None, option_map}
+use Rattle.std.specs.Prelude.{◌≡◌, ◌⊎◌, ℕ, ◌≤◌, Bool, true, false, List, [], ◌∷◌, codes, Option, Some, None, option_map}
 use Rattle.std.specs.Str.Parse.{IsNumeral, digits_value, without_leading_plus}
 use Rattle.clap.specs.Words.{Row, Text, all_of, first_of, one_of}
 
--- the rows give a path under a name
-abbrev pub GivesPath : Text → List Row → Text → Type 0
-GivesPath name rows path = first_of name rows ≡ Some path
+-- the rows give a text under a name
+abbrev pub GivesText : Text → List Row → Text → Type 0
+GivesText name rows text = first_of name rows ≡ Some text
 
--- the rows give no path under a name
-abbrev pub LacksPath : Text → List Row → Type 0
-LacksPath name rows = first_of name rows ≡ None
+-- the rows give no text under a name
+abbrev pub LacksText : Text → List Row → Type 0
+LacksText name rows = first_of name rows ≡ None
+
+-- the rows give no text under a name, or an empty one
+abbrev pub LacksName : Text → List Row → Type 0
+LacksName name rows = LacksText name rows ⊎ GivesText name rows []
 
 -- the rows give the folder
 abbrev pub GivesFolder : List Row → Text → Type 0
-GivesFolder rows dir = GivesPath (codes "DIR") rows dir
+GivesFolder rows dir = GivesText (codes "DIR") rows dir
 
 -- the rows give the file
 abbrev pub GivesFile : List Row → Text → Type 0
-GivesFile rows file = GivesPath (codes "FILE") rows file
+GivesFile rows file = GivesText (codes "FILE") rows file
 
 -- the rows give the paths, the first of which is that of a folder
 pub record GivesPaths (rows : List Row) (dir : Text) (more : List Text) : Type 0 where
@@ -49,3 +53,7 @@ pub record GivesWithin (rows : List Row) (name : Text) (least most : ℕ) : Type
   pub number : IsNumber text
   pub at_least : least ≤ value_of text
   pub at_most : value_of text ≤ most
+
+-- the rows give no text under a name, or a number from the least to the most
+abbrev pub MayGiveWithin : (rows : List Row) (name : Text) (least most : ℕ) → Type 0
+MayGiveWithin rows name least most = LacksText name rows ⊎ GivesWithin rows name least most

@@ -3,3 +3,4 @@ pub mod Lines
 pub mod Options
 pub mod Plans
 pub mod Refusals
+pub mod Work

@@ -1,23 +1,57 @@
--- The options of `serve`.
-use Rattle.std.specs.Prelude.{◌≡◌, ℕ, ◌≤◌, ◌<◌, List, [], ◌∷◌, codes, Some}
+-- The options of `serve` and `work`, with their limits.
+use Rattle.std.specs.Prelude.{◌≡◌, ◌≢◌, ◌⊎◌, ℕ, ◌+◌, ◌≤◌, ◌<◌, List, [], ◌∷◌, codes, true, Option, Some, IfSome}
 use Rattle.clap.specs.Words.{App, Row, Rule, Text, new_rule, with_rule}
-use Rattle.clap.specs.declared.builder.ArgAction.TheVariants.{Set}
+use Rattle.clap.specs.declared.builder.ArgAction.TheVariants.{Set, SetTrue}
 use Rattle.wh_host.specs.Machine.{IsConfig}
 use Rattle.wh_host.specs.declared.config.Config.{Config}
-use Rattle.wh_command_line.specs.Given.{GivesFolder, GivesWithin, value_named}
+use Rattle.wh_command_line.specs.Given.{GivesWithin, value_named}
 use Rattle.wh_command_line.specs.declared.command_line.Plan.{Plan}
-use Rattle.wh_command_line.specs.declared.command_line.Plan.TheVariants.{Serve}
+use Rattle.wh_command_line.specs.declared.command_line.Plan.TheVariants.{Serve, Work}
+use Rattle.wh_command_line.specs.declared.work.WorkOptions.{WorkOptions}
 
--- the option with a name that takes a number, and what it is otherwise
-abbrev pub number : Text → Text → Rule
-number name otherwise =
-    record (new_rule name) { long = Some name; action = Some Set; defaults = otherwise ∷ []; value_names = 1 }
+-- an argument whose value the help calls by a name of its own
+abbrev pub with_value_name : Rule → Rule
+with_value_name rule = record rule { value_names = 1 }
 
--- a subcommand with the options of `serve` more
-abbrev pub with_options : App → App
-with_options app = with_rule (with_rule (with_rule (with_rule app
-    (number (codes "workers") (codes "1"))) (number (codes "cache") (codes "100")))
-    (number (codes "cache-events") (codes "0"))) (number (codes "slots") (codes "100"))
+-- an argument that has a value where it is not given
+abbrev pub with_default : Text → Rule → Rule
+with_default otherwise rule = record rule { defaults = otherwise ∷ [] }
+
+-- an argument that has to be given
+abbrev pub as_needed : Rule → Rule
+as_needed rule = record rule { required = true }
+
+-- the option of a name, which takes a value
+abbrev pub option : Text → Rule
+option name = with_value_name (record (new_rule name) { long = Some name; action = Some Set })
+
+-- the option of a name that takes a value, and what that is otherwise
+abbrev pub option_or : Text → Text → Rule
+option_or name otherwise = with_default otherwise (option name)
+
+-- the flag of a name
+abbrev pub flag : Text → Rule
+flag name = record (new_rule name) { long = Some name; action = Some SetTrue }
+
+-- a subcommand with the options more that say how much a host holds
+abbrev pub with_sizes : App → App
+with_sizes app = with_rule (with_rule (with_rule app (option_or (codes "cache") (codes "100")))
+    (option_or (codes "cache-events") (codes "0"))) (option_or (codes "slots") (codes "100"))
+
+-- a subcommand with the options more that say who works for which Task Queue
+abbrev pub with_names : App → App
+with_names app = with_rule (with_rule (with_rule app (as_needed (option (codes "task-queue"))))
+    (option_or (codes "namespace") (codes "default"))) (option_or (codes "identity") (codes "wfhost"))
+
+-- a subcommand with the options more that bound activities and waits
+abbrev pub with_limits : App → App
+with_limits app = with_rule (with_rule (with_rule (with_rule app
+    (option_or (codes "activity-workers") (codes "0"))) (option_or (codes "activity-timeout") (codes "60")))
+    (option_or (codes "activity-attempts") (codes "1"))) (option_or (codes "sticky-timeout") (codes "10"))
+
+-- a subcommand with the options more that say what is told
+abbrev pub with_reports : App → App
+with_reports app = with_rule (with_rule app (flag (codes "verbose"))) (option (codes "stats"))
 
 -- how large a host the numbers ask for
 abbrev pub config_of : (workers cache cache_events slots : ℕ) → Config
@@ -58,14 +92,36 @@ pub record GivesFewSlots (rows : List Row) : Type 0 where
   pub limits : AreWithinLimits workers cache cache_events slots
   pub few : slots < workers
 
--- the plan is to serve the folder of the rows with their numbers
-abbrev pub IsGivenService : List Row → Plan → Type 0
-IsGivenService rows (Serve dir workers cache cache_events slots) =
-    GivesFolder rows dir × GivesNumbers rows workers cache cache_events slots
-IsGivenService rows _ = ⊥
+-- so many seconds are a duration that a server can be told, and some time
+abbrev pub IsTime : ℕ → Type 0
+IsTime seconds = (1 ≤ seconds) × (seconds ≤ 4294967295)
+
+-- the limits of activities and waits, and the time between counts, are within their own
+pub record AreLimits (timeout attempts sticky : ℕ) (stats : Option ℕ) : Type 0 where
+  pub timeout_is_time : IsTime timeout
+  pub attempts_fit : attempts ≤ 65535
+  pub sticky_is_time : IsTime sticky
+  pub stats_is_time : IfSome stats IsTime
+
+-- the options are within their limits: the host has a seat for each worker
+pub record IsWithinWorkLimits (options : WorkOptions) : Type 0 where
+  pub task_queue : options.task_queue ≢ []
+  pub workers : 1 ≤ options.workers
+  pub sizes : AreWithinLimits (options.workers + options.activity_workers)
+      options.cache options.cache_events options.slots
+  pub limits : AreLimits options.activity_timeout options.activity_attempts options.sticky_timeout options.stats
+
+-- there are fewer slots of a kind than workers of it
+abbrev pub LacksSlots : WorkOptions → Type 0
+LacksSlots options = (options.slots < options.workers) ⊎ (options.slots < options.activity_workers)
+
+-- there are at least as many slots of each kind as workers of it
+abbrev pub HasSlots : WorkOptions → Type 0
+HasSlots options = (options.workers ≤ options.slots) × (options.activity_workers ≤ options.slots)
 
 -- the numbers of a plan are within their limits, with at least as many slots as workers
 abbrev pub IsWithinLimits : Plan → Type 0
-IsWithinLimits (Serve dir workers cache cache_events slots) =
+IsWithinLimits (Serve dir workers cache cache_events slots require_files) =
     AreWithinLimits workers cache cache_events slots × (workers ≤ slots)
+IsWithinLimits (Work options) = IsWithinWorkLimits options × HasSlots options
 IsWithinLimits _ = Unit {0}

@@ -3,11 +3,12 @@ use Rattle.std.specs.Prelude.{◌≡◌, ◌≢◌, ◌⊎◌, List, [], codes, 
 use Rattle.clap.specs.Words.{IsAmong, Kinds, Row, Text, fault_of, subcommand_of}
 use Rattle.clap.specs.declared.error.kind.ErrorKind.{ErrorKind}
 use Rattle.clap.specs.declared.error.kind.ErrorKind.TheVariants.{DisplayHelp, DisplayVersion, OutOfMemory}
-use Rattle.wh_command_line.specs.Given.{GivesFile, GivesFlag, GivesPaths, LacksPath}
+use Rattle.wh_command_line.specs.Given.{GivesFile, GivesFlag, GivesFolder, GivesPaths, LacksText}
 use Rattle.wh_command_line.specs.Lines.{program}
-use Rattle.wh_command_line.specs.Options.{GivesAllWithin, GivesFewSlots, IsGivenService}
+use Rattle.wh_command_line.specs.Options.{GivesAllWithin, GivesFewSlots, GivesNumbers}
+use Rattle.wh_command_line.specs.Work.{GivesFewWorkSlots, GivesWork, LacksWork}
 use Rattle.wh_command_line.specs.declared.command_line.Plan.{Plan}
-use Rattle.wh_command_line.specs.declared.command_line.Plan.TheVariants.{Replay, Explain, Help}
+use Rattle.wh_command_line.specs.declared.command_line.Plan.TheVariants.{Replay, Explain, Serve, Work, Help}
 
 -- the plan is to print a text
 abbrev pub IsHelp : Plan → Type 0
@@ -16,11 +17,16 @@ IsHelp _ = ⊥
 
 -- the plan is what the subcommand of a name asks for by its rows
 abbrev pub IsGiven : Text → List Row → Plan → Type 0
-IsGiven name rows (Replay dir more json) = (name ≡ codes "replay") × GivesPaths rows dir more.items
+IsGiven name rows (Replay dir more json require_files) = (name ≡ codes "replay")
+    × GivesPaths rows dir more.items × GivesFlag (codes "json") rows json
+    × GivesFlag (codes "require-files") rows require_files
+IsGiven name rows (Explain file json) = (name ≡ codes "explain") × GivesFile rows file
     × GivesFlag (codes "json") rows json
-IsGiven name rows (Explain file) = (name ≡ codes "explain") × GivesFile rows file
+IsGiven name rows (Serve dir workers cache cache_events slots require_files) = (name ≡ codes "serve")
+    × GivesFolder rows dir × GivesNumbers rows workers cache cache_events slots
+    × GivesFlag (codes "require-files") rows require_files
+IsGiven name rows (Work options) = (name ≡ codes "work") × GivesWork rows options
 IsGiven name rows (Help text) = ⊥
-IsGiven name rows plan = (name ≡ codes "serve") × IsGivenService rows plan
 
 -- clap's answer is a text that was asked for: the help or the version
 abbrev pub IsRequest : ErrorKind → Type 0
@@ -59,28 +65,31 @@ abbrev pub IsAskedBy : List Text → Plan → Type 0
 IsAskedBy words plan = (IsHelp plan × AsksText words)
     ⊎ ((name : Text) × (rows : List Row) × Names words name rows × IsGiven name rows plan)
 
--- the subcommand of a name is to serve, and its rows give fewer slots than workers
+-- the subcommand of a name is to serve or to work, and its rows give fewer slots than workers
 abbrev pub AsksFewSlots : Text → List Row → Type 0
-AsksFewSlots name rows = (name ≡ codes "serve") × GivesFewSlots rows
+AsksFewSlots name rows = ((name ≡ codes "serve") × GivesFewSlots rows)
+    ⊎ ((name ≡ codes "work") × GivesFewWorkSlots rows)
 
--- the words ask to serve, with fewer slots than workers
+-- the words ask to serve or to work, with fewer slots than workers
 abbrev pub HasFewSlots : List Text → Type 0
-HasFewSlots words = (rows : List Row) × Names words (codes "serve") rows × GivesFewSlots rows
+HasFewSlots words = (name : Text) × (rows : List Row) × Names words name rows × AsksFewSlots name rows
 
 -- the rows give no folder to serve, or a number that is none or not within its limits
 abbrev pub LacksService : List Row → Type 0
-LacksService rows = LacksPath (codes "DIR") rows ⊎ ¬ (GivesAllWithin rows)
+LacksService rows = LacksText (codes "DIR") rows ⊎ ¬ (GivesAllWithin rows)
 
 -- the subcommand of a name is none of the program's
 abbrev pub IsNoCommand : Text → Type 0
-IsNoCommand name = (name ≢ codes "replay") × (name ≢ codes "explain") × (name ≢ codes "serve")
+IsNoCommand name = (name ≢ codes "replay") × (name ≢ codes "explain") × (name ≢ codes "serve") × (name ≢ codes "work")
 
--- the subcommand of a name can't do with its rows: it lacks its path, or a number within its limits
+-- the subcommand of a name can't do with its rows: it lacks its path or name, or a number within its
+-- limits
 abbrev pub IsBadGiven : Text → List Row → Type 0
 IsBadGiven name rows =
-    ((name ≡ codes "replay") × LacksPath (codes "DIR") rows)
-    ⊎ (((name ≡ codes "explain") × LacksPath (codes "FILE") rows)
-    ⊎ (((name ≡ codes "serve") × LacksService rows) ⊎ IsNoCommand name))
+    ((name ≡ codes "replay") × LacksText (codes "DIR") rows)
+    ⊎ (((name ≡ codes "explain") × LacksText (codes "FILE") rows)
+    ⊎ (((name ≡ codes "serve") × LacksService rows)
+    ⊎ (((name ≡ codes "work") × LacksWork rows) ⊎ IsNoCommand name)))
 
 -- the words are none of the program's: clap finds a mistake, or it reads them, and there is no
 -- subcommand, or that can't do with what it is given

@@ -2,25 +2,28 @@
 
 ghost use Rattle.std.specs.Prelude.{◌≡◌, ◌≢◌, ◌↔◌, ◌<◌, false, codes, Err, IfOk, IfErr, IfSome, map};
 ghost use Rattle.std.specs.Prelude.{string_bytes};
-ghost use Rattle.clap.specs.Words.{App, app_of, new_app, found_of, rows_of, rule_of, kind_of};
+ghost use Rattle.clap.specs.Words.{App, Rule, app_of, new_app, found_of, rows_of, rule_of, kind_of};
 ghost use Rattle.clap.specs.Words.{with_rule, with_subcommand};
 ghost use Rattle.clap.specs.declared.builder.Command.TheViews.{out-Command as fields_of};
-ghost use Rattle.wh_command_line.specs.Given.{GivesFlag, GivesPath, GivesPaths, LacksPath};
-ghost use Rattle.wh_command_line.specs.Lines.{program, replay, explain, serve, needed, folder, paths, flag};
-ghost use Rattle.wh_command_line.specs.Lines.{StandsFor, with_value_name, with_version};
-ghost use Rattle.wh_command_line.specs.Options.{IsWithinLimits, number};
+ghost use Rattle.wh_command_line.specs.Given.{GivesFlag, GivesPaths, GivesText, LacksText};
+ghost use Rattle.wh_command_line.specs.Lines.{program, replay, explain, serve, needed, folder, paths};
+ghost use Rattle.wh_command_line.specs.Lines.{StandsFor, with_version};
+ghost use Rattle.wh_command_line.specs.Options.{as_needed, flag, option, option_or, with_default};
+ghost use Rattle.wh_command_line.specs.Options.{with_sizes, with_value_name};
+ghost use Rattle.wh_command_line.specs.Options.{IsWithinLimits, IsWithinWorkLimits, LacksSlots};
 ghost use Rattle.wh_command_line.specs.Plans.{AsksFewSlots, HasFewSlots, IsAskedBy, IsGiven, IsHelp};
 ghost use Rattle.wh_command_line.specs.Plans.{IsBadGiven, IsBadLine, IsMistake, IsRequest};
 ghost use Rattle.wh_command_line.specs.Refusals.{IfBad};
 
 use crate::options::{CACHE, CACHE_EVENTS, Helps, NumberOption, SLOTS, ServeOptions, WORKERS};
+use crate::work::{WorkOptions, work};
 use clap::error::ErrorKind;
 use clap::{Arg, ArgAction, ArgMatches, Command, Error};
 use std::alloc::{AllocError, Global};
 use wh_events::Text;
 
 /// What `--version` prints behind the program's name.
-const VERSION: &str = "0.1.0 (rattle-kit-13f logic dac8208d650f15bf)";
+const VERSION: &str = "0.1.0";
 
 /// What the help says of the statuses.
 const STATUSES: &str = "\
@@ -28,15 +31,6 @@ Status:
   0  each file was read, and no task of it has a fault
   1  the report names a file or a task that has one
   2  there is no report; standard error says why";
-
-/// What a line without a command is told.
-const NO_COMMAND: &str = "\
-error: a command is needed
-
-Usage: wfhost [COMMAND]
-
-For more information, try '--help'.
-";
 
 /// What the program is to do.
 #[derive(Debug, Drop)]
@@ -50,10 +44,14 @@ pub enum Plan {
         more: Vec<Text>,
         /// Whether the report is to be JSON.
         json: bool,
+        /// Whether it is a failure that there is no history.
+        require_files: bool,
     },
     /// Explain the replay of the history in a file.
     Explain {
         file: Text,
+        /// Whether the explanation is to be JSON.
+        json: bool,
     },
     /// Serve the tasks of each history in a folder. Each number is within the limits of a host, and
     /// there are at least as many slots as workers.
@@ -67,6 +65,13 @@ pub enum Plan {
         cache_events: u64,
         /// How many slots there are of each kind.
         slots: u64,
+        /// Whether it is a failure that there is no history.
+        require_files: bool,
+    },
+    /// Serve the tasks of a Task Queue. Each option is within its limits, and there are at least as
+    /// many slots of each kind as workers of it.
+    Work {
+        options: WorkOptions,
     },
     /// Print a text that was asked for.
     Help {
@@ -79,7 +84,7 @@ pub enum Plan {
 pub enum Refusal {
     /// The line is none of the program's. The text says why, and ends its own line.
     BadLine { text: Text },
-    /// There are fewer slots than workers.
+    /// There are fewer slots of a kind than workers of it.
     FewSlots,
     /// An allocation was refused. It may come in place of any refusal.
     OutOfMemory,
@@ -163,7 +168,7 @@ fn paths_argument<'a>(alloc: Global) -> Arg<'a>
 }
 
 /// A flag, with its help.
-fn flag_argument<'a>(alloc: Global, name: &'a str, help: &'a str) -> Arg<'a>
+pub(crate) fn flag_argument<'a>(alloc: Global, name: &'a str, help: &'a str) -> Arg<'a>
     ensures rule { rule_of result ≡ flag name.entry.now }
     ensures local { result.global ≡ false }
 {
@@ -181,67 +186,134 @@ fn folder_argument<'a>(alloc: Global) -> Arg<'a>
     needed_argument(alloc, "DIR", "The folder whose .json files are read")
 }
 
-/// An option of `serve`, with its help.
-fn number_argument<'a>(alloc: Global, option: &NumberOption, help: &'a str) -> Arg<'a>
-    ensures rule { rule_of result ≡ number option.now.name.now option.now.otherwise.now }
+/// An option that takes a value, with the name that the help has for the value, and its help.
+pub(crate) fn option_argument<'a>(
+    alloc: Global,
+    name: &'a str,
+    value_name: &'a str,
+    help: &'a str,
+) -> Arg<'a>
+    ensures rule { rule_of result ≡ option name.entry.now }
     ensures local { result.global ≡ false }
 {
-    let argument = Arg::new(alloc, option.name)
-        .long(option.name)
+    let argument = Arg::new(alloc, name)
+        .long(name)
         .action(ArgAction::Set)
-        .default_value(option.otherwise)
         .help(help);
-    with_value_name(argument, "N")
+    with_value_name(argument, value_name)
+}
+
+/// An option that has a value where it is not given.
+pub(crate) fn with_default<'a>(argument: Arg<'a>, otherwise: &'a str) -> Arg<'a>
+    ensures rule { rule_of result ≡ with_default otherwise.entry.now (rule_of argument.entry) }
+    ensures local { result.global ≡ argument.entry.global }
+{
+    argument.default_value(otherwise)
+}
+
+/// An option that has to be given.
+pub(crate) fn as_needed<'a>(argument: Arg<'a>) -> Arg<'a>
+    ensures rule { rule_of result ≡ as_needed (rule_of argument.entry) }
+    ensures local { result.global ≡ argument.entry.global }
+{
+    argument.required(true)
+}
+
+/// An option that takes a number, with its help.
+pub(crate) fn number_argument<'a>(alloc: Global, option: &NumberOption, help: &'a str) -> Arg<'a>
+    ensures rule { rule_of result ≡ option_or option.now.name.now option.now.otherwise.now }
+    ensures local { result.global ≡ false }
+{
+    let argument = option_argument(alloc, option.name, option.value_name, help);
+    with_default(argument, option.otherwise)
 }
 
 /// A subcommand with nothing yet but its help.
-fn subcommand<'a>(alloc: Global, name: &'a str, about: &'a str) -> Command<'a>
+pub(crate) fn subcommand<'a>(alloc: Global, name: &'a str, about: &'a str) -> Command<'a>
     ensures app { app_of result ≡ new_app name.entry.now }
     ensures local { (fields_of result).has_globals ≡ false }
 {
     Command::new(alloc, name).about(about)
 }
 
-/// The subcommand `replay`.
-fn replay<'a>(alloc: Global) -> Result<Command<'a>, AllocError>
-    ensures { IfOk result (StandsFor replay) }
+/// A subcommand, if there is one, with an argument more.
+pub(crate) fn with_argument<'a>(
+    command: Result<Command<'a>, AllocError>,
+    argument: Arg<'a>,
+) -> Result<Command<'a>, AllocError>
+    ensures { (app : App) (rule : Rule) → rule_of argument.entry ≡ rule → argument.entry.global ≡ false
+        → IfOk command.entry (StandsFor app) → IfOk result (StandsFor (with_rule app rule)) }
 {
-    subcommand(
-        alloc,
-        "replay",
-        "Replays each history of folders and files, and prints a line for each",
-    )
-    .arg(paths_argument(alloc))?
-    .arg(flag_argument(alloc, "json", "Prints the report as JSON"))
+    command?.arg(argument)
 }
 
-/// The subcommand `explain`.
-fn explain<'a>(alloc: Global) -> Result<Command<'a>, AllocError>
-    ensures { IfOk result (StandsFor explain) }
-{
-    subcommand(
-        alloc,
-        "explain",
-        "Replays a history, and prints what the workflow was told and gave, task by task",
-    )
-    .arg(needed_argument(
-        alloc,
-        "FILE",
-        "The history file that is read, or - for the standard input",
-    ))
-}
-
-/// A subcommand, if there is one, with an option of `serve` more.
-fn with_number<'a>(
+/// A subcommand, if there is one, with an option more that takes a number.
+pub(crate) fn with_number<'a>(
     alloc: Global,
     command: Result<Command<'a>, AllocError>,
     option: &NumberOption,
     help: &'a str,
 ) -> Result<Command<'a>, AllocError>
     ensures { (app : App) → IfOk command.entry (StandsFor app)
-        → IfOk result (StandsFor (with_rule app (number option.now.name.now option.now.otherwise.now))) }
+        → IfOk result (StandsFor (with_rule app (option_or option.now.name.now option.now.otherwise.now))) }
 {
-    command?.arg(number_argument(alloc, option, help))
+    with_argument(command, number_argument(alloc, option, help))
+}
+
+/// The flag that makes it a failure that there is no history.
+fn require_files_argument<'a>(alloc: Global) -> Arg<'a>
+    ensures rule { rule_of result ≡ flag (codes "require-files") }
+    ensures local { result.global ≡ false }
+{
+    flag_argument(alloc, "require-files", "Fails where there is no history")
+}
+
+/// The subcommand `replay`.
+fn replay<'a>(alloc: Global) -> Result<Command<'a>, AllocError>
+    ensures { IfOk result (StandsFor replay) }
+{
+    let command = subcommand(
+        alloc,
+        "replay",
+        "Replays each history of folders and files, and prints a line for each",
+    );
+    let command = with_argument(Ok(command), paths_argument(alloc));
+    let json = flag_argument(alloc, "json", "Prints the report as JSON");
+    let command = with_argument(command, json);
+    with_argument(command, require_files_argument(alloc))
+}
+
+/// The subcommand `explain`.
+fn explain<'a>(alloc: Global) -> Result<Command<'a>, AllocError>
+    ensures { IfOk result (StandsFor explain) }
+{
+    let command = subcommand(
+        alloc,
+        "explain",
+        "Replays a history, and prints what the workflow was told and gave, task by task",
+    );
+    let file = needed_argument(
+        alloc,
+        "FILE",
+        "The history file that is read, or - for the standard input",
+    );
+    let command = with_argument(Ok(command), file);
+    let json = flag_argument(alloc, "json", "Prints the explanation as JSON");
+    with_argument(command, json)
+}
+
+/// A subcommand, if there is one, with the options more that say how much a host holds.
+pub(crate) fn with_sizes<'a>(
+    alloc: Global,
+    command: Result<Command<'a>, AllocError>,
+    helps: &'a Helps,
+) -> Result<Command<'a>, AllocError>
+    ensures { (app : App) → IfOk command.entry (StandsFor app)
+        → IfOk result (StandsFor (with_sizes app)) }
+{
+    let command = with_number(alloc, command, &CACHE, helps.cache.as_str());
+    let command = with_number(alloc, command, &CACHE_EVENTS, helps.cache_events.as_str());
+    with_number(alloc, command, &SLOTS, helps.slots.as_str())
 }
 
 /// The subcommand `serve`.
@@ -253,47 +325,50 @@ fn serve<'a>(alloc: Global, helps: &'a Helps) -> Result<Command<'a>, AllocError>
         "serve",
         "Serves each history of a folder as workflow tasks, and prints how they ended",
     );
-    let command = command.arg(folder_argument(alloc));
+    let command = with_argument(Ok(command), folder_argument(alloc));
     let command = with_number(alloc, command, &WORKERS, helps.workers.as_str());
-    let command = with_number(alloc, command, &CACHE, helps.cache.as_str());
-    let command = with_number(alloc, command, &CACHE_EVENTS, helps.cache_events.as_str());
-    with_number(alloc, command, &SLOTS, helps.slots.as_str())
+    let command = with_sizes(alloc, command, helps);
+    with_argument(command, require_files_argument(alloc))
 }
 
-/// The program with nothing yet but its version and what its help ends with.
-fn program_alone<'a>(alloc: Global) -> Command<'a>
-    ensures { app_of result ≡ with_version (new_app (codes "wfhost")) }
+/// The program, under a name of its user's, with nothing yet but its version and what its help ends
+/// with.
+fn program_alone<'a>(alloc: Global, name: &str) -> Result<Command<'a>, AllocError>
+    ensures { IfOk result (λ c. app_of c ≡ with_version (new_app (codes "wfhost"))) }
 {
     Command::new(alloc, "wfhost")
         .version(VERSION)
         .after_help(STATUSES)
+        .bin_name(name)?
+        .display_name(name)
 }
 
-/// The program with one subcommand more, if there is one.
+/// The program, if there is one, with one subcommand more, if there is one.
 fn with_subcommand<'a>(
-    program: Command<'a>,
+    program: Result<Command<'a>, AllocError>,
     subcommand: Result<Command<'a>, AllocError>,
 ) -> Result<Command<'a>, AllocError>
-    ensures { (app : App) → IfOk subcommand.entry (StandsFor app)
-        → IfOk result (λ c. app_of c ≡ with_subcommand (app_of program.entry) app.top) }
+    ensures { (above app : App) → IfOk program.entry (λ c. app_of c ≡ above) → IfOk subcommand.entry (StandsFor app)
+        → IfOk result (λ c. app_of c ≡ with_subcommand above app.top) }
 {
-    program.subcommand(subcommand?)
+    program?.subcommand(subcommand?)
 }
 
-/// The program, with its subcommands.
-fn command<'a>(alloc: Global, helps: &'a Helps) -> Result<Command<'a>, AllocError>
+/// The program under a name, with its subcommands.
+fn command<'a>(alloc: Global, name: &str, helps: &'a Helps) -> Result<Command<'a>, AllocError>
     ensures { IfOk result (λ c. app_of c ≡ program) }
 {
-    let program = with_subcommand(program_alone(alloc), replay(alloc))?;
-    let program = with_subcommand(program, explain(alloc))?;
-    with_subcommand(program, serve(alloc, helps))
+    let program = with_subcommand(program_alone(alloc, name), replay(alloc));
+    let program = with_subcommand(program, explain(alloc));
+    let program = with_subcommand(program, serve(alloc, helps));
+    with_subcommand(program, work(alloc, helps))
 }
 
 /// The plan to serve with these options.
-fn serve_plan(dir: Text, options: ServeOptions) -> Result<Plan, Refusal>
+fn serve_plan(dir: Text, options: ServeOptions, require_files: bool) -> Result<Plan, Refusal>
     ensures limits { IfOk result IsWithinLimits }
-    ensures kept { IfOk result (λ plan.
-        plan ≡ Plan.Serve dir options.workers options.cache options.cache_events options.slots) }
+    ensures kept { IfOk result (λ plan. plan
+        ≡ Plan.Serve dir options.workers options.cache options.cache_events options.slots require_files) }
     ensures few { (result ≡ Err Refusal.FewSlots) ↔ (options.slots < options.workers) }
     ensures err { IfErr result (λ e. e ≡ Refusal.FewSlots) }
 {
@@ -312,19 +387,35 @@ fn serve_plan(dir: Text, options: ServeOptions) -> Result<Plan, Refusal>
         cache,
         cache_events,
         slots,
+        require_files,
     })
 }
 
-/// The path that a subcommand is given under a name.
-fn path_given(alloc: Global, given: &ArgMatches<'_>, name: &str) -> Result<Text, Refusal>
-    ensures given { IfOk result (λ path. GivesPath name.now (rows_of (found_of given.now)) path) }
-    ensures slots { result ≢ Err Refusal.FewSlots }
-    ensures bad { IfErr result (IfBad (LacksPath name.now (rows_of (found_of given.now)))) }
+/// The plan to work with these options.
+fn work_plan(options: WorkOptions) -> Result<Plan, Refusal>
+    requires { IsWithinWorkLimits options }
+    ensures limits { IfOk result IsWithinLimits }
+    ensures kept { IfOk result (λ plan. plan ≡ Plan.Work options) }
+    ensures few { (result ≡ Err Refusal.FewSlots) ↔ LacksSlots options }
+    ensures err { IfErr result (λ e. e ≡ Refusal.FewSlots) }
 {
-    let Some(path) = given.get_str(name) else {
+    if options.lacks_slots() {
+        drop(options);
+        return Err(Refusal::FewSlots);
+    }
+    Ok(Plan::Work { options })
+}
+
+/// The text that a subcommand is given under a name.
+pub(crate) fn text_given(alloc: Global, given: &ArgMatches<'_>, name: &str) -> Result<Text, Refusal>
+    ensures given { IfOk result (λ text. GivesText name.now (rows_of (found_of given.now)) text) }
+    ensures slots { result ≢ Err Refusal.FewSlots }
+    ensures bad { IfErr result (IfBad (LacksText name.now (rows_of (found_of given.now)))) }
+{
+    let Some(text) = given.get_str(name) else {
         return Err(bad_line(format!(in alloc; "error: {name} is needed\n")));
     };
-    text_copy(alloc, path)
+    text_copy(alloc, text)
 }
 
 /// Copies of texts, in their order.
@@ -352,7 +443,7 @@ fn no_path(alloc: Global) -> Refusal
 fn paths_given(alloc: Global, given: &ArgMatches<'_>) -> Result<(Text, Vec<Text>), Refusal>
     ensures given { IfOk result (λ paths. GivesPaths (rows_of (found_of given.now)) paths.0 paths.1.items) }
     ensures slots { result ≢ Err Refusal.FewSlots }
-    ensures bad { IfErr result (IfBad (LacksPath (codes "DIR") (rows_of (found_of given.now)))) }
+    ensures bad { IfErr result (IfBad (LacksText (codes "DIR") (rows_of (found_of given.now)))) }
 {
     let Some(paths) = given.get_strs("DIR") else {
         return Err(no_path(alloc));
@@ -365,10 +456,19 @@ fn paths_given(alloc: Global, given: &ArgMatches<'_>) -> Result<(Text, Vec<Text>
 }
 
 /// Whether a subcommand is given a flag.
-fn flag_given(given: &ArgMatches<'_>, name: &str) -> bool
+pub(crate) fn flag_given(given: &ArgMatches<'_>, name: &str) -> bool
     ensures { GivesFlag name.now (rows_of (found_of given.now)) result }
 {
     given.get_flag(name)
+}
+
+/// The refusal of a line without a command.
+fn no_command(alloc: Global, name: &str) -> Refusal
+    ensures { result ≢ Refusal.FewSlots }
+{
+    bad_line(format!(in alloc;
+        "error: a command is needed\n\nUsage: {name} [COMMAND]\n\nFor more information, try '--help'.\n"
+    ))
 }
 
 /// The plan of a subcommand.
@@ -381,41 +481,50 @@ fn asked(alloc: Global, name: &str, given: &ArgMatches<'_>) -> Result<Plan, Refu
     match name {
         "replay" => {
             let (dir, more) = paths_given(alloc, given)?;
-            let json = flag_given(given, "json");
-            Ok(Plan::Replay { dir, more, json })
+            Ok(Plan::Replay {
+                dir,
+                more,
+                json: flag_given(given, "json"),
+                require_files: flag_given(given, "require-files"),
+            })
         }
         "explain" => Ok(Plan::Explain {
-            file: path_given(alloc, given, "FILE")?,
+            file: text_given(alloc, given, "FILE")?,
+            json: flag_given(given, "json"),
         }),
         "serve" => {
-            let dir = path_given(alloc, given, "DIR")?;
-            serve_plan(dir, ServeOptions::given(alloc, given)?)
+            let dir = text_given(alloc, given, "DIR")?;
+            let options = ServeOptions::given(alloc, given)?;
+            serve_plan(dir, options, flag_given(given, "require-files"))
         }
-        _ => Err(bad_line(String::from_str(alloc, NO_COMMAND))),
+        "work" => work_plan(WorkOptions::given(alloc, given)?),
+        _ => Err(bad_line(format!(in alloc; "error: {name} is no command\n"))),
     }
 }
 
-/// The plan of a command line, whose first word is the program's name. `Help` comes only where the
-/// line asks for a text, every other plan only where `clap` reads the line.
+/// The plan of a command line, whose first word is passed over. `Help` comes only where the line
+/// asks for a text, every other plan only where `clap` reads the line. Texts call the program by
+/// `name`.
 ///
 /// `BadLine` holds what is wrong with the line, as it is shown. It comes only where `clap` finds a
 /// mistake, where the line names no subcommand, and where what it gives is no number or one that is
-/// not within its limits. `FewSlots` comes only where the line names numbers within their limits,
-/// with fewer slots than workers. `OutOfMemory` comes where there is no memory to read it.
-pub fn parse<'a>(alloc: Global, words: &'a [String]) -> Result<Plan, Refusal>
+/// not within its limits, or is an empty name of a Task Queue. `FewSlots` comes only where the line
+/// names numbers within their limits, with fewer slots than workers. `OutOfMemory` comes where there
+/// is no memory to read it.
+pub fn parse<'a>(alloc: Global, name: &str, words: &'a [String]) -> Result<Plan, Refusal>
     ensures limits { IfOk result IsWithinLimits }
     ensures asked { IfOk result (IsAskedBy (map string_bytes words.entry.now)) }
     ensures few { result ≡ Err Refusal.FewSlots → HasFewSlots (map string_bytes words.entry.now) }
     ensures bad { IfErr result (IfBad (IsBadLine (map string_bytes words.entry.now))) }
 {
     let helps = Helps::new(alloc)?;
-    let command = command(alloc, &helps)?;
+    let command = command(alloc, name, &helps)?;
     let matches = match command.try_get_matches_from(words) {
         Ok(matches) => matches,
         Err(error) => return refused(alloc, &error),
     };
-    let Some((name, given)) = matches.subcommand() else {
-        return Err(bad_line(String::from_str(alloc, NO_COMMAND)));
+    let Some((subcommand, given)) = matches.subcommand() else {
+        return Err(no_command(alloc, name));
     };
-    asked(alloc, name, given)
+    asked(alloc, subcommand, given)
 }

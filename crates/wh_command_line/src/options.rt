@@ -3,11 +3,12 @@
 ghost use Rattle.std.specs.Prelude.{◌≡◌, ◌≢◌, ◌≤◌, ◌<◌, ◌^◌, ℕ, Some, None, Err, IfOk, IfErr, IfSome};
 ghost use Rattle.clap.specs.Words.{found_of, rows_of};
 ghost use Rattle.wh_host.specs.Machine.{IsConfig};
-ghost use Rattle.wh_command_line.specs.Given.{GivesWithin, IsNumber, value_named, value_of};
+ghost use Rattle.wh_command_line.specs.Given.{GivesWithin, IsNumber, MayGiveWithin, value_named, value_of};
 ghost use Rattle.wh_command_line.specs.Options.{AreWithinLimits, GivesAllWithin, GivesNumbers, config_of};
 ghost use Rattle.wh_command_line.specs.Refusals.{IfBad};
 
 use crate::command_line::{Refusal, bad_line};
+use crate::work::WorkHelps;
 use clap::ArgMatches;
 use std::alloc::{AllocError, Global};
 use wh_cache::{MOST_CACHED_EVENTS, MOST_RUNS};
@@ -18,20 +19,23 @@ use wh_slots::MOST_SLOTS;
 pub(crate) struct NumberOption {
     /// Its name, which stands behind `--`.
     pub(crate) name: &'static str,
-    /// Its number where it is not given.
+    /// Its number where it is not given, or nothing where there is none then.
     pub(crate) otherwise: &'static str,
+    /// What the help calls the number.
+    pub(crate) value_name: &'static str,
     /// What the number means.
-    about: &'static str,
+    pub(crate) about: &'static str,
     /// The least number that it takes.
-    least: u64,
+    pub(crate) least: u64,
     /// The greatest number that it takes.
-    most: u64,
+    pub(crate) most: u64,
 }
 
 /// How many workers serve.
 pub(crate) const WORKERS: NumberOption = NumberOption {
     name: "workers",
     otherwise: "1",
+    value_name: "N",
     about: "How many workers poll at once",
     least: 1,
     most: MOST_SEATS as u64,
@@ -41,6 +45,7 @@ pub(crate) const WORKERS: NumberOption = NumberOption {
 pub(crate) const CACHE: NumberOption = NumberOption {
     name: "cache",
     otherwise: "100",
+    value_name: "N",
     about: "How many runs are kept between their tasks",
     least: 0,
     most: MOST_RUNS as u64,
@@ -50,6 +55,7 @@ pub(crate) const CACHE: NumberOption = NumberOption {
 pub(crate) const CACHE_EVENTS: NumberOption = NumberOption {
     name: "cache-events",
     otherwise: "0",
+    value_name: "N",
     about: "How many events the kept runs hold together, where 0 is no bound",
     least: 0,
     most: MOST_CACHED_EVENTS,
@@ -59,6 +65,7 @@ pub(crate) const CACHE_EVENTS: NumberOption = NumberOption {
 pub(crate) const SLOTS: NumberOption = NumberOption {
     name: "slots",
     otherwise: "100",
+    value_name: "N",
     about: "How many tasks of each kind are in hand at once",
     least: 1,
     most: MOST_SLOTS as u64,
@@ -66,7 +73,7 @@ pub(crate) const SLOTS: NumberOption = NumberOption {
 
 impl NumberOption {
     /// What the help says of it.
-    fn help(&self, alloc: Global) -> Result<String, AllocError> {
+    pub(crate) fn help(&self, alloc: Global) -> Result<String, AllocError> {
         let NumberOption {
             about,
             least,
@@ -77,7 +84,7 @@ impl NumberOption {
     }
 
     /// The number that it is given.
-    fn number(&self, alloc: Global, given: &ArgMatches<'_>) -> Result<u64, Refusal>
+    pub(crate) fn number(&self, alloc: Global, given: &ArgMatches<'_>) -> Result<u64, Refusal>
         ensures given { IfOk result (λ n. value_named (rows_of (found_of given.now)) self.now.name.now ≡ Some n) }
         ensures least { IfOk result (λ n. self.now.least ≤ n) }
         ensures most { IfOk result (λ n. n ≤ self.now.most) }
@@ -92,12 +99,30 @@ impl NumberOption {
             ..
         } = *self;
         let Some(number) = value_named(given, name) else {
-            return Err(bad_line(format!(in alloc; "error: {name} must be a number\n")));
+            return Err(bad_line(format!(in alloc; "error: --{name} must be a number\n")));
         };
         if number < least || most < number {
-            return Err(bad_line(format!(in alloc; "error: {name} must be {least} to {most}\n")));
+            return Err(bad_line(format!(in alloc; "error: --{name} must be {least} to {most}\n")));
         }
         Ok(number)
+    }
+
+    /// The number that it is given, if it is given one.
+    pub(crate) fn number_if_given(
+        &self,
+        alloc: Global,
+        given: &ArgMatches<'_>,
+    ) -> Result<Option<u64>, Refusal>
+        ensures given { IfOk result (λ n. value_named (rows_of (found_of given.now)) self.now.name.now ≡ n) }
+        ensures limits { IfOk result (λ n. IfSome n (λ n. (self.now.least ≤ n) × (n ≤ self.now.most))) }
+        ensures slots { result ≢ Err Refusal.FewSlots }
+        ensures bad { IfErr result (IfBad
+            (¬ (MayGiveWithin (rows_of (found_of given.now)) self.now.name.now self.now.least self.now.most))) }
+    {
+        let Some(_text) = given.get_str(self.name) else {
+            return Ok(None);
+        };
+        Ok(Some(self.number(alloc, given)?))
     }
 }
 
@@ -125,6 +150,7 @@ pub(crate) struct Helps {
     pub(crate) cache: String,
     pub(crate) cache_events: String,
     pub(crate) slots: String,
+    pub(crate) work: WorkHelps,
 }
 
 impl Helps {
@@ -134,6 +160,7 @@ impl Helps {
             cache: CACHE.help(alloc)?,
             cache_events: CACHE_EVENTS.help(alloc)?,
             slots: SLOTS.help(alloc)?,
+            work: WorkHelps::new(alloc)?,
         })
     }
 }

@@ -1,10 +1,7 @@
-use Rattle.std.proofs.Common.{◌∙◌, ◌||◌, ap₂}
-use Rattle.std.proofs.lemmas.Result.{IfOk-weaker}
-use Rattle.clap.specs.Words.{with_rule}
 use Rattle.wh_command_line.proofs.command_line.explain.Goals as goal
 
 pub returns : goal.returns
-returns c = IfOk-weaker c.arg.result _ _ (λ r h. (
-  h.shape c.needed_argument.ensures.local ∙ ap₂ with_rule c.subcommand.ensures.app c.needed_argument.ensures.rule,
-  h.globals ∙ ap₂ (λ a b. a || b) c.subcommand.ensures.local c.needed_argument.ensures.local,
-)) c.arg.ensures
+returns c =
+    let file = c.with_argument-command.ensures _ _ c.needed_argument-file.ensures.rule c.needed_argument-file.ensures.local
+    (c.subcommand-command.ensures.app, c.subcommand-command.ensures.local) in
+    c.with_argument.ensures _ _ c.flag_argument-json.ensures.rule c.flag_argument-json.ensures.local file

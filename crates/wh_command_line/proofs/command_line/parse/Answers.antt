@@ -1,11 +1,10 @@
 use Rattle.std.proofs.Common.{◌≡◌, ◌∙◌, inl, inr, List, ap, ap₂, sym, refl, true, Option, Some, None}
 use Rattle.std.proofs.lemmas.Result.{IfOk-weaker, IfErr-weaker}
-use Rattle.std.specs.Prelude.{map, option_map, codes, string_bytes}
+use Rattle.std.specs.Prelude.{map, option_map, string_bytes}
 use Rattle.clap.specs.Words.{Row, Text, is_simple, is_simple_and_free, subcommand_of}
 use Rattle.clap.proofs.OnLiterals.{clap_on_literals}
 use Rattle.wh_command_line.specs.Lines.{program}
-use Rattle.wh_command_line.specs.Options.{GivesFewSlots}
-use Rattle.wh_command_line.specs.Plans.{IsRead, Names, HasFewSlots}
+use Rattle.wh_command_line.specs.Plans.{IsRead, Names}
 use Rattle.wh_command_line.proofs.Reasons.{if_bad, if_bad_then, program_is_free, kinds_by, read_by, help_by, mistaken_by, none_found}
 use Rattle.wh_command_line.proofs.command_line.parse.Goals as goal
 
@@ -29,10 +28,6 @@ named_by words name rows (Some p) read of_name of_rows is_found =
     let same_rows : p.1 ≡ rows = cc in
     (read, sym is_found ∙ ap₂ (λ (a : Text) (b : List Row). Some (a, b)) same_name same_rows)
 
--- few slots of the subcommand `serve` are those of the words
-few_by : (words : List Text) (name : Text) (rows : List Row) → Names words name rows → (name ≡ codes "serve") × GivesFewSlots rows → HasFewSlots words
-few_by words name rows named given = (rows, (named.0, named.1 ∙ ap (λ (n : Text). Some (n, rows)) given.0), given.1)
-
 pub returns-clause-asked : goal.returns-clause-asked
 returns-clause-asked c =
     let matched = c.in-Ok.ensures.matches (ap is_simple c.in_ok-command.ensures ∙ program_is_simple) in
@@ -47,7 +42,7 @@ returns-clause-few c = λ few.
     let found = matched.1 ∙ ap (λ app. subcommand_of app (map string_bytes c.args.words.now)) c.in_ok-command.ensures in
     let read = read_by _ _ c.in_ok-command.ensures (c.in-Ok.ensures.kinds (ap is_simple_and_free c.in_ok-command.ensures ∙ program_is_free)) in
     let named = named_by _ _ _ _ read (c.in-Some.ensures.name ∙ first_made _ _ _) c.in-Some.ensures.rows found in
-    few_by _ _ _ named (c.asked.ensures.few few)
+    (_, _, named, c.asked.ensures.few few)
 
 pub returns-in-Err-clause-asked : goal.returns-in-Err-clause-asked
 returns-in-Err-clause-asked c =
@@ -64,7 +59,7 @@ returns-in_default-clause-bad c =
     let matched = c.in-Ok.ensures.matches (ap is_simple c.in_ok-command.ensures ∙ program_is_simple) in
     let found = matched.1 ∙ ap (λ app. subcommand_of app (map string_bytes c.args.words.now)) c.in_ok-command.ensures in
     let read = read_by _ _ c.in_ok-command.ensures (c.in-Ok.ensures.kinds (ap is_simple_and_free c.in_ok-command.ensures ∙ program_is_free)) in
-    if_bad _ c.bad_line.result (inr (inl (read, sym found ∙ none_found _ c.in_default.ensures.rows)))
+    if_bad _ c.no_command.result (inr (inl (read, sym found ∙ none_found _ c.in_default.ensures.rows)))
 
 pub returns-clause-bad : goal.returns-clause-bad
 returns-clause-bad c =

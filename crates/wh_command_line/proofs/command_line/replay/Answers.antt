@@ -1,13 +1,8 @@
-use Rattle.std.proofs.Common.{◌∙◌, ◌||◌, ap₂}
-use Rattle.std.proofs.lemmas.Result.{IfOk-weaker}
-use Rattle.clap.specs.Words.{with_rule}
 use Rattle.wh_command_line.proofs.command_line.replay.Goals as goal
 
 pub returns : goal.returns
 returns c =
-    let paths = c.in_ok-arg.ensures.shape c.paths_argument.ensures.local ∙ ap₂ with_rule c.subcommand.ensures.app c.paths_argument.ensures.rule in
-    let local = c.in_ok-arg.ensures.globals ∙ ap₂ (λ a b. a || b) c.subcommand.ensures.local c.paths_argument.ensures.local in
-    IfOk-weaker c.arg-2.result _ _ (λ r h. (
-      h.shape c.flag_argument.ensures.local ∙ ap₂ with_rule paths c.flag_argument.ensures.rule,
-      h.globals ∙ ap₂ (λ a b. a || b) local c.flag_argument.ensures.local,
-    )) c.arg-2.ensures
+    let paths = c.with_argument-command.ensures _ _ c.paths_argument.ensures.rule c.paths_argument.ensures.local
+    (c.subcommand-command.ensures.app, c.subcommand-command.ensures.local) in
+    let json = c.with_argument-command-2.ensures _ _ c.flag_argument-json.ensures.rule c.flag_argument-json.ensures.local paths in
+    c.with_argument.ensures _ _ c.require_files_argument.ensures.rule c.require_files_argument.ensures.local json

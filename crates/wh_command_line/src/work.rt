@@ -1,0 +1,365 @@
+//! The options of `work`: their names, their limits, and the size of a host that they stand for.
+
+ghost use Rattle.std.specs.Prelude.{◌≡◌, ◌≢◌, ◌↔◌, ◌≤◌, ◌+◌, [], IsTrue, false, Some, Err, IfOk, IfErr, codes};
+ghost use Rattle.clap.specs.Words.{App, app_of, found_of, new_app, rows_of};
+ghost use Rattle.clap.specs.declared.builder.Command.TheViews.{out-Command as fields_of};
+ghost use Rattle.wh_host.specs.Machine.{IsConfig};
+ghost use Rattle.wh_command_line.specs.Given.{GivesText, LacksName, value_named};
+ghost use Rattle.wh_command_line.specs.Lines.{StandsFor, work};
+ghost use Rattle.wh_command_line.specs.Refusals.{IfBad};
+ghost use Rattle.wh_command_line.specs.Options.{AreLimits, IsWithinWorkLimits, LacksSlots, config_of};
+ghost use Rattle.wh_command_line.specs.Options.{with_names, with_limits, with_reports};
+ghost use Rattle.wh_command_line.specs.Work.{GivesBeside, GivesLimits, GivesLimitsWithin, GivesWork, LacksWork};
+
+use crate::command_line::{
+    Refusal, as_needed, bad_line, flag_argument, flag_given, option_argument, subcommand,
+    text_given, with_argument, with_default, with_number, with_sizes,
+};
+use crate::options::{Helps, NumberOption, ServeOptions};
+use clap::{ArgMatches, Command};
+use std::alloc::{AllocError, Global};
+use wh_events::Text;
+use wh_host::{Config, MOST_SEATS};
+
+/// What the help of `work` says of the statuses.
+const STATUSES: &str = "\
+Status:
+  0  it was told to shut down, or its input ended, and no call failed for good
+  1  a call failed for good
+  2  it did not begin; standard error says why";
+
+/// How many seconds a duration has at most.
+const MOST_SECONDS: u64 = u32::MAX as u64;
+
+/// How many workers poll for workflow tasks.
+const WORKERS: NumberOption = NumberOption {
+    name: "workers",
+    otherwise: "2",
+    value_name: "N",
+    about: "How many workers poll for workflow tasks",
+    least: 1,
+    most: MOST_SEATS as u64,
+};
+
+/// How many workers poll for activity tasks.
+const ACTIVITY_WORKERS: NumberOption = NumberOption {
+    name: "activity-workers",
+    otherwise: "0",
+    value_name: "N",
+    about: "How many workers more poll for activity tasks, of 64 workers at most",
+    least: 0,
+    most: 63,
+};
+
+/// How long an activity may take.
+const ACTIVITY_TIMEOUT: NumberOption = NumberOption {
+    name: "activity-timeout",
+    otherwise: "60",
+    value_name: "SECONDS",
+    about: "How long an activity may take from its start",
+    least: 1,
+    most: MOST_SECONDS,
+};
+
+/// How often an activity is tried.
+const ACTIVITY_ATTEMPTS: NumberOption = NumberOption {
+    name: "activity-attempts",
+    otherwise: "1",
+    value_name: "N",
+    about: "How often an activity is tried, where 0 leaves it to the server",
+    least: 0,
+    most: u16::MAX as u64,
+};
+
+/// How long a task waits for the worker that keeps its run.
+const STICKY_TIMEOUT: NumberOption = NumberOption {
+    name: "sticky-timeout",
+    otherwise: "10",
+    value_name: "SECONDS",
+    about: "How long a task waits for the workers that keep its run",
+    least: 1,
+    most: MOST_SECONDS,
+};
+
+/// How long it is from one line of counts to the next.
+const STATS: NumberOption = NumberOption {
+    name: "stats",
+    otherwise: "",
+    value_name: "SECONDS",
+    about: "Tells the counts on the standard error, each time after as many seconds",
+    least: 1,
+    most: MOST_SECONDS,
+};
+
+/// What the help says of each option of `work` that takes a number and is none of `serve`'s.
+#[derive(Drop)]
+pub(crate) struct WorkHelps {
+    workers: String,
+    activity_workers: String,
+    activity_timeout: String,
+    activity_attempts: String,
+    sticky_timeout: String,
+    stats: String,
+}
+
+impl WorkHelps {
+    pub(crate) fn new(alloc: Global) -> Result<WorkHelps, AllocError> {
+        Ok(WorkHelps {
+            workers: WORKERS.help(alloc)?,
+            activity_workers: ACTIVITY_WORKERS.help(alloc)?,
+            activity_timeout: ACTIVITY_TIMEOUT.help(alloc)?,
+            activity_attempts: ACTIVITY_ATTEMPTS.help(alloc)?,
+            sticky_timeout: STICKY_TIMEOUT.help(alloc)?,
+            stats: STATS.help(alloc)?,
+        })
+    }
+}
+
+/// The subcommand `work` with nothing yet but its help.
+fn work_alone<'a>(alloc: Global) -> Command<'a>
+    ensures app { app_of result ≡ new_app (codes "work") }
+    ensures local { (fields_of result).has_globals ≡ false }
+{
+    let command = subcommand(
+        alloc,
+        "work",
+        "Serves live tasks, which it asks for and answers in JSON on the standard output and input",
+    );
+    command.after_help(STATUSES)
+}
+
+/// A subcommand, if there is one, with the options more that say who works for which Task Queue.
+fn with_names<'a>(
+    alloc: Global,
+    command: Result<Command<'a>, AllocError>,
+) -> Result<Command<'a>, AllocError>
+    ensures { (app : App) → IfOk command.entry (StandsFor app) → IfOk result (StandsFor (with_names app)) }
+{
+    let queue = option_argument(
+        alloc,
+        "task-queue",
+        "NAME",
+        "The Task Queue whose tasks are served",
+    );
+    let command = with_argument(command, as_needed(queue));
+    let namespace = option_argument(
+        alloc,
+        "namespace",
+        "NAME",
+        "The namespace of the Task Queue",
+    );
+    let command = with_argument(command, with_default(namespace, "default"));
+    let identity = option_argument(
+        alloc,
+        "identity",
+        "NAME",
+        "Who the server is told that it is",
+    );
+    with_argument(command, with_default(identity, "wfhost"))
+}
+
+/// A subcommand, if there is one, with the options more that bound activities and waits.
+fn with_limits<'a>(
+    alloc: Global,
+    command: Result<Command<'a>, AllocError>,
+    helps: &'a WorkHelps,
+) -> Result<Command<'a>, AllocError>
+    ensures { (app : App) → IfOk command.entry (StandsFor app) → IfOk result (StandsFor (with_limits app)) }
+{
+    let command = with_number(
+        alloc,
+        command,
+        &ACTIVITY_WORKERS,
+        helps.activity_workers.as_str(),
+    );
+    let command = with_number(
+        alloc,
+        command,
+        &ACTIVITY_TIMEOUT,
+        helps.activity_timeout.as_str(),
+    );
+    let command = with_number(
+        alloc,
+        command,
+        &ACTIVITY_ATTEMPTS,
+        helps.activity_attempts.as_str(),
+    );
+    with_number(
+        alloc,
+        command,
+        &STICKY_TIMEOUT,
+        helps.sticky_timeout.as_str(),
+    )
+}
+
+/// A subcommand, if there is one, with the options more that say what is told.
+fn with_reports<'a>(
+    alloc: Global,
+    command: Result<Command<'a>, AllocError>,
+    helps: &'a WorkHelps,
+) -> Result<Command<'a>, AllocError>
+    ensures { (app : App) → IfOk command.entry (StandsFor app) → IfOk result (StandsFor (with_reports app)) }
+{
+    let verbose = flag_argument(alloc, "verbose", "Tells more on the standard error");
+    let command = with_argument(command, verbose);
+    let stats = option_argument(alloc, "stats", "SECONDS", helps.stats.as_str());
+    with_argument(command, stats)
+}
+
+/// The subcommand `work`.
+pub(crate) fn work<'a>(alloc: Global, helps: &'a Helps) -> Result<Command<'a>, AllocError>
+    ensures { IfOk result (StandsFor work) }
+{
+    let command = with_names(alloc, Ok(work_alone(alloc)));
+    let command = with_number(alloc, command, &WORKERS, helps.work.workers.as_str());
+    let command = with_sizes(alloc, command, helps);
+    let command = with_limits(alloc, command, &helps.work);
+    with_reports(alloc, command, &helps.work)
+}
+
+/// The options of `work`.
+#[derive(Debug, Drop)]
+pub struct WorkOptions {
+    /// The Task Queue whose tasks are served: a name that is not empty.
+    pub task_queue: Text,
+    /// The namespace of the Task Queue.
+    pub namespace: Text,
+    /// Who the server is told that the host is.
+    pub identity: Text,
+    /// How many workers poll for workflow tasks: 1 to 64.
+    pub workers: u64,
+    /// How many workers poll for activity tasks: 0 to 63, and at most 64 together with the others.
+    pub activity_workers: u64,
+    /// How many runs the cache holds: 0 to 10,000, where 0 turns it off.
+    pub cache: u64,
+    /// How many events the runs of the cache hold together: 1 to 512,000,000, or 0 for no bound.
+    pub cache_events: u64,
+    /// How many slots there are of each kind: 1 to 1,000.
+    pub slots: u64,
+    /// How many seconds an activity may take from its start: 1 to 4,294,967,295.
+    pub activity_timeout: u64,
+    /// How often an activity is tried: 1 to 65,535, or 0, which leaves it to the server.
+    pub activity_attempts: u64,
+    /// How many seconds a task waits for the workers that keep its run: 1 to 4,294,967,295.
+    pub sticky_timeout: u64,
+    /// Whether more is told on the standard error.
+    pub verbose: bool,
+    /// After how many seconds each the counts are told, if they are: 1 to 4,294,967,295.
+    pub stats: Option<u64>,
+}
+
+/// The options of `work` that are neither names nor sizes of a host.
+#[derive(Clone, Copy)]
+struct Limits {
+    activity_timeout: u64,
+    activity_attempts: u64,
+    sticky_timeout: u64,
+    stats: Option<u64>,
+}
+
+/// The limits that a subcommand is given.
+fn limits_given(alloc: Global, given: &ArgMatches<'_>) -> Result<Limits, Refusal>
+    ensures given { IfOk result (λ l. GivesLimits (rows_of (found_of given.now))
+        l.activity_timeout l.activity_attempts l.sticky_timeout l.stats) }
+    ensures limits { IfOk result (λ l.
+        AreLimits l.activity_timeout l.activity_attempts l.sticky_timeout l.stats) }
+    ensures slots { result ≢ Err Refusal.FewSlots }
+    ensures bad { IfErr result (IfBad (¬ (GivesLimitsWithin (rows_of (found_of given.now))))) }
+{
+    Ok(Limits {
+        activity_timeout: ACTIVITY_TIMEOUT.number(alloc, given)?,
+        activity_attempts: ACTIVITY_ATTEMPTS.number(alloc, given)?,
+        sticky_timeout: STICKY_TIMEOUT.number(alloc, given)?,
+        stats: STATS.number_if_given(alloc, given)?,
+    })
+}
+
+/// How many workers of activities a subcommand is given, beside its workers.
+fn activity_workers_given(
+    alloc: Global,
+    given: &ArgMatches<'_>,
+    workers: u64,
+) -> Result<u64, Refusal>
+    requires { workers ≤ 64 }
+    ensures given { IfOk result (λ n. value_named (rows_of (found_of given.now)) (codes "activity-workers") ≡ Some n) }
+    ensures together { IfOk result (λ n. workers + n ≤ 64) }
+    ensures slots { result ≢ Err Refusal.FewSlots }
+    ensures bad { IfErr result (IfBad (¬ (GivesBeside (rows_of (found_of given.now)) workers))) }
+{
+    let number = ACTIVITY_WORKERS.number(alloc, given)?;
+    if workers + number > MOST_SEATS as u64 {
+        return Err(bad_line(format!(in alloc;
+            "error: --workers and --activity-workers must be at most {MOST_SEATS} together\n"
+        )));
+    }
+    Ok(number)
+}
+
+/// The Task Queue that a subcommand is given.
+fn task_queue_given(alloc: Global, given: &ArgMatches<'_>) -> Result<Text, Refusal>
+    ensures given { IfOk result (λ queue. GivesText (codes "task-queue") (rows_of (found_of given.now)) queue) }
+    ensures named { IfOk result (λ queue. queue ≢ []) }
+    ensures slots { result ≢ Err Refusal.FewSlots }
+    ensures bad { IfErr result (IfBad (LacksName (codes "task-queue") (rows_of (found_of given.now)))) }
+{
+    let queue = text_given(alloc, given, "task-queue")?;
+    if queue.get().is_empty() {
+        drop(queue);
+        return Err(bad_line(String::from_str(alloc, "error: --task-queue must not be empty\n")));
+    }
+    Ok(queue)
+}
+
+impl WorkOptions {
+    /// The options that a subcommand is given.
+    pub(crate) fn given(alloc: Global, given: &ArgMatches<'_>) -> Result<WorkOptions, Refusal>
+        ensures given { IfOk result (GivesWork (rows_of (found_of given.now))) }
+        ensures limits { IfOk result IsWithinWorkLimits }
+        ensures slots { result ≢ Err Refusal.FewSlots }
+        ensures bad { IfErr result (IfBad (LacksWork (rows_of (found_of given.now)))) }
+    {
+        let sizes = ServeOptions::given(alloc, given)?;
+        let activity_workers = activity_workers_given(alloc, given, sizes.workers)?;
+        let limits = limits_given(alloc, given)?;
+        let task_queue = task_queue_given(alloc, given)?;
+        let namespace = text_given(alloc, given, "namespace")?;
+        Ok(WorkOptions {
+            task_queue,
+            namespace,
+            identity: text_given(alloc, given, "identity")?,
+            workers: sizes.workers,
+            activity_workers,
+            cache: sizes.cache,
+            cache_events: sizes.cache_events,
+            slots: sizes.slots,
+            activity_timeout: limits.activity_timeout,
+            activity_attempts: limits.activity_attempts,
+            sticky_timeout: limits.sticky_timeout,
+            verbose: flag_given(given, "verbose"),
+            stats: limits.stats,
+        })
+    }
+
+    /// Whether there are fewer slots of a kind than workers of it.
+    pub(crate) fn lacks_slots(&self) -> bool
+        ensures { IsTrue result ↔ LacksSlots self.now }
+    {
+        self.slots < self.workers || self.slots < self.activity_workers
+    }
+
+    /// How large a host they ask for.
+    pub fn config(&self) -> Config
+        requires { IsWithinWorkLimits self.now }
+        ensures config { IsConfig result }
+        ensures asked { result ≡ config_of (self.now.workers + self.now.activity_workers)
+            self.now.cache self.now.cache_events self.now.slots }
+    {
+        Config {
+            workflow_slots: self.slots as usize,
+            activity_slots: self.slots as usize,
+            cache: self.cache as usize,
+            cache_events: self.cache_events,
+            seats: (self.workers + self.activity_workers) as usize,
+        }
+    }
+}
