@@ -6,3 +6,5 @@ pub mod Printable
 pub mod One
 pub mod Alike
 pub mod Agreeing
+pub mod Calendar
+pub mod TimesRead

@@ -1,5 +1,7 @@
+pub mod Times
 pub mod Phrases
 pub mod Texts
+pub mod Json
 pub mod Tracing
 pub mod Walking
 pub mod Pairings

@@ -7,6 +7,7 @@ use Rattle.wh_events.specs.Kinds.{kind_phrase}
 use Rattle.wh_events.specs.Phrases.{Phrase}
 use Rattle.wh_tester.specs.Report.{shown}
 use Rattle.wh_explain.specs.declared.explanation.RecordedEvent.{RecordedEvent}
+use Rattle.wh_explain.specs.Times.{time_text}
 
 -- what is shown of a recorded event
 abbrev pub event_phrase : RecordedEvent → Phrase
@@ -20,7 +21,7 @@ word_text (Some word) = codes " " ++ shown word
 -- what stands behind ids and types
 abbrev pub detail_text : Detail → List ℕ
 detail_text Nothing = []
-detail_text (Time time) = codes " " ++ (signed_decimal time ++ codes " ns")
+detail_text (Time time) = codes " " ++ time_text time
 detail_text (Seconds seconds) = codes " (" ++ (decimal seconds ++ codes " s)")
 detail_text (Version version) = codes " (version " ++ (signed_decimal version ++ codes ")")
 detail_text (Range min max) = codes " (" ++ (signed_decimal min ++ (codes " to " ++ (signed_decimal max ++ codes ")")))

@@ -6,13 +6,17 @@ mod activation;
 mod cut;
 mod explaining;
 mod explanation;
+mod json_lines;
+mod keys;
 pub mod laws;
 mod pairing;
 mod phrase;
 mod records;
 mod showing;
+mod times;
 mod tracking;
 
 pub use explaining::explain;
 pub use explanation::{Ending, ExplainedTask, Explanation, Pairing, RecordedEvent, Step};
+pub use json_lines::write_json_explanation;
 pub use showing::write_explanation;

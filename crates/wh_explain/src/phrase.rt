@@ -5,6 +5,7 @@ ghost use Rattle.wh_events.specs.Phrases.{phrase_seen};
 ghost use Rattle.wh_explain.specs.Phrases.{event_phrase, word_text, detail_text, phrase_text};
 
 use crate::explanation::RecordedEvent;
+use crate::times::TimeText;
 use std::fmt;
 use wh_events::{Detail, Phrase};
 use wh_tester::Shown;
@@ -44,7 +45,10 @@ impl fmt::Display for DetailText {
     fn fmt<W: fmt::Write>(&self, f: &mut fmt::Formatter<W>) -> fmt::Result {
         match self.0 {
             Detail::Nothing => Ok(()),
-            Detail::Time(time) => write!(f, " {time} ns"),
+            Detail::Time(time) => {
+                let time = TimeText(time);
+                write!(f, " {time}")
+            }
             Detail::Seconds(seconds) => write!(f, " ({seconds} s)"),
             Detail::Version(version) => write!(f, " (version {version})"),
             Detail::Range { min, max } => write!(f, " ({min} to {max})"),

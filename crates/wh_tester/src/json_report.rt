@@ -39,9 +39,9 @@ fn write_escaped<W: fmt::Write>(name: &str, f: &mut fmt::Formatter<W>) -> fmt::R
     Ok(())
 }
 
-/// A name within a string of JSON.
+/// A name within a string of JSON, as the report in words shows it.
 #[derive(Drop)]
-struct EscapedName<'a>(&'a str);
+pub struct EscapedName<'a>(pub &'a str);
 
 impl fmt::Display for EscapedName<'_> {
     ghost output = { λ n. Some (escaped (shown n.0.now)) };
@@ -138,7 +138,7 @@ impl fmt::Display for VerdictMembers<'_> {
 }
 
 /// Writes the object of a file, on a line. After an error some of the line may have been written.
-fn write_json_line<W: Write>(line: &Line, writer: &mut W) -> io::Result<()>
+pub fn write_json_line<W: Write>(line: &Line, writer: &mut W) -> io::Result<()>
     ensures { OnOk result (Appends (W.contents writer.old) (W.contents writer.new) (json_line line.now)) }
 {
     let name = EscapedName(line.name.get());
