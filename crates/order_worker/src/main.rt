@@ -1,98 +1,42 @@
-//! A program that serves orders: two workers share a host, each with a source of tasks in memory.
+//! A program that serves orders: live ones, recorded ones, or, without a word, six in memory.
 #![tactic(auto)]
 
 mod inbox;
+mod memory;
 mod orders;
 mod till;
 
-use crate::inbox::Inbox;
-use crate::orders::add_order;
+use crate::memory::serve_from_memory;
 use crate::till::Till;
 use order::Order;
-use std::alloc::Global;
-use std::io;
-use std::io::Print;
+use std::env::Env;
 use std::process::ExitCode;
-use std::sync::Wait;
-use std::thread::Threads;
-use wh_events::OutOfMemory;
-use wh_host::{Config, OpenFault};
-use wh_poll::{HostEnd, NoObserver, OpenGate, Post, run_host};
+use std::{env, thread};
+use wh_cli::{calls_over, no_memory, read_input, run};
 
-/// How many workers there are, each with a thread.
-const WORKERS: usize = 2;
-
-/// How many orders there are.
-const ORDERS: u64 = 6;
-
-/// What a worker of orders begins with.
-type OrderPost = Post<Inbox, Till, NoObserver>;
-
-/// What a host of orders leaves.
-type OrderEnd = HostEnd<Inbox, Till, NoObserver>;
-
-/// What the worker of a place begins with: every second order is for it.
-fn post_at(alloc: Global, place: usize) -> Result<OrderPost, OutOfMemory> {
-    let mut source = Inbox::new(alloc);
-    for order in 1..=ORDERS {
-        if order % WORKERS as u64 == place as u64 {
-            add_order(&mut source, alloc, order)?;
+/// Whether a word stands behind the program's name.
+fn has_words<R: Env + AllocGlobal>(rt: &R) -> bool {
+    match env::args(rt) {
+        Ok(mut words) => {
+            let _name = words.next();
+            words.next().is_some()
         }
+        Err(_) => true,
     }
-    let turns = source.turns();
-    Ok(Post {
-        source,
-        handler: Till { alloc },
-        observer: NoObserver,
-        turns,
-    })
 }
 
-/// What each worker begins with.
-fn posts(alloc: Global) -> Result<Vec<OrderPost>, OutOfMemory> {
-    let mut posts = Vec::new(alloc);
-    for place in 0..WORKERS {
-        posts.push(post_at(alloc, place)?)?;
-    }
-    Ok(posts)
-}
-
-/// Serves all orders.
-fn serve<R: Threads + Wait + Sync>(rt: &R, alloc: Global) -> Result<OrderEnd, OpenFault> {
-    let config = Config {
-        workflow_slots: 10,
-        activity_slots: 10,
-        cache: 100,
-        cache_events: 0,
-        seats: WORKERS,
-    };
-    let posts = posts(alloc)?;
-    run_host::<Order, R, Inbox, Till, NoObserver, OpenGate>(rt, alloc, config, posts, &OpenGate)
-}
-
-/// Prints what each worker and what the host has done.
-fn print<R: Print>(rt: &R, end: &OrderEnd) -> io::Result<()> {
-    for (place, worker) in end.workers.iter().enumerate() {
-        let tasks = worker.counted.taken;
-        let answers = worker.source.count_answers();
-        println!(rt; "worker {place}: {tasks} tasks, {answers} answers")?;
-    }
-    let (taken, completed) = (end.totals.taken, end.totals.completed);
-    let (failed, in_hand) = (end.totals.failed, end.totals.in_hand);
-    println!(rt; "taken {taken}, completed {completed}, failed {failed}, in hand {in_hand}")
-}
-
-/// The status is 0 where the totals could be printed.
 fn main(rt: HostRuntime) -> ExitCode {
-    let end = match serve(&rt, rt.alloc()) {
-        Ok(end) => end,
-        Err(fault) => {
-            let _ = eprintln!(&rt; "order_worker: {fault:?}");
-            return ExitCode::from(1);
-        }
-    };
-    match print(&rt, &end) {
-        Ok(()) => ExitCode::from(0),
-        Err(_) => ExitCode::from(1),
+    if !has_words(&rt) {
+        return serve_from_memory(&rt);
     }
+    let alloc = rt.alloc();
+    let Ok((calls, theirs)) = calls_over(alloc, rt.stdout()) else {
+        return no_memory(&rt);
+    };
+    run::<Order, _, _, _, _, _>(
+        &rt,
+        &*calls,
+        || thread::spawn(&rt, move || read_input(&rt, alloc, &*theirs)).is_ok(),
+        || Till { alloc },
+    )
 }

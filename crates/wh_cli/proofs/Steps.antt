@@ -19,6 +19,7 @@ use Rattle.wh_cli.specs.Listings.{AreListed, IsListed, is_by_path}
 use Rattle.wh_cli.specs.Readings.{Gives}
 use Rattle.wh_cli.specs.Served.{HasServedInputs}
 use Rattle.wh_cli.specs.Services.{HostsBy, IsHosted}
+use Rattle.wh_cli.specs.Statuses.{lacks_files, status_with}
 use Rattle.wh_cli.proofs.Workers.{by_closure, served_by}
 
 -- what was written stays
@@ -53,34 +54,40 @@ listed_push contents by_path (p ∷ ps) path inputs own old between new are is =
     (are.0, are.1 ++ own, are.2, ap (λ l. l ++ own) are.3 ∙ append_assoc are.0 are.1 own, are.4, rest)
 
 -- an input that was read as a file was explained
-pub explained_input : {S E : Type 0} (gives : Gives) (program : Program S) (input : Input) (bytes : Vec ℕ Global) (seen : List ℕ) (old new : Option (List ℕ)) (contents : E → Option (List ℕ)) (before after : Complaints E) (answer : Result ℕ Failure)
+pub explained_input : {S E : Type 0} (gives : Gives) (program : Program S) (input : Input) (bytes : Vec ℕ Global) (seen : List ℕ) (json : Bool) (old new : Option (List ℕ)) (contents : E → Option (List ℕ)) (before after : Complaints E) (answer : Result ℕ Failure)
     → gives input.origin bytes → seen ≡ bytes.items
-    → IfOk answer (HasExplained program (string_bytes input.name) seen old new contents before after)
-    → IfOk answer (HasExplainedInput gives program input old new contents before after)
-explained_input gives program input bytes seen old new contents before after (Ok status) given same h = record {
+    → IfOk answer (HasExplained program (string_bytes input.name) seen json old new contents before after)
+    → IfOk answer (HasExplainedInput gives program input json old new contents before after)
+explained_input gives program input bytes seen json old new contents before after (Ok status) given same h = record {
   file = (input.name, bytes);
   read = record { named = refl; bytes = given };
-  explained = subst (λ l. HasExplained program (string_bytes input.name) l old new contents before after status) same h;
+  explained = subst (λ l. HasExplained program (string_bytes input.name) l json old new contents before after status) same h;
 }
-explained_input gives program input bytes seen old new contents before after (Err failure) given same h = tt
+explained_input gives program input bytes seen json old new contents before after (Err failure) given same h = tt
 
 -- an input of a path was explained
-pub explained_path : {S E : Type 0} (program : Program S) (path : List ℕ) (input : Input) (old new : Option (List ℕ)) (contents : E → Option (List ℕ)) (before after : Complaints E) (answer : Result ℕ Failure)
+pub explained_path : {S E : Type 0} (program : Program S) (path : List ℕ) (input : Input) (json : Bool) (old new : Option (List ℕ)) (contents : E → Option (List ℕ)) (before after : Complaints E) (answer : Result ℕ Failure)
     → IsCalled false input → IsOf path input.origin → IsSingle input.origin
-    → IfOk answer (HasExplainedInput IsReadFrom program input old new contents before after)
-    → IfOk answer (HasExplainedPath program path old new contents before after)
-explained_path program path input old new contents before after (Ok status) called from single h =
+    → IfOk answer (HasExplainedInput IsReadFrom program input json old new contents before after)
+    → IfOk answer (HasExplainedPath program path json old new contents before after)
+explained_path program path input json old new contents before after (Ok status) called from single h =
     record { input = input; called = called; from = from; single = single; explained = h }
-explained_path program path input old new contents before after (Err failure) called from single h = tt
+explained_path program path input json old new contents before after (Err failure) called from single h = tt
 
 -- the inputs of paths were replayed
-pub replayed_paths : {S E : Type 0} (program : Program S) (first : List ℕ) (more : List (List ℕ)) (json : Bool) (inputs : List Input) (old new : Option (List ℕ)) (contents : E → Option (List ℕ)) (before between after : Complaints E) (answer : Result ℕ Failure)
+pub replayed_paths : {S E : Type 0} (program : Program S) (first : List ℕ) (more : List (List ℕ)) (json required lacks : Bool) (inputs : List Input) (old new : Option (List ℕ)) (contents : E → Option (List ℕ)) (before between after : Complaints E) (answer : Result ℕ Failure)
     → AreListed contents (is_by_path more) (first ∷ more) inputs before between
-    → IfOk answer (HasReplayed IsReadFrom program inputs json old new contents between after)
-    → IfOk answer (HasReplayedPaths program first more json old new contents before after)
-replayed_paths program first more json inputs old new contents before between after (Ok status) listed h =
-    record { inputs = inputs; between = between; listed = listed; replayed = h }
-replayed_paths program first more json inputs old new contents before between after (Err failure) listed h = tt
+    → lacks ≡ lacks_files required inputs
+    → IfOk answer (HasReplayed IsReadFrom program inputs json lacks old new contents between after)
+    → IfOk answer (HasReplayedPaths program first more json required old new contents before after)
+replayed_paths program first more json required lacks inputs old new contents before between after (Ok status) listed same h =
+    record {
+      inputs = inputs;
+      between = between;
+      listed = listed;
+      replayed = subst (λ l. HasReplayed IsReadFrom program inputs json l old new contents between after status) same h;
+    }
+replayed_paths program first more json required lacks inputs old new contents before between after (Err failure) listed same h = tt
 
 -- what was written of a service stays
 pub served_kept : (gives : Gives) (hosts : HostsBy) (config : Config) (inputs : List Input) (old mid new : Option (List ℕ)) (end : ServiceEnd)
@@ -99,25 +106,26 @@ served_kept gives hosts config inputs old mid new end h kept = record {
 }
 
 -- inputs were served, and then the rest was told
-pub served_all : {E : Type 0} (gives : Gives) (hosts : HostsBy) (config : Config) (inputs : List Input) (old mid new : Option (List ℕ)) (contents : E → Option (List ℕ)) (before after : Complaints E) (answer : Result ServiceEnd CommandFault) (result : Result ℕ Failure)
+pub served_all : {E : Type 0} (gives : Gives) (hosts : HostsBy) (config : Config) (inputs : List Input) (lacks : Bool) (old mid new : Option (List ℕ)) (contents : E → Option (List ℕ)) (before after : Complaints E) (answer : Result ServiceEnd CommandFault) (result : Result ℕ Failure)
     → IfOk answer (HasServedInputs gives hosts config inputs old mid)
     → Keeps mid new
-    → IfOk result (λ status. (end : ServiceEnd) × (answer ≡ Ok end) × (status ≡ end.status) × Told contents before after (service_told end))
-    → IfOk result (HasServedAll gives hosts config inputs old new contents before after)
-served_all gives hosts config inputs old mid new contents before after answer (Ok status) report kept h = record {
+    → IfOk result (λ status. (end : ServiceEnd) × (answer ≡ Ok end) × (status ≡ status_with lacks end.status) × Told contents before after (service_told end))
+    → IfOk result (HasServedAll gives hosts config inputs lacks old new contents before after)
+served_all gives hosts config inputs lacks old mid new contents before after answer (Ok status) report kept h = record {
   end = h.0;
   served = served_kept gives hosts config inputs old mid new h.0 (subst (λ a. IfOk a (HasServedInputs gives hosts config inputs old mid)) h.1 report) kept;
   told = h.3;
   ends = h.2;
 }
-served_all gives hosts config inputs old mid new contents before after answer (Err failure) report kept h = tt
+served_all gives hosts config inputs lacks old mid new contents before after answer (Err failure) report kept h = tt
 
 -- the files of a folder were served by a host that runs the program
-pub served_folder : {S E : Type 0} (program : Program S) (dir : List ℕ) (config : Config) (inputs : List Input) (old new : Option (List ℕ)) (contents : E → Option (List ℕ)) (before between after : Complaints E) (answer : Result ℕ Failure)
+pub served_folder : {S E : Type 0} (program : Program S) (dir : List ℕ) (config : Config) (required lacks : Bool) (inputs : List Input) (old new : Option (List ℕ)) (contents : E → Option (List ℕ)) (before between after : Complaints E) (answer : Result ℕ Failure)
     → IsListed contents false dir inputs before between
-    → IfOk answer (HasServedAll IsReadFrom (by_closure (IsHosted program)) config inputs old new contents between after)
-    → IfOk answer (HasServedFolder program dir config old new contents before after)
-served_folder program dir config inputs old new contents before between after (Ok status) listed h =
+    → lacks ≡ lacks_files required inputs
+    → IfOk answer (HasServedAll IsReadFrom (by_closure (IsHosted program)) config inputs lacks old new contents between after)
+    → IfOk answer (HasServedFolder program dir config required old new contents before after)
+served_folder program dir config required lacks inputs old new contents before between after (Ok status) listed same h =
     record {
       inputs = inputs;
       between = between;
@@ -131,7 +139,7 @@ served_folder program dir config inputs old new contents before between after (O
           faults = h.served.faults;
         };
         told = h.told;
-        ends = h.ends;
+        ends = subst (λ l. status ≡ status_with l h.end.status) same h.ends;
       };
     }
-served_folder program dir config inputs old new contents before between after (Err failure) listed h = tt
+served_folder program dir config required lacks inputs old new contents before between after (Err failure) listed same h = tt

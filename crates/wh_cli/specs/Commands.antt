@@ -5,14 +5,15 @@ use Rattle.std.specs.Io.KnownBytes.{Appends}
 use Rattle.wh_command_line.specs.Options.{config_of}
 use Rattle.wh_command_line.specs.Plans.{IsAskedBy}
 use Rattle.wh_command_line.specs.declared.command_line.Plan.{Plan}
-use Rattle.wh_command_line.specs.declared.command_line.Plan.TheVariants.{Replay, Explain, Serve, Help}
+use Rattle.wh_command_line.specs.declared.work.WorkOptions.{WorkOptions}
+use Rattle.wh_command_line.specs.declared.command_line.Plan.TheVariants.{Replay, Explain, Serve, Work, Help}
 use Rattle.wh_explain.specs.Explaining.{AreTasksIn, unknown_in}
-use Rattle.wh_explain.specs.Texts.{explanation_text}
 use Rattle.wh_explain.specs.declared.explanation.Explanation.{Explanation}
 use Rattle.wh_files.specs.Inputs.{IsCalled, IsOf, IsReadFrom, IsSingle}
 use Rattle.wh_files.specs.declared.Input.{Input}
 use Rattle.wh_host.specs.declared.config.Config.{Config}
 use Rattle.wh_json.specs.Events.{history}
+use Rattle.wh_live.specs.declared.serving.LiveEnd.{LiveEnd}
 use Rattle.wh_tester.specs.Verdicts.{IsLineOf, IsVerdict}
 use Rattle.wh_tester.specs.declared.line.Line.{Line}
 use Rattle.wh_workflow.specs.Law.{Program}
@@ -20,46 +21,49 @@ use Rattle.wh_cli.specs.declared.complaints.Complaints.{Complaints}
 use Rattle.wh_cli.specs.declared.failures.Failure.{Failure}
 use Rattle.wh_cli.specs.declared.json_faults.JsonFault.{JsonFault}
 use Rattle.wh_cli.specs.declared.serving.ServiceEnd.{ServiceEnd}
+use Rattle.wh_cli.specs.declared.working.LivePlan.{LivePlan}
 use Rattle.wh_cli.specs.Complaints.{Told, failed_text, fault_line, service_told}
 use Rattle.wh_cli.specs.Faults.{AreMadeOf, IsFaultOf, told_of}
 use Rattle.wh_cli.specs.Listings.{AreListed, IsListed, is_by_path}
+use Rattle.wh_cli.specs.Live.{IsLivePlan, LivesBy, live_status, live_text}
 use Rattle.wh_cli.specs.Readings.{Gives, IsReadAs}
-use Rattle.wh_cli.specs.Replays.{report_as}
+use Rattle.wh_cli.specs.Replays.{explanation_as, report_as}
 use Rattle.wh_cli.specs.Served.{HasServedInputs}
 use Rattle.wh_cli.specs.Services.{File, HostsBy, IsHosted}
-use Rattle.wh_cli.specs.Statuses.{status_of}
+use Rattle.wh_cli.specs.Statuses.{lacks_files, status_of, status_with}
 
 -- a text was written, and the status is 0
 pub record HasPrinted (text : List ℕ) (old new : Option (List ℕ)) (status : ℕ) : Type 0 where
   pub written : Appends old new text
   pub ends : status ≡ 0
 
--- the report of lines was written, then where files are no JSON was told, and the status is that of the lines
-pub record HasReported {E : Type 0} (lines : List Line) (faults : List JsonFault) (json : Bool)
+-- the report of lines was written, then where files are no JSON was told, and the status is that of the lines, unless
+-- files are lacking
+pub record HasReported {E : Type 0} (lines : List Line) (faults : List JsonFault) (json lacks : Bool)
     (old new : Option (List ℕ)) (contents : E → Option (List ℕ)) (before after : Complaints E)
     (status : ℕ) : Type 0 where
   pub written : Appends old new (report_as json lines)
   pub told : Told contents before after (flat_map fault_line faults)
-  pub ends : status ≡ status_of lines
+  pub ends : status ≡ status_with lacks (status_of lines)
 
 -- inputs were read as files and replayed, and the report of their lines was written
-pub record HasReplayed {S E : Type 0} (gives : Gives) (program : Program S) (inputs : List Input) (json : Bool)
+pub record HasReplayed {S E : Type 0} (gives : Gives) (program : Program S) (inputs : List Input) (json lacks : Bool)
     (old new : Option (List ℕ)) (contents : E → Option (List ℕ)) (before after : Complaints E)
     (status : ℕ) : Type 0 where
   pub lines : List Line
   pub faults : List JsonFault
   pub made : AreMadeOf (IsReadAs gives) (IsLineOf program) inputs lines faults
-  pub reported : HasReported lines faults json old new contents before after status
+  pub reported : HasReported lines faults json lacks old new contents before after status
 
--- a file was explained: its text was written, and the status is that of its line in the report of replay
-pub record IsExplained {S : Type 0} (program : Program S) (name bytes : List ℕ) (old new : Option (List ℕ))
-    (status : ℕ) : Type 0 where
+-- a file was explained: that was written, as JSON or as text, and the status is that of its line in the report of replay
+pub record IsExplained {S : Type 0} (program : Program S) (name bytes : List ℕ) (json : Bool)
+    (old new : Option (List ℕ)) (status : ℕ) : Type 0 where
   pub explanation : Explanation
   pub tasks : AreTasksIn program (history bytes) explanation.tasks
   pub unknown : explanation.unknown ≡ unknown_in program (history bytes)
   pub named : explanation.line.name ≡ name
   pub verdict : IsVerdict program bytes explanation.line.verdict
-  pub written : Appends old new (explanation_text explanation)
+  pub written : Appends old new (explanation_as json explanation)
   pub ends : status ≡ status_of (explanation.line ∷ [])
 
 -- at most one line was told of a file, that of its fault
@@ -70,75 +74,89 @@ pub record HasToldOf {E : Type 0} (name bytes : List ℕ) (contents : E → Opti
   pub told : Told contents before after (flat_map fault_line (told_of fault))
 
 -- a file was explained, and at most one line was told of it, that of its fault
-pub record HasExplained {S E : Type 0} (program : Program S) (name bytes : List ℕ)
+pub record HasExplained {S E : Type 0} (program : Program S) (name bytes : List ℕ) (json : Bool)
     (old new : Option (List ℕ)) (contents : E → Option (List ℕ)) (before after : Complaints E)
     (status : ℕ) : Type 0 where
-  pub explained : IsExplained program name bytes old new status
+  pub explained : IsExplained program name bytes json old new status
   pub told : HasToldOf name bytes contents before after
 
 -- an input was read as a file, and explained
-pub record HasExplainedInput {S E : Type 0} (gives : Gives) (program : Program S) (input : Input)
+pub record HasExplainedInput {S E : Type 0} (gives : Gives) (program : Program S) (input : Input) (json : Bool)
     (old new : Option (List ℕ)) (contents : E → Option (List ℕ)) (before after : Complaints E)
     (status : ℕ) : Type 0 where
   pub file : File
   pub read : IsReadAs gives input file
-  pub explained : HasExplained program (string_bytes file.0) file.1.items old new contents before after status
+  pub explained : HasExplained program (string_bytes file.0) file.1.items json old new contents before after status
 
--- inputs were served, then the rest was told, and the status is that of the service
+-- inputs were served, then the rest was told, and the status is that of the service, unless files are lacking
 pub record HasServedAll {E : Type 0} (gives : Gives) (hosts : HostsBy) (config : Config) (inputs : List Input)
-    (old new : Option (List ℕ)) (contents : E → Option (List ℕ)) (before after : Complaints E)
+    (lacks : Bool) (old new : Option (List ℕ)) (contents : E → Option (List ℕ)) (before after : Complaints E)
     (status : ℕ) : Type 0 where
   pub end : ServiceEnd
   pub served : HasServedInputs gives hosts config inputs old new end
   pub told : Told contents before after (service_told end)
-  pub ends : status ≡ end.status
+  pub ends : status ≡ status_with lacks end.status
 
 -- what paths name was replayed
-pub record HasReplayedPaths {S E : Type 0} (program : Program S) (first : List ℕ) (more : List (List ℕ)) (json : Bool)
-    (old new : Option (List ℕ)) (contents : E → Option (List ℕ)) (before after : Complaints E)
+pub record HasReplayedPaths {S E : Type 0} (program : Program S) (first : List ℕ) (more : List (List ℕ))
+    (json required : Bool) (old new : Option (List ℕ)) (contents : E → Option (List ℕ)) (before after : Complaints E)
     (status : ℕ) : Type 0 where
   pub inputs : List Input
   pub between : Complaints E
   pub listed : AreListed contents (is_by_path more) (first ∷ more) inputs before between
-  pub replayed : HasReplayed IsReadFrom program inputs json old new contents between after status
+  pub replayed : HasReplayed IsReadFrom program inputs json (lacks_files required inputs)
+      old new contents between after status
 
 -- what a path names, which is no folder, was explained
-pub record HasExplainedPath {S E : Type 0} (program : Program S) (path : List ℕ)
+pub record HasExplainedPath {S E : Type 0} (program : Program S) (path : List ℕ) (json : Bool)
     (old new : Option (List ℕ)) (contents : E → Option (List ℕ)) (before after : Complaints E)
     (status : ℕ) : Type 0 where
   pub input : Input
   pub called : IsCalled false input
   pub from : IsOf path input.origin
   pub single : IsSingle input.origin
-  pub explained : HasExplainedInput IsReadFrom program input old new contents before after status
+  pub explained : HasExplainedInput IsReadFrom program input json old new contents before after status
 
 -- the files of a folder were served by a host of these sizes
-pub record HasServedFolder {S E : Type 0} (program : Program S) (dir : List ℕ) (config : Config)
+pub record HasServedFolder {S E : Type 0} (program : Program S) (dir : List ℕ) (config : Config) (required : Bool)
     (old new : Option (List ℕ)) (contents : E → Option (List ℕ)) (before after : Complaints E)
     (status : ℕ) : Type 0 where
   pub inputs : List Input
   pub between : Complaints E
   pub listed : IsListed contents false dir inputs before between
-  pub served : HasServedAll IsReadFrom (IsHosted program) config inputs old new contents between after status
+  pub served : HasServedAll IsReadFrom (IsHosted program) config inputs (lacks_files required inputs)
+      old new contents between after status
+
+-- live tasks were served as the options ask for, how they ended was told, and the status is that of their end
+pub record HasWorked {E : Type 0} (lives : LivesBy) (options : WorkOptions) (contents : E → Option (List ℕ))
+    (before after : Complaints E) (status : ℕ) : Type 0 where
+  pub plan : LivePlan
+  pub planned : IsLivePlan options plan
+  pub end : LiveEnd
+  pub served : lives plan end
+  pub told : Told contents before after (live_text end)
+  pub ends : status ≡ live_status end
 
 -- what a plan asks for was done
-abbrev pub Obeys : {S E : Type 0} → Program S → Plan → (old new : Option (List ℕ)) → (E → Option (List ℕ)) → (before after : Complaints E) → (status : ℕ) → Type 0
-Obeys program (Replay dir more json) old new contents before after status =
-    HasReplayedPaths program dir more.items json old new contents before after status
-Obeys program (Explain file) old new contents before after status =
-    HasExplainedPath program file old new contents before after status
-Obeys program (Serve dir workers cache cache_events slots) old new contents before after status =
-    HasServedFolder program dir (config_of workers cache cache_events slots) old new contents before after status
-Obeys program (Help text) old new contents before after status =
+abbrev pub Obeys : {S E : Type 0} → Program S → LivesBy → Plan → (old new : Option (List ℕ)) → (E → Option (List ℕ)) → (before after : Complaints E) → (status : ℕ) → Type 0
+Obeys program lives (Replay dir more json required) old new contents before after status =
+    HasReplayedPaths program dir more.items json required old new contents before after status
+Obeys program lives (Explain file json) old new contents before after status =
+    HasExplainedPath program file json old new contents before after status
+Obeys program lives (Serve dir workers cache cache_events slots required) old new contents before after status =
+    HasServedFolder program dir (config_of workers cache cache_events slots) required old new contents before after status
+Obeys program lives (Work options) old new contents before after status =
+    HasWorked lives options contents before after status × (new ≡ old)
+Obeys program lives (Help text) old new contents before after status =
     HasPrinted text old new status × (after ≡ before)
 
 -- the words ask for a plan, and what that asks for was done
-pub record HasObeyed {S E : Type 0} (program : Program S) (words : List (List ℕ))
+pub record HasObeyed {S E : Type 0} (program : Program S) (lives : LivesBy) (words : List (List ℕ))
     (old new : Option (List ℕ)) (contents : E → Option (List ℕ)) (before after : Complaints E)
     (status : ℕ) : Type 0 where
   pub plan : Plan
   pub asked : IsAskedBy words plan
-  pub obeyed : Obeys program plan old new contents before after status
+  pub obeyed : Obeys program lives plan old new contents before after status
 
 -- there is no full report: why was told last, and the status is 2
 pub record HasFailed {E : Type 0} (contents : E → Option (List ℕ)) (after : Complaints E) (status : ℕ) : Type 0 where
@@ -148,6 +166,6 @@ pub record HasFailed {E : Type 0} (contents : E → Option (List ℕ)) (after : 
   pub ends : status ≡ 2
 
 -- what the words ask for was done, or there is no full report
-abbrev pub Answers : {S E : Type 0} → Program S → List (List ℕ) → (old new : Option (List ℕ)) → (E → Option (List ℕ)) → (before after : Complaints E) → (status : ℕ) → Type 0
-Answers program words old new contents before after status =
-    HasObeyed program words old new contents before after status ⊎ HasFailed contents after status
+abbrev pub Answers : {S E : Type 0} → Program S → LivesBy → List (List ℕ) → (old new : Option (List ℕ)) → (E → Option (List ℕ)) → (before after : Complaints E) → (status : ℕ) → Type 0
+Answers program lives words old new contents before after status =
+    HasObeyed program lives words old new contents before after status ⊎ HasFailed contents after status

@@ -2,6 +2,7 @@ pub mod Commands
 pub mod Complaints
 pub mod Faults
 pub mod Listings
+pub mod Live
 pub mod Readings
 pub mod Replays
 pub mod Served

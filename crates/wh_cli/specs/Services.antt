@@ -140,12 +140,13 @@ pub record IsHost (may : Config → Vec ServicePost Global → Type 0) (leaves :
 abbrev pub leaves : {E : Type 0} → (Config → Vec ServicePost Global → Result ServiceHost E → Type 0) → HostsBy
 leaves gives config posts end = gives config posts (Ok end)
 
--- a host of these sizes was opened, worked by a worker for each post, and closed: what each worker leaves is what turns
+-- a host was opened with these sizes, worked by a worker for each post, and closed: what each worker leaves is what turns
 -- with the program led to from its post, its source comes from that of the post by calls, with no more answers than its
 -- seat took tasks, and it has no fault but want of memory; the totals are the sums of what the seats counted
 pub record IsHosted {P : Type 0} (program : Program P) (config : Config) (posts : Vec ServicePost Global)
     (end : ServiceHost) : Type 0 where
   pub sizes : IsConfig config
+  pub opened : end.config ≡ config
   pub seats : config.seats ≡ vec_len posts
   pub workers : vec_len end.workers ≡ vec_len posts
   pub led : AllZip (IsLedBy program (λ source. Recounts source.histories) (λ source. Gives source.histories)

@@ -6,8 +6,10 @@ ghost use Rattle.wh_cli.specs.Commands.{HasExplained, HasExplainedInput, HasExpl
 ghost use Rattle.wh_cli.specs.Commands.{HasPrinted, HasReplayed, HasReplayedPaths, HasReported};
 ghost use Rattle.wh_cli.specs.Commands.{HasServedAll, HasServedFolder, HasToldOf, Obeys};
 ghost use Rattle.wh_cli.specs.Complaints.{Told, service_told};
+ghost use Rattle.wh_cli.specs.Live.{MayServe, lives};
 ghost use Rattle.wh_cli.specs.Served.{sizes_of};
 ghost use Rattle.wh_cli.specs.Services.{IsHost, IsHosted, leaves};
+ghost use Rattle.wh_cli.specs.Statuses.{lacks_files, status_with};
 ghost use Rattle.wh_cli.specs.declared.serving.ServiceEnd.{ServiceEnd};
 ghost use Rattle.wh_command_line.specs.Options.{IsWithinLimits};
 ghost use Rattle.wh_host.specs.Machine.{IsConfig};
@@ -21,6 +23,7 @@ use crate::json_faults::{JsonFault, json_fault};
 use crate::listing::{all_inputs, folder_of, input_of};
 use crate::replaying::{CommandFault, lines_of, report};
 use crate::serving::{ServiceEnd, serve_inputs};
+use crate::working::{LivePlan, work};
 use std::alloc::Global;
 use std::io::Write;
 use std::rt::Runtime;
@@ -31,6 +34,7 @@ use wh_events::{OutOfMemory, Text};
 use wh_files::Input;
 use wh_host::Config;
 use wh_json::{ReadFault, read_events};
+use wh_live::LiveEnd;
 use wh_tester::Line;
 use wh_workflow::Workflow;
 
@@ -62,21 +66,36 @@ fn print<O: Write>(text: &str, output: &mut O) -> Result<u8, Failure>
     }
 }
 
+/// Whether there have to be files, and there is none.
+fn lacks_files(required: bool, inputs: &[Input]) -> bool
+    ensures { result ≡ lacks_files required inputs.now }
+{
+    required && inputs.is_empty()
+}
+
+/// The status of a command: 1 where files are lacking, and else what it gives.
+fn status_with(lacks: bool, status: u8) -> u8
+    ensures { result ≡ status_with lacks status }
+{
+    if lacks { 1 } else { status }
+}
+
 /// Writes the report of lines, and once it is out, tells where files are no JSON.
 fn tell_report<O: Write, E: Write>(
     lines: Vec<Line>,
     faults: Vec<JsonFault>,
     json: bool,
+    lacks: bool,
     output: &mut O,
     errors: &mut Complaints<E>,
 ) -> Result<u8, Failure>
-    ensures { IfOk result (HasReported lines.items faults.items json (O.contents output.old) (O.contents output.new)
-        E.contents errors.old errors.new) }
+    ensures { IfOk result (HasReported lines.items faults.items json lacks
+        (O.contents output.old) (O.contents output.new) E.contents errors.old errors.new) }
 {
     let answer = report(lines.as_slice(), json, output);
     let status = flushed(answer, output)?;
     errors.tell(Complaint::BadFiles { faults });
-    Ok(status)
+    Ok(status_with(lacks, status))
 }
 
 /// Replays inputs, writes the report of their lines, and once it is out, tells where they are no
@@ -85,14 +104,15 @@ fn replay<W: Workflow + Send, R: ReadsInputs + AllocGlobal + Threads + Sync, O: 
     rt: &R,
     inputs: Vec<Input>,
     json: bool,
+    lacks: bool,
     output: &mut O,
     errors: &mut Complaints<E>,
 ) -> Result<u8, Failure>
-    ensures { IfOk result (HasReplayed R.gives W.program inputs.items json
+    ensures { IfOk result (HasReplayed R.gives W.program inputs.items json lacks
         (O.contents output.old) (O.contents output.new) E.contents errors.old errors.new) }
 {
     let (lines, faults) = lines_of::<W, R>(rt, inputs)?;
-    tell_report(lines, faults, json, output, errors)
+    tell_report(lines, faults, json, lacks, output, errors)
 }
 
 /// Whether that is why bytes are not read: that they are no JSON.
@@ -117,16 +137,17 @@ fn explain<W: Workflow, O: Write, E: Write>(
     alloc: Global,
     name: String,
     bytes: &[u8],
+    json: bool,
     output: &mut O,
     errors: &mut Complaints<E>,
 ) -> Result<u8, Failure>
-    ensures { IfOk result (HasExplained W.program (string_bytes name) bytes.now
+    ensures { IfOk result (HasExplained W.program (string_bytes name) bytes.now json
         (O.contents output.old) (O.contents output.new) E.contents errors.old errors.new) }
 {
     let Ok(called) = String::from_str(alloc, name.as_str()) else {
         return Err(Failure::OutOfMemory);
     };
-    let answer = explain_command::<W, _>(alloc, name, bytes, output);
+    let answer = explain_command::<W, _>(alloc, name, bytes, json, output);
     let status = flushed(answer, output)?;
     if status != 0 {
         tell_if_bad(alloc, called.as_str(), bytes, errors);
@@ -138,32 +159,34 @@ fn explain<W: Workflow, O: Write, E: Write>(
 fn explain_input<W: Workflow, R: ReadsInputs + AllocGlobal, O: Write, E: Write>(
     rt: &R,
     input: Input,
+    json: bool,
     output: &mut O,
     errors: &mut Complaints<E>,
 ) -> Result<u8, Failure>
-    ensures { IfOk result (HasExplainedInput R.gives W.program input
+    ensures { IfOk result (HasExplainedInput R.gives W.program input json
         (O.contents output.old) (O.contents output.new) E.contents errors.old errors.new) }
 {
     let Input { name, origin } = input;
     let bytes = rt.read(origin)?;
-    explain::<W, O, E>(rt.alloc(), name, bytes.as_slice(), output, errors)
+    explain::<W, O, E>(rt.alloc(), name, bytes.as_slice(), json, output, errors)
 }
 
 /// The status of a service, once its report is out and the rest is told.
 fn served<O: Write, E: Write>(
     answer: Result<ServiceEnd, CommandFault>,
+    lacks: bool,
     output: &mut O,
     errors: &mut Complaints<E>,
 ) -> Result<u8, Failure>
-    ensures end { IfOk result (λ status. (end : ServiceEnd) × (answer ≡ Ok end) × (status ≡ end.status)
-        × Told E.contents errors.old errors.new (service_told end)) }
+    ensures end { IfOk result (λ status. (end : ServiceEnd) × (answer ≡ Ok end)
+        × (status ≡ status_with lacks end.status) × Told E.contents errors.old errors.new (service_told end)) }
     ensures kept { Keeps (O.contents output.old) (O.contents output.new) }
 {
     match answer {
         Ok(end) => {
             let status = flushed(Ok(end.status), output)?;
             errors.tell(Complaint::Served { end });
-            Ok(status)
+            Ok(status_with(lacks, status))
         }
         Err(fault) => flushed(Err(fault), output),
     }
@@ -179,6 +202,7 @@ fn serve<
     rt: &R,
     inputs: Vec<Input>,
     options: ServeOptions,
+    lacks: bool,
     host: F,
     output: &mut O,
     errors: &mut Complaints<E>,
@@ -186,11 +210,11 @@ fn serve<
 where
     F: Drop,
     requires { IsHost (F.pre host) (leaves (F.post host)) }
-    ensures { IfOk result (HasServedAll R.gives (leaves (F.post host)) (sizes_of options) inputs.items
+    ensures { IfOk result (HasServedAll R.gives (leaves (F.post host)) (sizes_of options) inputs.items lacks
         (O.contents output.old) (O.contents output.new) E.contents errors.old errors.new) }
 {
     let answer = serve_inputs(rt, inputs, options, output, host)?;
-    served(answer, output, errors)
+    served(answer, lacks, output, errors)
 }
 
 /// Replays what is at paths.
@@ -199,31 +223,34 @@ fn replay_paths<W: Workflow + Send, R: Runtime + AllocGlobal + Threads + Sync, O
     first: Text,
     more: Vec<Text>,
     json: bool,
+    require_files: bool,
     output: &mut O,
     errors: &mut Complaints<E>,
 ) -> Result<u8, Failure>
 where
     R::File: Send,
     R::Dir: Send,
-    ensures { IfOk result (HasReplayedPaths W.program first more.items json
+    ensures { IfOk result (HasReplayedPaths W.program first more.items json require_files
         (O.contents output.old) (O.contents output.new) E.contents errors.old errors.new) }
 {
     let inputs = all_inputs(rt, first, more, errors)?;
-    replay::<W, R, O, E>(rt, inputs, json, output, errors)
+    let lacks = lacks_files(require_files, inputs.as_slice());
+    replay::<W, R, O, E>(rt, inputs, json, lacks, output, errors)
 }
 
 /// Explains what is at a path.
 fn explain_path<W: Workflow, R: Runtime + AllocGlobal, O: Write, E: Write>(
     rt: &R,
     path: Text,
+    json: bool,
     output: &mut O,
     errors: &mut Complaints<E>,
 ) -> Result<u8, Failure>
-    ensures { IfOk result (HasExplainedPath W.program path
+    ensures { IfOk result (HasExplainedPath W.program path json
         (O.contents output.old) (O.contents output.new) E.contents errors.old errors.new) }
 {
     let input = input_of(rt, path)?;
-    explain_input::<W, R, O, E>(rt, input, output, errors)
+    explain_input::<W, R, O, E>(rt, input, json, output, errors)
 }
 
 /// Serves the files of a folder.
@@ -236,20 +263,23 @@ fn serve_folder<
     rt: &R,
     dir: Text,
     options: ServeOptions,
+    require_files: bool,
     output: &mut O,
     errors: &mut Complaints<E>,
 ) -> Result<u8, Failure>
 where
     R::File: Send,
     R::Dir: Send,
-    ensures { IfOk result (HasServedFolder W.program dir (sizes_of options)
+    ensures { IfOk result (HasServedFolder W.program dir (sizes_of options) require_files
         (O.contents output.old) (O.contents output.new) E.contents errors.old errors.new) }
 {
     let inputs = folder_of(rt, dir, errors)?;
+    let lacks = lacks_files(require_files, inputs.as_slice());
     serve(
         rt,
         inputs,
         options,
+        lacks,
         |config: Config, posts: Vec<ServicePost>| -> Result<ServiceHost, OutOfMemory>
             requires sizes { IsConfig config }
             requires seats { config.seats ≡ vec_len posts }
@@ -266,29 +296,37 @@ pub(crate) fn obey<
     R: Runtime + AllocGlobal + Threads + Wait + Sync,
     O: Write,
     E: Write,
->(rt: &R, plan: Plan, output: &mut O, errors: &mut Complaints<E>) -> Result<u8, Failure>
+    F: FnOnce(LivePlan) -> Result<LiveEnd, Failure>,
+>(rt: &R, plan: Plan, live: F, output: &mut O, errors: &mut Complaints<E>) -> Result<u8, Failure>
 where
     R::File: Send,
     R::Dir: Send,
-    requires { IsWithinLimits plan }
-    ensures { IfOk result (Obeys W.program plan
+    F: Drop,
+    requires limits { IsWithinLimits plan }
+    requires serves { MayServe (F.pre live) }
+    ensures { IfOk result (Obeys W.program (lives (F.post live)) plan
         (O.contents output.old) (O.contents output.new) E.contents errors.old errors.new) }
 {
     match plan {
-        Plan::Replay { dir, more, json } => replay_paths::<W, R, O, E>(
-            rt, dir, more, json, output, errors,
-        ),
-        Plan::Explain { file } => explain_path::<W, R, O, E>(rt, file, output, errors),
+        Plan::Replay {
+            dir,
+            more,
+            json,
+            require_files,
+        } => replay_paths::<W, R, O, E>(rt, dir, more, json, require_files, output, errors),
+        Plan::Explain { file, json } => explain_path::<W, R, O, E>(rt, file, json, output, errors),
         Plan::Serve {
             dir,
             workers,
             cache,
             cache_events,
             slots,
+            require_files,
         } => {
             let options = ServeOptions::new(workers, cache, cache_events, slots);
-            serve_folder::<W, R, O, E>(rt, dir, options, output, errors)
+            serve_folder::<W, R, O, E>(rt, dir, options, require_files, output, errors)
         }
+        Plan::Work { options } => work(rt.alloc(), options, live, errors),
         Plan::Help { text } => print(text.get(), output),
     }
 }

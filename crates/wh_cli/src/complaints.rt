@@ -3,16 +3,19 @@
 ghost use Rattle.std.specs.Prelude.{◌++◌, OnOk, codes};
 ghost use Rattle.std.specs.List.{flat_map};
 ghost use Rattle.std.specs.Io.KnownBytes.{Appends};
-ghost use Rattle.wh_cli.specs.Complaints.{Told, complaint_text, entry_line, entry_text, failed_text, failure_line, fault_line};
-ghost use Rattle.wh_cli.specs.Complaints.{service_told, told_line, uncompared_told, worker_told};
+ghost use Rattle.wh_cli.specs.Complaints.{Told, complaint_text, entry_line, failed_text, failure_line, fault_line};
+ghost use Rattle.wh_cli.specs.Live.{calls_text, live_text};
+ghost use Rattle.wh_cli.specs.Complaints.{path_line, reason_line, service_told, told_line, uncompared_told, worker_told};
 
 use crate::failures::Failure;
 use crate::json_faults::JsonFault;
-use crate::service_report::FileFailure;
+use crate::service_report::{FileFailure, write_totals};
 use crate::serving::ServiceEnd;
 use std::io;
 use std::io::{Eprint, ErrorKind, Write};
 use wh_events::Text;
+use wh_files::Reason;
+use wh_live::{LiveEnd, Tally};
 use wh_tester::Shown;
 
 /// The standard error, as a writer.
@@ -54,6 +57,8 @@ pub(crate) enum Complaint {
     BadFiles { faults: Vec<JsonFault> },
     /// What a service tells beside its report.
     Served { end: ServiceEnd },
+    /// How live tasks ended.
+    Worked { end: LiveEnd },
     /// There is no full report.
     Failed { failure: Failure },
 }
@@ -159,24 +164,63 @@ fn tell_service<E: Write>(end: ServiceEnd, writer: &mut E) -> io::Result<()>
     tell_uncompared(uncompared, writer)
 }
 
-/// Writes that an entry of a folder can't be read.
-fn tell_entry<E: Write>(dir: &str, name: &str, writer: &mut E) -> io::Result<()>
-    ensures { OnOk result (Appends (E.contents writer.old) (E.contents writer.new) (entry_line dir.now name.now)) }
+/// Writes what the sources of live tasks counted.
+fn tell_calls<E: Write>(tally: Tally, writer: &mut E) -> io::Result<()>
+    ensures { OnOk result (Appends (E.contents writer.old) (E.contents writer.new) (calls_text tally)) }
 {
-    let name = Shown(name);
-    writeln!(writer, "wfhost: cannot read {dir}/{name}")
+    let Tally {
+        polls,
+        empty,
+        not_found,
+        refused,
+        ..
+    } = tally;
+    write!(
+        writer,
+        "polls {polls}, empty polls {empty}, answers not found {not_found}, answers refused {refused}\n"
+    )
 }
 
-/// Writes what can't be read: the folder or the file, and in another line the entry of the folder,
-/// where it is one.
-fn tell_unreadable<E: Write>(dir: &str, entry: &Option<String>, writer: &mut E) -> io::Result<()>
+/// Writes how live tasks ended: the totals, and what the sources counted.
+fn tell_live<E: Write>(end: LiveEnd, writer: &mut E) -> io::Result<()>
+    ensures { OnOk result (Appends (E.contents writer.old) (E.contents writer.new) (live_text end)) }
+{
+    write_totals(end.totals, writer)?;
+    tell_calls(end.tally, writer)
+}
+
+/// Writes why there is nothing to read at a path.
+fn tell_path<E: Write>(path: &str, why: &str, writer: &mut E) -> io::Result<()>
+    ensures { OnOk result (Appends (E.contents writer.old) (E.contents writer.new) (path_line path.now why.now)) }
+{
+    writeln!(writer, "wfhost: cannot read {path}: {why}")
+}
+
+/// Writes why an entry of a folder can't be read.
+fn tell_entry<E: Write>(dir: &str, name: &str, why: &str, writer: &mut E) -> io::Result<()>
     ensures { OnOk result (Appends (E.contents writer.old) (E.contents writer.new)
-        (told_line (codes "cannot read " ++ dir.now) ++ entry_text dir.now entry.now)) }
+        (entry_line dir.now name.now why.now)) }
+{
+    let name = Shown(name);
+    writeln!(writer, "wfhost: cannot read {dir}/{name}: {why}")
+}
+
+/// Writes what can't be read: the folder or the file, and in another line why not, of the entry of
+/// the folder where it is one.
+fn tell_unreadable<E: Write>(
+    dir: &str,
+    entry: &Option<String>,
+    reason: Reason,
+    writer: &mut E,
+) -> io::Result<()>
+    ensures { OnOk result (Appends (E.contents writer.old) (E.contents writer.new)
+        (told_line (codes "cannot read " ++ dir.now) ++ reason_line dir.now entry.now reason)) }
 {
     writeln!(writer, "wfhost: cannot read {dir}")?;
+    let why = reason.words();
     match entry {
-        Some(name) => tell_entry(dir, name.as_str(), writer),
-        None => Ok(()),
+        Some(name) => tell_entry(dir, name.as_str(), why, writer),
+        None => tell_path(dir, why, writer),
     }
 }
 
@@ -188,7 +232,9 @@ fn tell_failed<E: Write>(failure: &Failure, writer: &mut E) -> io::Result<()>
         Failure::BadLine { text } => tell_text(text.get(), writer),
         Failure::BadArguments => tell_line("arguments must be UTF-8 text", writer),
         Failure::FewSlots => tell_line("slots must be at least workers", writer),
-        Failure::Unreadable { dir, entry } => tell_unreadable(dir.get(), entry, writer),
+        Failure::Unreadable { dir, entry, reason } => {
+            tell_unreadable(dir.get(), entry, *reason, writer)
+        }
         Failure::Output => tell_line("cannot write", writer),
         Failure::OutOfMemory => tell_line("out of memory", writer),
     }
@@ -203,6 +249,7 @@ fn tell_complaint<E: Write>(complaint: Complaint, writer: &mut E) -> io::Result<
         Complaint::BadJson { fault } => tell_fault(fault, writer),
         Complaint::BadFiles { faults } => tell_faults(faults, writer),
         Complaint::Served { end } => tell_service(end, writer),
+        Complaint::Worked { end } => tell_live(end, writer),
         Complaint::Failed { failure } => tell_failed(&failure, writer),
     }
 }

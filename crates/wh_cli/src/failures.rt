@@ -1,21 +1,28 @@
 //! Why a run ends without a full report.
 
 ghost use Rattle.std.specs.Prelude.{◌≡◌, None};
+ghost use Rattle.wh_files.specs.declared.Reason.{Reason};
 
 use wh_events::Text;
-use wh_files::{FolderFault, InputFault};
+use wh_files::{FolderFault, InputFault, Reason};
 
 /// Why a run ends without a full report.
 #[derive(Drop)]
 pub(crate) enum Failure {
     /// A bad command line. The text names what is wrong with it, and ends its own line.
-    BadLine { text: Text },
+    BadLine {
+        text: Text,
+    },
     /// A word of the command line is no text.
     BadArguments,
     /// There are fewer slots than workers.
     FewSlots,
-    /// A folder or a file, or the entry of the folder that is named, cannot be read.
-    Unreadable { dir: Text, entry: Option<String> },
+    /// A folder or a file, or the entry of the folder that is named, cannot be read, and why not.
+    Unreadable {
+        dir: Text,
+        entry: Option<String>,
+        reason: Reason,
+    },
     /// The report cannot be written.
     Output,
     /// An allocation was refused.
@@ -32,9 +39,14 @@ impl From<InputFault> for Failure {
 
     fn from(fault: InputFault) -> Failure {
         match fault {
-            InputFault::Unreadable { path, entry } => Failure::Unreadable {
+            InputFault::Unreadable {
+                path,
+                entry,
+                reason,
+            } => Failure::Unreadable {
                 dir: Text::new(path),
                 entry,
+                reason,
             },
             InputFault::OutOfMemory => Failure::OutOfMemory,
         }
@@ -43,13 +55,15 @@ impl From<InputFault> for Failure {
 
 /// Why nothing can be read at a path.
 pub(crate) fn unreadable(path: Text, fault: FolderFault) -> Failure
-    ensures unreadable { fault ≡ FolderFault.Unreadable → result ≡ Failure.Unreadable path None }
+    ensures unreadable { (reason : Reason) → fault ≡ FolderFault.Unreadable reason
+        → result ≡ Failure.Unreadable path None reason }
     ensures memory { fault ≡ FolderFault.OutOfMemory → result ≡ Failure.OutOfMemory }
 {
     match fault {
-        FolderFault::Unreadable => Failure::Unreadable {
+        FolderFault::Unreadable { reason } => Failure::Unreadable {
             dir: path,
             entry: None,
+            reason,
         },
         FolderFault::OutOfMemory => Failure::OutOfMemory,
     }

@@ -141,7 +141,11 @@ pub(crate) fn gather(
     ensures uncompared { IfOk result (λ service.
         service.uncompared ≡ list_any (λ worker. has_last_record worker.source) end.workers.items) }
 {
-    let HostEnd { workers, totals } = end;
+    let HostEnd {
+        workers,
+        totals,
+        ..
+    } = end;
     let (rows, failures) = rows_of(alloc, dealt, workers.as_slice())?;
     Ok(Service {
         rows,

@@ -1,8 +1,9 @@
-//! A program that replays a folder of histories, serves their tasks, or explains a history, for any
-//! workflows: its commands and their reports, and the program, which takes them from its command
-//! line.
+//! A program that replays a folder of histories, serves their tasks or live ones, or explains a
+//! history, for any workflows: its commands and their reports, and the program, which takes them from
+//! its command line.
 #![tactic(auto)]
 
+mod calls;
 mod commands;
 mod complaints;
 mod dealing;
@@ -13,19 +14,26 @@ mod hosts;
 mod inputs;
 mod json_faults;
 mod listing;
+mod live;
 mod parallel;
 mod position;
 mod program;
+mod progress;
 mod reading;
 mod replaying;
 mod service_report;
 mod serving;
+mod watch;
+mod working;
 
+pub use calls::calls_over;
 pub use explaining::explain_command;
 pub use json_faults::JsonFault;
 pub use position::Position;
-pub use program::run;
+pub use program::{no_memory, run};
 pub use replaying::{CommandFault, replay_command};
 pub use service_report::FileFailure;
 pub use serving::{ServiceEnd, serve_command, serve_with_failures};
-pub use wh_command_line::{Plan, Refusal, parse};
+pub use wh_command_line::{Plan, Refusal, WorkOptions, parse};
+pub use wh_live::read_input;
+pub use wh_poll::NoActivities;

@@ -4,10 +4,14 @@ ghost use Rattle.std.specs.Prelude.{◌≡◌, ◌≢◌, Err, IfOk, map, string
 ghost use Rattle.wh_command_line.specs.Options.{IsWithinLimits};
 ghost use Rattle.wh_command_line.specs.Plans.{HasFewSlots, IsAskedBy};
 ghost use Rattle.wh_cli.specs.Commands.{Answers, HasFailed, HasObeyed};
+ghost use Rattle.wh_cli.specs.Live.{MayServe, lives};
+ghost use Rattle.wh_host.specs.Machine.{IsConfig};
 
 use crate::commands::obey;
 use crate::complaints::{Complaint, Complaints, ErrorPrinter};
 use crate::failures::Failure;
+use crate::live::serve_calls;
+use crate::working::LivePlan;
 use std::alloc::Global;
 use std::env::Env;
 use std::io::{BufWriter, ErrorKind, Print, Printer, Write};
@@ -17,6 +21,9 @@ use std::sync::Wait;
 use std::thread::Threads;
 use std::{env, io};
 use wh_command_line::{Plan, Refusal, parse};
+use wh_live::LiveEnd;
+use wh_poll::ActivityHandler;
+use wh_rpc::Caller;
 use wh_workflow::Workflow;
 
 /// The status of a run that ends without a full report.
@@ -38,13 +45,24 @@ fn words<R: Env + AllocGlobal>(rt: &R) -> Result<Vec<String>, Failure>
     }
 }
 
+/// What the program is called: its first word behind the last slash.
+fn called(words: &[String]) -> &str {
+    let Some(word) = words.first() else {
+        return "wfhost";
+    };
+    match word.rsplit_once('/') {
+        Some((_, name)) => name,
+        None => word.as_str(),
+    }
+}
+
 /// What the words of the command line ask for.
 fn plan(alloc: Global, words: &[String]) -> Result<Plan, Failure>
     ensures limits { IfOk result IsWithinLimits }
     ensures asked { IfOk result (IsAskedBy (map string_bytes words.now)) }
     ensures few { result ≡ Err Failure.FewSlots → HasFewSlots (map string_bytes words.now) }
 {
-    match parse(alloc, words) {
+    match parse(alloc, called(words), words) {
         Ok(plan) => Ok(plan),
         Err(Refusal::BadLine { text }) => Err(Failure::BadLine { text }),
         Err(Refusal::FewSlots) => Err(Failure::FewSlots),
@@ -69,37 +87,49 @@ fn fail<E: Write>(failure: Failure, errors: &mut Complaints<E>) -> u8
 }
 
 /// Does what the words of the command line ask for, and gives the status.
-fn obeyed<W: Workflow + Send, R: Runtime + AllocGlobal + Threads + Wait + Sync, O: Write, E: Write>(
+fn obeyed<
+    W: Workflow + Send,
+    R: Runtime + AllocGlobal + Threads + Wait + Sync,
+    O: Write,
+    E: Write,
+    F: FnOnce(LivePlan) -> Result<LiveEnd, Failure>,
+>(
     rt: &R,
     words: &[String],
+    live: F,
     output: &mut O,
     errors: &mut Complaints<E>,
 ) -> Result<u8, Failure>
 where
     R::File: Send,
     R::Dir: Send,
-    ensures { IfOk result (HasObeyed W.program (map string_bytes words.now)
+    F: Drop,
+    requires { MayServe (F.pre live) }
+    ensures { IfOk result (HasObeyed W.program (lives (F.post live)) (map string_bytes words.now)
         (O.contents output.old) (O.contents output.new) E.contents errors.old errors.new) }
 {
     let plan = plan(rt.alloc(), words)?;
-    obey::<W, R, O, E>(rt, plan, output, errors)
+    obey::<W, R, O, E, F>(rt, plan, live, output, errors)
 }
 
 /// Does what the words of the command line ask for, or tells why there is no full report, and gives
 /// the status.
-fn answer<W: Workflow + Send, R: Runtime + AllocGlobal + Threads + Wait + Sync, O: Write, E: Write>(
-    rt: &R,
-    words: &[String],
-    output: &mut O,
-    errors: &mut Complaints<E>,
-) -> u8
+fn answer<
+    W: Workflow + Send,
+    R: Runtime + AllocGlobal + Threads + Wait + Sync,
+    O: Write,
+    E: Write,
+    F: FnOnce(LivePlan) -> Result<LiveEnd, Failure>,
+>(rt: &R, words: &[String], live: F, output: &mut O, errors: &mut Complaints<E>) -> u8
 where
     R::File: Send,
     R::Dir: Send,
-    ensures { Answers W.program (map string_bytes words.now)
+    F: Drop,
+    requires { MayServe (F.pre live) }
+    ensures { Answers W.program (lives (F.post live)) (map string_bytes words.now)
         (O.contents output.old) (O.contents output.new) E.contents errors.old errors.new result }
 {
-    match obeyed::<W, R, O, E>(rt, words, output, errors) {
+    match obeyed::<W, R, O, E, F>(rt, words, live, output, errors) {
         Ok(status) => status,
         Err(failure) => fail(failure, errors),
     }
@@ -107,29 +137,59 @@ where
 
 /// Does what the command line asks for, with the standard output for its report, and gives the
 /// status.
-fn run_told<W: Workflow + Send, R: Runtime + AllocGlobal + Threads + Wait + Sync, E: Write>(
-    rt: &R,
-    errors: &mut Complaints<E>,
-) -> Result<u8, Failure>
+fn run_told<
+    W: Workflow + Send,
+    R: Runtime + AllocGlobal + Threads + Wait + Sync,
+    E: Write,
+    F: FnOnce(LivePlan) -> Result<LiveEnd, Failure>,
+>(rt: &R, live: F, errors: &mut Complaints<E>) -> Result<u8, Failure>
 where
     R::File: Send,
     R::Dir: Send,
+    F: Drop,
+    requires { MayServe (F.pre live) }
 {
     let words = words(rt)?;
     let mut output = output(rt)?;
-    Ok(answer::<W, R, _, E>(rt, words.as_slice(), &mut output, errors))
+    Ok(answer::<W, R, _, E, F>(rt, words.as_slice(), live, &mut output, errors))
+}
+
+/// Tells that there is no memory to begin with, and gives the status.
+pub fn no_memory<R: Eprint>(rt: &R) -> ExitCode {
+    let mut errors = Complaints::new(ErrorPrinter::new(rt));
+    ExitCode::from(fail(Failure::OutOfMemory, &mut errors))
 }
 
 /// Runs the program for the workflows of a type: it does what the arguments ask for, writes the
 /// report to the standard output and, where there is no full report, why to the standard error, and
 /// gives the status.
-pub fn run<W: Workflow + Send, R: Runtime + AllocGlobal + Threads + Wait + Sync>(rt: &R) -> ExitCode
+///
+/// Live tasks are asked for and answered over the calls. Before the first of them `listen` is called,
+/// which has to start a thread that reads the other end by `read_input`, and says whether it could;
+/// that thread is not waited for. `make` makes the handler of each worker, which runs activities.
+pub fn run<
+    W: Workflow + Send,
+    R: Runtime + AllocGlobal + Threads + Wait + Sync,
+    C: Caller + Sync,
+    L: FnOnce() -> bool,
+    A: ActivityHandler + Send + Drop,
+    M: Fn() -> A,
+>(rt: &R, calls: &C, listen: L, make: M) -> ExitCode
 where
     R::File: Send,
     R::Dir: Send,
+    L: Drop,
+    M: Drop,
+    requires listens { L.IsAlwaysCallable listen }
+    requires makes { M.IsAlwaysCallable make }
 {
     let mut errors = Complaints::new(ErrorPrinter::new(rt));
-    let status = match run_told::<W, R, _>(rt, &mut errors) {
+    let live = |plan: LivePlan| -> Result<LiveEnd, Failure>
+        requires sizes { IsConfig plan.config }
+        requires listens { L.IsAlwaysCallable listen }
+        requires makes { M.IsAlwaysCallable make }
+    { serve_calls::<W, R, C, L, A, M>(rt, calls, listen, &make, plan) };
+    let status = match run_told::<W, R, _, _>(rt, live, &mut errors) {
         Ok(status) => status,
         Err(failure) => fail(failure, &mut errors),
     };

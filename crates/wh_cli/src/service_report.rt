@@ -131,7 +131,7 @@ fn write_row<O: Write>(row: Row, writer: &mut O) -> io::Result<()>
 }
 
 /// Writes the totals.
-fn write_totals<O: Write>(totals: Totals, writer: &mut O) -> io::Result<()>
+pub(crate) fn write_totals<O: Write>(totals: Totals, writer: &mut O) -> io::Result<()>
     ensures { OnOk result (Appends (O.contents writer.old) (O.contents writer.new) (totals_text totals)) }
 {
     let Totals {

@@ -1,24 +1,24 @@
 //! What is explained of histories, line by line.
 
 use crate::tests::replaying::{bytes_of, with_status};
-use crate::tests::rows::{same, string};
+use crate::tests::rows::{made, row, same, string};
 use crate::tests::scripted::Scripted;
 use std::alloc::Global;
 use std::process::Abort;
 use wh_cli::explain_command;
-use wh_samples::{All, Asker};
+use wh_samples::{All, Asker, Nap};
 use wh_workflow::Workflow;
 
 /// Histories without a fault, each with its text below it.
 const GOOD: &str = "\
 nap
 task at 3
-  told Time 1714557603000000000 ns
+  told Time 2024-05-01T10:00:03Z
   told Start Nap
     gives StartTimer nap (60 s)
   sends StartTimer nap (60 s), recorded 5 TimerStarted nap
 task at 8
-  told Time 1714557608000000000 ns
+  told Time 2024-05-01T10:00:08Z
   told TimerFired nap
     gives Complete
   sends Complete, recorded 10 WorkflowExecutionCompleted
@@ -27,12 +27,12 @@ status 0
 
 greet
 task at 3
-  told Time 1714557603000000000 ns
+  told Time 2024-05-01T10:00:03Z
   told Start Greet
     gives StartActivity 1 greet
   sends StartActivity 1 greet, recorded 5 ActivityTaskScheduled 1 greet
 task at 9
-  told Time 1714557609000000000 ns
+  told Time 2024-05-01T10:00:09Z
   told Activity 1 Completed
     gives Complete
   sends Complete, recorded 11 WorkflowExecutionCompleted
@@ -41,14 +41,14 @@ status 0
 
 branch
 task at 3
-  told Time 1714557603000000000 ns
+  told Time 2024-05-01T10:00:03Z
   told Start Branch
     gives Ask chg (-1 to 1)
   told Version chg (version -1)
     gives StartActivity 1 old
   sends StartActivity 1 old, recorded 5 ActivityTaskScheduled 1 old
 task at 9
-  told Time 1714557609000000000 ns
+  told Time 2024-05-01T10:00:09Z
   told Activity 1 Completed
     gives Complete
   sends Complete, recorded 11 WorkflowExecutionCompleted
@@ -57,15 +57,15 @@ status 0
 
 family
 task at 3
-  told Time 1714557603000000000 ns
+  told Time 2024-05-01T10:00:03Z
   told Start Family
     gives StartChild kid Nap
   sends StartChild kid Nap, recorded 5 StartChildWorkflowExecutionInitiated kid Nap
 task at 8
-  told Time 1714557608000000000 ns
+  told Time 2024-05-01T10:00:08Z
   told ChildStarted kid
 task at 12
-  told Time 1714557612000000000 ns
+  told Time 2024-05-01T10:00:12Z
   told Child kid Completed
     gives Complete
   sends Complete, recorded 14 WorkflowExecutionCompleted
@@ -74,24 +74,24 @@ status 0
 
 racer
 task at 3
-  told Time 1714557603000000000 ns
+  told Time 2024-05-01T10:00:03Z
   told Start Racer
     gives StartActivity 1 race
     gives StartTimer t (30 s)
   sends StartActivity 1 race, recorded 5 ActivityTaskScheduled 1 race
   sends StartTimer t (30 s), recorded 6 TimerStarted t
 task at 9
-  told Time 1714557609000000000 ns
+  told Time 2024-05-01T10:00:09Z
   told TimerFired t
     gives CancelActivity 1
     gives StartTimer u (5 s)
   sends CancelActivity 1, recorded 11 ActivityTaskCancelRequested 1
   sends StartTimer u (5 s), recorded 13 TimerStarted u
 task at 15
-  told Time 1714557615000000000 ns
+  told Time 2024-05-01T10:00:15Z
   told Activity 1 Canceled
 task at 19
-  told Time 1714557619000000000 ns
+  told Time 2024-05-01T10:00:19Z
   told TimerFired u
     gives Complete
   sends Complete, recorded 21 WorkflowExecutionCompleted
@@ -100,14 +100,14 @@ status 0
 
 late
 task at 3
-  told Time 1714557603000000000 ns
+  told Time 2024-05-01T10:00:03Z
   told Start Racer
     gives StartActivity 1 race
     gives StartTimer t (30 s)
   sends StartActivity 1 race, recorded 5 ActivityTaskScheduled 1 race
   sends StartTimer t (30 s), recorded 6 TimerStarted t
 task at 11
-  told Time 1714557611000000000 ns
+  told Time 2024-05-01T10:00:11Z
   told TimerFired t
     gives CancelActivity 1
     gives StartTimer u (5 s)
@@ -119,12 +119,12 @@ status 0
 
 caller
 task at 3
-  told Time 1714557603000000000 ns
+  told Time 2024-05-01T10:00:03Z
   told Start Caller
     gives SignalExternal other go
   sends SignalExternal other go, recorded 5 SignalExternalWorkflowExecutionInitiated other go
 task at 8
-  told Time 1714557608000000000 ns
+  told Time 2024-05-01T10:00:08Z
   told SignalSent other go
     gives Complete
   sends Complete, recorded 10 WorkflowExecutionCompleted
@@ -133,7 +133,7 @@ status 0
 
 start:Branch S T C chg_marker:MQ== activity:1:new
 task at 3
-  told Time 1714557603000000000 ns
+  told Time 2024-05-01T10:00:03Z
   told Start Branch
     gives Ask chg (-1 to 1)
   told Version chg (version 1)
@@ -145,18 +145,18 @@ status 0
 
 family/6 signal:stop S T C cancel_child:kid child_canceled:5 cancel_sent:11 S T C canceled
 task at 3
-  told Time 1714557603000000000 ns
+  told Time 2024-05-01T10:00:03Z
   told Start Family
     gives StartChild kid Nap
   sends StartChild kid Nap, recorded 5 StartChildWorkflowExecutionInitiated kid Nap
 task at 9
-  told Time 1714557609000000000 ns
+  told Time 2024-05-01T10:00:09Z
   told Signal stop
     gives CancelChild kid
   told ChildStarted kid
   sends CancelChild kid, recorded 11 RequestCancelExternalWorkflowExecutionInitiated kid
 task at 15
-  told Time 1714557615000000000 ns
+  told Time 2024-05-01T10:00:15Z
   told Child kid Canceled
     gives Cancel
   told CancelSent kid
@@ -166,7 +166,7 @@ status 0
 
 nap/3
 task at 3
-  told Time 1714557603000000000 ns
+  told Time 2024-05-01T10:00:03Z
   told Start Nap
     gives StartTimer nap (60 s)
   sends StartTimer nap (60 s)
@@ -185,7 +185,7 @@ status 1
 
 nap | 'timerId':'nap' -> 'timerId':'x'
 task at 3
-  told Time 1714557603000000000 ns
+  told Time 2024-05-01T10:00:03Z
   told Start Nap
     gives StartTimer nap (60 s)
   sends StartTimer nap (60 s), recorded 5 TimerStarted x, differs
@@ -194,7 +194,7 @@ status 1
 
 greet | 'name':'greet' -> 'name':'greets'
 task at 3
-  told Time 1714557603000000000 ns
+  told Time 2024-05-01T10:00:03Z
   told Start Greet
     gives StartActivity 1 greet
   sends StartActivity 1 greet, recorded 5 ActivityTaskScheduled 1 greets, differs
@@ -203,12 +203,12 @@ status 1
 
 nap/9 failed
 task at 3
-  told Time 1714557603000000000 ns
+  told Time 2024-05-01T10:00:03Z
   told Start Nap
     gives StartTimer nap (60 s)
   sends StartTimer nap (60 s), recorded 5 TimerStarted nap
 task at 8
-  told Time 1714557608000000000 ns
+  told Time 2024-05-01T10:00:08Z
   told TimerFired nap
     gives Complete
   sends Complete, recorded 10 WorkflowExecutionFailed, differs
@@ -217,7 +217,7 @@ status 1
 
 nap/5 timer:x
 task at 3
-  told Time 1714557603000000000 ns
+  told Time 2024-05-01T10:00:03Z
   told Start Nap
     gives StartTimer nap (60 s)
   sends StartTimer nap (60 s), recorded 5 TimerStarted nap
@@ -227,7 +227,7 @@ status 1
 
 nap/4
 task at 3
-  told Time 1714557603000000000 ns
+  told Time 2024-05-01T10:00:03Z
   told Start Nap
     gives StartTimer nap (60 s)
   sends StartTimer nap (60 s), recorded nothing, differs
@@ -236,7 +236,7 @@ status 1
 
 racer/5
 task at 3
-  told Time 1714557603000000000 ns
+  told Time 2024-05-01T10:00:03Z
   told Start Racer
     gives StartActivity 1 race
     gives StartTimer t (30 s)
@@ -247,7 +247,7 @@ status 1
 
 nap | 'timerId':'nap' -> 'timerId':'\u{e9}\\n'
 task at 3
-  told Time 1714557603000000000 ns
+  told Time 2024-05-01T10:00:03Z
   told Start Nap
     gives StartTimer nap (60 s)
   sends StartTimer nap (60 s), recorded 5 TimerStarted ??, differs
@@ -256,7 +256,7 @@ status 1
 
 start:Nap timer:nap S T
 task at 4
-  told Time 1714557604000000000 ns
+  told Time 2024-05-01T10:00:04Z
   told Start Nap
     gives StartTimer nap (60 s)
   refuses StartTimer nap (60 s)
@@ -265,7 +265,7 @@ status 1
 
 start:Greet activity:1:greet activity_completed:2 activity:1:greet activity_completed:4 S T
 task at 7
-  told Time 1714557607000000000 ns
+  told Time 2024-05-01T10:00:07Z
   told Start Greet
     gives StartActivity 1 greet
   told Activity 1 Completed
@@ -278,12 +278,12 @@ status 1
 
 greet/5 C activity_cancel:5 cancel_requested S T
 task at 3
-  told Time 1714557603000000000 ns
+  told Time 2024-05-01T10:00:03Z
   told Start Greet
     gives StartActivity 1 greet
   sends StartActivity 1 greet, recorded 5 ActivityTaskScheduled 1 greet
 task at 10
-  told Time 1714557610000000000 ns
+  told Time 2024-05-01T10:00:10Z
   told CancelRequested
     gives CancelActivity 1
   refuses CancelActivity 1
@@ -292,14 +292,14 @@ status 1
 
 start:Racer S T C activity:1:race timer:t C timer_canceled:6 activity_completed:5 S T
 task at 3
-  told Time 1714557603000000000 ns
+  told Time 2024-05-01T10:00:03Z
   told Start Racer
     gives StartActivity 1 race
     gives StartTimer t (30 s)
   sends StartActivity 1 race, recorded 5 ActivityTaskScheduled 1 race
   sends StartTimer t (30 s), recorded 6 TimerStarted t
 task at 11
-  told Time 1714557611000000000 ns
+  told Time 2024-05-01T10:00:11Z
   told Activity 1 Completed
     gives CancelTimer t
   refuses CancelTimer t
@@ -308,7 +308,7 @@ status 1
 
 start:Branch S T C chg_marker:Mg== activity:1:new
 task at 3
-  told Time 1714557603000000000 ns
+  told Time 2024-05-01T10:00:03Z
   told Start Branch
     gives Ask chg (-1 to 1)
   refuses Ask chg (-1 to 1)
@@ -332,7 +332,7 @@ status 1";
 const SCRIPTED: &str = "\
 start:Scripted signal:start_timer signal:cancel_timer signal:start_timer S T
 task at 6
-  told Time 1714557606000000000 ns
+  told Time 2024-05-01T10:00:06Z
   told Start Scripted
   told Signal start_timer
     gives StartTimer t (1 s)
@@ -346,7 +346,7 @@ status 1
 
 start:Scripted signal:ask_crossed S T
 task at 4
-  told Time 1714557604000000000 ns
+  told Time 2024-05-01T10:00:04Z
   told Start Scripted
   told Signal ask_crossed
     gives Ask chg (2 to 1)
@@ -356,7 +356,7 @@ status 1
 
 start:Scripted signal:ask signal:fail S T
 task at 5
-  told Time 1714557605000000000 ns
+  told Time 2024-05-01T10:00:05Z
   told Start Scripted
   told Signal ask
     gives Ask chg (-1 to 1)
@@ -371,30 +371,148 @@ status 0
 
 start:Scripted signal:start_timer S T C timer:t signal:cancel_timer S T C timer_canceled:6 signal:continue S T C continued
 task at 4
-  told Time 1714557604000000000 ns
+  told Time 2024-05-01T10:00:04Z
   told Start Scripted
   told Signal start_timer
     gives StartTimer t (1 s)
   sends StartTimer t (1 s), recorded 6 TimerStarted t
 task at 9
-  told Time 1714557609000000000 ns
+  told Time 2024-05-01T10:00:09Z
   told Signal cancel_timer
     gives CancelTimer t
   sends CancelTimer t, recorded 11 TimerCanceled t
 task at 14
-  told Time 1714557614000000000 ns
+  told Time 2024-05-01T10:00:14Z
   told Signal continue
     gives ContinueAsNew Nap
   sends ContinueAsNew Nap, recorded 16 WorkflowExecutionContinuedAsNew
 x.json: ok, 3 tasks
 status 0";
 
-/// The text that explains a history, with the status behind it.
-fn explanation<W: Workflow>(rt: &impl Abort, alloc: Global, history: &'static str) -> String {
+/// Histories, each with the lines of JSON below it.
+const AS_JSON: &str = "\
+nap
+{'task':3}
+{'told':'Time','time':'2024-05-01T10:00:03Z'}
+{'told':'Start','workflowType':'Nap'}
+{'gives':'StartTimer','timerId':'nap','seconds':60}
+{'sends':'StartTimer','timerId':'nap','seconds':60,'recorded':{'event':5,'type':'TimerStarted','timerId':'nap'},'differs':false}
+{'task':8}
+{'told':'Time','time':'2024-05-01T10:00:08Z'}
+{'told':'TimerFired','timerId':'nap'}
+{'gives':'Complete'}
+{'sends':'Complete','recorded':{'event':10,'type':'WorkflowExecutionCompleted'},'differs':false}
+{'file':'x.json','verdict':'ok','tasks':2,'live':false}
+status 0
+
+greet | 'name':'greet' -> 'name':'greets'
+{'task':3}
+{'told':'Time','time':'2024-05-01T10:00:03Z'}
+{'told':'Start','workflowType':'Greet'}
+{'gives':'StartActivity','activityId':'1','activityType':'greet'}
+{'sends':'StartActivity','activityId':'1','activityType':'greet','recorded':{'event':5,'type':'ActivityTaskScheduled','activityId':'1','activityType':'greets'},'differs':true}
+{'file':'x.json','verdict':'fault','event':5,'fault':'event 5 differs'}
+status 1
+
+family/6 signal:stop S T C cancel_child:kid child_canceled:5 cancel_sent:11 S T
+{'task':3}
+{'told':'Time','time':'2024-05-01T10:00:03Z'}
+{'told':'Start','workflowType':'Family'}
+{'gives':'StartChild','workflowId':'kid','workflowType':'Nap'}
+{'sends':'StartChild','workflowId':'kid','workflowType':'Nap','recorded':{'event':5,'type':'StartChildWorkflowExecutionInitiated','workflowId':'kid','workflowType':'Nap'},'differs':false}
+{'task':9}
+{'told':'Time','time':'2024-05-01T10:00:09Z'}
+{'told':'Signal','signalName':'stop'}
+{'gives':'CancelChild','workflowId':'kid'}
+{'told':'ChildStarted','workflowId':'kid'}
+{'sends':'CancelChild','workflowId':'kid','recorded':{'event':11,'type':'RequestCancelExternalWorkflowExecutionInitiated','workflowId':'kid'},'differs':false}
+{'task':15}
+{'told':'Time','time':'2024-05-01T10:00:15Z'}
+{'told':'Child','workflowId':'kid','status':'Canceled'}
+{'gives':'Cancel'}
+{'told':'CancelSent','workflowId':'kid'}
+{'sends':'Cancel'}
+{'live':true}
+{'file':'x.json','verdict':'ok','tasks':3,'live':true}
+status 0
+
+start:Branch S T C chg_marker:MQ== activity:1:new
+{'task':3}
+{'told':'Time','time':'2024-05-01T10:00:03Z'}
+{'told':'Start','workflowType':'Branch'}
+{'gives':'Ask','changeId':'chg','min':-1,'max':1}
+{'told':'Version','changeId':'chg','version':1}
+{'gives':'StartActivity','activityId':'1','activityType':'new'}
+{'sends':'Marker','changeId':'chg','version':1,'recorded':{'event':5,'type':'MarkerRecorded','changeId':'chg','version':1},'differs':false}
+{'sends':'StartActivity','activityId':'1','activityType':'new','recorded':{'event':6,'type':'ActivityTaskScheduled','activityId':'1','activityType':'new'},'differs':false}
+{'file':'x.json','verdict':'ok','tasks':1,'live':false}
+status 0
+
+nap/5 timer:x
+{'task':3}
+{'told':'Time','time':'2024-05-01T10:00:03Z'}
+{'told':'Start','workflowType':'Nap'}
+{'gives':'StartTimer','timerId':'nap','seconds':60}
+{'sends':'StartTimer','timerId':'nap','seconds':60,'recorded':{'event':5,'type':'TimerStarted','timerId':'nap'},'differs':false}
+{'sends':null,'recorded':{'event':6,'type':'TimerStarted','timerId':'x'},'differs':true}
+{'file':'x.json','verdict':'fault','event':6,'fault':'event 6 has no command'}
+status 1
+
+nap/4
+{'task':3}
+{'told':'Time','time':'2024-05-01T10:00:03Z'}
+{'told':'Start','workflowType':'Nap'}
+{'gives':'StartTimer','timerId':'nap','seconds':60}
+{'sends':'StartTimer','timerId':'nap','seconds':60,'recorded':null,'differs':true}
+{'file':'x.json','verdict':'fault','task':3,'fault':'command 1 of the task at 3 has no event'}
+status 1
+
+start:Nap timer:nap S T
+{'task':4}
+{'told':'Time','time':'2024-05-01T10:00:04Z'}
+{'told':'Start','workflowType':'Nap'}
+{'gives':'StartTimer','timerId':'nap','seconds':60}
+{'refuses':'StartTimer','timerId':'nap','seconds':60}
+{'file':'x.json','verdict':'fault','task':4,'fault':'task at 4: IdInUse'}
+status 1
+
+start:Nope S T C
+{'unknownWorkflow':'Nope'}
+{'file':'x.json','verdict':'fault','task':1,'fault':'task at 1: UnknownWorkflow'}
+status 1
+
+nap/5 | 'timerId':'nap' -> 'timerId':'\u{e9}\\\\b'
+{'task':3}
+{'told':'Time','time':'2024-05-01T10:00:03Z'}
+{'told':'Start','workflowType':'Nap'}
+{'gives':'StartTimer','timerId':'nap','seconds':60}
+{'sends':'StartTimer','timerId':'nap','seconds':60,'recorded':{'event':5,'type':'TimerStarted','timerId':'?\\\\b'},'differs':true}
+{'file':'x.json','verdict':'fault','event':5,'fault':'event 5 differs'}
+status 1";
+
+/// Times of a task, and the line that tells them.
+const TIMES: &str = "\
+nap/3 | '2024-05-01T10:00:03Z' -> '2024-02-29T23:59:59Z' =>   told Time 2024-02-29T23:59:59Z
+nap/3 | '2024-05-01T10:00:03Z' -> '2024-03-01T00:00:00.5Z' =>   told Time 2024-03-01T00:00:00.500Z
+nap/3 | '2024-05-01T10:00:03Z' -> '2024-12-31T23:59:59.000001Z' =>   told Time 2024-12-31T23:59:59.000001Z
+nap/3 | '2024-05-01T10:00:03Z' -> '2025-01-01T01:59:59.123456789+02:00' =>   told Time 2024-12-31T23:59:59.123456789Z
+nap/3 | '2024-05-01T10:00:03Z' -> '1969-12-31T23:59:59.25Z' =>   told Time 1969-12-31T23:59:59.250Z
+nap/3 | '2024-05-01T10:00:03Z' -> '1900-03-01T00:00:00Z' =>   told Time 1900-03-01T00:00:00Z
+nap/3 | '2024-05-01T10:00:03Z' -> '0001-01-01T00:00:00Z' =>   told Time 0001-01-01T00:00:00Z
+nap/3 | '2024-05-01T10:00:03Z' -> '9999-12-30T00:00:00Z' =>   told Time 9999-12-30T00:00:00Z
+";
+
+/// What explains a history, as JSON or as text, with the status behind it.
+fn explanation<W: Workflow>(
+    rt: &impl Abort,
+    alloc: Global,
+    history: &'static str,
+    json: bool,
+) -> String {
     let bytes = bytes_of(rt, alloc, history);
     let name = string(rt, alloc, "x.json");
     let mut out = Vec::new(alloc);
-    let status = explain_command::<W, _>(alloc, name, bytes.as_slice(), &mut out);
+    let status = explain_command::<W, _>(alloc, name, bytes.as_slice(), json, &mut out);
     with_status(rt, out, status.expect(rt, "refused"))
 }
 
@@ -402,7 +520,7 @@ fn explanation<W: Workflow>(rt: &impl Abort, alloc: Global, history: &'static st
 pub(crate) fn explains<W: Workflow>(rt: &impl Abort, alloc: Global, blocks: &'static str) {
     for block in blocks.split("\n\n") {
         let (history, wanted) = block.split_once("\n").expect(rt, block);
-        let text = explanation::<W>(rt, alloc, history);
+        let text = explanation::<W>(rt, alloc, history, false);
         same(rt, history, text.as_str(), wanted);
     }
 }
@@ -412,6 +530,17 @@ fn explains_histories(rt: HostRuntime) {
     explains::<All>(&rt, rt.alloc(), GOOD);
     explains::<All>(&rt, rt.alloc(), BAD);
     explains::<Scripted>(&rt, rt.alloc(), SCRIPTED);
+}
+
+/// The lines of JSON have `'` for `"` in the blocks.
+#[test]
+fn explains_histories_as_json(rt: HostRuntime) {
+    for block in AS_JSON.split("\n\n") {
+        let (history, wanted) = block.split_once("\n").expect(&rt, block);
+        let text = explanation::<All>(&rt, rt.alloc(), history, true);
+        let text = made(&rt, text.as_str().replace(rt.alloc(), "\"", "'"));
+        same(&rt, history, text.as_str(), wanted);
+    }
 }
 
 /// How often a text has a line.
@@ -425,10 +554,20 @@ fn count_lines(text: &str, wanted: &str) -> u64 {
     count
 }
 
+/// Times are told as RFC 3339 writes them.
+#[test]
+fn tells_times(rt: HostRuntime) {
+    for line in TIMES.lines() {
+        let (history, wanted) = row(&rt, line);
+        let text = explanation::<Nap>(&rt, rt.alloc(), history, false);
+        assert!(rt; count_lines(text.as_str(), wanted) == 1, "{line}: {text}");
+    }
+}
+
 /// A workflow that asks at each answer asks 4,097 times.
 #[test]
 fn explains_endless_questions(rt: HostRuntime) {
-    let text = explanation::<Asker>(&rt, rt.alloc(), "start:Asker S T");
+    let text = explanation::<Asker>(&rt, rt.alloc(), "start:Asker S T", false);
     let told = count_lines(text.as_str(), "  told Version a (version 1)");
     assert!(rt; told == 4_096);
     let end = "\n  refuses Ask a (-1 to 1)\nx.json: fault, task at 3: TooManyCommands\nstatus 1";

@@ -11,7 +11,7 @@ use wh_workflow::Pair;
 const JOBS: &str = "\
 nap/3
 task at 3
-  told Time 1714557603000000000 ns
+  told Time 2024-05-01T10:00:03Z
   told Start Nap
   not recorded yet
 x.json: ok, 1 tasks, last live
@@ -19,7 +19,7 @@ status 0
 
 start:Any signal:b signal:a S T
 task at 5
-  told Time 1714557605000000000 ns
+  told Time 2024-05-01T10:00:05Z
   told Start Any
   told Signal b
   told Signal a
@@ -29,7 +29,7 @@ status 0
 
 start:Any timer:t timer_fired:2 signal:s cancel_requested signal:r S T
 task at 8
-  told Time 1714557608000000000 ns
+  told Time 2024-05-01T10:00:08Z
   told Start Any
   told Signal s
   told Signal r
@@ -41,7 +41,7 @@ status 0
 
 start:Any activity:1:a activity_started:2 activity_completed:2 activity:2:a activity_failed:5 activity:3:a activity_timed_out:7 activity:4:a activity_canceled:9 S T
 task at 12
-  told Time 1714557612000000000 ns
+  told Time 2024-05-01T10:00:12Z
   told Start Any
   told Activity 1 Completed
   told Activity 2 Failed
@@ -53,7 +53,7 @@ status 0
 
 start:Any child:a:Nap child_started:2 child_completed:2 child:b:Nap child_failed:5 child:c:Nap child_canceled:7 S T
 task at 10
-  told Time 1714557610000000000 ns
+  told Time 2024-05-01T10:00:10Z
   told Start Any
   told ChildStarted a
   told Child a Completed
@@ -65,7 +65,7 @@ status 0
 
 start:Any child:d:Nap child_timed_out:2 child:e:Nap child_terminated:4 child:f:Nap child_refused:6 S T
 task at 9
-  told Time 1714557609000000000 ns
+  told Time 2024-05-01T10:00:09Z
   told Start Any
   told Child d TimedOut
   told Child e Terminated
@@ -76,7 +76,7 @@ status 0
 
 start:Any child:kid:Nap cancel_child:kid cancel_sent:3 cancel_child:kid cancel_failed:5 S T
 task at 8
-  told Time 1714557608000000000 ns
+  told Time 2024-05-01T10:00:08Z
   told Start Any
   told CancelSent kid
   told CancelFailed kid
@@ -86,7 +86,7 @@ status 0
 
 start:Any external:other:go external_sent:2 external:another:stop external_failed:4 S T
 task at 7
-  told Time 1714557607000000000 ns
+  told Time 2024-05-01T10:00:07Z
   told Start Any
   told SignalSent other go
   told SignalFailed another stop
@@ -96,7 +96,7 @@ status 0
 
 start:Any attributes_upserted ignored timer:t timer_canceled:4 chg_marker:MQ== S T
 task at 8
-  told Time 1714557608000000000 ns
+  told Time 2024-05-01T10:00:08Z
   told Start Any
   not recorded yet
 x.json: ok, 1 tasks, last live
@@ -104,7 +104,7 @@ status 0
 
 start:Any S T signal:a task_failed signal:b S T
 task at 8
-  told Time 1714557608000000000 ns
+  told Time 2024-05-01T10:00:08Z
   told Start Any
   told Signal a
   told Signal b
@@ -114,7 +114,7 @@ status 0
 
 start:Any S T task_timed_out S T
 task at 6
-  told Time 1714557606000000000 ns
+  told Time 2024-05-01T10:00:06Z
   told Start Any
   not recorded yet
 x.json: ok, 1 tasks, last live
@@ -122,7 +122,7 @@ status 0
 
 start:Any S T signal:a C signal:b S T
 task at 8
-  told Time 1714557608000000000 ns
+  told Time 2024-05-01T10:00:08Z
   told Start Any
   told Signal a
   told Signal b
@@ -132,7 +132,7 @@ status 0
 
 start:Any S T signal:a signal:b S T
 task at 7
-  told Time 1714557607000000000 ns
+  told Time 2024-05-01T10:00:07Z
   told Start Any
   told Signal a
   told Signal b
@@ -142,10 +142,10 @@ status 0
 
 start:Greet activity:1:greet activity_started:2 S T C activity_completed:2 signal:s S T
 task at 5
-  told Time 1714557605000000000 ns
+  told Time 2024-05-01T10:00:05Z
   told Start Greet
 task at 10
-  told Time 1714557610000000000 ns
+  told Time 2024-05-01T10:00:10Z
   told Signal s
   told Activity 1 Completed
   not recorded yet
@@ -154,10 +154,10 @@ status 0
 
 start:Caller external:other:go S T C external_sent:2 S T
 task at 4
-  told Time 1714557604000000000 ns
+  told Time 2024-05-01T10:00:04Z
   told Start Caller
 task at 8
-  told Time 1714557608000000000 ns
+  told Time 2024-05-01T10:00:08Z
   told SignalSent other go
   not recorded yet
 x.json: ok, 2 tasks, last live
@@ -165,11 +165,11 @@ status 0
 
 start:Any S T signal:a task_failed S T C signal:b S T
 task at 7
-  told Time 1714557607000000000 ns
+  told Time 2024-05-01T10:00:07Z
   told Start Any
   told Signal a
 task at 11
-  told Time 1714557611000000000 ns
+  told Time 2024-05-01T10:00:11Z
   told Signal b
   not recorded yet
 x.json: ok, 2 tasks, last live
@@ -177,21 +177,21 @@ status 0
 
 start:Any signal:a S T attributes_upserted C S T
 task at 4
-  told Time 1714557604000000000 ns
+  told Time 2024-05-01T10:00:04Z
   told Start Any
   told Signal a
 task at 8
-  told Time 1714557608000000000 ns
+  told Time 2024-05-01T10:00:08Z
   not recorded yet
 x.json: ok, 2 tasks, last live
 status 0
 
 start:Any timer:t S T C signal:a timer_fired:2 S T signal:b task_timed_out S T
 task at 4
-  told Time 1714557604000000000 ns
+  told Time 2024-05-01T10:00:04Z
   told Start Any
 task at 13
-  told Time 1714557613000000000 ns
+  told Time 2024-05-01T10:00:13Z
   told Signal a
   told Signal b
   told TimerFired t
@@ -234,7 +234,7 @@ start:nap S T => 2 steps, holds 3, []
 const SECOND_PART: &str = "\
 greet/3
 task at 3
-  told Time 1714557603000000000 ns
+  told Time 2024-05-01T10:00:03Z
   told Start Greet
   not recorded yet
 x.json: ok, 1 tasks, last live
@@ -242,7 +242,7 @@ status 0
 
 start:nap S T
 task at 3
-  told Time 1714557603000000000 ns
+  told Time 2024-05-01T10:00:03Z
   told Start nap
   not recorded yet
 x.json: ok, 1 tasks, last live

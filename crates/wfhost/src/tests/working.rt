@@ -14,7 +14,7 @@ use std::sync::ledger::{Blank, Ledger};
 use std::thread::Threads;
 use wh_host::{Config, Counts};
 use wh_ledger::Seat;
-use wh_poll::{ActivityHandler, NoActivities, Worker, run_workers};
+use wh_poll::{ActivityHandler, NoActivities, NoObserver, Post, Worker, run_posts, run_workers};
 use wh_samples::ScriptSource;
 
 /// Days of a worker, written as those of a host, without steps.
@@ -294,4 +294,79 @@ fn crews_work_side_by_side(rt: HostRuntime) {
     for line in CREWS.lines() {
         crew_works(&rt, rt.alloc(), line);
     }
+}
+
+/// Posts over the sources of these scripts.
+fn posts_of(
+    rt: &impl Abort,
+    alloc: Global,
+    scripts: &'static str,
+) -> Vec<Post<ScriptSource, NoActivities, NoObserver>> {
+    let mut posts = Vec::new(alloc);
+    for source in sources_of(rt, alloc, scripts) {
+        let post = Post {
+            source,
+            handler: NoActivities { alloc },
+            observer: NoObserver,
+            turns: 20,
+        };
+        push(rt, &mut posts, post);
+    }
+    posts
+}
+
+/// Runs the posts of these scripts, and gives the seats that come back.
+fn posted<R: Threads + Wait + Abort + Sync, T: Ledger + Send, C: Ledger + Send, F: Ledger + Send>(
+    book: &Notebook<'_, '_, R, T, C, F>,
+    seats: Vec<Seat<T, C, F>>,
+    scripts: &'static str,
+) -> Vec<Seat<T, C, F>> {
+    let (rt, alloc) = (book.rt, book.alloc);
+    let posts = posts_of(rt, alloc, scripts);
+    assert!(rt; posts.len() == seats.len());
+    let ended = run_posts(rt, alloc, book.host, seats, posts, book);
+    let (seats, left) = ended.expect(rt, "memory");
+    drop(left);
+    seats
+}
+
+/// What a host has counted on which posts were run twice.
+fn counts_of_both<
+    R: Threads + Wait + Abort + Sync,
+    T: Ledger + Send,
+    C: Ledger + Send,
+    F: Ledger + Send,
+>(rt: &R, alloc: Global, config: Config, taken: Blank, completed: Blank, failed: Blank) -> Counts
+    requires taken { (taken.name ≡ T.name) × (taken.parts ≡ T.parts) × (taken.parts ≡ config.seats) }
+    requires completed { (completed.name ≡ C.name) × (completed.parts ≡ C.parts) × (completed.parts ≡ config.seats) }
+    requires failed { (failed.name ≡ F.name) × (failed.parts ≡ F.parts) × (failed.parts ≡ config.seats) }
+{
+    let (host, seats) = open::<R, Workflows, T, C, F>(rt, alloc, config, taken, completed, failed);
+    let book = Notebook::new(rt, alloc, &host, "");
+    let seats = posted(&book, seats, "0 a => nap/3; 1 b => nap/3");
+    let mut seats = posted(&book, seats, "2 c => nap/3; 3 d => nap");
+    drop(book);
+    let seat = seats.pop().expect(rt, "seat");
+    close(rt, host, seats, seat)
+}
+
+/// Posts are run a second time on one host: what was cached and counted stays.
+#[test]
+fn posts_are_run_again(rt: HostRuntime) {
+    let config = Config {
+        workflow_slots: 2,
+        activity_slots: 1,
+        cache: 10,
+        cache_events: 0,
+        seats: 2,
+    };
+    let (taken, completed, failed) = (Blank::new(2), Blank::new(2), Blank::new(2));
+    let alloc = rt.alloc();
+    let counts = counts_of_both::<_, Brand, Brand, Brand>(
+        &rt, alloc, config, taken, completed, failed,
+    );
+    let text =
+        "Counts taken: 5, completed: 5, failed: 0, in_hand: 0, cached: 4, cached_events: 17, \
+        workflow: SlotCount free: 2, reserved: 0, held: 0, activity: SlotCount free: 1, reserved: 0, held: 0";
+    wants(&rt, alloc, "posts run twice", counts, text);
 }

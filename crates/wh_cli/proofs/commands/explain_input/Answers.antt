@@ -4,6 +4,6 @@ use Rattle.wh_cli.proofs.commands.explain_input.Goals as goal
 -- the file is that of the input's name and of the bytes that were read
 pub returns : goal.returns
 returns g c =
-    explained_input g.R.ReadsInputs.gives g.W.Workflow.program c.args.input c.in_ok-bytes.bytes c.as_slice.result.now
+    explained_input g.R.ReadsInputs.gives g.W.Workflow.program c.args.input c.in_ok-bytes.bytes c.as_slice.result.now c.args.json
     (g.O.Write.contents c.args.output.now) (g.O.Write.contents c.explain.new.output) g.E.Write.contents c.args.errors.now c.explain.new.errors
     c.explain.result c.in_ok-bytes.ensures c.as_slice.ensures.value c.explain.ensures

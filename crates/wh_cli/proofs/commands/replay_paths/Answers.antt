@@ -1,9 +1,11 @@
+use Rattle.std.proofs.Common.{ap, ◌∙◌}
+use Rattle.wh_cli.specs.Statuses.{lacks_files}
 use Rattle.wh_cli.proofs.Steps.{replayed_paths}
 use Rattle.wh_cli.proofs.commands.replay_paths.Goals as goal
 
 -- the inputs are those of the paths
 pub returns : goal.returns
 returns g c =
-    replayed_paths g.W.Workflow.program c.args.first c.args.more.items c.args.json c.in_ok-inputs.inputs.items
+    replayed_paths g.W.Workflow.program c.args.first c.args.more.items c.args.json c.args.require_files c.lacks_files-lacks.result c.in_ok-inputs.inputs.items
     (g.O.Write.contents c.args.output.now) (g.O.Write.contents c.replay.new.output) g.E.Write.contents c.args.errors.now c.all_inputs.new.errors c.replay.new.errors
-    c.replay.result c.in_ok-inputs.ensures c.replay.ensures
+    c.replay.result c.in_ok-inputs.ensures (c.lacks_files-lacks.ensures ∙ ap (lacks_files c.args.require_files) c.as_slice.ensures.value) c.replay.ensures

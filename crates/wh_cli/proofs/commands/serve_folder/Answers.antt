@@ -1,11 +1,13 @@
+use Rattle.std.proofs.Common.{ap, ◌∙◌}
 use Rattle.wh_cli.specs.Served.{sizes_of}
+use Rattle.wh_cli.specs.Statuses.{lacks_files}
 use Rattle.wh_cli.proofs.Steps.{served_folder}
 use Rattle.wh_cli.proofs.commands.serve_folder.Goals as goal
 
 -- the host is one that runs the program
 pub returns : goal.returns
 returns g c =
-    served_folder g.W.Workflow.program c.args.dir (sizes_of c.args.options) c.in_ok-inputs.inputs.items
+    served_folder g.W.Workflow.program c.args.dir (sizes_of c.args.options) c.args.require_files c.lacks_files-lacks.result c.in_ok-inputs.inputs.items
     (g.O.Write.contents c.args.output.now) (g.O.Write.contents c.serve.new.output)
     g.E.Write.contents c.args.errors.now c.folder_of.new.errors c.serve.new.errors c.serve.result
-    c.in_ok-inputs.ensures c.serve.ensures
+    c.in_ok-inputs.ensures (c.lacks_files-lacks.ensures ∙ ap (lacks_files c.args.require_files) c.as_slice.ensures.value) c.serve.ensures

@@ -1,0 +1,87 @@
+//! The workers of live tasks.
+
+ghost use Rattle.std.specs.Prelude.{◌≡◌, ◌+◌, IfOk, vec_len};
+ghost use Rattle.wh_host.specs.Machine.{IsConfig};
+
+use crate::failures::Failure;
+use crate::progress::Progress;
+use crate::watch::Watch;
+use crate::working::LivePlan;
+use std::alloc::Global;
+use std::sync::Wait;
+use std::thread::Threads;
+use std::time::Clock;
+use wh_events::OutOfMemory;
+use wh_host::OpenFault;
+use wh_live::{LiveEnd, serve_live};
+use wh_poll::ActivityHandler;
+use wh_rpc::Caller;
+use wh_workflow::Workflow;
+
+/// A handler and a watch for each worker.
+fn crew_of<'a, R, A: Drop, M: Fn() -> A>(
+    rt: &'a R,
+    alloc: Global,
+    make: &M,
+    seats: usize,
+    progress: Option<&'a Progress>,
+) -> Result<Vec<(A, Watch<'a, R>)>, OutOfMemory>
+    requires { M.IsAlwaysCallable make.now }
+    ensures { IfOk result (λ crew. vec_len crew ≡ seats) }
+{
+    let mut crew = Vec::new(alloc);
+    for _seat in 0..seats {
+        crew.push((make(), Watch { rt, progress }))?;
+    }
+    Ok(crew)
+}
+
+/// Listens to what the other end writes, and serves its tasks until there are no more.
+pub(crate) fn serve_calls<
+    W: Workflow + Send,
+    R: Threads + Wait + Clock + Eprint + Sync,
+    C: Caller + Sync,
+    L: FnOnce() -> bool,
+    A: ActivityHandler + Send + Drop,
+    M: Fn() -> A,
+>(rt: &R, calls: &C, listen: L, make: &M, plan: LivePlan) -> Result<LiveEnd, Failure>
+where
+    L: Drop,
+    requires sizes { IsConfig plan.config }
+    requires listens { L.IsAlwaysCallable listen }
+    requires makes { M.IsAlwaysCallable make.now }
+    ensures { IfOk result (λ end.
+        end.totals.taken ≡ end.totals.completed + end.totals.failed + end.totals.in_hand) }
+{
+    let LivePlan {
+        config,
+        options,
+        workers,
+        stats,
+    } = plan;
+    let alloc = calls.allocator();
+    let progress = match stats {
+        Some(seconds) => Some(Progress::new(rt, seconds)),
+        None => None,
+    };
+    let Ok(crew) = crew_of(rt, alloc, make, config.seats, progress.as_ref()) else {
+        return Err(Failure::OutOfMemory);
+    };
+    if !listen() {
+        return Err(Failure::OutOfMemory);
+    }
+    let end = serve_live::<W, R, C, A, Watch<R>>(
+        rt,
+        alloc,
+        config,
+        calls,
+        &options,
+        workers as usize,
+        crew,
+    );
+    match end {
+        Ok(end) => Ok(end),
+        Err(OpenFault::OutOfMemory) => Err(Failure::OutOfMemory),
+        Err(OpenFault::BadConfig) => unreachable!(),
+    }
+}

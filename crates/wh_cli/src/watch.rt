@@ -1,0 +1,25 @@
+//! What is told of live tasks while they are served.
+
+use crate::progress::Progress;
+use std::sync::Wait;
+use std::time::Clock;
+use wh_poll::{Observer, Served, SourceFault};
+
+/// Counts the tasks of its worker, if they are counted.
+#[derive(Drop)]
+pub(crate) struct Watch<'a, R> {
+    pub(crate) rt: &'a R,
+    pub(crate) progress: Option<&'a Progress>,
+}
+
+impl<R: Wait + Clock + Eprint> Observer for Watch<'_, R> {
+    ghost use Rattle.std.specs.Prelude.{◌≡◌};
+
+    ghost hears = { λ old turn new. new ≡ old };
+
+    fn observe(&mut self, turn: Result<Served, SourceFault>) {
+        if let Some(progress) = self.progress {
+            progress.count(self.rt, turn);
+        }
+    }
+}

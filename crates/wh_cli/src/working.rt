@@ -1,0 +1,136 @@
+//! The command `work`.
+
+ghost use Rattle.std.specs.Prelude.{◌≡◌, IfOk};
+ghost use Rattle.wh_command_line.specs.Options.{IsWithinWorkLimits};
+ghost use Rattle.wh_host.specs.Machine.{IsConfig};
+ghost use Rattle.wh_cli.specs.Commands.{HasWorked};
+ghost use Rattle.wh_cli.specs.Live.{AreLiveOptions, IsLivePlan, MayServe, keeps_runs};
+ghost use Rattle.wh_cli.specs.Live.{live_config, live_status, lives};
+
+use crate::complaints::{Complaint, Complaints};
+use crate::failures::Failure;
+use std::alloc::Global;
+use std::io::Write;
+use wh_command_line::WorkOptions;
+use wh_events::OutOfMemory;
+use wh_host::Config;
+use wh_live::{LiveEnd, LiveOptions};
+use wh_messages::{ActivityOptions, WorkerNames};
+
+/// How live tasks are served.
+#[derive(Drop)]
+pub(crate) struct LivePlan {
+    /// The sizes of the host.
+    pub(crate) config: Config,
+    /// What the workers poll, and what they say of themselves and of their tasks.
+    pub(crate) options: LiveOptions,
+    /// How many of the workers poll for workflow tasks.
+    pub(crate) workers: u64,
+    /// After how many seconds each it is told how many tasks were answered, if it is.
+    pub(crate) stats: Option<u64>,
+}
+
+/// Whether runs are kept between their tasks. The tasks of such runs are polled by workers of their
+/// own, so one worker keeps none.
+fn keeps_runs(options: &WorkOptions) -> bool
+    ensures { result ≡ keeps_runs options.now }
+{
+    1 <= options.cache && 2 <= options.workers
+}
+
+/// The sizes of the host.
+fn live_config(options: &WorkOptions) -> Config
+    requires { IsWithinWorkLimits options.now }
+    ensures config { IsConfig result }
+    ensures asked { result ≡ live_config options.now }
+{
+    let config = options.config();
+    if keeps_runs(options) {
+        config
+    } else {
+        Config { cache: 0, ..config }
+    }
+}
+
+/// What the workers poll, and what they say of themselves and of their tasks.
+fn live_options(alloc: Global, options: WorkOptions) -> Result<LiveOptions, OutOfMemory>
+    requires { IsWithinWorkLimits options }
+    ensures { IfOk result (AreLiveOptions options) }
+{
+    let sticky = if keeps_runs(&options) {
+        Some(options.sticky_timeout as u32)
+    } else {
+        None
+    };
+    let activities = ActivityOptions {
+        timeout: options.activity_timeout as u32,
+        attempts: options.activity_attempts as u16,
+    };
+    let WorkOptions {
+        task_queue,
+        namespace,
+        identity,
+        verbose,
+        ..
+    } = options;
+    let names = WorkerNames::new(
+        alloc,
+        namespace.into_inner(),
+        task_queue.into_inner(),
+        identity.into_inner(),
+    )?;
+    Ok(LiveOptions {
+        names,
+        activities,
+        sticky,
+        verbose,
+    })
+}
+
+/// How options ask to serve live tasks.
+fn live_plan(alloc: Global, options: WorkOptions) -> Result<LivePlan, OutOfMemory>
+    requires { IsWithinWorkLimits options }
+    ensures config { IfOk result (λ plan. IsConfig plan.config) }
+    ensures asked { IfOk result (IsLivePlan options) }
+{
+    let config = live_config(&options);
+    let workers = options.workers;
+    let stats = options.stats;
+    let options = live_options(alloc, options)?;
+    Ok(LivePlan {
+        config,
+        options,
+        workers,
+        stats,
+    })
+}
+
+/// The status: 0 where no call of a source failed, and else 1.
+fn live_status(end: &LiveEnd) -> u8
+    ensures { result ≡ live_status end.now }
+{
+    if end.tally.faults == 0 { 0 } else { 1 }
+}
+
+/// Serves live tasks as options ask for, tells how they ended, and gives the status.
+pub(crate) fn work<F: FnOnce(LivePlan) -> Result<LiveEnd, Failure>, E: Write>(
+    alloc: Global,
+    options: WorkOptions,
+    live: F,
+    errors: &mut Complaints<E>,
+) -> Result<u8, Failure>
+where
+    F: Drop,
+    requires limits { IsWithinWorkLimits options }
+    requires serves { MayServe (F.pre live) }
+    ensures { IfOk result (HasWorked (lives (F.post live)) options E.contents errors.old errors.new) }
+{
+    let Ok(plan) = live_plan(alloc, options) else {
+        drop(live);
+        return Err(Failure::OutOfMemory);
+    };
+    let end = live(plan)?;
+    let status = live_status(&end);
+    errors.tell(Complaint::Worked { end });
+    Ok(status)
+}
