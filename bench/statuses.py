@@ -38,6 +38,7 @@ Commands:
   replay   Replays each history of folders and files, and prints a line for each
   explain  Replays a history, and prints what the workflow was told and gave, task by task
   serve    Serves each history of a folder as workflow tasks, and prints how they ended
+  work     Serves live tasks, which it asks for and answers in JSON on the standard output and input
   help     Print this message or the help of the given subcommand(s)
 
 Options:
@@ -57,17 +58,19 @@ Arguments:
   <PATH>...  A folder whose .json files are read, a file, or - for the standard input
 
 Options:
-      --json  Prints the report as JSON
-  -h, --help  Print help
+      --json           Prints the report as JSON
+      --require-files  Fails where there is no history
+  -h, --help           Print help
 """
 EXPLAIN_HELP = """Replays a history, and prints what the workflow was told and gave, task by task
 
-Usage: wfhost explain <FILE>
+Usage: wfhost explain [OPTIONS] <FILE>
 
 Arguments:
   <FILE>  The history file that is read, or - for the standard input
 
 Options:
+      --json  Prints the explanation as JSON
   -h, --help  Print help
 """
 SERVE_HELP = """Serves each history of a folder as workflow tasks, and prints how they ended
@@ -82,9 +85,35 @@ Options:
       --cache <N>         How many runs are kept between their tasks, 0 to 10000 [default: 100]
       --cache-events <N>  How many events the kept runs hold together, where 0 is no bound, 0 to 512000000 [default: 0]
       --slots <N>         How many tasks of each kind are in hand at once, 1 to 1000 [default: 100]
+      --require-files     Fails where there is no history
   -h, --help              Print help
 """
-VERSION = "wfhost 0.1.0 (rattle-kit-13f logic dac8208d650f15bf)\n"
+WORK_HELP = """Serves live tasks, which it asks for and answers in JSON on the standard output and input
+
+Usage: wfhost work [OPTIONS] --task-queue <NAME>
+
+Options:
+      --task-queue <NAME>           The Task Queue whose tasks are served
+      --namespace <NAME>            The namespace of the Task Queue [default: default]
+      --identity <NAME>             Who the server is told that it is [default: wfhost]
+      --workers <N>                 How many workers poll for workflow tasks, 1 to 64 [default: 2]
+      --cache <N>                   How many runs are kept between their tasks, 0 to 10000 [default: 100]
+      --cache-events <N>            How many events the kept runs hold together, where 0 is no bound, 0 to 512000000 [default: 0]
+      --slots <N>                   How many tasks of each kind are in hand at once, 1 to 1000 [default: 100]
+      --activity-workers <N>        How many workers more poll for activity tasks, of 64 workers at most, 0 to 63 [default: 0]
+      --activity-timeout <SECONDS>  How long an activity may take from its start, 1 to 4294967295 [default: 60]
+      --activity-attempts <N>       How often an activity is tried, where 0 leaves it to the server, 0 to 65535 [default: 1]
+      --sticky-timeout <SECONDS>    How long a task waits for the workers that keep its run, 1 to 4294967295 [default: 10]
+      --verbose                     Tells more on the standard error
+      --stats <SECONDS>             Tells the counts on the standard error, each time after as many seconds, 1 to 4294967295
+  -h, --help                        Print help
+
+Status:
+  0  it was told to shut down, or its input ended, and no call failed for good
+  1  a call failed for good
+  2  it did not begin; standard error says why
+"""
+VERSION = "wfhost 0.1.0\n"
 NO_COMMAND = "error: a command is needed\n\nUsage: wfhost [COMMAND]\n\nFor more information, try '--help'.\n"
 FEW_SLOTS = "wfhost: slots must be at least workers\n"
 NOT_TAKEN = "wfhost: cannot write\n"
@@ -96,16 +125,28 @@ REPLAYED = "nap.json: ok, 2 tasks\n1 files, 1 ok\n"
 REPLAYED_JSON = '{"file":"nap.json","verdict":"ok","tasks":2,"live":false}\n{"files":1,"ok":1}\n'
 SERVED = "nap.json: 2 tasks, 2 completed, 0 failed\ntaken 2, completed 2, failed 0, in hand 0\n"
 EXPLAINED = """task at 3
-  told Time 1714557603000000000 ns
+  told Time 2024-05-01T10:00:03Z
   told Start Nap
     gives StartTimer nap (60 s)
   sends StartTimer nap (60 s), recorded 5 TimerStarted nap
 task at 8
-  told Time 1714557608000000000 ns
+  told Time 2024-05-01T10:00:08Z
   told TimerFired nap
     gives Complete
   sends Complete, recorded 10 WorkflowExecutionCompleted
 nap.json: ok, 2 tasks
+"""
+EXPLAINED_JSON = """{"task":3}
+{"told":"Time","time":"2024-05-01T10:00:03Z"}
+{"told":"Start","workflowType":"Nap"}
+{"gives":"StartTimer","timerId":"nap","seconds":60}
+{"sends":"StartTimer","timerId":"nap","seconds":60,"recorded":{"event":5,"type":"TimerStarted","timerId":"nap"},"differs":false}
+{"task":8}
+{"told":"Time","time":"2024-05-01T10:00:08Z"}
+{"told":"TimerFired","timerId":"nap"}
+{"gives":"Complete"}
+{"sends":"Complete","recorded":{"event":10,"type":"WorkflowExecutionCompleted"},"differs":false}
+{"file":"nap.json","verdict":"ok","tasks":2,"live":false}
 """
 REPLAYED_EXAMPLES = """branch.json: ok, 2 tasks
 caller.json: ok, 2 tasks
@@ -255,7 +296,7 @@ wfhost: e.json: task at 3: task at 1: UnknownWorkflow
 wfhost: e.json: task at 8: task at 1: UnknownWorkflow
 wfhost: f.json: task at 8: event 6 is not in place: NoSuchRef
 {UNCOMPARED}"""
-STARTED = "task at 3\n  told Time 1714557603000000000 ns\n  told Start "
+STARTED = "task at 3\n  told Time 2024-05-01T10:00:03Z\n  told Start "
 EXPLAINED_VERDICTS = {
     "b.json": f"""{STARTED}Nap
     gives StartTimer nap (60 s)
@@ -333,9 +374,16 @@ def link_to(target):
     return lambda path: path.symlink_to(target)
 
 
-def cannot_read(*paths):
-    """What is said of a path, or of a folder and of what is in it, that can't be read."""
-    return "".join(f"wfhost: cannot read {path}\n" for path in paths)
+MISSING = "no such file or folder"
+FORBIDDEN = "permission denied"
+IS_FOLDER = "is a folder"
+NO_FOLDER = "is no folder"
+NO_FILE = "is no file"
+
+
+def cannot_read(path, why, entry=None):
+    """What is said of a path that can't be read, or of a folder where an entry of it can't be."""
+    return f"wfhost: cannot read {path}\nwfhost: cannot read {path if entry is None else f'{path}/{entry}'}: {why}\n"
 
 
 def command_lines(room):
@@ -355,6 +403,12 @@ def command_lines(room):
         *(["serve", well, "--cache", number] for number in ("-1", "10001")),
         ["serve", well, "--cache-events", "512000001"],
         *(["serve", well, "--slots", number] for number in ("0", "1001", "18446744073709551616")),
+        ["work"],
+        ["work", "--task-queue", ""],
+        ["work", "--task-queue", "q", well],
+        *(["work", "--task-queue", "q", "--workers", number] for number in ("0", "65", "x")),
+        ["work", "--task-queue", "q", "--activity-workers", "63"],
+        ["work", "--task-queue", "q", "--activity-timeout", "0"],
     ]
     return [
         *((words, 0, HELP, "") for words in (["--help"], ["-h"], ["help"])),
@@ -362,10 +416,13 @@ def command_lines(room):
         *((words, 0, REPLAY_HELP, "") for words in (["replay", "--help"], ["help", "replay"])),
         *((words, 0, EXPLAIN_HELP, "") for words in (["explain", "--help"], ["help", "explain"])),
         *((words, 0, SERVE_HELP, "") for words in (["serve", "--help"], ["help", "serve"])),
+        *((words, 0, WORK_HELP, "") for words in (["work", "--help"], ["help", "work"])),
         ([], 2, "", NO_COMMAND),
         *((words, 2, "", Like("error: *")) for words in bad),
         (["serve", well, "--workers", "4", "--slots", "3"], 2, "", FEW_SLOTS),
         (["serve", str(room.new()), "--workers", "4", "--slots", "3"], 2, "", FEW_SLOTS),
+        (["work", "--task-queue", "q", "--slots", "1"], 2, "", FEW_SLOTS),
+        (["work", "--task-queue", "q", "--activity-workers", "3", "--slots", "2"], 2, "", FEW_SLOTS),
         ([b"replay", b"\xff"], 2, "", "wfhost: arguments must be UTF-8 text\n"),
     ]
 
@@ -384,6 +441,7 @@ def reports(room):
         (["replay", well, "--json"], 0, REPLAYED_JSON, ""),
         (["replay", f"{well}/nap.json"], 0, REPLAYED, ""),
         (["explain", f"{well}/nap.json"], 0, EXPLAINED, ""),
+        (["explain", "--json", f"{well}/nap.json"], 0, EXPLAINED_JSON, ""),
         (["serve", well], 0, SERVED, UNCOMPARED),
         (["serve", live], 0, SERVED.replace("2", "1"), ""),
         (["replay", examples], 0, REPLAYED_EXAMPLES, ""),
@@ -457,6 +515,9 @@ def files(room):
         (["replay", *paths], 0, several, none, {"given": NAP}),
         (["replay", f"{mixed}/a.json", well, f"{mixed}/a.json"], 0, twice, ""),
         (["replay", empty], 0, "0 files, 0 ok\n", none),
+        (["replay", empty, "--require-files"], 1, "0 files, 0 ok\n", none),
+        (["replay", empty, well, "--require-files"], 0, f"{well}/nap.json: ok, 2 tasks\n1 files, 1 ok\n", none),
+        (["serve", empty, "--require-files"], 1, "taken 0, completed 0, failed 0, in hand 0\n", none),
         (["replay", empty, empty], 0, "0 files, 0 ok\n", none + none),
         (["replay", empty, "--json"], 0, '{"files":0,"ok":0}\n', none),
         (["serve", empty], 0, "taken 0, completed 0, failed 0, in hand 0\n", none),
@@ -496,14 +557,15 @@ def links_and_pipes(room):
     """Links are followed. What is no file then can't be read."""
     well = room.folder({"nap.json": NAP})
     linked = room.folder({"nap.json": link_to(f"{well}/nap.json"), "other": link_to(well)})
-    unread = {
-        "a folder": lambda path: path.mkdir(),
-        "a pipe": os.mkfifo,
-        "a link to nothing": link_to("nowhere"),
-        "a link to itself": link_to("x.json"),
-        "a link to a folder": link_to(well),
-        "a link to a device": link_to("/dev/zero"),
-    }
+    unread = [
+        (lambda path: path.mkdir(), IS_FOLDER),
+        (os.mkfifo, NO_FILE),
+        (link_to("nowhere"), MISSING),
+        (link_to("x.json"), "too many links"),
+        (link_to(well), IS_FOLDER),
+        (link_to("/dev/zero"), NO_FILE),
+    ]
+    long = "unreadable, file too long\n"
     missing = str(room.new())
     cases = [
         (["replay", linked], 0, REPLAYED, ""),
@@ -511,29 +573,30 @@ def links_and_pipes(room):
         (["replay", f"{linked}/other"], 0, REPLAYED, ""),
         (["serve", f"{linked}/other"], 0, SERVED, UNCOMPARED),
         (["explain", f"{linked}/nap.json"], 0, EXPLAINED, ""),
-        *(([command, "/dev/zero"], 2, "", cannot_read("/dev/zero")) for command in ("replay", "explain", "serve")),
-        *(([command, missing], 2, "", cannot_read(missing)) for command in ("replay", "explain", "serve")),
-        *(([command, ""], 2, "", cannot_read("")) for command in ("replay", "explain", "serve")),
-        (["explain", well], 2, "", cannot_read(well)),
-        (["serve", f"{well}/nap.json"], 2, "", cannot_read(f"{well}/nap.json")),
-        (["replay", well, missing], 2, "", cannot_read(missing)),
+        (["serve", "/dev/zero"], 2, "", cannot_read("/dev/zero", NO_FOLDER)),
+        *(([command, missing], 2, "", cannot_read(missing, MISSING)) for command in ("replay", "explain", "serve")),
+        *(([command, ""], 2, "", cannot_read("", MISSING)) for command in ("replay", "explain", "serve")),
+        (["explain", well], 2, "", cannot_read(well, IS_FOLDER)),
+        (["serve", f"{well}/nap.json"], 2, "", cannot_read(f"{well}/nap.json", NO_FOLDER)),
+        (["replay", well, missing], 2, "", cannot_read(missing, MISSING)),
+        # A pipe or a device that is named itself is read.
+        (["replay", "/dev/zero"], 1, f"zero: {long}1 files, 0 ok\n", ""),
+        (["explain", "/dev/zero"], 1, f"zero: {long}", ""),
+        (["replay", "/dev/stdin"], 0, REPLAYED.replace("nap.json", "stdin"), "", {"given": NAP}),
+        (["explain", "/dev/stdin"], 0, EXPLAINED.replace("nap.json", "stdin"), "", {"given": NAP}),
     ]
-    for make in unread.values():
+    for make, why in unread:
         folder = room.folder({"a.json": NAP, "x.json": make, "y.json": link_to("nowhere"), "z.json": NOT_JSON})
         cases += [
-            (["replay", folder], 2, "", cannot_read(folder, f"{folder}/x.json")),
-            (["serve", folder, "--workers", "2"], 2, "", cannot_read(folder, f"{folder}/x.json")),
-            (["replay", missing, folder], 2, "", cannot_read(missing)),
-            (["replay", well, folder], 2, "", cannot_read(folder, f"{folder}/x.json")),
-            (["explain", f"{folder}/x.json"], 2, "", cannot_read(f"{folder}/x.json")),
+            (["replay", folder], 2, "", cannot_read(folder, why, "x.json")),
+            (["serve", folder, "--workers", "2"], 2, "", cannot_read(folder, why, "x.json")),
+            (["replay", missing, folder], 2, "", cannot_read(missing, MISSING)),
+            (["replay", well, folder], 2, "", cannot_read(folder, why, "x.json")),
         ]
+        if why != NO_FILE:
+            cases.append((["explain", f"{folder}/x.json"], 2, "", cannot_read(f"{folder}/x.json", why)))
     strange = room.folder({"\x1b.json": link_to("nowhere")})
-    pipe = room.folder({"x.json": os.mkfifo}) + "/x.json"
-    return [
-        *cases,
-        (["replay", strange], 2, "", cannot_read(strange, f"{strange}/?.json")),
-        (["replay", pipe], 2, "", cannot_read(pipe)),
-    ]
+    return [*cases, (["replay", strange], 2, "", cannot_read(strange, MISSING, "?.json"))]
 
 
 def rights(room):
@@ -542,14 +605,14 @@ def rights(room):
     folder, file = room.folder({"nap.json": NAP}), room.folder({"a.json": NAP, "b.json": NAP, "c.json": NOT_JSON})
     Path(folder).chmod(0)
     Path(file, "b.json").chmod(0)
-    entry = cannot_read(file, f"{file}/b.json")
+    entry = cannot_read(file, FORBIDDEN, "b.json")
     return [
         (["replay", well], 0, REPLAYED, "", {"as_nobody": True}),
-        *((["replay", *words, folder], 2, "", cannot_read(folder), {"as_nobody": True}) for words in ([], [well])),
-        (["serve", folder], 2, "", cannot_read(folder), {"as_nobody": True}),
+        *((["replay", *words, folder], 2, "", cannot_read(folder, FORBIDDEN), {"as_nobody": True}) for words in ([], [well])),
+        (["serve", folder], 2, "", cannot_read(folder, FORBIDDEN), {"as_nobody": True}),
         (["replay", file], 2, "", entry, {"as_nobody": True}),
         (["serve", file], 2, "", entry, {"as_nobody": True}),
-        (["explain", f"{file}/b.json"], 2, "", cannot_read(f"{file}/b.json"), {"as_nobody": True}),
+        (["explain", f"{file}/b.json"], 2, "", cannot_read(f"{file}/b.json", FORBIDDEN), {"as_nobody": True}),
     ]
 
 
@@ -591,7 +654,7 @@ def streams(room):
         *((words, 2, None, NOT_TAKEN, {"out": out}) for words in commands for out in ("full", "broken")),
         (["replay", many], 2, None, NOT_TAKEN, {"out": "broken"}),
         *(([command, well], 2, "", NOT_TAKEN, {"closed": 1}) for command in ("replay", "serve")),
-        *(([command, "-"], 2, "", cannot_read("-"), {"closed": 0}) for command in ("replay", "explain")),
+        *(([command, "-"], 2, "", cannot_read("-", "the system can't read it"), {"closed": 0}) for command in ("replay", "explain")),
         (["serve", well], 0, SERVED, "", {"closed": 2}),
         (["replay", bad], 1, "nap.json: unreadable, not JSON\n1 files, 0 ok\n", None, {"error": "full"}),
         (["serve", well], 0, SERVED, None, {"error": "full"}),

@@ -122,15 +122,13 @@ class Tasks:
         self.in_hand = {held for held in self.in_hand if held[0] != task.token}
 
     def give_up(self, peer, params):
-        """A call for a task has failed: the worker keeps no run for it, and answers it no more."""
+        """A call for a task has failed: the worker answers it no more. A run that it was told to keep before, by the same
+        task given twice, it may keep."""
         execution = params.get("execution", {})
         for token, other in list(self.in_hand):
             given = self.given.get((token, peer))
             if other is peer and (token == params.get("taskToken") or given and given.run.execution == execution):
                 self.in_hand.discard((token, peer))
-        given = self.given.get((params.get("taskToken"), peer))
-        if given is not None:
-            peer.cached.pop(given.run, None)
 
     def ask(self, poll, run):
         """A poll gets a query on its own."""
