@@ -3,7 +3,7 @@ use Rattle.std.specs.Prelude.{ℕ, List, codes}
 use Rattle.std.specs.declared.io.ErrorKind.{ErrorKind}
 use Rattle.std.specs.declared.io.ErrorKind.TheVariants.{NotFound, PermissionDenied, IsADirectory, NotADirectory, FilesystemLoop, InvalidFilename, OutOfMemory as NoMemory}
 use Rattle.wh_files.specs.declared.Reason.{Reason}
-use Rattle.wh_files.specs.declared.Reason.TheVariants.{Missing, Forbidden, IsFolder, NoFolder, NoFile, LinkLoop, BadName, Other}
+use Rattle.wh_files.specs.declared.Reason.TheVariants.{Missing, Forbidden, IsFolder, NoFolder, NoFile, LinkLoop, LongName, Other}
 use Rattle.wh_files.specs.declared.FolderFault.{FolderFault}
 use Rattle.wh_files.specs.declared.FolderFault.TheVariants.{Unreadable, OutOfMemory}
 
@@ -14,7 +14,7 @@ reason_of PermissionDenied = Forbidden
 reason_of IsADirectory = IsFolder
 reason_of NotADirectory = NoFolder
 reason_of FilesystemLoop = LinkLoop
-reason_of InvalidFilename = BadName
+reason_of InvalidFilename = LongName
 reason_of _ = Other
 
 -- want of memory apart
@@ -30,5 +30,5 @@ reason_words IsFolder = codes "is a folder"
 reason_words NoFolder = codes "is no folder"
 reason_words NoFile = codes "is no file"
 reason_words LinkLoop = codes "too many links"
-reason_words BadName = codes "a name is no text"
+reason_words LongName = codes "a name is too long"
 reason_words Other = codes "the system can't read it"

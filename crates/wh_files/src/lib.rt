@@ -1,8 +1,9 @@
 //! Files, those of a folder, and the standard input.
 #![tactic(auto)]
 
-ghost use Rattle.std.specs.Prelude.{◌≡◌, All, Bool, IfOk, codes};
+ghost use Rattle.std.specs.Prelude.{◌≡◌, ◌++◌, All, Bool, IfOk, OnOk, codes, replicate, string_bytes};
 ghost use Rattle.wh_files.specs.Inputs.{IsCalled, IsEndOf, IsOf, IsReadFrom, IsSingle};
+ghost use Rattle.wh_files.specs.Names.{IsBadName, IsMarked};
 ghost use Rattle.wh_files.specs.Reasons.{reason_of, reason_words};
 
 use std::alloc::{AllocError, Global};
@@ -42,8 +43,8 @@ pub enum Reason {
     NoFile,
     /// It is a link that leads round in a circle.
     LinkLoop,
-    /// A name in it is no text.
-    BadName,
+    /// It is too long, or a name in it is.
+    LongName,
     /// The system says something else.
     Other,
 }
@@ -60,7 +61,7 @@ impl Reason {
             Reason::NoFolder => "is no folder",
             Reason::NoFile => "is no file",
             Reason::LinkLoop => "too many links",
-            Reason::BadName => "a name is no text",
+            Reason::LongName => "a name is too long",
             Reason::Other => "the system can't read it",
         }
     }
@@ -76,7 +77,7 @@ fn reason_of(kind: ErrorKind) -> Reason
         ErrorKind::IsADirectory => Reason::IsFolder,
         ErrorKind::NotADirectory => Reason::NoFolder,
         ErrorKind::FilesystemLoop => Reason::LinkLoop,
-        ErrorKind::InvalidFilename => Reason::BadName,
+        ErrorKind::InvalidFilename => Reason::LongName,
         _ => Reason::Other,
     }
 }
@@ -156,25 +157,74 @@ pub enum InputFault {
     OutOfMemory,
 }
 
-/// Adds the name of an entry, if it ends in `.json`.
-fn push_name(alloc: Global, names: &mut Vec<String>, name: &str) -> Result<(), AllocError> {
-    if name.ends_with(".json") {
-        names.push(String::from_str(alloc, name)?)?;
+/// What is to be read of what a path names.
+#[derive(Debug, Drop)]
+pub struct Listing {
+    /// The files that can be opened, in the order of the bytes of their names.
+    pub inputs: Vec<Input>,
+    /// The names of the files of the folder that can't be, since their names are no UTF-8 text: each
+    /// with `?` in the place of every byte that is no text, in the order of their own bytes.
+    pub bad_names: Vec<String>,
+}
+
+/// The path of a folder, with a slash behind it, so that a link to it is followed.
+fn folder_path(alloc: Global, dir: &str) -> Result<String, AllocError> {
+    if dir.is_empty() {
+        return Ok(String::new(alloc));
+    }
+    format!(in alloc; "{dir}/")
+}
+
+/// The names in a folder as the system gives them: each ended by a zero byte, in any order.
+fn read_names<R: Files + AllocGlobal>(rt: &R, dir: &str) -> Result<Vec<u8>, FolderFault> {
+    let path = folder_path(rt.alloc(), dir)?;
+    let mut folder = rt.open_dir(path.as_str())?;
+    let mut names = Vec::new(rt.alloc());
+    let mut block = [0u8; 4096];
+    for _ in 0..u64::MAX {
+        let count = folder.read(&mut block)?;
+        if count == 0 {
+            return Ok(names);
+        }
+        names.extend_from_slice(&block[..count])?;
+    }
+    Err(FolderFault::Unreadable {
+        reason: Reason::Other,
+    })
+}
+
+/// Those of names, each ended by a zero byte, that end in `.json`, in the order of their bytes.
+fn sorted_names(alloc: Global, names: &[u8]) -> Result<Vec<Vec<u8>>, AllocError> {
+    let mut sorted = Vec::new(alloc);
+    for name in names.split(|byte: &u8| *byte == 0) {
+        if name.ends_with(b".json".as_slice()) {
+            sorted.push(Vec::from_slice(alloc, name)?)?;
+        }
+    }
+    sorted.sort()?;
+    Ok(sorted)
+}
+
+/// Adds a mark for each of so many bytes.
+fn push_marks(shown: &mut String, count: usize) -> Result<(), AllocError>
+    ensures { OnOk result (string_bytes shown.new ≡ string_bytes shown.old ++ replicate count 63) }
+{
+    for _mark in 0..count {
+        shown.push_str("?")?;
     }
     Ok(())
 }
 
-/// The names in a folder that end in `.json`, in the order of their bytes.
-fn names_in<R: Files + AllocGlobal + Clone + Drop>(
-    rt: &R,
-    dir: &str,
-) -> Result<Vec<String>, FolderFault> {
-    let mut names = Vec::new(rt.alloc());
-    for entry in fs::read_dir(rt, dir)? {
-        push_name(rt.alloc(), &mut names, entry?.file_name())?;
+/// Bytes as text, with `?` in the place of every byte that is no text.
+fn marked(alloc: Global, bytes: &[u8]) -> Result<String, AllocError>
+    ensures { IfOk result (λ shown. IsMarked bytes.now (string_bytes shown)) }
+{
+    let mut shown = String::new(alloc);
+    for chunk in bytes.utf8_chunks() {
+        shown.push_str(chunk.valid())?;
+        push_marks(&mut shown, chunk.invalid().len())?;
     }
-    names.sort()?;
-    Ok(names)
+    Ok(shown)
 }
 
 /// The bytes of what can be read at a path, up to `READ_LIMIT` of them.
@@ -249,24 +299,43 @@ fn entry_input(alloc: Global, dir: &str, name: String, by_path: bool) -> Result<
     })
 }
 
+/// What is to be read of a folder, by the bytes of names in it, in their order.
+fn listed(
+    alloc: Global,
+    dir: &str,
+    names: Vec<Vec<u8>>,
+    by_path: bool,
+) -> Result<Listing, AllocError>
+    ensures called { IfOk result (λ listing. All (IsCalled by_path) listing.inputs.items) }
+    ensures from { IfOk result (λ listing. All (λ input. IsOf dir.now input.origin) listing.inputs.items) }
+    ensures bad { IfOk result (λ listing. All IsBadName listing.bad_names.items) }
+{
+    let mut inputs = Vec::new(alloc);
+    let mut bad_names = Vec::new(alloc);
+    for name in names {
+        match String::from_utf8(name) {
+            Ok(name) => inputs.push(entry_input(alloc, dir, name, by_path)?)?,
+            Err(fault) => bad_names.push(marked(alloc, fault.as_bytes())?)?,
+        }
+    }
+    Ok(Listing { inputs, bad_names })
+}
+
 /// The files of a folder whose names end in `.json`, in the order of the bytes of their names. What
-/// is no folder cannot be read. Whether its files can be is seen when they are.
-pub fn folder_inputs<R: Files + AllocGlobal + Clone + Drop>(
+/// is no folder cannot be read. Whether its files can be is seen when they are, but for those whose
+/// names are no UTF-8 text: these can't be opened.
+pub fn folder_inputs<R: Files + AllocGlobal>(
     rt: &R,
     dir: &str,
     by_path: bool,
-) -> Result<Vec<Input>, FolderFault>
-    ensures called { IfOk result (λ inputs. All (IsCalled by_path) inputs.items) }
-    ensures from { IfOk result (λ inputs. All (λ input. IsOf dir.now input.origin) inputs.items) }
+) -> Result<Listing, FolderFault>
+    ensures called { IfOk result (λ listing. All (IsCalled by_path) listing.inputs.items) }
+    ensures from { IfOk result (λ listing. All (λ input. IsOf dir.now input.origin) listing.inputs.items) }
+    ensures bad { IfOk result (λ listing. All IsBadName listing.bad_names.items) }
 {
-    let mut inputs = Vec::new(rt.alloc());
-    for name in names_in(rt, dir)? {
-        let input = entry_input(rt.alloc(), dir, name, by_path)?;
-        let Ok(()) = inputs.push(input) else {
-            return Err(FolderFault::OutOfMemory);
-        };
-    }
-    Ok(inputs)
+    let names = read_names(rt, dir)?;
+    let sorted = sorted_names(rt.alloc(), names.as_slice())?;
+    Ok(listed(rt.alloc(), dir, sorted, by_path)?)
 }
 
 /// The end of a path, behind its last slash.
@@ -318,13 +387,14 @@ pub fn input_at<R: io::Input + AllocGlobal>(
 /// What is to be read at a path: the files of a folder whose names end in `.json`, in the order of
 /// the bytes of their names, or else what `input_at` gives. Of a path that is there, whether the
 /// files can be read is seen when they are.
-pub fn inputs_at<R: Files + io::Input + AllocGlobal + Clone + Drop>(
+pub fn inputs_at<R: Files + io::Input + AllocGlobal>(
     rt: &R,
     path: &str,
     by_path: bool,
-) -> Result<Vec<Input>, FolderFault>
-    ensures called { IfOk result (λ inputs. All (IsCalled by_path) inputs.items) }
-    ensures from { IfOk result (λ inputs. All (λ input. IsOf path.now input.origin) inputs.items) }
+) -> Result<Listing, FolderFault>
+    ensures called { IfOk result (λ listing. All (IsCalled by_path) listing.inputs.items) }
+    ensures from { IfOk result (λ listing. All (λ input. IsOf path.now input.origin) listing.inputs.items) }
+    ensures bad { IfOk result (λ listing. All IsBadName listing.bad_names.items) }
 {
     if path != "-" && fs::metadata(rt, path)?.is_dir() {
         return folder_inputs(rt, path, by_path);
@@ -334,7 +404,10 @@ pub fn inputs_at<R: Files + io::Input + AllocGlobal + Clone + Drop>(
     let Ok(()) = inputs.push(input) else {
         return Err(FolderFault::OutOfMemory);
     };
-    Ok(inputs)
+    Ok(Listing {
+        inputs,
+        bad_names: Vec::new(rt.alloc()),
+    })
 }
 
 /// What a fault of a file means for the input of a path.
