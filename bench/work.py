@@ -10,10 +10,12 @@ A talk is a file of lines:
     let NAME TEXT    $NAME stands for the text in what is sent
     -> LINE          the next request, which has to be this line
     => LINE          so too, but those that stand one behind another come in any order; @NAME in one is a number, and from
-                     then on that number
+                     then on that number, but @any is any number each time
+    =N> LINE         so too, N times the same line
     <- LINE          a line that is sent to the program
     <% LINE          so too; \\xNN is a byte
     <+ NUMBER        so too, of as many letters
+    pause N          N seconds go by
     end              its input ends here
     status N         its exit status, otherwise 0
     says TEXT        what is within one of the lines on its standard error
@@ -87,10 +89,15 @@ def with_names(text, names, mark):
     return re.sub(mark + r"([a-z]+)", lambda found: names.get(found[1], found[0]), text)
 
 
+def group(name):
+    """What matches a number of this name."""
+    return "[0-9]+" if name == "any" else f"(?P<{name}>[0-9]+)"
+
+
 def same(request, wanted, numbers):
     """Whether the request is the wanted line. Numbers that the line names for the first time are noted."""
     parts = re.split(r"@([a-z]+)", with_names(wanted, numbers, "@"))
-    form = "".join(re.escape(part) if i % 2 == 0 else f"(?P<{part}>[0-9]+)" for i, part in enumerate(parts))
+    form = "".join(re.escape(part) if i % 2 == 0 else group(part) for i, part in enumerate(parts))
     found = re.fullmatch(form, request)
     if found:
         numbers.update(found.groupdict())
@@ -117,6 +124,11 @@ def bytes_of(text):
     return re.sub(rb"\\x([0-9a-f]{2})", lambda found: bytes.fromhex(found[1].decode()), text.encode())
 
 
+def is_in_any_order(word):
+    """Whether a word stands before requests that come in any order."""
+    return re.fullmatch("=[0-9]*>", word) is not None
+
+
 class Talk:
     """A talk with a worker, line by line."""
 
@@ -130,7 +142,7 @@ class Talk:
         try:
             for line in self.lines:
                 word, _, rest = line.partition(" ")
-                if word != "=>" and self.wanted:
+                if not is_in_any_order(word) and self.wanted:
                     expect(self.worker, self.wanted, self.numbers)
                 self.take(word, rest)
             self.compare(*self.worker.end())
@@ -141,8 +153,8 @@ class Talk:
 
     def take(self, word, rest):
         """Does what a line says."""
-        if word == "=>":
-            self.wanted.append(rest)
+        if is_in_any_order(word):
+            self.wanted += [rest] * int(word[1:-1] or 1)
         elif word == "->":
             expect(self.worker, [rest], self.numbers)
         elif word == "<-":
@@ -154,6 +166,8 @@ class Talk:
         elif word == "let":
             name, _, text = rest.partition(" ")
             self.texts[name] = text
+        elif word == "pause":
+            time.sleep(float(rest))
         elif word == "end":
             self.worker.child.stdin.close()
             self.worker.child.stdin = None

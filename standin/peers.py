@@ -34,8 +34,8 @@ class Peer:
         self.is_gone = self.is_cut = False
         self.identity = self.sticky = None
         self.polls = 0
-        # Of each run that it may have cached: the number of the last event that it then holds. It may have it still while
-        # a task of the run is in hand, which may not have come to its turn when the next attempt does.
+        # Of each run of which an answer was acknowledged to it: the number of the last event that the run then held, for
+        # the last such answer. Only such a run may it have cached, and only where no other answer was taken since.
         self.cached = {}
         # Of each run: what was given of it.
         self.has = {}
@@ -47,7 +47,7 @@ class Given:
 
     def __init__(self, peer, run, task, is_partial):
         self.peer, self.run, self.task, self.is_partial = peer, run, task, is_partial
-        self.times, self.answers = 1, 0
+        self.times, self.answers, self.hits = 1, 0, 0
         self.before, self.last_cached = run.before, peer.cached.get(run)
         self.has_fetched = False
         peer.has.setdefault(run, []).append(self)

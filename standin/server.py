@@ -95,8 +95,12 @@ class Server(Tasks, Activities, Others):
         take = getattr(self, "take_" + method)
         if not self.troubles.happens("calls"):
             return take(peer, params), None
+        told = dict(peer.cached)
         if self.troubles.dice.random() < 0.5:
             take(peer, params)
+        # Whether or not its answer was taken, the worker is not told so, and keeps no run for it. What it was told before,
+        # as where the same task was given twice and its other answer acknowledged, still holds.
+        peer.cached = told
         self.give_up(peer, params)
         return None, (self.troubles.dice.choice(FINAL_CODES), "the server can't now")
 

@@ -122,8 +122,7 @@ class Tasks:
         self.in_hand = {held for held in self.in_hand if held[0] != task.token}
 
     def give_up(self, peer, params):
-        """A call for a task has failed: the worker answers it no more. A run that it was told to keep before, by the same
-        task given twice, it may keep."""
+        """A call for a task has failed: the worker answers it no more."""
         execution = params.get("execution", {})
         for token, other in list(self.in_hand):
             given = self.given.get((token, peer))
@@ -212,9 +211,12 @@ class Tasks:
             self.blame(peer, f"queries {sorted(given.task.queries)} got {sorted(params.get('queryResults', {}))}")
         if given.is_partial and not given.has_fetched:
             peer.counts["hits"] += 1
+            given.hits += 1
             if given.last_cached != given.before:
                 where = f"a cached run that ends in {given.last_cached}, not {given.before}"
                 self.blame(peer, f"{given.run.workflow_id} was answered from {where}")
+            elif given.hits > 1:
+                self.blame(peer, f"{given.run.workflow_id} was answered twice from one cached run")
         elif given.is_partial:
             peer.counts["misses"] += 1
 

@@ -8,3 +8,4 @@ pub mod Pages
 pub mod Polls
 pub mod Replies
 pub mod Roles
+pub mod Spares

@@ -1,7 +1,6 @@
 //! The workers of a host.
 
-ghost use Rattle.std.specs.Prelude.{◌≡◌, ◌≤◌, ◌<◌, true, IfOk, Some, is_some, map, vec_len, replicate};
-ghost use Rattle.wh_ledger.specs.Shares.{no_shares};
+ghost use Rattle.std.specs.Prelude.{◌≡◌, ◌≤◌, ◌<◌, true, IfOk, Some, is_some, map, vec_len};
 ghost use Rattle.wh_live.specs.Crews.{normal_workers, role_at, roles_of};
 
 use crate::connection::Connection;
@@ -102,7 +101,7 @@ pub(crate) fn run_crew<
     seats: Vec<Seat<T, K, F>>,
     posts: Vec<Post<LiveSource<'_, L>, A, O>>,
 ) -> Result<(Vec<Seat<T, K, F>>, Tally), OutOfMemory>
-    requires { seats.items ≡ replicate (vec_len posts) no_shares }
+    requires { vec_len seats ≡ vec_len posts }
     ensures { IfOk result (λ ended. vec_len ended.0 ≡ vec_len posts.entry) }
 {
     let (seats, left) = run_posts(rt, alloc, host, seats, posts, &OpenGate)?;

@@ -1,13 +1,13 @@
 //! A host whose tasks a server gives.
 
-ghost use Rattle.std.specs.Prelude.{◌≡◌, ◌+◌, ◌↔◌, Err, IfOk, OnErr, replicate, vec_len};
+ghost use Rattle.std.specs.Prelude.{◌≡◌, ◌≤◌, ◌+◌, ◌↔◌, Err, IfOk, OnErr, vec_len};
 ghost use Rattle.wh_host.specs.Machine.{IsConfig};
-ghost use Rattle.wh_ledger.specs.Shares.{no_shares};
 
 use crate::connection::Connection;
-use crate::crews::{posts_of, run_crew};
+use crate::crews::posts_of;
 use crate::link_connection::LinkConnection;
 use crate::options::LiveOptions;
+use crate::reports::{CrewEnd, Reporter, run_told, take_spare, with_spare};
 use crate::tallies::Tally;
 use std::alloc::Global;
 use std::io::BufReader;
@@ -54,13 +54,15 @@ fn give_up_queue<L: Connection>(line: &L, options: &LiveOptions) {
     }
 }
 
-/// Runs the workers of an open host, and gives the seats back and what their sources have counted.
+/// Runs the workers of an open host, and gives all of its seats back and what the sources have
+/// counted.
 fn run_open<
     W: Workflow + Send,
     R: Threads + Wait + Clock + Eprint + Sync,
     C: Caller + Sync,
     A: ActivityHandler + Send + Drop,
     O: Observer + Send + Drop,
+    P: Reporter + Sync,
     T: Ledger + Send,
     K: Ledger + Send,
     F: Ledger + Send,
@@ -69,17 +71,19 @@ fn run_open<
     alloc: Global,
     calls: &C,
     host: &Host<W, T, K, F>,
-    seats: Vec<Seat<T, K, F>>,
+    mut seats: Vec<Seat<T, K, F>>,
     options: &LiveOptions,
     workers: usize,
     crew: Vec<(A, O)>,
-) -> Result<(Vec<Seat<T, K, F>>, Tally), OutOfMemory>
-    requires { seats.items ≡ replicate (vec_len crew) no_shares }
-    ensures { IfOk result (λ ended. vec_len ended.0 ≡ vec_len crew) }
+    reporter: Option<&P>,
+) -> Result<CrewEnd<T, K, F>, OutOfMemory>
+    requires { (vec_len crew ≤ vec_len seats) × (vec_len seats ≤ vec_len crew + 1) }
+    ensures { IfOk result (λ ended. vec_len ended.0 ≡ vec_len seats) }
 {
+    let spare = take_spare(&mut seats, crew.len());
     let line = LinkConnection { rt, calls };
     let posts = posts_of(alloc, &line, options, workers, crew)?;
-    let ended = run_crew(rt, alloc, host, seats, posts)?;
+    let ended = run_told(rt, alloc, host, seats, spare, posts, reporter)?;
     give_up_queue(&line, options);
     Ok(ended)
 }
@@ -105,6 +109,7 @@ fn serve_with<
     C: Caller + Sync,
     A: ActivityHandler + Send + Drop,
     O: Observer + Send + Drop,
+    P: Reporter + Sync,
     T: Ledger + Send,
     K: Ledger + Send,
     F: Ledger + Send,
@@ -116,11 +121,12 @@ fn serve_with<
     options: &LiveOptions,
     workers: usize,
     crew: Vec<(A, O)>,
+    reporter: Option<&P>,
     taken: Blank,
     completed: Blank,
     failed: Blank,
 ) -> Result<LiveEnd, OpenFault>
-    requires seats { config.seats ≡ vec_len crew }
+    requires seats { (vec_len crew ≤ config.seats) × (config.seats ≤ vec_len crew + 1) }
     requires taken { (taken.name ≡ T.name) × (taken.parts ≡ T.parts) × (taken.parts ≡ config.seats) }
     requires completed { (completed.name ≡ K.name) × (completed.parts ≡ K.parts)
         × (completed.parts ≡ config.seats) }
@@ -130,7 +136,9 @@ fn serve_with<
         end.totals.taken ≡ end.totals.completed + end.totals.failed + end.totals.in_hand) }
 {
     let (host, seats) = Host::<W, T, K, F>::open(alloc, config, taken, completed, failed)?;
-    let (seats, tally) = run_open(rt, alloc, calls, &host, seats, options, workers, crew)?;
+    let (seats, tally) = run_open(
+        rt, alloc, calls, &host, seats, options, workers, crew, reporter,
+    )?;
     let totals = close(host, seats);
     Ok(LiveEnd { totals, tally })
 }
@@ -145,6 +153,10 @@ fn serve_with<
 /// without a cache all poll the first. So one worker of workflows alone polls no queue of its
 /// process: with it `options.sticky` is to be `None`, or the tasks of its runs wait there in vain.
 ///
+/// The reporter, if there is one, is told what the host counts, caches and holds while the workers
+/// run, in one thread more: the host is opened with a seat for it, which counts nothing, unless the
+/// members of the crew take all that a host may have.
+///
 /// `BadConfig` where a size is not within its range, or there are not as many seats as members of
 /// the crew; `OutOfMemory` where no room was found. Then the crew is given up. (Temporal
 /// documentation, "Workers": a Worker Process.)
@@ -154,6 +166,7 @@ pub fn serve_live<
     C: Caller + Sync,
     A: ActivityHandler + Send + Drop,
     O: Observer + Send + Drop,
+    P: Reporter + Sync,
 >(
     rt: &R,
     alloc: Global,
@@ -162,6 +175,7 @@ pub fn serve_live<
     options: &LiveOptions,
     workers: usize,
     crew: Vec<(A, O)>,
+    reporter: Option<&P>,
 ) -> Result<LiveEnd, OpenFault>
     ensures bad { (result ≡ Err OpenFault.BadConfig) ↔ (¬ (IsConfig config × (config.seats ≡ vec_len crew))) }
     ensures balanced { IfOk result (λ end.
@@ -171,16 +185,19 @@ pub fn serve_live<
     if seats != crew.len() {
         return Err(OpenFault::BadConfig);
     }
-    serve_with::<W, R, C, A, O, Brand, Brand, Brand>(
+    let opened = with_spare(config, reporter.is_some());
+    let parts = opened.seats as u64;
+    serve_with::<W, R, C, A, O, P, Brand, Brand, Brand>(
         rt,
         alloc,
-        config,
+        opened,
         calls,
         options,
         workers,
         crew,
-        Blank::new(seats as u64),
-        Blank::new(seats as u64),
-        Blank::new(seats as u64),
+        reporter,
+        Blank::new(parts),
+        Blank::new(parts),
+        Blank::new(parts),
     )
 }
