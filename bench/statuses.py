@@ -185,6 +185,9 @@ HOSTILE = {
     "no_events.json": b"{}",
     "number.json": b"5",
     "two_lists.json": b"[{}] []",
+    "utf_16_big_endian.json": "\ufeff[]".encode("utf-16-be"),
+    "utf_16_little_endian.json": "\ufeff[]".encode("utf-16-le"),
+    "utf_16_unmarked.json": "[]".encode("utf-16-le"),
 }
 REPLAYED_HOSTILE = """byte_255.json: unreadable, not JSON
 byte_order_mark.json: unreadable, not JSON
@@ -202,14 +205,20 @@ nap.json: ok, 2 tasks
 no_events.json: unreadable, no events
 number.json: unreadable, no events
 two_lists.json: unreadable, not JSON
-16 files, 1 ok
+utf_16_big_endian.json: unreadable, not JSON
+utf_16_little_endian.json: unreadable, not JSON
+utf_16_unmarked.json: unreadable, not JSON
+19 files, 1 ok
 """
 HOSTILE_PLACES = """wfhost: byte_255.json: not JSON at line 1 column 4
-wfhost: byte_order_mark.json: not JSON at line 1 column 1
+wfhost: byte_order_mark.json: not JSON at line 1 column 1: it begins with a byte order mark
 wfhost: empty.json: not JSON at line 1 column 0
 wfhost: list_open.json: not JSON at line 1 column 1
 wfhost: lists_nested_1000.json: not JSON at line 1 column *
 wfhost: two_lists.json: not JSON at line 1 column 6
+wfhost: utf_16_big_endian.json: not JSON at line 1 column 1: it is UTF-16, and has to be UTF-8
+wfhost: utf_16_little_endian.json: not JSON at line 1 column 1: it is UTF-16, and has to be UTF-8
+wfhost: utf_16_unmarked.json: not JSON at line 1 column 2
 """
 # Bytes that are no JSON, and where the reader stops: columns count bytes, and where the file ends too soon it is its last byte.
 PLACES = {
@@ -289,11 +298,12 @@ i.json: 1 tasks, 1 completed, 0 failed
 j.json: unreadable, event 4 has the unsupported type A?B"C\\D
 taken 11, completed 7, failed 4, in hand 0
 """
-STOPPED_VERDICTS = "wfhost: c.json: not JSON at line 2 column 3\n"
-# Where files are no JSON, then why tasks failed, and then the hint.
+NOT_JSON_PLACE = "wfhost: c.json: not JSON at line 2 column 3\n"
+STOPPED_VERDICTS = f"{NOT_JSON_PLACE}wfhost: e.json: no code for the workflow type Nope\n"
+# Where files are no JSON and for which workflow types there is no code, then why tasks failed, and then the hint.
 TOLD_VERDICTS = f"""{STOPPED_VERDICTS}wfhost: d.json: task at 8: event 5 differs
-wfhost: e.json: task at 3: task at 1: UnknownWorkflow
-wfhost: e.json: task at 8: task at 1: UnknownWorkflow
+wfhost: e.json: task at 3: UnknownWorkflow
+wfhost: e.json: task at 8: UnknownWorkflow
 wfhost: f.json: task at 8: event 6 is not in place: NoSuchRef
 {UNCOMPARED}"""
 STARTED = "task at 3\n  told Time 2024-05-01T10:00:03Z\n  told Start "
@@ -427,6 +437,28 @@ def command_lines(room):
     ]
 
 
+def names(room):
+    """Lines begin with the last part of the path by which the program was called."""
+    verdicts, empty, missing = room.folder(VERDICTS), room.folder({}), str(room.new())
+    unread = cannot_read(missing, MISSING)
+    called = [
+        (["serve", verdicts], 1, SERVED_VERDICTS, TOLD_VERDICTS),
+        (["replay", empty], 0, "0 files, 0 ok\n", f"wfhost: no .json file in {empty}\n"),
+        (["replay", missing], 2, "", unread),
+        (["serve", empty, "--workers", "4", "--slots", "3"], 2, "", FEW_SLOTS),
+        ([], 2, "", NO_COMMAND),
+        (["--version"], 0, VERSION, ""),
+    ]
+    renamed = [(words, status, *(text.replace("wfhost", "orders") for text in texts)) for words, status, *texts in called]
+    return [
+        *((*row, {"called": path}) for row in renamed for path in ("orders", "./bin/orders", "/nowhere/orders")),
+        *((["replay", missing], 2, "", unread, {"called": path}) for path in ("", "/", "..")),
+        (["replay", missing], 2, "", unread.replace("wfhost", "my orders?"), {"called": "/tmp/my orders\x1b"}),
+        # The name is among the words, and these can't be read here.
+        ([b"replay", b"\xff"], 2, "", "wfhost: arguments must be UTF-8 text\n", {"called": "orders"}),
+    ]
+
+
 def reports(room):
     """What is reported of files of each kind, and what is said beside it."""
     well, live = room.folder({"nap.json": NAP}), room.folder({"nap.json": up_to(NAP, 3)})
@@ -461,14 +493,14 @@ def reports(room):
                 ["explain", f"{verdicts}/{name}"],
                 int("ok" not in lines[name]),
                 f"{tasks}{name}: {lines[name]}\n",
-                STOPPED_VERDICTS if name == "c.json" else "",
+                NOT_JSON_PLACE if name == "c.json" else "",
             )
             for name, tasks in EXPLAINED_VERDICTS.items()
         ),
         # The report first, and then what is said beside it.
         (["replay", verdicts], 1, REPLAYED_VERDICTS + STOPPED_VERDICTS, "", {"merged": True}),
         (["serve", verdicts], 1, SERVED_VERDICTS + TOLD_VERDICTS, "", {"merged": True}),
-        (["explain", f"{verdicts}/c.json"], 1, f"c.json: {lines['c.json']}\n{STOPPED_VERDICTS}", "", {"merged": True}),
+        (["explain", f"{verdicts}/c.json"], 1, f"c.json: {lines['c.json']}\n{NOT_JSON_PLACE}", "", {"merged": True}),
     ]
 
 
@@ -551,6 +583,49 @@ def many_texts(first, end):
     replayed += f"{end - first} files, {good} ok\n"
     served += f"taken {2 * good}, completed {2 * good}, failed 0, in hand 0\n"
     return replayed, served, stopped
+
+
+def odd_names(room):
+    """Files whose names are no UTF-8 can't be opened: each is told, with `?` for each byte that is no text, and all others are
+    read. A name that is too long is told so."""
+    well, empty = room.folder({"nap.json": NAP}), room.folder({})
+    # In the order of their bytes, and then such that are not read.
+    read = {b"B.json": "B.json", b"caf?.json": "caf?.json", b"d\xc3\xa9.json": "d?.json"}
+    told = {b"caf\xe9.json": "caf?.json", b"\x1b\xc3.json": "??.json", b"\xe2\x82x.json": "??x.json", b"\xff\xfe.json": "??.json"}
+    others = [b"z\xff", b"\xff.JSON", b"\xffjson", b"\xff.json.bak"]
+    files = {os.fsdecode(name): NAP for name in reversed([*read, *told, *others])}
+    odd, only = room.folder(files), room.folder({os.fsdecode(b"\xff.json"): NAP})
+    unread = room.folder({os.fsdecode(name): NAP for name in others} | {"nap.json": NAP})
+    names = list(read.values())
+    why = "its name is no UTF-8 text\n"
+    left = "".join(f"wfhost: cannot read {odd}/{told[name]}: {why}" for name in sorted(told))
+    replayed = "".join(f"{name}: ok, 2 tasks\n" for name in names) + "3 files, 3 ok\n"
+    replayed_json = "".join(f'{{"file":"{name}","verdict":"ok","tasks":2,"live":false}}\n' for name in names)
+    served = "".join(f"{name}: 2 tasks, 2 completed, 0 failed\n" for name in names)
+    paths = f"{well}/nap.json: ok, 2 tasks\n" + "".join(f"{odd}/{name}: ok, 2 tasks\n" for name in names) + "4 files, 4 ok\n"
+    none, alone = f"wfhost: no .json file in {empty}\n", f"wfhost: cannot read {only}/?.json: {why}"
+    long_name, long_path = f"{well}/{'n' * 300}", "n/" * 2100
+    return [
+        (["replay", odd], 1, replayed, left),
+        (["replay", odd], 1, left + replayed, "", {"merged": True}),
+        (["replay", odd, "--json"], 1, replayed_json + '{"files":3,"ok":3}\n', left),
+        (["replay", ".", "--require-files"], 1, replayed, left.replace(odd, "."), {"folder": odd}),
+        (["serve", odd], 1, f"{served}taken 6, completed 6, failed 0, in hand 0\n", left + UNCOMPARED),
+        (["serve", odd, "--workers", "3"], 1, f"{served}taken 6, completed 6, failed 0, in hand 0\n", left + UNCOMPARED),
+        (["replay", well, odd, empty], 1, paths, left + none),
+        (["replay", empty, only], 1, "0 files, 0 ok\n", none + alone),
+        (["replay", only, well], 1, f"{well}/nap.json: ok, 2 tasks\n1 files, 1 ok\n", alone),
+        *((["replay", only, *words], 1, "0 files, 0 ok\n", alone) for words in ([], ["--require-files"])),
+        (["serve", only], 1, "taken 0, completed 0, failed 0, in hand 0\n", alone),
+        (["replay", unread], 0, REPLAYED, ""),
+        (["serve", unread], 0, SERVED, UNCOMPARED),
+        ([b"explain", os.fsencode(odd) + b"/caf\xe9.json"], 2, "", "wfhost: arguments must be UTF-8 text\n"),
+        *(
+            ([command, path], 2, "", cannot_read(path, "a name is too long"))
+            for command in ("replay", "explain", "serve")
+            for path in (long_name, long_path)
+        ),
+    ]
 
 
 def links_and_pipes(room):
@@ -638,12 +713,15 @@ def sizes(room):
         (["replay", huge], 1, f"{unread}1 files, 0 ok\n", "", {"memory": 1 << 33}),
         (["serve", huge], 1, served, "", {"memory": 1 << 33}),
         (["explain", f"{huge}/nap.json"], 1, unread, "", {"memory": 1 << 33}),
+        # Of what has no end no more is read.
+        (["replay", "-"], 1, "-: unreadable, file too long\n1 files, 0 ok\n", "", {"source": "/dev/zero", "memory": 1 << 30}),
+        (["replay", "/dev/zero"], 1, "zero: unreadable, file too long\n1 files, 0 ok\n", "", {"memory": 1 << 30}),
     ]
 
 
 def streams(room):
     """Streams that take nothing, memory that does not suffice, and a folder that is larger than memory."""
-    well, bad = room.folder({"nap.json": NAP}), room.folder({"nap.json": NOT_JSON})
+    well, bad, empty = (room.folder(files) for files in ({"nap.json": NAP}, {"nap.json": NOT_JSON}, {}))
     many = room.folder({f"{number}.json": NAP for number in range(1000, 5000)})
     large = room.folder({"large.json": LARGE_FILE})
     wide = room.folder({f"{number}.json": padded(200_000) for number in range(100, 200)})
@@ -651,8 +729,10 @@ def streams(room):
     replays = [["replay", well], ["replay", bad], ["replay", well, "--json"]]
     commands = [*replays, ["serve", well], ["explain", f"{well}/nap.json"], ["--help"]]
     return [
-        *((words, 2, None, NOT_TAKEN, {"out": out}) for words in commands for out in ("full", "broken")),
-        (["replay", many], 2, None, NOT_TAKEN, {"out": "broken"}),
+        *((words, 2, None, NOT_TAKEN, {"out": "full"}) for words in commands),
+        # Of a pipe that nobody reads nothing is told, but what was told before stays.
+        *((words, 2, None, "", {"out": "broken"}) for words in [*commands, ["replay", many]]),
+        (["replay", empty], 2, None, f"wfhost: no .json file in {empty}\n", {"out": "broken"}),
         *(([command, well], 2, "", NOT_TAKEN, {"closed": 1}) for command in ("replay", "serve")),
         *(([command, "-"], 2, "", cannot_read("-", "the system can't read it"), {"closed": 0}) for command in ("replay", "explain")),
         (["serve", well], 0, SERVED, "", {"closed": 2}),
@@ -678,11 +758,23 @@ def end_of(kind):
 
 
 def run(
-    room, words, given=b"", folder=None, out=None, error=None, merged=False, closed=None, memory=0, data=0, as_nobody=False
+    room,
+    words,
+    given=b"",
+    source=None,
+    called=None,
+    folder=None,
+    out=None,
+    error=None,
+    merged=False,
+    closed=None,
+    memory=0,
+    data=0,
+    as_nobody=False,
 ):
-    """Runs the program with this standard input in a folder, with streams that take nothing, with one stream for all, with a
-    stream that is closed, with a limit on its addresses, or on what it may write to, so that there is no memory for the stack
-    of a thread, or as nobody where wanted."""
+    """Runs the program, called by a path, with this standard input, or that of a device, in a folder, with streams that take
+    nothing, with one stream for all, with a stream that is closed, with a limit on its addresses, or on what it may write to,
+    so that there is no memory for the stack of a thread, or as nobody where wanted."""
 
     def before():
         if memory:
@@ -695,12 +787,15 @@ def run(
 
     who = {"user": NOBODY, "group": NOBODY, "extra_groups": []} if as_nobody and os.geteuid() == 0 else {}
     ends = [end_of(kind) for kind in (out, error) if kind]
+    if source:
+        ends.insert(0, os.open(source, os.O_RDONLY))
     try:
         return subprocess.run(
-            [room.program, *words],
-            input=given,
+            [room.program if called is None else called, *words],
+            executable=room.program,
+            **({"stdin": ends[0]} if source else {"input": given}),
             cwd=folder,
-            stdout=ends[0] if out else subprocess.PIPE,
+            stdout=ends[bool(source)] if out else subprocess.PIPE,
             stderr=ends[-1] if error else subprocess.STDOUT if merged else subprocess.PIPE,
             timeout=LIMIT_SECONDS,
             preexec_fn=before if memory or data or closed is not None else None,
@@ -871,7 +966,7 @@ def main():
     program = Path(sys.argv[1]) if sys.argv[1:] else PROGRAM
     if not program.exists():
         sys.exit("the program is not built: start ./wfhost once")
-    tables = (command_lines, reports, files, links_and_pipes, rights, sizes, streams)
+    tables = (command_lines, names, reports, files, odd_names, links_and_pipes, rights, sizes, streams)
     groups = {table.__name__: lambda room, table=table: compared(room, table) for table in tables}
     groups |= {measure.__name__: measure for measure in (cache_options, worker_options, short_memory)}
     tried = wrong = 0

@@ -5,9 +5,10 @@ use Rattle.std.specs.List.{AllZip, flat_map}
 use Rattle.std.specs.declared.alloc.Global.{Global}
 use Rattle.std.proofs.lemmas.Grind.{flat_map-append}
 use Rattle.std.proofs.lemmas.List.{append-nil, map-append}
-use Rattle.wh_cli.specs.declared.json_faults.JsonFault.{JsonFault}
+use Rattle.wh_cli.specs.declared.file_faults.FileFault.{FileFault}
 use Rattle.wh_cli.specs.Faults.{AreFaultsOf, AreMade, AreMadeOf, IsMadeOf, MayBeTold, told_of}
 use Rattle.wh_cli.specs.Services.{File}
+use Rattle.wh_workflow.specs.Law.{Program}
 
 -- where each input gave a value, the values are theirs
 each_value : {A B E : Type 0} (P : A → Result B E → Type 0) (inputs : List A) (told : List B)
@@ -19,40 +20,40 @@ each_value P [] (one ∷ told) h = absurd h
 each_value P (input ∷ inputs) [] h = absurd h
 
 -- what is collected is the values of the inputs, with what is told of each apart
-pub collected : {A U E : Type 0} (P : A → Result (U × Option JsonFault) E → Type 0) (inputs : List A) (given : List (Result (U × Option JsonFault) E)) (answer : Result (Vec (U × Option JsonFault) Global) E) (both : Vec (U × Option JsonFault) Global) (ones : List U) (faults : List JsonFault)
+pub collected : {A U E : Type 0} (P : A → Result (U × Option FileFault) E → Type 0) (inputs : List A) (given : List (Result (U × Option FileFault) E)) (answer : Result (Vec (U × Option FileFault) Global) E) (both : Vec (U × Option FileFault) Global) (ones : List U) (faults : List FileFault)
     → AllZip P inputs given
-    → MatchResult answer (λ all. (values : List (U × Option JsonFault)) × (given ≡ map Ok values) × (all.items ≡ values)) (λ e. Contains given (Err e))
+    → MatchResult answer (λ all. (values : List (U × Option FileFault)) × (given ≡ map Ok values) × (all.items ≡ values)) (λ e. Contains given (Err e))
     → answer ≡ Ok both
     → ones ≡ map (λ one. one.0) both.items
     → faults ≡ flat_map told_of (map (λ one. one.1) both.items)
     → AreMade (λ input one. P input (Ok one)) inputs ones faults
 collected {A} {U} {E} P inputs given answer both ones faults zipped gives is apart told =
     let h = rw is at gives in
-    let values = subst (λ (xs : List (Result (U × Option JsonFault) E)). AllZip P inputs xs) h.1 zipped in
+    let values = subst (λ (xs : List (Result (U × Option FileFault) E)). AllZip P inputs xs) h.1 zipped in
     record {
       both = both.items;
-      each = subst (λ (l : List (U × Option JsonFault)). AllZip (λ input one. P input (Ok one)) inputs l) (sym h.2) (each_value P inputs h.0 values);
+      each = subst (λ (l : List (U × Option FileFault)). AllZip (λ input one. P input (Ok one)) inputs l) (sym h.2) (each_value P inputs h.0 values);
       ones = apart;
       told = told;
     }
 
 -- the files of inputs of which something was made
-files_of : {A U : Type 0} (Reads : A → File → Type 0) (Gives : File → U → Type 0) (inputs : List A) (both : List (U × Option JsonFault))
-    → AllZip (IsMadeOf Reads Gives) inputs both
-    → (files : List File) × AllZip Reads inputs files × AllZip Gives files (map (λ one. one.0) both) × AllZip MayBeTold files (map (λ one. one.1) both)
-files_of Reads Gives [] [] h = ([], tt, tt, tt)
-files_of Reads Gives (input ∷ inputs) (one ∷ both) h =
-    let rest = files_of Reads Gives inputs both h.1 in
+files_of : {S A U : Type 0} (program : Program S) (Reads : A → File → Type 0) (Gives : File → U → Type 0) (inputs : List A) (both : List (U × Option FileFault))
+    → AllZip (IsMadeOf program Reads Gives) inputs both
+    → (files : List File) × AllZip Reads inputs files × AllZip Gives files (map (λ one. one.0) both) × AllZip (MayBeTold program) files (map (λ one. one.1) both)
+files_of program Reads Gives [] [] h = ([], tt, tt, tt)
+files_of program Reads Gives (input ∷ inputs) (one ∷ both) h =
+    let rest = files_of program Reads Gives inputs both h.1 in
     (h.0.file ∷ rest.0, (h.0.read, rest.1), (h.0.gives, rest.2), (h.0.told, rest.3))
-files_of Reads Gives [] (one ∷ both) h = absurd h
-files_of Reads Gives (input ∷ inputs) [] h = absurd h
+files_of program Reads Gives [] (one ∷ both) h = absurd h
+files_of program Reads Gives (input ∷ inputs) [] h = absurd h
 
 -- what was made of inputs was made of the files that they were read as, and is told of these
-pub of_files : {A U : Type 0} (Reads : A → File → Type 0) (Gives : File → U → Type 0) (inputs : List A) (made : List U) (faults : List JsonFault)
-    → AreMade (IsMadeOf Reads Gives) inputs made faults
-    → AreMadeOf Reads Gives inputs made faults
-of_files Reads Gives inputs made faults h =
-    let own = files_of Reads Gives inputs h.both h.each in
+pub of_files : {S A U : Type 0} (program : Program S) (Reads : A → File → Type 0) (Gives : File → U → Type 0) (inputs : List A) (made : List U) (faults : List FileFault)
+    → AreMade (IsMadeOf program Reads Gives) inputs made faults
+    → AreMadeOf program Reads Gives inputs made faults
+of_files program Reads Gives inputs made faults h =
+    let own = files_of program Reads Gives inputs h.both h.each in
     record {
       files = own.0;
       read = own.1;
@@ -61,28 +62,28 @@ of_files Reads Gives inputs made faults h =
     }
 
 -- what was made of files, of each beside what may be told of it
-beside : {U : Type 0} (Gives : File → U → Type 0) (files : List File) (both : List (U × Option JsonFault))
-    → AllZip (λ file one. Gives file one.0 × MayBeTold file one.1) files both
-    → AllZip Gives files (map (λ one. one.0) both) × AllZip MayBeTold files (map (λ one. one.1) both)
-beside Gives [] [] h = (tt, tt)
-beside Gives (file ∷ files) (one ∷ both) h =
-    let rest = beside Gives files both h.1 in
+beside : {S U : Type 0} (program : Program S) (Gives : File → U → Type 0) (files : List File) (both : List (U × Option FileFault))
+    → AllZip (λ file one. Gives file one.0 × MayBeTold program file one.1) files both
+    → AllZip Gives files (map (λ one. one.0) both) × AllZip (MayBeTold program) files (map (λ one. one.1) both)
+beside program Gives [] [] h = (tt, tt)
+beside program Gives (file ∷ files) (one ∷ both) h =
+    let rest = beside program Gives files both h.1 in
     ((h.0.0, rest.0), (h.0.1, rest.1))
-beside Gives [] (one ∷ both) h = absurd h
-beside Gives (file ∷ files) [] h = absurd h
+beside program Gives [] (one ∷ both) h = absurd h
+beside program Gives (file ∷ files) [] h = absurd h
 
 -- what was made of files is theirs, and so is what is told of them
-pub made_of_each : {U : Type 0} (Gives : File → U → Type 0) (files : List File) (made : List U) (faults : List JsonFault)
-    → AreMade (λ file one. Gives file one.0 × MayBeTold file one.1) files made faults
+pub made_of_each : {S U : Type 0} (program : Program S) (Gives : File → U → Type 0) (files : List File) (made : List U) (faults : List FileFault)
+    → AreMade (λ file one. Gives file one.0 × MayBeTold program file one.1) files made faults
     → AllZip Gives files made
-made_of_each Gives files made faults h =
-    subst (λ l. AllZip Gives files l) (sym h.ones) (beside Gives files h.both h.each).0
+made_of_each program Gives files made faults h =
+    subst (λ l. AllZip Gives files l) (sym h.ones) (beside program Gives files h.both h.each).0
 
-pub told_of_each : {U : Type 0} (Gives : File → U → Type 0) (files : List File) (made : List U) (faults : List JsonFault)
-    → AreMade (λ file one. Gives file one.0 × MayBeTold file one.1) files made faults
-    → AreFaultsOf files faults
-told_of_each Gives files made faults h =
-    record { told = map (λ one. one.1) h.both; each = (beside Gives files h.both h.each).1; all = h.told }
+pub told_of_each : {S U : Type 0} (program : Program S) (Gives : File → U → Type 0) (files : List File) (made : List U) (faults : List FileFault)
+    → AreMade (λ file one. Gives file one.0 × MayBeTold program file one.1) files made faults
+    → AreFaultsOf program files faults
+told_of_each program Gives files made faults h =
+    record { told = map (λ one. one.1) h.both; each = (beside program Gives files h.both h.each).1; all = h.told }
 
 -- what follows of the value
 pub all_ok : {X E : Type 0} {P Q : X → Type 0} (r : Result X E) → ((x : X) → P x → Q x) → IfOk r P → IfOk r Q
@@ -96,10 +97,10 @@ firsts_push {A} {B} pairs both old new added firsts =
     added ∙ ap (λ (l : List A). l ++ (both.0 ∷ [])) firsts ∙ sym (map-append first pairs (both ∷ []))
 
 -- what is told of one pair more stands behind what is told of those before it
-pub told_push : {A : Type 0} (pairs : List (A × Option JsonFault)) (both : A × Option JsonFault) (old new : List JsonFault) → new ≡ old ++ told_of both.1 → old ≡ flat_map told_of (map (λ one. one.1) pairs) → new ≡ flat_map told_of (map (λ one. one.1) (pairs ++ (both ∷ [])))
+pub told_push : {A : Type 0} (pairs : List (A × Option FileFault)) (both : A × Option FileFault) (old new : List FileFault) → new ≡ old ++ told_of both.1 → old ≡ flat_map told_of (map (λ one. one.1) pairs) → new ≡ flat_map told_of (map (λ one. one.1) (pairs ++ (both ∷ [])))
 told_push {A} pairs both old new added told =
-    let second : A × Option JsonFault → Option JsonFault = λ one. one.1 in
-    added ∙ ap (λ (l : List JsonFault). l ++ told_of both.1) told
-    ∙ ap (λ (l : List JsonFault). flat_map told_of (map second pairs) ++ l) (sym (append-nil (told_of both.1)))
+    let second : A × Option FileFault → Option FileFault = λ one. one.1 in
+    added ∙ ap (λ (l : List FileFault). l ++ told_of both.1) told
+    ∙ ap (λ (l : List FileFault). flat_map told_of (map second pairs) ++ l) (sym (append-nil (told_of both.1)))
     ∙ sym (flat_map-append told_of (map second pairs) (both.1 ∷ []))
-    ∙ ap (λ (l : List (Option JsonFault)). flat_map told_of l) (sym (map-append second pairs (both ∷ [])))
+    ∙ ap (λ (l : List (Option FileFault)). flat_map told_of l) (sym (map-append second pairs (both ∷ [])))

@@ -10,8 +10,9 @@ use Rattle.wh_json.specs.declared.fault.ReadFault.{ReadFault}
 use Rattle.wh_json.specs.declared.fault.ReadFault.TheVariants as faults
 use Rattle.wh_cli.specs.declared.reading.ReadFile.{ReadFile}
 use Rattle.wh_cli.specs.Services.{File, reading_of}
-use Rattle.wh_cli.specs.declared.json_faults.JsonFault.{JsonFault}
+use Rattle.wh_cli.specs.declared.file_faults.FileFault.{FileFault}
 use Rattle.wh_cli.specs.Faults.{AreMadeOf}
+use Rattle.wh_workflow.specs.Law.{Program}
 use Rattle.wh_cli.specs.Readings.{plain, reading, AreRead, Gives as BytesBy, IsReadAs, IsReading}
 
 -- where room was found, what was read is the history or its fault
@@ -27,8 +28,8 @@ readings_are [] (r ∷ rs) zip = absurd zip
 readings_are (f ∷ fs) [] zip = absurd zip
 
 -- and with all inputs
-pub are_read : (gives : BytesBy) (inputs : List Input) (read : List ReadFile) (faults : List JsonFault) → AreMadeOf (IsReadAs gives) IsReading inputs read faults → AreRead gives inputs read faults
-are_read gives inputs read faults made = record {
+pub are_read : {S : Type 0} (gives : BytesBy) (program : Program S) (inputs : List Input) (read : List ReadFile) (faults : List FileFault) → AreMadeOf program (IsReadAs gives) IsReading inputs read faults → AreRead gives program inputs read faults
+are_read gives program inputs read faults made = record {
   files = made.files;
   from = made.read;
   readings = readings_are made.files read made.gives;

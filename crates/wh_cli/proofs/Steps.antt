@@ -1,6 +1,6 @@
 -- What commands wrote and told, one step after the other.
 use Rattle.std.proofs.Common.{◌≡◌, ◌∙◌, ℕ, List, [], ◌∷◌, ◌++◌, None, Some, refl, sym, ap, subst}
-use Rattle.std.specs.Prelude.{Bool, false, Option, Result, Ok, Err, IfOk, OnOk, Vec, string_bytes}
+use Rattle.std.specs.Prelude.{◌||◌, Bool, false, true, Option, Result, Ok, Err, IfOk, OnOk, Vec, string_bytes}
 use Rattle.std.specs.declared.alloc.Global.{Global}
 use Rattle.std.specs.Io.KnownBytes.{Appends, Keeps}
 use Rattle.std.proofs.KnownBytes.{Appends-trans}
@@ -37,21 +37,34 @@ pub something_more : {X E : Type 0} (answer : Result X E) (a b c : Option (List 
 something_more (Ok x) a b c xs ys zs p q same = subst (λ l. Appends a c (xs ++ l)) same (Appends-trans a b c xs ys p q)
 something_more (Err e) a b c xs ys zs p q same = tt
 
+or_false : (a : Bool) → a ≡ (a || false)
+or_false true = refl
+or_false false = refl
+
+or_assoc : (a b c : Bool) → ((a || b) || c) ≡ (a || (b || c))
+or_assoc true b c = refl
+or_assoc false b c = refl
+
 -- the inputs of the first path
-pub listed_one : {E : Type 0} (contents : E → Option (List ℕ)) (by_path : Bool) (path : List ℕ) (inputs : List Input) (old new : Complaints E)
-    → IsListed contents by_path path inputs old new → AreListed contents by_path (path ∷ []) inputs old new
-listed_one contents by_path path inputs old new is = (inputs, [], new, sym (append-nil inputs), is, (refl, refl))
+pub listed_one : {E : Type 0} (contents : E → Option (List ℕ)) (by_path : Bool) (path : List ℕ) (inputs : List Input) (left_out : Bool) (old new : Complaints E)
+    → IsListed contents by_path path inputs left_out old new → AreListed contents by_path (path ∷ []) inputs left_out old new
+listed_one contents by_path path inputs left_out old new is =
+    (inputs, [], left_out, false, new, sym (append-nil inputs), or_false left_out, is, (refl, refl, refl))
 
 -- the inputs of one path more
-pub listed_push : {E : Type 0} (contents : E → Option (List ℕ)) (by_path : Bool) (paths : List (List ℕ)) (path : List ℕ) (inputs own : List Input) (old between new : Complaints E)
-    → AreListed contents by_path paths inputs old between
-    → IsListed contents by_path path own between new
-    → AreListed contents by_path (paths ++ (path ∷ [])) (inputs ++ own) old new
-listed_push contents by_path [] path inputs own old between new are is =
-    (own, [], new, ap (λ l. l ++ own) are.0 ∙ sym (append-nil own), subst (λ e. IsListed contents by_path path own e new) are.1 is, (refl, refl))
-listed_push contents by_path (p ∷ ps) path inputs own old between new are is =
-    let rest = listed_push contents by_path ps path are.1 own are.2 between new are.5 is in
-    (are.0, are.1 ++ own, are.2, ap (λ l. l ++ own) are.3 ∙ append_assoc are.0 are.1 own, are.4, rest)
+pub listed_push : {E : Type 0} (contents : E → Option (List ℕ)) (by_path : Bool) (paths : List (List ℕ)) (path : List ℕ) (inputs own : List Input) (left_out own_left : Bool) (old between new : Complaints E)
+    → AreListed contents by_path paths inputs left_out old between
+    → IsListed contents by_path path own own_left between new
+    → AreListed contents by_path (paths ++ (path ∷ [])) (inputs ++ own) (left_out || own_left) old new
+listed_push contents by_path [] path inputs own left_out own_left old between new are is =
+    let inputs_same = ap (λ l. l ++ own) are.0 ∙ sym (append-nil own) in
+    let left_same = ap (λ b. b || own_left) are.1 ∙ or_false own_left in
+    (own, [], own_left, false, new, inputs_same, left_same, subst (λ e. IsListed contents by_path path own own_left e new) are.2 is, (refl, refl, refl))
+listed_push contents by_path (p ∷ ps) path inputs own left_out own_left old between new are is =
+    let rest = listed_push contents by_path ps path are.1 own are.3 own_left are.4 between new are.8 is in
+    let inputs_same = ap (λ l. l ++ own) are.5 ∙ append_assoc are.0 are.1 own in
+    let left_same = ap (λ b. b || own_left) are.6 ∙ or_assoc are.2 are.3 own_left in
+    (are.0, are.1 ++ own, are.2, are.3 || own_left, are.4, inputs_same, left_same, are.7, rest)
 
 -- an input that was read as a file was explained
 pub explained_input : {S E : Type 0} (gives : Gives) (program : Program S) (input : Input) (bytes : Vec ℕ Global) (seen : List ℕ) (json : Bool) (old new : Option (List ℕ)) (contents : E → Option (List ℕ)) (before after : Complaints E) (answer : Result ℕ Failure)
@@ -75,24 +88,25 @@ explained_path program path input json old new contents before after (Ok status)
 explained_path program path input json old new contents before after (Err failure) called from single h = tt
 
 -- the inputs of paths were replayed
-pub replayed_paths : {S E : Type 0} (program : Program S) (first : List ℕ) (more : List (List ℕ)) (json required lacks : Bool) (inputs : List Input) (old new : Option (List ℕ)) (contents : E → Option (List ℕ)) (before between after : Complaints E) (answer : Result ℕ Failure)
-    → AreListed contents (is_by_path more) (first ∷ more) inputs before between
-    → lacks ≡ lacks_files required inputs
+pub replayed_paths : {S E : Type 0} (program : Program S) (first : List ℕ) (more : List (List ℕ)) (json required left_out lacks : Bool) (inputs : List Input) (old new : Option (List ℕ)) (contents : E → Option (List ℕ)) (before between after : Complaints E) (answer : Result ℕ Failure)
+    → AreListed contents (is_by_path more) (first ∷ more) inputs left_out before between
+    → lacks ≡ lacks_files left_out required inputs
     → IfOk answer (HasReplayed IsReadFrom program inputs json lacks old new contents between after)
     → IfOk answer (HasReplayedPaths program first more json required old new contents before after)
-replayed_paths program first more json required lacks inputs old new contents before between after (Ok status) listed same h =
+replayed_paths program first more json required left_out lacks inputs old new contents before between after (Ok status) listed same h =
     record {
       inputs = inputs;
+      left_out = left_out;
       between = between;
       listed = listed;
       replayed = subst (λ l. HasReplayed IsReadFrom program inputs json l old new contents between after status) same h;
     }
-replayed_paths program first more json required lacks inputs old new contents before between after (Err failure) listed same h = tt
+replayed_paths program first more json required left_out lacks inputs old new contents before between after (Err failure) listed same h = tt
 
 -- what was written of a service stays
-pub served_kept : (gives : Gives) (hosts : HostsBy) (config : Config) (inputs : List Input) (old mid new : Option (List ℕ)) (end : ServiceEnd)
-    → HasServedInputs gives hosts config inputs old mid end → Keeps mid new → HasServedInputs gives hosts config inputs old new end
-served_kept gives hosts config inputs old mid new end h kept = record {
+pub served_kept : {S : Type 0} (gives : Gives) (program : Program S) (hosts : HostsBy) (config : Config) (inputs : List Input) (old mid new : Option (List ℕ)) (end : ServiceEnd)
+    → HasServedInputs gives program hosts config inputs old mid end → Keeps mid new → HasServedInputs gives program hosts config inputs old new end
+served_kept gives program hosts config inputs old mid new end h kept = record {
   files = h.files;
   from = h.from;
   served = record {
@@ -106,28 +120,29 @@ served_kept gives hosts config inputs old mid new end h kept = record {
 }
 
 -- inputs were served, and then the rest was told
-pub served_all : {E : Type 0} (gives : Gives) (hosts : HostsBy) (config : Config) (inputs : List Input) (lacks : Bool) (old mid new : Option (List ℕ)) (contents : E → Option (List ℕ)) (before after : Complaints E) (answer : Result ServiceEnd CommandFault) (result : Result ℕ Failure)
-    → IfOk answer (HasServedInputs gives hosts config inputs old mid)
+pub served_all : {S E : Type 0} (gives : Gives) (program : Program S) (hosts : HostsBy) (config : Config) (inputs : List Input) (lacks : Bool) (old mid new : Option (List ℕ)) (contents : E → Option (List ℕ)) (before after : Complaints E) (answer : Result ServiceEnd CommandFault) (result : Result ℕ Failure)
+    → IfOk answer (HasServedInputs gives program hosts config inputs old mid)
     → Keeps mid new
     → IfOk result (λ status. (end : ServiceEnd) × (answer ≡ Ok end) × (status ≡ status_with lacks end.status) × Told contents before after (service_told end))
-    → IfOk result (HasServedAll gives hosts config inputs lacks old new contents before after)
-served_all gives hosts config inputs lacks old mid new contents before after answer (Ok status) report kept h = record {
+    → IfOk result (HasServedAll gives program hosts config inputs lacks old new contents before after)
+served_all gives program hosts config inputs lacks old mid new contents before after answer (Ok status) report kept h = record {
   end = h.0;
-  served = served_kept gives hosts config inputs old mid new h.0 (subst (λ a. IfOk a (HasServedInputs gives hosts config inputs old mid)) h.1 report) kept;
+  served = served_kept gives program hosts config inputs old mid new h.0 (subst (λ a. IfOk a (HasServedInputs gives program hosts config inputs old mid)) h.1 report) kept;
   told = h.3;
   ends = h.2;
 }
-served_all gives hosts config inputs lacks old mid new contents before after answer (Err failure) report kept h = tt
+served_all gives program hosts config inputs lacks old mid new contents before after answer (Err failure) report kept h = tt
 
 -- the files of a folder were served by a host that runs the program
-pub served_folder : {S E : Type 0} (program : Program S) (dir : List ℕ) (config : Config) (required lacks : Bool) (inputs : List Input) (old new : Option (List ℕ)) (contents : E → Option (List ℕ)) (before between after : Complaints E) (answer : Result ℕ Failure)
-    → IsListed contents false dir inputs before between
-    → lacks ≡ lacks_files required inputs
-    → IfOk answer (HasServedAll IsReadFrom (by_closure (IsHosted program)) config inputs lacks old new contents between after)
+pub served_folder : {S E : Type 0} (program : Program S) (dir : List ℕ) (config : Config) (required left_out lacks : Bool) (inputs : List Input) (old new : Option (List ℕ)) (contents : E → Option (List ℕ)) (before between after : Complaints E) (answer : Result ℕ Failure)
+    → IsListed contents false dir inputs left_out before between
+    → lacks ≡ lacks_files left_out required inputs
+    → IfOk answer (HasServedAll IsReadFrom program (by_closure (IsHosted program)) config inputs lacks old new contents between after)
     → IfOk answer (HasServedFolder program dir config required old new contents before after)
-served_folder program dir config required lacks inputs old new contents before between after (Ok status) listed same h =
+served_folder program dir config required left_out lacks inputs old new contents before between after (Ok status) listed same h =
     record {
       inputs = inputs;
+      left_out = left_out;
       between = between;
       listed = listed;
       served = record {
@@ -142,4 +157,4 @@ served_folder program dir config required lacks inputs old new contents before b
         ends = subst (λ l. status ≡ status_with l h.end.status) same h.ends;
       };
     }
-served_folder program dir config required lacks inputs old new contents before between after (Err failure) listed same h = tt
+served_folder program dir config required left_out lacks inputs old new contents before between after (Err failure) listed same h = tt

@@ -1,6 +1,6 @@
 -- What each command wrote and told, and its status.
-use Rattle.std.specs.Prelude.{◌≡◌, ◌⊎◌, ℕ, List, [], ◌∷◌, Bool, false, Option, IfSome, string_bytes}
-use Rattle.std.specs.List.{flat_map}
+use Rattle.std.specs.Path.{path_file_name}
+use Rattle.std.specs.Prelude.{◌≡◌, ◌⊎◌, ℕ, List, [], ◌∷◌, codes, Bool, false, Option, IfSome, unwrap_or, if◌then◌else◌, string_bytes}
 use Rattle.std.specs.Io.KnownBytes.{Appends}
 use Rattle.wh_command_line.specs.Options.{config_of}
 use Rattle.wh_command_line.specs.Plans.{IsAskedBy}
@@ -19,11 +19,12 @@ use Rattle.wh_tester.specs.declared.line.Line.{Line}
 use Rattle.wh_workflow.specs.Law.{Program}
 use Rattle.wh_cli.specs.declared.complaints.Complaints.{Complaints}
 use Rattle.wh_cli.specs.declared.failures.Failure.{Failure}
-use Rattle.wh_cli.specs.declared.json_faults.JsonFault.{JsonFault}
+use Rattle.wh_cli.specs.declared.failures.Failure.TheVariants.{Output}
+use Rattle.wh_cli.specs.declared.file_faults.FileFault.{FileFault}
 use Rattle.wh_cli.specs.declared.serving.ServiceEnd.{ServiceEnd}
 use Rattle.wh_cli.specs.declared.working.LivePlan.{LivePlan}
-use Rattle.wh_cli.specs.Complaints.{Told, failed_text, fault_line, service_told}
-use Rattle.wh_cli.specs.Faults.{AreMadeOf, IsFaultOf, told_of}
+use Rattle.wh_cli.specs.Complaints.{Told, failed_text, fault_lines, service_told}
+use Rattle.wh_cli.specs.Faults.{AreMadeOf, IsFaultOf, IsNoJson, told_of}
 use Rattle.wh_cli.specs.Listings.{AreListed, IsListed, is_by_path}
 use Rattle.wh_cli.specs.Live.{IsLivePlan, LivesBy, live_status, live_text}
 use Rattle.wh_cli.specs.Readings.{Gives, IsReadAs}
@@ -37,13 +38,13 @@ pub record HasPrinted (text : List ℕ) (old new : Option (List ℕ)) (status : 
   pub written : Appends old new text
   pub ends : status ≡ 0
 
--- the report of lines was written, then where files are no JSON was told, and the status is that of the lines, unless
--- files are lacking
-pub record HasReported {E : Type 0} (lines : List Line) (faults : List JsonFault) (json lacks : Bool)
+-- the report of lines was written, then the faults of files were told, and the status is that of the lines, unless files
+-- are lacking
+pub record HasReported {E : Type 0} (lines : List Line) (faults : List FileFault) (json lacks : Bool)
     (old new : Option (List ℕ)) (contents : E → Option (List ℕ)) (before after : Complaints E)
     (status : ℕ) : Type 0 where
   pub written : Appends old new (report_as json lines)
-  pub told : Told contents before after (flat_map fault_line faults)
+  pub told : Told contents before after (fault_lines faults)
   pub ends : status ≡ status_with lacks (status_of lines)
 
 -- inputs were read as files and replayed, and the report of their lines was written
@@ -51,8 +52,8 @@ pub record HasReplayed {S E : Type 0} (gives : Gives) (program : Program S) (inp
     (old new : Option (List ℕ)) (contents : E → Option (List ℕ)) (before after : Complaints E)
     (status : ℕ) : Type 0 where
   pub lines : List Line
-  pub faults : List JsonFault
-  pub made : AreMadeOf (IsReadAs gives) (IsLineOf program) inputs lines faults
+  pub faults : List FileFault
+  pub made : AreMadeOf program (IsReadAs gives) (IsLineOf program) inputs lines faults
   pub reported : HasReported lines faults json lacks old new contents before after status
 
 -- a file was explained: that was written, as JSON or as text, and the status is that of its line in the report of replay
@@ -66,14 +67,14 @@ pub record IsExplained {S : Type 0} (program : Program S) (name bytes : List ℕ
   pub written : Appends old new (explanation_as json explanation)
   pub ends : status ≡ status_of (explanation.line ∷ [])
 
--- at most one line was told of a file, that of its fault
+-- at most one line was told of a file, that it is no JSON
 pub record HasToldOf {E : Type 0} (name bytes : List ℕ) (contents : E → Option (List ℕ))
     (before after : Complaints E) : Type 0 where
-  pub fault : Option JsonFault
-  pub own : IfSome fault (IsFaultOf name bytes)
-  pub told : Told contents before after (flat_map fault_line (told_of fault))
+  pub fault : Option FileFault
+  pub own : IfSome fault (IsFaultOf IsNoJson name bytes)
+  pub told : Told contents before after (fault_lines (told_of fault))
 
--- a file was explained, and at most one line was told of it, that of its fault
+-- a file was explained, and at most one line was told of it, that it is no JSON
 pub record HasExplained {S E : Type 0} (program : Program S) (name bytes : List ℕ) (json : Bool)
     (old new : Option (List ℕ)) (contents : E → Option (List ℕ)) (before after : Complaints E)
     (status : ℕ) : Type 0 where
@@ -89,11 +90,11 @@ pub record HasExplainedInput {S E : Type 0} (gives : Gives) (program : Program S
   pub explained : HasExplained program (string_bytes file.0) file.1.items json old new contents before after status
 
 -- inputs were served, then the rest was told, and the status is that of the service, unless files are lacking
-pub record HasServedAll {E : Type 0} (gives : Gives) (hosts : HostsBy) (config : Config) (inputs : List Input)
-    (lacks : Bool) (old new : Option (List ℕ)) (contents : E → Option (List ℕ)) (before after : Complaints E)
+pub record HasServedAll {S E : Type 0} (gives : Gives) (program : Program S) (hosts : HostsBy) (config : Config)
+    (inputs : List Input) (lacks : Bool) (old new : Option (List ℕ)) (contents : E → Option (List ℕ)) (before after : Complaints E)
     (status : ℕ) : Type 0 where
   pub end : ServiceEnd
-  pub served : HasServedInputs gives hosts config inputs old new end
+  pub served : HasServedInputs gives program hosts config inputs old new end
   pub told : Told contents before after (service_told end)
   pub ends : status ≡ status_with lacks end.status
 
@@ -102,9 +103,10 @@ pub record HasReplayedPaths {S E : Type 0} (program : Program S) (first : List �
     (json required : Bool) (old new : Option (List ℕ)) (contents : E → Option (List ℕ)) (before after : Complaints E)
     (status : ℕ) : Type 0 where
   pub inputs : List Input
+  pub left_out : Bool
   pub between : Complaints E
-  pub listed : AreListed contents (is_by_path more) (first ∷ more) inputs before between
-  pub replayed : HasReplayed IsReadFrom program inputs json (lacks_files required inputs)
+  pub listed : AreListed contents (is_by_path more) (first ∷ more) inputs left_out before between
+  pub replayed : HasReplayed IsReadFrom program inputs json (lacks_files left_out required inputs)
       old new contents between after status
 
 -- what a path names, which is no folder, was explained
@@ -122,9 +124,10 @@ pub record HasServedFolder {S E : Type 0} (program : Program S) (dir : List ℕ)
     (old new : Option (List ℕ)) (contents : E → Option (List ℕ)) (before after : Complaints E)
     (status : ℕ) : Type 0 where
   pub inputs : List Input
+  pub left_out : Bool
   pub between : Complaints E
-  pub listed : IsListed contents false dir inputs before between
-  pub served : HasServedAll IsReadFrom (IsHosted program) config inputs (lacks_files required inputs)
+  pub listed : IsListed contents false dir inputs left_out before between
+  pub served : HasServedAll IsReadFrom program (IsHosted program) config inputs (lacks_files left_out required inputs)
       old new contents between after status
 
 -- live tasks were served as the options ask for, how they ended was told, and the status is that of their end
@@ -134,7 +137,7 @@ pub record HasWorked {E : Type 0} (lives : LivesBy) (options : WorkOptions) (con
   pub planned : IsLivePlan options plan
   pub end : LiveEnd
   pub served : lives plan end
-  pub told : Told contents before after (live_text end)
+  pub told : Told contents before after (λ name. live_text end)
   pub ends : status ≡ live_status end
 
 -- what a plan asks for was done
@@ -158,14 +161,33 @@ pub record HasObeyed {S E : Type 0} (program : Program S) (lives : LivesBy) (wor
   pub asked : IsAskedBy words plan
   pub obeyed : Obeys program lives plan old new contents before after status
 
--- there is no full report: why was told last, and the status is 2
-pub record HasFailed {E : Type 0} (contents : E → Option (List ℕ)) (after : Complaints E) (status : ℕ) : Type 0 where
+-- what a program at a path is called: the last part of the path, or `wfhost` where there is none
+abbrev pub name_of : List ℕ → List ℕ
+name_of path = unwrap_or (path_file_name path) (codes "wfhost")
+
+-- what the program is called by its words: by the first of them, if there is one
+abbrev pub called : List (List ℕ) → List ℕ
+called [] = codes "wfhost"
+called (word ∷ words) = name_of word
+
+-- nobody reads on: nothing can be written, and the standard output was closed by the one who read it
+abbrev pub is_unread : Failure → Bool → Bool
+is_unread Output closed = closed
+is_unread _ closed = false
+
+-- why there is no full report, unless nobody reads on
+abbrev pub end_text : Failure → Bool → List ℕ → List ℕ
+end_text failure closed name = if is_unread failure closed then [] else failed_text failure name
+
+-- there is no full report: why was told last, unless nobody reads on, and the status is 2
+pub record HasFailed {E : Type 0} (closed : Bool) (contents : E → Option (List ℕ)) (after : Complaints E)
+    (status : ℕ) : Type 0 where
   pub failure : Failure
   pub between : Complaints E
-  pub told : Told contents between after (failed_text failure)
+  pub told : Told contents between after (end_text failure closed)
   pub ends : status ≡ 2
 
 -- what the words ask for was done, or there is no full report
-abbrev pub Answers : {S E : Type 0} → Program S → LivesBy → List (List ℕ) → (old new : Option (List ℕ)) → (E → Option (List ℕ)) → (before after : Complaints E) → (status : ℕ) → Type 0
-Answers program lives words old new contents before after status =
-    HasObeyed program lives words old new contents before after status ⊎ HasFailed contents after status
+abbrev pub Answers : {S E : Type 0} → Program S → LivesBy → List (List ℕ) → (closed : Bool) → (old new : Option (List ℕ)) → (E → Option (List ℕ)) → (before after : Complaints E) → (status : ℕ) → Type 0
+Answers program lives words closed old new contents before after status =
+    HasObeyed program lives words old new contents before after status ⊎ HasFailed closed contents after status

@@ -7,79 +7,102 @@ use Rattle.wh_files.specs.Reasons.{reason_words}
 use Rattle.wh_files.specs.declared.Reason.{Reason}
 use Rattle.wh_tester.specs.Report.{shown}
 use Rattle.wh_cli.specs.declared.complaints.Complaint.{Complaint}
-use Rattle.wh_cli.specs.declared.complaints.Complaint.TheVariants.{NoFiles, BadJson, BadFiles, Served, Worked, Failed}
+use Rattle.wh_cli.specs.declared.complaints.Complaint.TheVariants.{NoFiles, BadNames, BadJson, BadFiles, Served, Worked, Failed}
 use Rattle.wh_cli.specs.declared.complaints.Complaints.{Complaints}
 use Rattle.wh_cli.specs.declared.failures.Failure.{Failure}
 use Rattle.wh_cli.specs.declared.failures.Failure.TheVariants.{BadLine, BadArguments, FewSlots, Unreadable, Output, OutOfMemory}
-use Rattle.wh_cli.specs.declared.json_faults.JsonFault.{JsonFault}
+use Rattle.wh_cli.specs.declared.file_faults.FileFault.{FileFault}
 use Rattle.wh_cli.specs.declared.service_report.FileFailure.{FileFailure}
 use Rattle.wh_cli.specs.declared.serving.ServiceEnd.{ServiceEnd}
 use Rattle.wh_cli.specs.Live.{live_text}
-use Rattle.wh_cli.specs.Services.{failure_text, json_fault_text}
+use Rattle.wh_cli.specs.Services.{failure_text, file_fault_text}
 
--- `wfhost: <text>`
-abbrev pub told_line : List ℕ → List ℕ
-told_line text = codes "wfhost: " ++ (text ++ codes "\n")
+-- `<name>: <text>`, under the name that the program is called by
+abbrev pub told_line : (text name : List ℕ) → List ℕ
+told_line text name = shown name ++ (codes ": " ++ (text ++ codes "\n"))
 
 -- the line of a file that is no JSON
-abbrev pub fault_line : JsonFault → List ℕ
-fault_line fault = told_line (json_fault_text fault)
+abbrev pub fault_line : FileFault → List ℕ → List ℕ
+fault_line fault name = told_line (file_fault_text fault) name
+
+-- a line for each file that is no JSON
+abbrev pub fault_lines : List FileFault → List ℕ → List ℕ
+fault_lines faults name = flat_map (λ fault. fault_line fault name) faults
 
 -- the line of a failed task
-abbrev pub failure_line : FileFailure → List ℕ
-failure_line failure = told_line (failure_text failure)
+abbrev pub failure_line : FileFailure → List ℕ → List ℕ
+failure_line failure name = told_line (failure_text failure) name
+
+-- a line for each failed task
+abbrev pub failure_lines : List FileFailure → List ℕ → List ℕ
+failure_lines failures name = flat_map (λ failure. failure_line failure name) failures
 
 -- whether no worker has a fault
-abbrev pub worker_told : Bool → List ℕ
-worker_told true = []
-worker_told false = told_line (codes "a worker has a fault: a call of its source failed")
+abbrev pub worker_told : Bool → List ℕ → List ℕ
+worker_told true name = []
+worker_told false name = told_line (codes "a worker has a fault: a call of its source failed") name
 
 -- whether a last task was not compared with its record
-abbrev pub uncompared_told : Bool → List ℕ
-uncompared_told true =
-    told_line (codes "the last task of a recorded history is not compared with its record; replay does that")
-uncompared_told false = []
+abbrev pub uncompared_told : Bool → List ℕ → List ℕ
+uncompared_told true name =
+    told_line (codes "the last task of a recorded history is not compared with its record; replay does that") name
+uncompared_told false name = []
 
 -- what a service tells beside its report: the files that are no JSON, the failed tasks, a fault of a worker, and
 -- whether a last task was not compared
-abbrev pub service_told : ServiceEnd → List ℕ
-service_told end =
-    flat_map fault_line end.json_faults.items ++ (flat_map failure_line end.failures.items
-    ++ (worker_told end.faultless ++ uncompared_told end.uncompared))
+abbrev pub service_told : ServiceEnd → List ℕ → List ℕ
+service_told end name =
+    fault_lines end.file_faults.items name ++ (failure_lines end.failures.items name
+    ++ (worker_told end.faultless name ++ uncompared_told end.uncompared name))
 
--- `wfhost: cannot read <path>: <reason>`
-abbrev pub path_line : (path why : List ℕ) → List ℕ
-path_line path why = codes "wfhost: cannot read " ++ (path ++ (codes ": " ++ (why ++ codes "\n")))
+-- `<name>: cannot read <path>: <reason>`
+abbrev pub path_line : (path why name : List ℕ) → List ℕ
+path_line path why name =
+    shown name ++ (codes ": cannot read " ++ (path ++ (codes ": " ++ (why ++ codes "\n"))))
 
--- `wfhost: cannot read <folder>/<entry>: <reason>`
-abbrev pub entry_line : (dir name why : List ℕ) → List ℕ
-entry_line dir name why =
-    codes "wfhost: cannot read " ++ (dir ++ (codes "/" ++ (shown name ++ (codes ": " ++ (why ++ codes "\n")))))
+-- `<name>: cannot read <folder>/<entry>: <reason>`
+abbrev pub entry_line : (dir entry why name : List ℕ) → List ℕ
+entry_line dir entry why name =
+    shown name ++ (codes ": cannot read " ++ (dir ++ (codes "/"
+    ++ (shown entry ++ (codes ": " ++ (why ++ codes "\n"))))))
+
+-- `<name>: cannot read <folder>/<entry>: its name is no UTF-8 text`
+abbrev pub bad_name_line : List ℕ → String Global → List ℕ → List ℕ
+bad_name_line dir entry name = entry_line dir (string_bytes entry) (codes "its name is no UTF-8 text") name
+
+-- a line for each entry of a folder whose name is no UTF-8
+abbrev pub bad_name_lines : List ℕ → List (String Global) → List ℕ → List ℕ
+bad_name_lines dir entries name = flat_map (λ entry. bad_name_line dir entry name) entries
 
 -- why a path, or the entry of the folder at it, can't be read
-abbrev pub reason_line : List ℕ → Option (String Global) → Reason → List ℕ
-reason_line path None reason = path_line path (reason_words reason)
-reason_line path (Some name) reason = entry_line path (string_bytes name) (reason_words reason)
+abbrev pub reason_line : List ℕ → Option (String Global) → Reason → List ℕ → List ℕ
+reason_line path None reason name = path_line path (reason_words reason) name
+reason_line path (Some entry) reason name = entry_line path (string_bytes entry) (reason_words reason) name
 
 -- why there is no full report: what is wrong with the command line, in its own words, or a line of the program's
-abbrev pub failed_text : Failure → List ℕ
-failed_text (BadLine text) = text
-failed_text BadArguments = told_line (codes "arguments must be UTF-8 text")
-failed_text FewSlots = told_line (codes "slots must be at least workers")
-failed_text (Unreadable dir entry reason) = told_line (codes "cannot read " ++ dir) ++ reason_line dir entry reason
-failed_text Output = told_line (codes "cannot write")
-failed_text OutOfMemory = told_line (codes "out of memory")
+abbrev pub failed_text : Failure → List ℕ → List ℕ
+failed_text (BadLine text) name = text
+failed_text BadArguments name = told_line (codes "arguments must be UTF-8 text") name
+failed_text FewSlots name = told_line (codes "slots must be at least workers") name
+failed_text (Unreadable dir entry reason) name =
+    told_line (codes "cannot read " ++ dir) name ++ reason_line dir entry reason name
+failed_text Output name = told_line (codes "cannot write") name
+failed_text OutOfMemory name = told_line (codes "out of memory") name
 
--- what a complaint says
-abbrev pub complaint_text : Complaint → List ℕ
-complaint_text (NoFiles dir) = told_line (codes "no .json file in " ++ dir)
-complaint_text (BadJson fault) = fault_line fault
-complaint_text (BadFiles faults) = flat_map fault_line faults.items
-complaint_text (Served end) = service_told end
-complaint_text (Worked end) = live_text end
-complaint_text (Failed failure) = failed_text failure
+-- what a complaint says under a name
+abbrev pub complaint_text : Complaint → List ℕ → List ℕ
+complaint_text (NoFiles dir) name = told_line (codes "no .json file in " ++ dir) name
+complaint_text (BadNames dir names) name = bad_name_lines dir names.items name
+complaint_text (BadJson fault) name = fault_line fault name
+complaint_text (BadFiles faults) name = fault_lines faults.items name
+complaint_text (Served end) name = service_told end name
+complaint_text (Worked end) name = live_text end
+complaint_text (Failed failure) name = failed_text failure name
 
--- the standard error was told a text behind what it was told before: where it took all, it holds just that more
-abbrev pub Told : {E : Type 0} → (E → Option (List ℕ)) → Complaints E → Complaints E → List ℕ → Type 0
-Told contents old new text =
-    new.whole ≡ true → (old.whole ≡ true) × Appends (contents old.writer) (contents new.writer) text
+-- the standard error was told what a text is under its name, behind what it was told before: where it took all, it
+-- holds just that more
+pub record Told {E : Type 0} (contents : E → Option (List ℕ)) (old new : Complaints E)
+    (text : List ℕ → List ℕ) : Type 0 where
+  pub named : new.name ≡ old.name
+  pub told : new.whole ≡ true
+      → (old.whole ≡ true) × Appends (contents old.writer) (contents new.writer) (text old.name.now)

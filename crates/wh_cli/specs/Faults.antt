@@ -1,50 +1,84 @@
--- What is told of files that are no JSON, and what is made of files beside it.
-use Rattle.std.specs.Prelude.{◌≡◌, ℕ, List, [], ◌∷◌, map, Option, Some, None, IfSome, string_bytes}
-use Rattle.std.specs.List.{AllZip, flat_map}
+-- What is told of files that are no JSON or lack code, and what is made of files beside it.
+use Rattle.std.specs.Prelude.{◌≡◌, ◌||◌, ℕ, List, [], ◌∷◌, map, nat_eq, Option, Some, None, IfSome, if◌then◌else◌, string_bytes}
+use Rattle.std.specs.List.{AllZip, flat_map, starts_with}
+use Rattle.wh_explain.specs.Explaining.{unknown_in}
+use Rattle.wh_json.specs.Events.{history}
 use Rattle.wh_json.specs.Fields.{document}
-use Rattle.wh_cli.specs.declared.json_faults.JsonFault.{JsonFault}
+use Rattle.wh_workflow.specs.Law.{Program}
+use Rattle.wh_cli.specs.declared.file_faults.Cause.{Cause}
+use Rattle.wh_cli.specs.declared.file_faults.Cause.TheVariants.{NotJson, NoCode}
+use Rattle.wh_cli.specs.declared.file_faults.FileFault.{FileFault}
+use Rattle.wh_cli.specs.declared.position.Mark.{Mark}
+use Rattle.wh_cli.specs.declared.position.Mark.TheVariants.{ByteOrderMark, Utf16}
 use Rattle.wh_cli.specs.Services.{File}
 
--- a fault of a file by its name and bytes: it has the name, and the bytes are no JSON
-pub record IsFaultOf (name bytes : List ℕ) (fault : JsonFault) : Type 0 where
-  pub named : fault.name ≡ name
+-- what bytes begin with that are no JSON text in UTF-8: EF BB BF, FE FF or FF FE
+abbrev pub mark_of : List ℕ → Option Mark
+mark_of bytes =
+    if starts_with nat_eq bytes (239 ∷ 187 ∷ 191 ∷ []) then Some ByteOrderMark
+    else (if starts_with nat_eq bytes (254 ∷ 255 ∷ []) || starts_with nat_eq bytes (255 ∷ 254 ∷ []) then Some Utf16
+    else None)
+
+-- the bytes are no JSON, and the mark is what they begin with
+pub record IsUnread (bytes : List ℕ) (mark : Option Mark) : Type 0 where
   pub no_json : document bytes ≡ None
+  pub marked : mark ≡ mark_of bytes
+
+-- the cause is that bytes are no JSON
+abbrev pub IsNoJson : List ℕ → Cause → Type 0
+IsNoJson bytes (NotJson position mark) = IsUnread bytes mark
+IsNoJson bytes (NoCode kind) = ⊥
+
+-- the cause is that there is no code for the workflow type of the history of bytes
+abbrev pub IsUncoded : {S : Type 0} → Program S → List ℕ → Cause → Type 0
+IsUncoded program bytes (NotJson position mark) = ⊥
+IsUncoded program bytes (NoCode kind) = unknown_in program (history bytes) ≡ Some kind
+
+-- the cause is one of the two
+abbrev pub IsCauseOf : {S : Type 0} → Program S → List ℕ → Cause → Type 0
+IsCauseOf program bytes (NotJson position mark) = IsUnread bytes mark
+IsCauseOf program bytes (NoCode kind) = unknown_in program (history bytes) ≡ Some kind
+
+-- a fault of a file by its name and bytes: it has the name, and a cause of the bytes
+pub record IsFaultOf (IsCause : List ℕ → Cause → Type 0) (name bytes : List ℕ) (fault : FileFault) : Type 0 where
+  pub named : fault.name ≡ name
+  pub causes : IsCause bytes fault.cause
 
 -- what may be told of a file: its fault, or nothing
-abbrev pub MayBeTold : File → Option JsonFault → Type 0
-MayBeTold file told = IfSome told (IsFaultOf (string_bytes file.0) file.1.items)
+abbrev pub MayBeTold : {S : Type 0} → Program S → File → Option FileFault → Type 0
+MayBeTold program file told = IfSome told (IsFaultOf (IsCauseOf program) (string_bytes file.0) file.1.items)
 
 -- the fault that is told of a file, if one is
-abbrev pub told_of : Option JsonFault → List JsonFault
+abbrev pub told_of : Option FileFault → List FileFault
 told_of None = []
 told_of (Some fault) = fault ∷ []
 
 -- the faults that are told of files are theirs, at most one of each, in the order of the files
-pub record AreFaultsOf (files : List File) (faults : List JsonFault) : Type 0 where
-  pub told : List (Option JsonFault)
-  pub each : AllZip MayBeTold files told
+pub record AreFaultsOf {S : Type 0} (program : Program S) (files : List File) (faults : List FileFault) : Type 0 where
+  pub told : List (Option FileFault)
+  pub each : AllZip (MayBeTold program) files told
   pub all : faults ≡ flat_map told_of told
 
 -- what was made of inputs by a relation, one by one, with what is told of each; that stands apart, in the same order
-pub record AreMade {T U : Type 0} (Makes : T → U × Option JsonFault → Type 0) (inputs : List T) (made : List U)
-    (faults : List JsonFault) : Type 0 where
-  pub both : List (U × Option JsonFault)
+pub record AreMade {T U : Type 0} (Makes : T → U × Option FileFault → Type 0) (inputs : List T) (made : List U)
+    (faults : List FileFault) : Type 0 where
+  pub both : List (U × Option FileFault)
   pub each : AllZip Makes inputs both
   pub ones : made ≡ map (λ one. one.0) both
   pub told : faults ≡ flat_map told_of (map (λ one. one.1) both)
 
 -- what was made of an input: it was read as a file, and the rest was made and may be told of that file
-pub record IsMadeOf {T U : Type 0} (Reads : T → File → Type 0) (Gives : File → U → Type 0) (input : T)
-    (made : U × Option JsonFault) : Type 0 where
+pub record IsMadeOf {S T U : Type 0} (program : Program S) (Reads : T → File → Type 0) (Gives : File → U → Type 0)
+    (input : T) (made : U × Option FileFault) : Type 0 where
   pub file : File
   pub read : Reads input file
   pub gives : Gives file made.0
-  pub told : MayBeTold file made.1
+  pub told : MayBeTold program file made.1
 
 -- what was made of inputs: each was read as a file, in their order, and the rest was made and is told of these files
-pub record AreMadeOf {T U : Type 0} (Reads : T → File → Type 0) (Gives : File → U → Type 0) (inputs : List T)
-    (made : List U) (faults : List JsonFault) : Type 0 where
+pub record AreMadeOf {S T U : Type 0} (program : Program S) (Reads : T → File → Type 0) (Gives : File → U → Type 0)
+    (inputs : List T) (made : List U) (faults : List FileFault) : Type 0 where
   pub files : List File
   pub read : AllZip Reads inputs files
   pub gives : AllZip Gives files made
-  pub told : AreFaultsOf files faults
+  pub told : AreFaultsOf program files faults

@@ -1,32 +1,43 @@
 -- What paths name, and what is told of them.
-use Rattle.std.specs.Prelude.{◌≡◌, ◌==◌, ℕ, List, [], ◌∷◌, ◌++◌, length, not, All, Bool, Option, codes}
+use Rattle.std.specs.Prelude.{◌≡◌, ◌==◌, ◌||◌, ℕ, List, [], ◌∷◌, ◌++◌, length, not, All, Bool, false, Option, String, codes, if◌then◌else◌}
+use Rattle.std.specs.declared.alloc.Global.{Global}
 use Rattle.wh_files.specs.Inputs.{IsCalled, IsOf}
+use Rattle.wh_files.specs.Names.{IsBadName}
 use Rattle.wh_files.specs.declared.Input.{Input}
 use Rattle.wh_cli.specs.declared.complaints.Complaints.{Complaints}
-use Rattle.wh_cli.specs.Complaints.{Told, told_line}
+use Rattle.wh_cli.specs.Complaints.{Told, bad_name_lines, told_line}
 
 -- files are called by their paths where there is more than one path
 abbrev pub is_by_path : List (List ℕ) → Bool
 is_by_path more = not (length more == 0)
 
--- what is told of the inputs of a path: that there is none, if so
-abbrev pub no_files : List ℕ → List Input → List ℕ
-no_files path [] = told_line (codes "no .json file in " ++ path)
-no_files path (input ∷ inputs) = []
+-- what is told of the inputs of a path, and of the bad names there: a line for each of these, or else that there is no
+-- file, if so
+abbrev pub listing_told : List ℕ → List Input → List (String Global) → List ℕ → List ℕ
+listing_told path inputs names name =
+    if not (length names == 0) then bad_name_lines path names name
+    else (if length inputs == 0 then told_line (codes "no .json file in " ++ path) name else [])
 
--- the inputs are those of a path, called as is asked for; where there is none, that was told
+-- the inputs are those of a path, called as is asked for; files are left out where there are bad names, which were told;
+-- where there is no file, that was told
 pub record IsListed {E : Type 0} (contents : E → Option (List ℕ)) (by_path : Bool) (path : List ℕ) (inputs : List Input)
-    (old new : Complaints E) : Type 0 where
+    (left_out : Bool) (old new : Complaints E) : Type 0 where
   pub called : All (IsCalled by_path) inputs
   pub from : All (λ input. IsOf path input.origin) inputs
-  pub told : Told contents old new (no_files path inputs)
+  pub names : List (String Global)
+  pub bad : All IsBadName names
+  pub left : left_out ≡ not (length names == 0)
+  pub told : Told contents old new (listing_told path inputs names)
 
--- the inputs are those of paths, in their order, and what was told of these was told in their order
-abbrev pub AreListed : {E : Type 0} → (E → Option (List ℕ)) → Bool → List (List ℕ) → List Input → Complaints E → Complaints E → Type 0
-AreListed contents by_path [] inputs old new = (inputs ≡ []) × (new ≡ old)
-AreListed contents by_path (path ∷ more) inputs old new =
+-- the inputs are those of paths, in their order, files are left out where those of a path are, and what was told of the
+-- paths was told in their order
+abbrev pub AreListed : {E : Type 0} → (E → Option (List ℕ)) → Bool → List (List ℕ) → List Input → Bool → Complaints E → Complaints E → Type 0
+AreListed contents by_path [] inputs left_out old new = (inputs ≡ []) × (left_out ≡ false) × (new ≡ old)
+AreListed contents by_path (path ∷ more) inputs left_out old new =
     (own rest : List Input)
+    × (own_left rest_left : Bool)
     × (between : Complaints _)
     × (inputs ≡ own ++ rest)
-    × IsListed contents by_path path own old between
-    × AreListed contents by_path more rest between new
+    × (left_out ≡ (own_left || rest_left))
+    × IsListed contents by_path path own own_left old between
+    × AreListed contents by_path more rest rest_left between new

@@ -6,7 +6,8 @@ use Rattle.wh_events.specs.declared.event.Event.{Event}
 use Rattle.wh_files.specs.declared.Input.{Input}
 use Rattle.wh_files.specs.declared.Origin.{Origin}
 use Rattle.wh_json.specs.declared.fault.ReadFault.{ReadFault}
-use Rattle.wh_cli.specs.declared.json_faults.JsonFault.{JsonFault}
+use Rattle.wh_workflow.specs.Law.{Program}
+use Rattle.wh_cli.specs.declared.file_faults.FileFault.{FileFault}
 use Rattle.wh_cli.specs.declared.reading.ReadFile.{ReadFile}
 use Rattle.wh_cli.specs.Faults.{AreFaultsOf}
 use Rattle.wh_cli.specs.Services.{File, Reading, reading_of}
@@ -34,8 +35,9 @@ pub record IsReadAs (gives : Gives) (input : Input) (file : File) : Type 0 where
   pub bytes : gives input.origin file.1
 
 -- what was read of inputs: each as a file, in their order, the readings of these files, and what is told of them
-pub record AreRead (gives : Gives) (inputs : List Input) (read : List ReadFile) (faults : List JsonFault) : Type 0 where
+pub record AreRead {S : Type 0} (gives : Gives) (program : Program S) (inputs : List Input) (read : List ReadFile)
+    (faults : List FileFault) : Type 0 where
   pub files : List File
   pub from : AllZip (IsReadAs gives) inputs files
   pub readings : map reading read ≡ map reading_of files
-  pub told : AreFaultsOf files faults
+  pub told : AreFaultsOf program files faults

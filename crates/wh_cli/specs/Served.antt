@@ -7,6 +7,7 @@ use Rattle.wh_command_line.specs.Options.{config_of}
 use Rattle.wh_files.specs.declared.Input.{Input}
 use Rattle.wh_host.specs.declared.config.Config.{Config}
 use Rattle.wh_host.specs.declared.reply.Totals.{Totals}
+use Rattle.wh_workflow.specs.Law.{Program}
 use Rattle.wh_cli.specs.declared.gathering.Service.{Service}
 use Rattle.wh_cli.specs.declared.service_report.Row.{Row}
 use Rattle.wh_cli.specs.declared.serving.ServiceEnd.{ServiceEnd}
@@ -33,10 +34,11 @@ pub record HasServed (hosts : HostsBy) (config : Config) (readings : List Readin
   pub written : Appends old new (service_text rows totals)
   pub ends : end.status ≡ status_of end.faultless rows totals
 
--- a service of inputs has ended: each was read as a file, in their order, and the service is of these files
-pub record HasServedInputs (gives : Gives) (hosts : HostsBy) (config : Config) (inputs : List Input)
-    (old new : Option (List ℕ)) (end : ServiceEnd) : Type 0 where
+-- a service of inputs has ended: each was read as a file, in their order, and the service is of these files, as is what
+-- is told of them
+pub record HasServedInputs {S : Type 0} (gives : Gives) (program : Program S) (hosts : HostsBy) (config : Config)
+    (inputs : List Input) (old new : Option (List ℕ)) (end : ServiceEnd) : Type 0 where
   pub files : List File
   pub from : AllZip (IsReadAs gives) inputs files
   pub served : HasServed hosts config (map reading_of files) old new end
-  pub faults : AreFaultsOf files end.json_faults.items
+  pub faults : AreFaultsOf program files end.file_faults.items

@@ -1,5 +1,5 @@
 -- What the command `serve` did: its report, and its status.
-use Rattle.std.specs.Prelude.{◌≡◌, ℕ, ◌+◌, ◌<◌, ◌≤◌, ◌%◌, ◌&&◌, List, [], ◌∷◌, ◌++◌, length, map, get_or, codes, decimal, All, Bool, false, Option, Some, None, is_none, Result, Ok, Err, String, string_bytes, Vec, vec_len, if◌then◌else◌, eqb}
+use Rattle.std.specs.Prelude.{◌≡◌, ℕ, ◌+◌, ◌<◌, ◌≤◌, ◌%◌, ◌&&◌, List, [], ◌∷◌, ◌++◌, length, map, get_or, codes, decimal, not, All, Bool, false, Option, Some, None, is_none, Result, Ok, Err, String, string_bytes, Vec, vec_len, if◌then◌else◌, eqb}
 use Rattle.std.specs.List.{AllZip, flat_map, list_all, list_any}
 use Rattle.std.specs.declared.alloc.Global.{Global}
 use Rattle.wh_json.specs.declared.fault.ReadFault.{ReadFault}
@@ -22,11 +22,17 @@ use Rattle.wh_recorded.specs.Rounds.{Stage, Scripted, Gives, Recounts, deliverie
 use Rattle.wh_recorded.specs.Calls.{ComesFrom}
 use Rattle.wh_recorded.specs.declared.failed_task.FailedTask.{FailedTask}
 use Rattle.wh_workflow.specs.Law.{Program}
-use Rattle.wh_tester.specs.Faults.{replay_fault_text}
+use Rattle.wh_workflow.specs.declared.fault.WorkflowFault.{WorkflowFault}
+use Rattle.wh_workflow.specs.declared.fault.WorkflowFault.TheVariants.{UnknownWorkflow}
+use Rattle.wh_tester.specs.Faults.{replay_fault_text, workflow_fault_name}
 use Rattle.wh_tester.specs.Report.{shown, line_text}
 use Rattle.wh_tester.specs.declared.line.Verdict.TheVariants.{Unreadable}
 use Rattle.wh_cli.specs.declared.dealing.Dealt.{Dealt}
-use Rattle.wh_cli.specs.declared.json_faults.JsonFault.{JsonFault}
+use Rattle.wh_cli.specs.declared.file_faults.Cause.{Cause}
+use Rattle.wh_cli.specs.declared.file_faults.Cause.TheVariants.{NotJson, NoCode}
+use Rattle.wh_cli.specs.declared.file_faults.FileFault.{FileFault}
+use Rattle.wh_cli.specs.declared.position.Mark.{Mark}
+use Rattle.wh_cli.specs.declared.position.Mark.TheVariants.{ByteOrderMark, Utf16}
 use Rattle.wh_cli.specs.declared.service_report.Tally.{Tally}
 use Rattle.wh_cli.specs.declared.service_report.Row.{Row}
 use Rattle.wh_cli.specs.declared.service_report.FileFailure.{FileFailure}
@@ -238,26 +244,45 @@ all_served rows = list_all (λ row. is_good_outcome row.outcome) rows
 abbrev pub status_of : Bool → List Row → Totals → ℕ
 status_of faultless rows totals = if faultless && (eqb totals.failed 0 && all_served rows) then 0 else 1
 
--- the text of the fault begins with the task: a fault of the commands of this very task
-abbrev pub names_task : Fault → ℕ → Bool
-names_task (OfCommands own fault) at = eqb own at
-names_task _ at = false
+-- a fault of commands is that of another task: not that there is no code for the workflow type, and not this task's own
+abbrev pub is_of_another : (at own : ℕ) → WorkflowFault → Bool
+is_of_another at own UnknownWorkflow = false
+is_of_another at own _ = not (eqb own at)
 
 -- `task at <event>: <words>`
 abbrev pub at_task : ℕ → List ℕ → List ℕ
 at_task at words = codes "task at " ++ (decimal at ++ (codes ": " ++ words))
 
--- why a task failed: its fault as in the report of replay, behind the task unless the text begins with it
+-- why a task failed where commands have a fault: its name, and where it is another task's, that task behind it
+abbrev pub commands_text : (at own : ℕ) → WorkflowFault → List ℕ
+commands_text at own fault =
+    if is_of_another at own fault
+    then at_task at (workflow_fault_name fault) ++ (codes " in the task at " ++ decimal own)
+    else at_task at (workflow_fault_name fault)
+
+-- why a task failed: its fault as in the report of replay, but of a fault of commands its name
 abbrev pub why_text : ℕ → Option Fault → List ℕ
 why_text at None = at_task at (codes "not answered")
-why_text at (Some fault) = if names_task fault at then replay_fault_text fault else at_task at (replay_fault_text fault)
+why_text at (Some (OfCommands own fault)) = commands_text at own fault
+why_text at (Some fault) = at_task at (replay_fault_text fault)
 
 -- `<name>: task at <event>: <fault>`
 abbrev pub failure_text : FileFailure → List ℕ
 failure_text failure = shown failure.name ++ (codes ": " ++ why_text failure.task.at failure.task.fault)
 
--- `<name>: not JSON at line <line> column <column>`
-abbrev pub json_fault_text : JsonFault → List ℕ
-json_fault_text fault =
-    shown fault.name ++ (codes ": not JSON at line "
-    ++ (decimal fault.position.line ++ (codes " column " ++ decimal fault.position.column)))
+-- what a file begins with, behind its place
+abbrev pub mark_text : Option Mark → List ℕ
+mark_text None = []
+mark_text (Some ByteOrderMark) = codes ": it begins with a byte order mark"
+mark_text (Some Utf16) = codes ": it is UTF-16, and has to be UTF-8"
+
+-- `not JSON at line <line> column <column>` and what it begins with, or `no code for the workflow type <type>`
+abbrev pub cause_text : Cause → List ℕ
+cause_text (NotJson position mark) =
+    codes "not JSON at line " ++ (decimal position.line
+    ++ (codes " column " ++ (decimal position.column ++ mark_text mark)))
+cause_text (NoCode kind) = codes "no code for the workflow type " ++ shown kind
+
+-- `<name>: <cause>`
+abbrev pub file_fault_text : FileFault → List ℕ
+file_fault_text fault = shown fault.name ++ (codes ": " ++ cause_text fault.cause)

@@ -17,9 +17,9 @@ ghost use Rattle.wh_host.specs.Machine.{IsConfig};
 use crate::complaints::{Complaint, Complaints};
 use crate::explaining::explain_command;
 use crate::failures::Failure;
+use crate::file_faults::{FileFault, json_fault};
 use crate::hosts::{ServiceHost, ServicePost, host_of};
 use crate::inputs::ReadsInputs;
-use crate::json_faults::{JsonFault, json_fault};
 use crate::listing::{all_inputs, folder_of, input_of};
 use crate::replaying::{CommandFault, lines_of, report};
 use crate::serving::{ServiceEnd, serve_inputs};
@@ -66,11 +66,11 @@ fn print<O: Write>(text: &str, output: &mut O) -> Result<u8, Failure>
     }
 }
 
-/// Whether there have to be files, and there is none.
-fn lacks_files(required: bool, inputs: &[Input]) -> bool
-    ensures { result ≡ lacks_files required inputs.now }
+/// Whether files are left out, or there have to be files, and there is none.
+fn lacks_files(left_out: bool, required: bool, inputs: &[Input]) -> bool
+    ensures { result ≡ lacks_files left_out required inputs.now }
 {
-    required && inputs.is_empty()
+    left_out || (required && inputs.is_empty())
 }
 
 /// The status of a command: 1 where files are lacking, and else what it gives.
@@ -80,14 +80,15 @@ fn status_with(lacks: bool, status: u8) -> u8
     if lacks { 1 } else { status }
 }
 
-/// Writes the report of lines, and once it is out, tells where files are no JSON.
+/// Writes the report of lines, and once it is out, tells where files are no JSON and for which
+/// workflow types there is no code.
 fn tell_report<O: Write, E: Write>(
     lines: Vec<Line>,
-    faults: Vec<JsonFault>,
+    faults: Vec<FileFault>,
     json: bool,
     lacks: bool,
     output: &mut O,
-    errors: &mut Complaints<E>,
+    errors: &mut Complaints<'_, E>,
 ) -> Result<u8, Failure>
     ensures { IfOk result (HasReported lines.items faults.items json lacks
         (O.contents output.old) (O.contents output.new) E.contents errors.old errors.new) }
@@ -99,14 +100,14 @@ fn tell_report<O: Write, E: Write>(
 }
 
 /// Replays inputs, writes the report of their lines, and once it is out, tells where they are no
-/// JSON.
+/// JSON and for which workflow types there is no code.
 fn replay<W: Workflow + Send, R: ReadsInputs + AllocGlobal + Threads + Sync, O: Write, E: Write>(
     rt: &R,
     inputs: Vec<Input>,
     json: bool,
     lacks: bool,
     output: &mut O,
-    errors: &mut Complaints<E>,
+    errors: &mut Complaints<'_, E>,
 ) -> Result<u8, Failure>
     ensures { IfOk result (HasReplayed R.gives W.program inputs.items json lacks
         (O.contents output.old) (O.contents output.new) E.contents errors.old errors.new) }
@@ -121,7 +122,7 @@ fn is_bad_json(alloc: Global, bytes: &[u8]) -> bool {
 }
 
 /// Tells where a file is no JSON, if that is why it is not read.
-fn tell_if_bad<E: Write>(alloc: Global, name: &str, bytes: &[u8], errors: &mut Complaints<E>)
+fn tell_if_bad<E: Write>(alloc: Global, name: &str, bytes: &[u8], errors: &mut Complaints<'_, E>)
     ensures { HasToldOf name.now bytes.now E.contents errors.old errors.new }
 {
     if !is_bad_json(alloc, bytes) {
@@ -139,7 +140,7 @@ fn explain<W: Workflow, O: Write, E: Write>(
     bytes: &[u8],
     json: bool,
     output: &mut O,
-    errors: &mut Complaints<E>,
+    errors: &mut Complaints<'_, E>,
 ) -> Result<u8, Failure>
     ensures { IfOk result (HasExplained W.program (string_bytes name) bytes.now json
         (O.contents output.old) (O.contents output.new) E.contents errors.old errors.new) }
@@ -161,7 +162,7 @@ fn explain_input<W: Workflow, R: ReadsInputs + AllocGlobal, O: Write, E: Write>(
     input: Input,
     json: bool,
     output: &mut O,
-    errors: &mut Complaints<E>,
+    errors: &mut Complaints<'_, E>,
 ) -> Result<u8, Failure>
     ensures { IfOk result (HasExplainedInput R.gives W.program input json
         (O.contents output.old) (O.contents output.new) E.contents errors.old errors.new) }
@@ -176,7 +177,7 @@ fn served<O: Write, E: Write>(
     answer: Result<ServiceEnd, CommandFault>,
     lacks: bool,
     output: &mut O,
-    errors: &mut Complaints<E>,
+    errors: &mut Complaints<'_, E>,
 ) -> Result<u8, Failure>
     ensures end { IfOk result (λ status. (end : ServiceEnd) × (answer ≡ Ok end)
         × (status ≡ status_with lacks end.status) × Told E.contents errors.old errors.new (service_told end)) }
@@ -194,6 +195,7 @@ fn served<O: Write, E: Write>(
 
 /// Serves inputs, writes the report, and once it is out, tells the rest.
 fn serve<
+    W: Workflow + Send,
     R: ReadsInputs + AllocGlobal + Threads + Sync,
     F: Fn(Config, Vec<ServicePost>) -> Result<ServiceHost, OutOfMemory>,
     O: Write,
@@ -205,15 +207,15 @@ fn serve<
     lacks: bool,
     host: F,
     output: &mut O,
-    errors: &mut Complaints<E>,
+    errors: &mut Complaints<'_, E>,
 ) -> Result<u8, Failure>
 where
     F: Drop,
     requires { IsHost (F.pre host) (leaves (F.post host)) }
-    ensures { IfOk result (HasServedAll R.gives (leaves (F.post host)) (sizes_of options) inputs.items lacks
+    ensures { IfOk result (HasServedAll R.gives W.program (leaves (F.post host)) (sizes_of options) inputs.items lacks
         (O.contents output.old) (O.contents output.new) E.contents errors.old errors.new) }
 {
-    let answer = serve_inputs(rt, inputs, options, output, host)?;
+    let answer = serve_inputs::<W, R, F, O>(rt, inputs, options, output, host)?;
     served(answer, lacks, output, errors)
 }
 
@@ -225,7 +227,7 @@ fn replay_paths<W: Workflow + Send, R: Runtime + AllocGlobal + Threads + Sync, O
     json: bool,
     require_files: bool,
     output: &mut O,
-    errors: &mut Complaints<E>,
+    errors: &mut Complaints<'_, E>,
 ) -> Result<u8, Failure>
 where
     R::File: Send,
@@ -233,9 +235,9 @@ where
     ensures { IfOk result (HasReplayedPaths W.program first more.items json require_files
         (O.contents output.old) (O.contents output.new) E.contents errors.old errors.new) }
 {
-    let inputs = all_inputs(rt, first, more, errors)?;
-    let lacks = lacks_files(require_files, inputs.as_slice());
-    replay::<W, R, O, E>(rt, inputs, json, lacks, output, errors)
+    let listed = all_inputs(rt, first, more, errors)?;
+    let lacks = lacks_files(listed.left_out, require_files, listed.inputs.as_slice());
+    replay::<W, R, O, E>(rt, listed.inputs, json, lacks, output, errors)
 }
 
 /// Explains what is at a path.
@@ -244,7 +246,7 @@ fn explain_path<W: Workflow, R: Runtime + AllocGlobal, O: Write, E: Write>(
     path: Text,
     json: bool,
     output: &mut O,
-    errors: &mut Complaints<E>,
+    errors: &mut Complaints<'_, E>,
 ) -> Result<u8, Failure>
     ensures { IfOk result (HasExplainedPath W.program path json
         (O.contents output.old) (O.contents output.new) E.contents errors.old errors.new) }
@@ -265,7 +267,7 @@ fn serve_folder<
     options: ServeOptions,
     require_files: bool,
     output: &mut O,
-    errors: &mut Complaints<E>,
+    errors: &mut Complaints<'_, E>,
 ) -> Result<u8, Failure>
 where
     R::File: Send,
@@ -273,11 +275,11 @@ where
     ensures { IfOk result (HasServedFolder W.program dir (sizes_of options) require_files
         (O.contents output.old) (O.contents output.new) E.contents errors.old errors.new) }
 {
-    let inputs = folder_of(rt, dir, errors)?;
-    let lacks = lacks_files(require_files, inputs.as_slice());
-    serve(
+    let listed = folder_of(rt, dir, errors)?;
+    let lacks = lacks_files(listed.left_out, require_files, listed.inputs.as_slice());
+    serve::<W, _, _, _, _>(
         rt,
-        inputs,
+        listed.inputs,
         options,
         lacks,
         |config: Config, posts: Vec<ServicePost>| -> Result<ServiceHost, OutOfMemory>
@@ -297,7 +299,13 @@ pub(crate) fn obey<
     O: Write,
     E: Write,
     F: FnOnce(LivePlan) -> Result<LiveEnd, Failure>,
->(rt: &R, plan: Plan, live: F, output: &mut O, errors: &mut Complaints<E>) -> Result<u8, Failure>
+>(
+    rt: &R,
+    plan: Plan,
+    live: F,
+    output: &mut O,
+    errors: &mut Complaints<'_, E>,
+) -> Result<u8, Failure>
 where
     R::File: Send,
     R::Dir: Send,

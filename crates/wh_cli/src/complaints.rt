@@ -1,14 +1,14 @@
 //! What is told on the standard error.
 
-ghost use Rattle.std.specs.Prelude.{◌++◌, OnOk, codes};
-ghost use Rattle.std.specs.List.{flat_map};
+ghost use Rattle.std.specs.Prelude.{◌≡◌, ◌++◌, OnOk, codes, true};
 ghost use Rattle.std.specs.Io.KnownBytes.{Appends};
-ghost use Rattle.wh_cli.specs.Complaints.{Told, complaint_text, entry_line, failed_text, failure_line, fault_line};
-ghost use Rattle.wh_cli.specs.Live.{calls_text, live_text};
+ghost use Rattle.wh_cli.specs.Complaints.{Told, bad_name_line, bad_name_lines, complaint_text, entry_line, failed_text};
+ghost use Rattle.wh_cli.specs.Complaints.{failure_line, failure_lines, fault_line, fault_lines};
 ghost use Rattle.wh_cli.specs.Complaints.{path_line, reason_line, service_told, told_line, uncompared_told, worker_told};
+ghost use Rattle.wh_cli.specs.Live.{calls_text, live_text};
 
 use crate::failures::Failure;
-use crate::json_faults::JsonFault;
+use crate::file_faults::FileFault;
 use crate::service_report::{FileFailure, write_totals};
 use crate::serving::ServiceEnd;
 use std::io;
@@ -51,10 +51,12 @@ impl<R: Eprint> Write for ErrorPrinter<'_, R> {
 pub(crate) enum Complaint {
     /// A folder has no file that is read.
     NoFiles { dir: Text },
+    /// Files of a folder are left out, since their names are no UTF-8.
+    BadNames { dir: Text, names: Vec<String> },
     /// A file is no JSON.
-    BadJson { fault: JsonFault },
+    BadJson { fault: FileFault },
     /// Files are no JSON.
-    BadFiles { faults: Vec<JsonFault> },
+    BadFiles { faults: Vec<FileFault> },
     /// What a service tells beside its report.
     Served { end: ServiceEnd },
     /// How live tasks ended.
@@ -63,11 +65,12 @@ pub(crate) enum Complaint {
     Failed { failure: Failure },
 }
 
-/// Writes a line.
-fn tell_line<E: Write>(text: &str, writer: &mut E) -> io::Result<()>
-    ensures { OnOk result (Appends (E.contents writer.old) (E.contents writer.new) (told_line text.now)) }
+/// Writes a line under the program's name.
+fn tell_line<E: Write>(text: &str, name: &str, writer: &mut E) -> io::Result<()>
+    ensures { OnOk result (Appends (E.contents writer.old) (E.contents writer.new) (told_line text.now name.now)) }
 {
-    writeln!(writer, "wfhost: {text}")
+    let name = Shown(name);
+    writeln!(writer, "{name}: {text}")
 }
 
 /// Writes a text that ends its own line.
@@ -78,90 +81,97 @@ fn tell_text<E: Write>(text: &str, writer: &mut E) -> io::Result<()>
 }
 
 /// Writes that a folder has no file that is read.
-fn tell_no_files<E: Write>(dir: &str, writer: &mut E) -> io::Result<()>
+fn tell_no_files<E: Write>(dir: &str, name: &str, writer: &mut E) -> io::Result<()>
     ensures { OnOk result (Appends (E.contents writer.old) (E.contents writer.new)
-        (told_line (codes "no .json file in " ++ dir.now))) }
+        (told_line (codes "no .json file in " ++ dir.now) name.now)) }
 {
-    writeln!(writer, "wfhost: no .json file in {dir}")
+    let name = Shown(name);
+    writeln!(writer, "{name}: no .json file in {dir}")
 }
 
 /// Writes where a file is no JSON.
-fn tell_fault<E: Write>(fault: JsonFault, writer: &mut E) -> io::Result<()>
-    ensures { OnOk result (Appends (E.contents writer.old) (E.contents writer.new) (fault_line fault)) }
+fn tell_fault<E: Write>(fault: FileFault, name: &str, writer: &mut E) -> io::Result<()>
+    ensures { OnOk result (Appends (E.contents writer.old) (E.contents writer.new) (fault_line fault name.now)) }
 {
-    writeln!(writer, "wfhost: {fault}")
+    let name = Shown(name);
+    writeln!(writer, "{name}: {fault}")
 }
 
 /// Writes where files are no JSON, a line for each.
-fn tell_faults<E: Write>(faults: Vec<JsonFault>, writer: &mut E) -> io::Result<()>
-    ensures { OnOk result (Appends (E.contents writer.old) (E.contents writer.new) (flat_map fault_line faults.items)) }
+fn tell_faults<E: Write>(faults: Vec<FileFault>, name: &str, writer: &mut E) -> io::Result<()>
+    ensures { OnOk result (Appends (E.contents writer.old) (E.contents writer.new)
+        (fault_lines faults.items name.now)) }
 {
     for fault in faults {
-        tell_fault(fault, writer)?;
+        tell_fault(fault, name, writer)?;
     }
     Ok(())
 }
 
 /// Writes why a task failed.
-fn tell_failure<E: Write>(failure: FileFailure, writer: &mut E) -> io::Result<()>
-    ensures { OnOk result (Appends (E.contents writer.old) (E.contents writer.new) (failure_line failure)) }
+fn tell_failure<E: Write>(failure: FileFailure, name: &str, writer: &mut E) -> io::Result<()>
+    ensures { OnOk result (Appends (E.contents writer.old) (E.contents writer.new) (failure_line failure name.now)) }
 {
-    writeln!(writer, "wfhost: {failure}")
+    let name = Shown(name);
+    writeln!(writer, "{name}: {failure}")
 }
 
 /// Writes why tasks failed, a line for each.
-fn tell_failures<E: Write>(failures: Vec<FileFailure>, writer: &mut E) -> io::Result<()>
+fn tell_failures<E: Write>(failures: Vec<FileFailure>, name: &str, writer: &mut E) -> io::Result<()>
     ensures { OnOk result (Appends (E.contents writer.old) (E.contents writer.new)
-        (flat_map failure_line failures.items)) }
+        (failure_lines failures.items name.now)) }
 {
     for failure in failures {
-        tell_failure(failure, writer)?;
+        tell_failure(failure, name, writer)?;
     }
     Ok(())
 }
 
 /// Writes that a worker has a fault, where one has.
-fn tell_worker<E: Write>(faultless: bool, writer: &mut E) -> io::Result<()>
-    ensures { OnOk result (Appends (E.contents writer.old) (E.contents writer.new) (worker_told faultless)) }
+fn tell_worker<E: Write>(faultless: bool, name: &str, writer: &mut E) -> io::Result<()>
+    ensures { OnOk result (Appends (E.contents writer.old) (E.contents writer.new) (worker_told faultless name.now)) }
 {
     if faultless {
         return Ok(());
     }
-    writeln!(
+    tell_line(
+        "a worker has a fault: a call of its source failed",
+        name,
         writer,
-        "wfhost: a worker has a fault: a call of its source failed"
     )
 }
 
 /// Writes that not all that is recorded was compared, where it is so.
-fn tell_uncompared<E: Write>(uncompared: bool, writer: &mut E) -> io::Result<()>
-    ensures { OnOk result (Appends (E.contents writer.old) (E.contents writer.new) (uncompared_told uncompared)) }
+fn tell_uncompared<E: Write>(uncompared: bool, name: &str, writer: &mut E) -> io::Result<()>
+    ensures { OnOk result (Appends (E.contents writer.old) (E.contents writer.new)
+        (uncompared_told uncompared name.now)) }
 {
     if !uncompared {
         return Ok(());
     }
-    writeln!(
+    tell_line(
+        "the last task of a recorded history is not compared with its record; replay does that",
+        name,
         writer,
-        "wfhost: the last task of a recorded history is not compared with its record; replay does that"
     )
 }
 
 /// Writes where files are no JSON and why tasks failed, a line for each, and then in a line each
 /// where a worker has a fault and where `serve` did not compare all that is recorded.
-fn tell_service<E: Write>(end: ServiceEnd, writer: &mut E) -> io::Result<()>
-    ensures { OnOk result (Appends (E.contents writer.old) (E.contents writer.new) (service_told end)) }
+fn tell_service<E: Write>(end: ServiceEnd, name: &str, writer: &mut E) -> io::Result<()>
+    ensures { OnOk result (Appends (E.contents writer.old) (E.contents writer.new) (service_told end name.now)) }
 {
     let ServiceEnd {
         failures,
         uncompared,
         faultless,
-        json_faults,
+        file_faults,
         ..
     } = end;
-    tell_faults(json_faults, writer)?;
-    tell_failures(failures, writer)?;
-    tell_worker(faultless, writer)?;
-    tell_uncompared(uncompared, writer)
+    tell_faults(file_faults, name, writer)?;
+    tell_failures(failures, name, writer)?;
+    tell_worker(faultless, name, writer)?;
+    tell_uncompared(uncompared, name, writer)
 }
 
 /// Writes what the sources of live tasks counted.
@@ -190,19 +200,67 @@ fn tell_live<E: Write>(end: LiveEnd, writer: &mut E) -> io::Result<()>
 }
 
 /// Writes why there is nothing to read at a path.
-fn tell_path<E: Write>(path: &str, why: &str, writer: &mut E) -> io::Result<()>
-    ensures { OnOk result (Appends (E.contents writer.old) (E.contents writer.new) (path_line path.now why.now)) }
+fn tell_path<E: Write>(path: &str, why: &str, name: &str, writer: &mut E) -> io::Result<()>
+    ensures { OnOk result (Appends (E.contents writer.old) (E.contents writer.new)
+        (path_line path.now why.now name.now)) }
 {
-    writeln!(writer, "wfhost: cannot read {path}: {why}")
+    let name = Shown(name);
+    writeln!(writer, "{name}: cannot read {path}: {why}")
 }
 
 /// Writes why an entry of a folder can't be read.
-fn tell_entry<E: Write>(dir: &str, name: &str, why: &str, writer: &mut E) -> io::Result<()>
+fn tell_entry<E: Write>(
+    dir: &str,
+    entry: &str,
+    why: &str,
+    name: &str,
+    writer: &mut E,
+) -> io::Result<()>
     ensures { OnOk result (Appends (E.contents writer.old) (E.contents writer.new)
-        (entry_line dir.now name.now why.now)) }
+        (entry_line dir.now entry.now why.now name.now)) }
+{
+    let entry = Shown(entry);
+    let name = Shown(name);
+    writeln!(writer, "{name}: cannot read {dir}/{entry}: {why}")
+}
+
+/// Writes that a folder or a file can't be read.
+fn tell_unread<E: Write>(dir: &str, name: &str, writer: &mut E) -> io::Result<()>
+    ensures { OnOk result (Appends (E.contents writer.old) (E.contents writer.new)
+        (told_line (codes "cannot read " ++ dir.now) name.now)) }
 {
     let name = Shown(name);
-    writeln!(writer, "wfhost: cannot read {dir}/{name}: {why}")
+    writeln!(writer, "{name}: cannot read {dir}")
+}
+
+/// Writes that an entry of a folder can't be read, since its name is no UTF-8.
+fn tell_bad_name<E: Write>(dir: &str, entry: &String, name: &str, writer: &mut E) -> io::Result<()>
+    ensures { OnOk result (Appends (E.contents writer.old) (E.contents writer.new)
+        (bad_name_line dir.now entry.now name.now)) }
+{
+    tell_entry(
+        dir,
+        entry.as_str(),
+        "its name is no UTF-8 text",
+        name,
+        writer,
+    )
+}
+
+/// Writes which entries of a folder can't be read, since their names are no UTF-8: a line for each.
+fn tell_bad_names<E: Write>(
+    dir: &str,
+    entries: Vec<String>,
+    name: &str,
+    writer: &mut E,
+) -> io::Result<()>
+    ensures { OnOk result (Appends (E.contents writer.old) (E.contents writer.new)
+        (bad_name_lines dir.now entries.items name.now)) }
+{
+    for entry in entries {
+        tell_bad_name(dir, &entry, name, writer)?;
+    }
+    Ok(())
 }
 
 /// Writes what can't be read: the folder or the file, and in another line why not, of the entry of
@@ -211,60 +269,70 @@ fn tell_unreadable<E: Write>(
     dir: &str,
     entry: &Option<String>,
     reason: Reason,
+    name: &str,
     writer: &mut E,
 ) -> io::Result<()>
     ensures { OnOk result (Appends (E.contents writer.old) (E.contents writer.new)
-        (told_line (codes "cannot read " ++ dir.now) ++ reason_line dir.now entry.now reason)) }
+        (told_line (codes "cannot read " ++ dir.now) name.now ++ reason_line dir.now entry.now reason name.now)) }
 {
-    writeln!(writer, "wfhost: cannot read {dir}")?;
+    tell_unread(dir, name, writer)?;
     let why = reason.words();
     match entry {
-        Some(name) => tell_entry(dir, name.as_str(), why, writer),
-        None => tell_path(dir, why, writer),
+        Some(entry) => tell_entry(dir, entry.as_str(), why, name, writer),
+        None => tell_path(dir, why, name, writer),
     }
 }
 
 /// Writes why a run has no full report.
-fn tell_failed<E: Write>(failure: &Failure, writer: &mut E) -> io::Result<()>
-    ensures { OnOk result (Appends (E.contents writer.old) (E.contents writer.new) (failed_text failure.now)) }
+fn tell_failed<E: Write>(failure: &Failure, name: &str, writer: &mut E) -> io::Result<()>
+    ensures { OnOk result (Appends (E.contents writer.old) (E.contents writer.new) (failed_text failure.now name.now)) }
 {
     match failure {
         Failure::BadLine { text } => tell_text(text.get(), writer),
-        Failure::BadArguments => tell_line("arguments must be UTF-8 text", writer),
-        Failure::FewSlots => tell_line("slots must be at least workers", writer),
+        Failure::BadArguments => tell_line("arguments must be UTF-8 text", name, writer),
+        Failure::FewSlots => tell_line("slots must be at least workers", name, writer),
         Failure::Unreadable { dir, entry, reason } => {
-            tell_unreadable(dir.get(), entry, *reason, writer)
+            tell_unreadable(dir.get(), entry, *reason, name, writer)
         }
-        Failure::Output => tell_line("cannot write", writer),
-        Failure::OutOfMemory => tell_line("out of memory", writer),
+        Failure::Output => tell_line("cannot write", name, writer),
+        Failure::OutOfMemory => tell_line("out of memory", name, writer),
     }
 }
 
 /// Writes a complaint.
-fn tell_complaint<E: Write>(complaint: Complaint, writer: &mut E) -> io::Result<()>
-    ensures { OnOk result (Appends (E.contents writer.old) (E.contents writer.new) (complaint_text complaint)) }
+fn tell_complaint<E: Write>(complaint: Complaint, name: &str, writer: &mut E) -> io::Result<()>
+    ensures { OnOk result (Appends (E.contents writer.old) (E.contents writer.new)
+        (complaint_text complaint name.now)) }
 {
     match complaint {
-        Complaint::NoFiles { dir } => tell_no_files(dir.get(), writer),
-        Complaint::BadJson { fault } => tell_fault(fault, writer),
-        Complaint::BadFiles { faults } => tell_faults(faults, writer),
-        Complaint::Served { end } => tell_service(end, writer),
+        Complaint::NoFiles { dir } => tell_no_files(dir.get(), name, writer),
+        Complaint::BadNames { dir, names } => tell_bad_names(dir.get(), names, name, writer),
+        Complaint::BadJson { fault } => tell_fault(fault, name, writer),
+        Complaint::BadFiles { faults } => tell_faults(faults, name, writer),
+        Complaint::Served { end } => tell_service(end, name, writer),
         Complaint::Worked { end } => tell_live(end, writer),
-        Complaint::Failed { failure } => tell_failed(&failure, writer),
+        Complaint::Failed { failure } => tell_failed(&failure, name, writer),
     }
 }
 
-/// The standard error: its writer, and whether that took all that it was told.
+/// The standard error: the name that the program is called by, under which lines are told, the
+/// writer, and whether that took all that it was told.
 #[derive(Drop)]
-pub(crate) struct Complaints<E> {
+pub(crate) struct Complaints<'a, E> {
+    name: &'a str,
     writer: E,
     whole: bool,
 }
 
-impl<E: Write> Complaints<E> {
+impl<'a, E: Write> Complaints<'a, E> {
     /// A standard error that was told nothing yet.
-    pub(crate) fn new(writer: E) -> Complaints<E> {
+    pub(crate) fn new(name: &'a str, writer: E) -> Complaints<'a, E>
+        ensures named { result.name ≡ name.entry }
+        ensures writer { result.writer ≡ writer }
+        ensures whole { result.whole ≡ true }
+    {
         Complaints {
+            name,
             writer,
             whole: true,
         }
@@ -274,7 +342,7 @@ impl<E: Write> Complaints<E> {
     pub(crate) fn tell(&mut self, complaint: Complaint)
         ensures { Told E.contents self.old self.new (complaint_text complaint) }
     {
-        match tell_complaint(complaint, &mut self.writer) {
+        match tell_complaint(complaint, self.name, &mut self.writer) {
             Ok(()) => {}
             Err(_) => self.whole = false,
         }

@@ -1,8 +1,8 @@
 //! What paths name.
 
-ghost use Rattle.std.specs.Prelude.{◌≡◌, ◌∷◌, [], All, IfOk, false, length, true};
+ghost use Rattle.std.specs.Prelude.{◌≡◌, ◌==◌, ◌||◌, ◌∷◌, [], All, IfOk, false, length, not, true};
 ghost use Rattle.wh_files.specs.Inputs.{IsCalled, IsOf, IsSingle};
-ghost use Rattle.wh_cli.specs.Listings.{AreListed, IsListed, is_by_path, no_files};
+ghost use Rattle.wh_cli.specs.Listings.{AreListed, IsListed, is_by_path, listing_told};
 ghost use Rattle.wh_cli.specs.Complaints.{Told};
 
 use crate::complaints::{Complaint, Complaints};
@@ -11,48 +11,75 @@ use std::io;
 use std::io::Write;
 use std::rt::Files;
 use wh_events::Text;
-use wh_files::{Input, folder_inputs, input_at, inputs_at};
+use wh_files::{Input, Listing, folder_inputs, input_at, inputs_at};
 
-/// Tells that a path has no file that is read, where it has none.
-fn tell_if_none<E: Write>(path: Text, inputs: &[Input], errors: &mut Complaints<E>)
-    ensures { Told E.contents errors.old errors.new (no_files path inputs.now) }
-{
-    if inputs.is_empty() {
-        errors.tell(Complaint::NoFiles { dir: path });
-    }
+/// What is to be read at paths.
+#[derive(Drop)]
+pub(crate) struct Listed {
+    pub(crate) inputs: Vec<Input>,
+    /// Whether files are left out, since their names are no UTF-8.
+    pub(crate) left_out: bool,
 }
 
-/// The files of a folder that are to be read. Where there is none, that is told.
+/// Tells which files of a path are left out, or that it has no file, where it has none.
+fn told<E: Write>(path: Text, listing: Listing, errors: &mut Complaints<'_, E>) -> Listed
+    ensures inputs { result.inputs ≡ listing.inputs }
+    ensures left { result.left_out ≡ not (length listing.bad_names.items == 0) }
+    ensures told { Told E.contents errors.old errors.new
+        (listing_told path listing.inputs.items listing.bad_names.items) }
+{
+    let Listing { inputs, bad_names } = listing;
+    let left_out = !bad_names.is_empty();
+    if left_out {
+        errors.tell(Complaint::BadNames {
+            dir: path,
+            names: bad_names,
+        });
+    } else if inputs.is_empty() {
+        errors.tell(Complaint::NoFiles { dir: path });
+    }
+    Listed { inputs, left_out }
+}
+
+/// The files of a folder that are to be read. What is left out is told, and where there is none,
+/// that.
 pub(crate) fn folder_of<R: Files + AllocGlobal + Clone + Drop, E: Write>(
     rt: &R,
     dir: Text,
-    errors: &mut Complaints<E>,
-) -> Result<Vec<Input>, Failure>
-    ensures { IfOk result (λ inputs. IsListed E.contents false dir inputs.items errors.old errors.new) }
+    errors: &mut Complaints<'_, E>,
+) -> Result<Listed, Failure>
+    ensures { IfOk result (λ listed.
+        IsListed E.contents false dir listed.inputs.items listed.left_out errors.old errors.new) }
 {
-    let inputs = match folder_inputs(rt, dir.get(), false) {
-        Ok(inputs) => inputs,
+    let listing = match folder_inputs(rt, dir.get(), false) {
+        Ok(listing) => listing,
         Err(fault) => return Err(unreadable(dir, fault)),
     };
-    tell_if_none(dir, inputs.as_slice(), errors);
-    Ok(inputs)
+    Ok(told(dir, listing, errors))
 }
 
-/// What is to be read at a path. Where there is nothing, that is told.
+/// What is to be read at a path. What is left out is told, and where there is nothing, that.
 fn inputs_of<R: Files + io::Input + AllocGlobal + Clone + Drop, E: Write>(
     rt: &R,
     path: Text,
     by_path: bool,
-    errors: &mut Complaints<E>,
-) -> Result<Vec<Input>, Failure>
-    ensures { IfOk result (λ inputs. IsListed E.contents by_path path inputs.items errors.old errors.new) }
+    errors: &mut Complaints<'_, E>,
+) -> Result<Listed, Failure>
+    ensures { IfOk result (λ listed.
+        IsListed E.contents by_path path listed.inputs.items listed.left_out errors.old errors.new) }
 {
-    let inputs = match inputs_at(rt, path.get(), by_path) {
-        Ok(inputs) => inputs,
+    let listing = match inputs_at(rt, path.get(), by_path) {
+        Ok(listing) => listing,
         Err(fault) => return Err(unreadable(path, fault)),
     };
-    tell_if_none(path, inputs.as_slice(), errors);
-    Ok(inputs)
+    Ok(told(path, listing, errors))
+}
+
+/// Whether one of two is so.
+fn is_either(first: bool, second: bool) -> bool
+    ensures { result ≡ (first || second) }
+{
+    first || second
 }
 
 /// What is to be read at paths, in their order. Where there is one path alone, files are called
@@ -61,20 +88,24 @@ pub(crate) fn all_inputs<R: Files + io::Input + AllocGlobal + Clone + Drop, E: W
     rt: &R,
     first: Text,
     more: Vec<Text>,
-    errors: &mut Complaints<E>,
-) -> Result<Vec<Input>, Failure>
-    ensures { IfOk result (λ inputs.
-        AreListed E.contents (is_by_path more.items) (first ∷ more.items) inputs.items errors.old errors.new) }
+    errors: &mut Complaints<'_, E>,
+) -> Result<Listed, Failure>
+    ensures { IfOk result (λ listed. AreListed E.contents (is_by_path more.items) (first ∷ more.items)
+        listed.inputs.items listed.left_out errors.old errors.new) }
 {
     let by_path = !more.is_empty();
-    let mut inputs = inputs_of(rt, first, by_path, errors)?;
+    let own = inputs_of(rt, first, by_path, errors)?;
+    let (mut inputs, mut left_out) = (own.inputs, own.left_out);
     for path in more {
-        let mut others = inputs_of(rt, path, by_path, errors)?;
-        let Ok(()) = inputs.append(&mut others) else {
+        let others = inputs_of(rt, path, by_path, errors)?;
+        let mut other_inputs = others.inputs;
+        let Ok(()) = inputs.append(&mut other_inputs) else {
             return Err(Failure::OutOfMemory);
         };
+        let left = is_either(left_out, others.left_out);
+        left_out = left;
     }
-    Ok(inputs)
+    Ok(Listed { inputs, left_out })
 }
 
 /// The file at a path, or the standard input.

@@ -70,7 +70,7 @@ where
     if !listen() {
         return Err(Failure::OutOfMemory);
     }
-    let end = serve_live::<W, R, C, A, Watch<R>>(
+    let end = serve_live::<W, R, C, A, Watch<R>, Progress>(
         rt,
         alloc,
         config,
@@ -78,6 +78,7 @@ where
         &options,
         workers as usize,
         crew,
+        progress.as_ref(),
     );
     match end {
         Ok(end) => Ok(end),

@@ -3,27 +3,27 @@
 ghost use Rattle.std.specs.Prelude.{Ok, IfOk};
 ghost use Rattle.wh_cli.specs.Faults.{AreMade};
 
-use crate::json_faults::{JsonFault, parted};
+use crate::file_faults::{FileFault, parted};
 use rayon::prelude::*;
 use std::alloc::Global;
 use std::thread::Threads;
 use wh_events::OutOfMemory;
 
-/// What is made of files, in their order, whichever is done first, and apart from it where files
-/// are no JSON, or the fault of the first of which nothing can be made. `rayon` spreads the files
+/// What is made of files, in their order, whichever is done first, and apart from it what is
+/// told of files, or the fault of the first of which nothing can be made. `rayon` spreads the files
 /// over threads, down to one file each.
 pub(crate) fn all_made<
     T: Send + Drop,
     U: Send + Drop,
     E: Send + Drop,
-    F: Fn(T) -> Result<(U, Option<JsonFault>), E> + Copy + Send + Sync,
+    F: Fn(T) -> Result<(U, Option<FileFault>), E> + Copy + Send + Sync,
     R: Threads + Sync,
 >(
     rt: &R,
     alloc: Global,
     files: Vec<T>,
     make: F,
-) -> Result<Result<(Vec<U>, Vec<JsonFault>), E>, OutOfMemory>
+) -> Result<Result<(Vec<U>, Vec<FileFault>), E>, OutOfMemory>
     requires { F.IsAlwaysCallable make }
     ensures { IfOk result (λ told. IfOk told (λ parts.
         AreMade (λ file both. F.post make file (Ok both)) files.items parts.0.items parts.1.items)) }
@@ -32,7 +32,7 @@ pub(crate) fn all_made<
         .into_par_iter()
         .with_min_len(1)
         .map(make)
-        .collect::<Result<Vec<(U, Option<JsonFault>)>, E>>(rt, alloc)
+        .collect::<Result<Vec<(U, Option<FileFault>)>, E>>(rt, alloc)
     else {
         return Err(OutOfMemory);
     };

@@ -3,7 +3,7 @@
 ghost use Rattle.std.specs.Prelude.{◌≡◌, ◌≢◌, Err, IfOk, map, string_bytes};
 ghost use Rattle.wh_command_line.specs.Options.{IsWithinLimits};
 ghost use Rattle.wh_command_line.specs.Plans.{HasFewSlots, IsAskedBy};
-ghost use Rattle.wh_cli.specs.Commands.{Answers, HasFailed, HasObeyed};
+ghost use Rattle.wh_cli.specs.Commands.{Answers, HasFailed, HasObeyed, called, is_unread, name_of};
 ghost use Rattle.wh_cli.specs.Live.{MayServe, lives};
 ghost use Rattle.wh_host.specs.Machine.{IsConfig};
 
@@ -11,10 +11,12 @@ use crate::commands::obey;
 use crate::complaints::{Complaint, Complaints, ErrorPrinter};
 use crate::failures::Failure;
 use crate::live::serve_calls;
+use crate::outlet::Outlet;
 use crate::working::LivePlan;
 use std::alloc::Global;
 use std::env::Env;
 use std::io::{BufWriter, ErrorKind, Print, Printer, Write};
+use std::path::Path;
 use std::process::ExitCode;
 use std::rt::Runtime;
 use std::sync::Wait;
@@ -28,6 +30,9 @@ use wh_workflow::Workflow;
 
 /// The status of a run that ends without a full report.
 const FAILED: u8 = 2;
+
+/// What the program is called where no word says it.
+const UNCALLED: &str = "wfhost";
 
 /// The words of the command line, the program's name first.
 fn words<R: Env + AllocGlobal>(rt: &R) -> Result<Vec<String>, Failure>
@@ -45,14 +50,23 @@ fn words<R: Env + AllocGlobal>(rt: &R) -> Result<Vec<String>, Failure>
     }
 }
 
-/// What the program is called: its first word behind the last slash.
-fn called(words: &[String]) -> &str {
-    let Some(word) = words.first() else {
-        return "wfhost";
-    };
-    match word.rsplit_once('/') {
-        Some((_, name)) => name,
-        None => word.as_str(),
+/// What a program at a path is called: the last part of the path, or `wfhost` where there is none.
+fn name_of(path: &str) -> &str
+    ensures { result.now ≡ name_of path.now }
+{
+    match Path::new(path).file_name() {
+        Some(name) => name,
+        None => UNCALLED,
+    }
+}
+
+/// What the program is called: the last part of its first word, or `wfhost` where there is none.
+fn called(words: &[String]) -> &str
+    ensures { result.now ≡ called (map string_bytes words.now) }
+{
+    match words.first() {
+        Some(word) => name_of(word.as_str()),
+        None => UNCALLED,
     }
 }
 
@@ -71,18 +85,33 @@ fn plan(alloc: Global, words: &[String]) -> Result<Plan, Failure>
 }
 
 /// The standard output, for a report.
-fn output<R: Print + AllocGlobal>(rt: &R) -> Result<BufWriter<Printer<'_, R>>, Failure> {
+fn output<R: Print + AllocGlobal>(rt: &R) -> Result<Outlet<BufWriter<Printer<'_, R>>>, Failure> {
     match BufWriter::new(rt.alloc(), io::writer(rt)) {
-        Ok(writer) => Ok(writer),
+        Ok(writer) => Ok(Outlet::new(writer)),
         Err(_) => Err(Failure::OutOfMemory),
     }
 }
 
-/// Tells why there is no full report, and gives the status.
-fn fail<E: Write>(failure: Failure, errors: &mut Complaints<E>) -> u8
-    ensures { HasFailed E.contents errors.new result }
+/// Whether nobody reads on: nothing can be written, and the standard output was closed by the one
+/// who read it.
+fn is_unread(failure: &Failure, closed: bool) -> bool
+    ensures { result ≡ is_unread failure.now closed }
 {
-    errors.tell(Complaint::Failed { failure });
+    match failure {
+        Failure::Output => closed,
+        _ => false,
+    }
+}
+
+/// Tells why there is no full report, unless nobody reads on, and gives the status.
+fn fail<E: Write>(failure: Failure, closed: bool, errors: &mut Complaints<'_, E>) -> u8
+    ensures { HasFailed closed E.contents errors.new result }
+{
+    if is_unread(&failure, closed) {
+        drop(failure);
+    } else {
+        errors.tell(Complaint::Failed { failure });
+    }
     FAILED
 }
 
@@ -98,7 +127,7 @@ fn obeyed<
     words: &[String],
     live: F,
     output: &mut O,
-    errors: &mut Complaints<E>,
+    errors: &mut Complaints<'_, E>,
 ) -> Result<u8, Failure>
 where
     R::File: Send,
@@ -120,49 +149,58 @@ fn answer<
     O: Write,
     E: Write,
     F: FnOnce(LivePlan) -> Result<LiveEnd, Failure>,
->(rt: &R, words: &[String], live: F, output: &mut O, errors: &mut Complaints<E>) -> u8
+>(rt: &R, words: &[String], live: F, output: &mut Outlet<O>, errors: &mut Complaints<'_, E>) -> u8
 where
     R::File: Send,
     R::Dir: Send,
     F: Drop,
     requires { MayServe (F.pre live) }
-    ensures { Answers W.program (lives (F.post live)) (map string_bytes words.now)
-        (O.contents output.old) (O.contents output.new) E.contents errors.old errors.new result }
+    ensures { Answers W.program (lives (F.post live)) (map string_bytes words.now) output.new.closed
+        (O.contents output.old.writer) (O.contents output.new.writer) E.contents errors.old errors.new result }
 {
-    match obeyed::<W, R, O, E, F>(rt, words, live, output, errors) {
+    match obeyed::<W, R, Outlet<O>, E, F>(rt, words, live, output, errors) {
         Ok(status) => status,
-        Err(failure) => fail(failure, errors),
+        Err(failure) => fail(failure, output.is_closed(), errors),
     }
 }
 
-/// Does what the command line asks for, with the standard output for its report, and gives the
-/// status.
-fn run_told<
+/// Does what the words of the command line ask for, with the standard streams, and gives the status.
+fn run_words<
     W: Workflow + Send,
     R: Runtime + AllocGlobal + Threads + Wait + Sync,
-    E: Write,
     F: FnOnce(LivePlan) -> Result<LiveEnd, Failure>,
->(rt: &R, live: F, errors: &mut Complaints<E>) -> Result<u8, Failure>
+>(rt: &R, words: &[String], live: F) -> u8
 where
     R::File: Send,
     R::Dir: Send,
     F: Drop,
     requires { MayServe (F.pre live) }
 {
-    let words = words(rt)?;
-    let mut output = output(rt)?;
-    Ok(answer::<W, R, _, E, F>(rt, words.as_slice(), live, &mut output, errors))
+    let mut errors = Complaints::new(called(words), ErrorPrinter::new(rt));
+    match output(rt) {
+        Ok(mut output) => answer::<W, R, _, _, F>(rt, words, live, &mut output, &mut errors),
+        Err(failure) => fail(failure, false, &mut errors),
+    }
+}
+
+/// Tells why there is nothing to do, where the words of the command line are not there, and gives
+/// the status.
+fn fail_unnamed<R: Eprint>(rt: &R, failure: Failure) -> ExitCode {
+    let mut errors = Complaints::new(UNCALLED, ErrorPrinter::new(rt));
+    ExitCode::from(fail(failure, false, &mut errors))
 }
 
 /// Tells that there is no memory to begin with, and gives the status.
 pub fn no_memory<R: Eprint>(rt: &R) -> ExitCode {
-    let mut errors = Complaints::new(ErrorPrinter::new(rt));
-    ExitCode::from(fail(Failure::OutOfMemory, &mut errors))
+    fail_unnamed(rt, Failure::OutOfMemory)
 }
 
 /// Runs the program for the workflows of a type: it does what the arguments ask for, writes the
 /// report to the standard output and, where there is no full report, why to the standard error, and
-/// gives the status.
+/// gives the status. Where the one who reads the report closes it, that is not told.
+///
+/// Lines on the standard error begin with the name by which the program was called: the last part of
+/// its first word, or `wfhost` where there is none.
 ///
 /// Live tasks are asked for and answered over the calls. Before the first of them `listen` is called,
 /// which has to start a thread that reads the other end by `read_input`, and says whether it could;
@@ -183,15 +221,14 @@ where
     requires listens { L.IsAlwaysCallable listen }
     requires makes { M.IsAlwaysCallable make }
 {
-    let mut errors = Complaints::new(ErrorPrinter::new(rt));
+    let words = match words(rt) {
+        Ok(words) => words,
+        Err(failure) => return fail_unnamed(rt, failure),
+    };
     let live = |plan: LivePlan| -> Result<LiveEnd, Failure>
         requires sizes { IsConfig plan.config }
         requires listens { L.IsAlwaysCallable listen }
         requires makes { M.IsAlwaysCallable make }
     { serve_calls::<W, R, C, L, A, M>(rt, calls, listen, &make, plan) };
-    let status = match run_told::<W, R, _, _>(rt, live, &mut errors) {
-        Ok(status) => status,
-        Err(failure) => fail(failure, &mut errors),
-    };
-    ExitCode::from(status)
+    ExitCode::from(run_words::<W, R, _>(rt, words.as_slice(), live))
 }

@@ -1,43 +1,49 @@
 //! How far live tasks have come.
 
+use std::fmt;
+use std::fmt::{Display, Formatter};
 use std::sync::{Mutex, Wait};
 use std::time::Clock;
-use wh_host::Outcome;
+use wh_host::{Counts, Outcome};
+use wh_live::Reporter;
 use wh_poll::{Served, SourceFault};
 
-/// How many tasks were answered, and what was told last.
+/// What the workers have told of their turns, and what was reported last.
 #[derive(Clone, Copy)]
-struct Counts {
+struct Turns {
     completed: u64,
     failed: u64,
     /// Workflow tasks that were answered from a cached run, and those that were not.
     hits: u64,
     misses: u64,
-    /// When it was told last, in seconds of a clock that never goes back.
-    told: u64,
+    /// When it was reported last, in milliseconds of a clock that never goes back.
+    reported: u64,
     /// How many tasks were answered by then.
     before: u64,
 }
 
-/// What is told: the counts so far, and how many tasks were answered a second since the last time.
+/// What is reported: the counts so far, and how many tasks were answered a second since the last
+/// time.
 #[derive(Clone, Copy)]
 struct Report {
     completed: u64,
     failed: u64,
+    /// What the host holds and caches, where it is known.
+    held: Option<Counts>,
     hits: u64,
     misses: u64,
     rate: u64,
 }
 
-/// The time in whole seconds of a clock that never goes back, 0 where there is none.
-fn seconds<R: Clock>(rt: &R) -> u64 {
+/// The time in whole milliseconds of a clock that never goes back, 0 where there is none.
+fn milliseconds<R: Clock>(rt: &R) -> u64 {
     match rt.monotonic() {
-        Ok(time) => time.as_secs(),
+        Ok(time) => u64::try_from(time.as_millis()).unwrap_or(u64::MAX),
         Err(_) => 0,
     }
 }
 
-impl Counts {
+impl Turns {
     /// Counts how a task ended.
     fn end(&mut self, outcome: Outcome) {
         let count = match outcome {
@@ -69,77 +75,100 @@ impl Counts {
         }
     }
 
-    /// What is to be told, where it is time for that.
-    fn report(&mut self, now: u64, period: u64) -> Option<Report> {
-        let since = now.saturating_sub(self.told);
-        if since < period {
-            return None;
-        }
-        let all = self.completed.saturating_add(self.failed);
-        let rate = all.saturating_sub(self.before) / since.max(1);
-        self.told = now;
+    /// How many tasks were answered a second since the last time, of so many in all, rounded.
+    fn rate(&mut self, now: u64, all: u64) -> u64 {
+        let since = now.saturating_sub(self.reported).max(1);
+        let more = all.saturating_sub(self.before);
+        self.reported = now;
         self.before = all;
-        Some(Report {
-            completed: self.completed,
-            failed: self.failed,
+        more.saturating_mul(1000).saturating_add(since / 2) / since
+    }
+
+    /// What is to be reported. The tasks that ended are those of the host, where it tells them.
+    fn report(&mut self, now: u64, held: Option<Counts>) -> Report {
+        let (completed, failed) = match held {
+            Some(counts) => (counts.completed, counts.failed),
+            None => (self.completed, self.failed),
+        };
+        let rate = self.rate(now, completed.saturating_add(failed));
+        Report {
+            completed,
+            failed,
+            held,
             hits: self.hits,
             misses: self.misses,
             rate,
-        })
-    }
-}
-
-/// Tells from time to time how many tasks were answered.
-#[derive(Drop)]
-pub(crate) struct Progress {
-    /// In seconds.
-    period: u64,
-    counts: Mutex<Counts>,
-}
-
-impl Progress {
-    /// One that begins now, and is told after so many seconds each.
-    pub(crate) fn new<R: Clock>(rt: &R, period: u64) -> Progress {
-        let counts = Counts {
-            completed: 0,
-            failed: 0,
-            hits: 0,
-            misses: 0,
-            told: seconds(rt),
-            before: 0,
-        };
-        Progress {
-            period,
-            counts: Mutex::new(counts),
         }
     }
+}
 
-    /// Counts a turn, and gives what is to be told, where it is time for that.
-    fn due<R: Wait + Clock>(&self, rt: &R, turn: Result<Served, SourceFault>) -> Option<Report> {
-        let now = seconds(rt);
-        let mut counts = self.counts.lock(rt);
-        counts.add(turn);
-        counts.report(now, self.period)
-    }
-
-    /// Counts a turn, and tells the counts on standard error where it is time.
-    pub(crate) fn count<R: Wait + Clock + Eprint>(
-        &self,
-        rt: &R,
-        turn: Result<Served, SourceFault>,
-    ) {
-        let Some(report) = self.due(rt, turn) else {
-            return;
-        };
+impl Display for Report {
+    fn fmt<W: fmt::Write>(&self, f: &mut Formatter<W>) -> fmt::Result {
         let Report {
             completed,
             failed,
             hits,
             misses,
             rate,
-        } = report;
-        let _ = eprintln!(rt;
-            "wfhost: completed {completed}, failed {failed}, hits {hits}, misses {misses}, {rate} tasks a second"
-        );
+            ..
+        } = *self;
+        write!(f, "completed {completed}, failed {failed}, ")?;
+        if let Some(held) = self.held {
+            let Counts {
+                in_hand,
+                cached,
+                cached_events,
+                ..
+            } = held;
+            write!(
+                f,
+                "in hand {in_hand}, cached {cached} runs with {cached_events} events, "
+            )?;
+        }
+        write!(f, "hits {hits}, misses {misses}, {rate} tasks a second")
+    }
+}
+
+/// Tells from time to time how many tasks were answered, and what the host holds and caches.
+#[derive(Drop)]
+pub(crate) struct Progress {
+    /// In seconds.
+    period: u64,
+    turns: Mutex<Turns>,
+}
+
+impl Progress {
+    /// One that begins now, and is told after so many seconds each.
+    pub(crate) fn new<R: Clock>(rt: &R, period: u64) -> Progress {
+        let turns = Turns {
+            completed: 0,
+            failed: 0,
+            hits: 0,
+            misses: 0,
+            reported: milliseconds(rt),
+            before: 0,
+        };
+        Progress {
+            period,
+            turns: Mutex::new(turns),
+        }
+    }
+
+    /// Counts a turn.
+    pub(crate) fn count<R: Wait>(&self, rt: &R, turn: Result<Served, SourceFault>) {
+        self.turns.lock(rt).add(turn);
+    }
+}
+
+impl Reporter for Progress {
+    fn period(&self) -> u64 {
+        self.period
+    }
+
+    /// Tells a line on standard error.
+    fn report<R: Wait + Clock + Eprint>(&self, rt: &R, counts: Option<Counts>) {
+        let now = milliseconds(rt);
+        let report = self.turns.lock(rt).report(now, counts);
+        let _ = eprintln!(rt; "wfhost: {report}");
     }
 }

@@ -1,18 +1,18 @@
 //! The command `replay`.
 
-ghost use Rattle.std.specs.Prelude.{◌≡◌, ◌≢◌, List, Err, IfOk, OnOk};
+ghost use Rattle.std.specs.Prelude.{◌≡◌, ◌≢◌, List, Err, IfOk, IfSome, OnOk};
 ghost use Rattle.std.specs.List.{AllZip};
 ghost use Rattle.std.specs.Io.KnownBytes.{Appends};
 ghost use Rattle.wh_tester.specs.Report.{report};
-ghost use Rattle.wh_cli.specs.Faults.{AreMadeOf, IsMadeOf, MayBeTold};
+ghost use Rattle.wh_cli.specs.Faults.{AreMadeOf, IsCauseOf, IsFaultOf, IsMadeOf, MayBeTold};
 ghost use Rattle.wh_cli.specs.Readings.{IsReadAs};
 ghost use Rattle.wh_cli.specs.Replays.{report_as};
 ghost use Rattle.wh_cli.specs.Statuses.{status_of};
 ghost use Rattle.wh_tester.specs.Verdicts.{IsLineOf};
 ghost use Rattle.wh_tester.specs.declared.line.Line.{Line};
 
+use crate::file_faults::{FileFault, code_fault, json_fault};
 use crate::inputs::ReadsInputs;
-use crate::json_faults::{JsonFault, json_fault};
 use crate::parallel::all_made;
 use std::alloc::Global;
 use std::io;
@@ -22,8 +22,9 @@ use thiserror::Error;
 use wh_events::Text;
 use wh_files::{Input, InputFault};
 use wh_json::ReadFault;
+use wh_replay::Fault;
 use wh_tester::{Line, Verdict, all_good, check_all, verdict, write_json_report, write_report};
-use wh_workflow::Workflow;
+use wh_workflow::{Workflow, WorkflowFault};
 
 /// Why a command has no status.
 #[derive(Debug, Drop, Error)]
@@ -72,24 +73,38 @@ pub(crate) fn report<O: Write>(
     Ok(status_of(lines))
 }
 
-/// Whether a file is no JSON.
-fn is_bad_json(verdict: &Verdict) -> bool {
-    matches!(verdict, Verdict::Unreadable(ReadFault::BadJson))
+/// What is told of a file with this name, verdict and bytes: where it is no JSON or for which
+/// workflow type there is no code, if that is the verdict.
+#[tactic(auto, using(crate::proofs::Faults::of_json, crate::proofs::Faults::of_code))]
+fn fault_in<W: Workflow>(
+    alloc: Global,
+    name: &str,
+    verdict: &Verdict,
+    bytes: &[u8],
+) -> Option<FileFault>
+    ensures { IfSome result (IsFaultOf (IsCauseOf W.program) name.now bytes.now) }
+{
+    match verdict {
+        Verdict::Unreadable(ReadFault::BadJson) => json_fault(alloc, name, bytes),
+        Verdict::Faulty(
+            Fault::Workflow {
+                fault: WorkflowFault::UnknownWorkflow,
+                ..
+            },
+        ) => code_fault::<W>(alloc, name, bytes),
+        _ => None,
+    }
 }
 
 /// The line of a file: its name, with the verdict on its bytes, which are kept no longer. Beside it
-/// where the file is no JSON, if that is the verdict.
-fn line_of<W: Workflow>(alloc: Global, file: (String, Vec<u8>)) -> (Line, Option<JsonFault>)
+/// is what is told of it.
+fn line_of<W: Workflow>(alloc: Global, file: (String, Vec<u8>)) -> (Line, Option<FileFault>)
     ensures line { IsLineOf W.program file result.0 }
-    ensures told { MayBeTold file result.1 }
+    ensures told { MayBeTold W.program file result.1 }
 {
     let (name, bytes) = file;
     let verdict = verdict::<W>(alloc, bytes.as_slice());
-    let fault = if is_bad_json(&verdict) {
-        json_fault(alloc, name.as_str(), bytes.as_slice())
-    } else {
-        None
-    };
+    let fault = fault_in::<W>(alloc, name.as_str(), &verdict, bytes.as_slice());
     let name = Text::new(name);
     (Line { name, verdict }, fault)
 }
@@ -98,8 +113,8 @@ fn line_of<W: Workflow>(alloc: Global, file: (String, Vec<u8>)) -> (Line, Option
 fn line_from<W: Workflow, R: ReadsInputs + AllocGlobal>(
     rt: &R,
     input: Input,
-) -> Result<(Line, Option<JsonFault>), InputFault>
-    ensures { IfOk result (IsMadeOf (IsReadAs R.gives) (IsLineOf W.program) input) }
+) -> Result<(Line, Option<FileFault>), InputFault>
+    ensures { IfOk result (IsMadeOf W.program (IsReadAs R.gives) (IsLineOf W.program) input) }
 {
     let Input { name, origin } = input;
     let bytes = rt.read(origin)?;
@@ -107,22 +122,22 @@ fn line_from<W: Workflow, R: ReadsInputs + AllocGlobal>(
 }
 
 /// The lines of inputs that are replayed with the code of `W`, in their order, and apart from these
-/// where inputs are no JSON. Each is read in the thread that replays it: so the bytes of no more
-/// files are there at once than there are threads. The fault is that of the first that cannot be
-/// read.
+/// where inputs are no JSON and for which workflow types there is no code. Each is read in the
+/// thread that replays it: so the bytes of no more files are there at once than there are threads.
+/// The fault is that of the first that cannot be read.
 pub(crate) fn lines_of<W: Workflow + Send, R: ReadsInputs + AllocGlobal + Threads + Sync>(
     rt: &R,
     inputs: Vec<Input>,
-) -> Result<(Vec<Line>, Vec<JsonFault>), InputFault>
+) -> Result<(Vec<Line>, Vec<FileFault>), InputFault>
     ensures { IfOk result (λ told.
-        AreMadeOf (IsReadAs R.gives) (IsLineOf W.program) inputs.items told.0.items told.1.items) }
+        AreMadeOf W.program (IsReadAs R.gives) (IsLineOf W.program) inputs.items told.0.items told.1.items) }
 {
     let Ok(told) = all_made(
         rt,
         rt.alloc(),
         inputs,
-        |input: Input| -> Result<(Line, Option<JsonFault>), InputFault>
-            ensures { IfOk result (IsMadeOf (IsReadAs R.gives) (IsLineOf W.program) input) }
+        |input: Input| -> Result<(Line, Option<FileFault>), InputFault>
+            ensures { IfOk result (IsMadeOf W.program (IsReadAs R.gives) (IsLineOf W.program) input) }
         { line_from::<W, R>(rt, input) },
     ) else {
         return Err(InputFault::OutOfMemory);

@@ -5,7 +5,7 @@ ghost use Rattle.std.specs.List.{flat_map};
 ghost use Rattle.std.specs.Io.KnownBytes.{Appends};
 ghost use Rattle.wh_tester.specs.Report.{shown};
 ghost use Rattle.wh_cli.specs.Services.{tally_text, row_text, totals_text, service_text, is_good_outcome, all_served};
-ghost use Rattle.wh_cli.specs.Services.{failure_text, why_text, names_task};
+ghost use Rattle.wh_cli.specs.Services.{commands_text, failure_text, is_of_another, why_text};
 
 use std::io::Write;
 use std::{fmt, io};
@@ -15,6 +15,7 @@ use wh_json::ReadFault;
 use wh_recorded::FailedTask;
 use wh_replay::Fault;
 use wh_tester::{Line, ReplayFaultText, Shown, Verdict, write_line};
+use wh_workflow::WorkflowFault;
 
 /// How many tasks of a file were polled, and how they ended.
 #[derive(Clone, Copy)]
@@ -38,6 +39,8 @@ pub struct Row {
 
 /// A failed task of a file. As a text: the name of the file as the report shows it, the task by the
 /// event that starts it, and its fault as the report of replay has it, or that it was not answered.
+/// Of a fault of commands only the name is said, and behind it which task has it, where that is
+/// another.
 #[derive(Drop)]
 pub struct FileFailure {
     /// The name of the file.
@@ -46,13 +49,36 @@ pub struct FileFailure {
     pub task: FailedTask,
 }
 
-/// Whether the text of a fault begins with this task, as that of a fault of its commands does.
-fn names_task(fault: &Fault, at: u64) -> bool
-    ensures { result ≡ names_task fault.now at }
+/// Whether a fault of commands is that of another task than this one. Where there is no code for the
+/// workflow type, no task has it.
+fn is_of_another(at: u64, own: u64, fault: WorkflowFault) -> bool
+    ensures { result ≡ is_of_another at own fault }
 {
     match fault {
-        Fault::Workflow { at: own, .. } => *own == at,
-        _ => false,
+        WorkflowFault::UnknownWorkflow => false,
+        _ => own != at,
+    }
+}
+
+/// Why a task failed where commands have a fault, in words.
+#[derive(Drop)]
+struct CommandsText {
+    at: u64,
+    own: u64,
+    fault: WorkflowFault,
+}
+
+impl fmt::Display for CommandsText {
+    ghost output = { λ t. Some (commands_text t.at t.own t.fault) };
+
+    fn fmt<W: fmt::Write>(&self, f: &mut fmt::Formatter<W>) -> fmt::Result {
+        let CommandsText { at, own, fault } = *self;
+        let text = ReplayFaultText(Fault::Workflow { at, fault });
+        if is_of_another(at, own, fault) {
+            write!(f, "{text} in the task at {own}")
+        } else {
+            write!(f, "{text}")
+        }
     }
 }
 
@@ -68,16 +94,15 @@ impl fmt::Display for WhyText {
 
     fn fmt<W: fmt::Write>(&self, f: &mut fmt::Formatter<W>) -> fmt::Result {
         let at = self.at;
-        match &self.fault {
+        match self.fault {
             None => write!(f, "task at {at}: not answered"),
+            Some(Fault::Workflow { at: own, fault }) => {
+                let text = CommandsText { at, own, fault };
+                write!(f, "{text}")
+            }
             Some(fault) => {
-                let is_named = names_task(fault, at);
-                let text = ReplayFaultText(*fault);
-                if is_named {
-                    write!(f, "{text}")
-                } else {
-                    write!(f, "task at {at}: {text}")
-                }
+                let text = ReplayFaultText(fault);
+                write!(f, "task at {at}: {text}")
             }
         }
     }

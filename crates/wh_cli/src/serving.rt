@@ -13,10 +13,10 @@ ghost use Rattle.wh_cli.specs.Services.{reading_of, service_text, status_of};
 ghost use Rattle.wh_cli.specs.declared.service_report.Row.{Row};
 
 use crate::dealing::deal_sources;
+use crate::file_faults::FileFault;
 use crate::gathering::{Service, gather};
 use crate::hosts::{ServiceHost, ServicePost, host_of};
 use crate::inputs::ReadsInputs;
-use crate::json_faults::JsonFault;
 use crate::reading::{ReadFile, read_all, read_inputs};
 use crate::replaying::CommandFault;
 use crate::service_report::{FileFailure, all_served, write_service};
@@ -96,21 +96,22 @@ pub struct ServiceEnd {
     /// Whether no worker has a fault: no call of its source failed. After a fault a worker goes on,
     /// so all tasks may be completed beside one.
     pub faultless: bool,
-    /// Where files are no JSON, in the order of the files.
-    pub json_faults: Vec<JsonFault>,
+    /// Where files are no JSON and for which workflow types there is no code, in the order of the
+    /// files.
+    pub file_faults: Vec<FileFault>,
 }
 
 /// Writes the report of a service, and gives what else is told of it.
 fn report<O: Write>(
     service: Service,
-    json_faults: Vec<JsonFault>,
+    file_faults: Vec<FileFault>,
     writer: &mut O,
 ) -> Result<ServiceEnd, CommandFault>
     ensures written { IfOk result (λ end.
         Appends (O.contents writer.old) (O.contents writer.new) (service_text service.rows.items service.totals)
         × (end.status ≡ status_of service.faultless service.rows.items service.totals)
         × (end.failures.items ≡ service.failures.items) × (end.uncompared ≡ service.uncompared)
-        × (end.faultless ≡ service.faultless) × (end.json_faults.items ≡ json_faults.items)) }
+        × (end.faultless ≡ service.faultless) × (end.file_faults.items ≡ file_faults.items)) }
     ensures output { result ≢ Err CommandFault.OutOfMemory }
 {
     let status = status_of(&service);
@@ -127,17 +128,17 @@ fn report<O: Write>(
             failures,
             uncompared,
             faultless,
-            json_faults,
+            file_faults,
         }),
         Err(_) => Err(CommandFault::Output),
     }
 }
 
-/// Serves the tasks of files that were read, some of which may be no JSON, and writes the report.
+/// Serves the tasks of files that were read, of some of which a fault is told, and writes the report.
 /// Nothing is written where the answer is `OutOfMemory`.
 fn serve_read<F: Fn(Config, Vec<ServicePost>) -> Result<ServiceHost, OutOfMemory>, O: Write>(
     alloc: Global,
-    read: (Vec<ReadFile>, Vec<JsonFault>),
+    read: (Vec<ReadFile>, Vec<FileFault>),
     options: ServeOptions,
     writer: &mut O,
     host: F,
@@ -147,14 +148,14 @@ where
     requires { IsHost (F.pre host) (leaves (F.post host)) }
     ensures report { IfOk result (HasServed (leaves (F.post host)) (sizes_of options) (map reading read.0.items)
         (O.contents writer.old) (O.contents writer.new)) }
-    ensures faults { IfOk result (λ end. end.json_faults.items ≡ read.1.items) }
+    ensures faults { IfOk result (λ end. end.file_faults.items ≡ read.1.items) }
     ensures unwritten { result ≡ Err CommandFault.OutOfMemory → writer.new ≡ writer.old }
 {
-    let (files, json_faults) = read;
+    let (files, file_faults) = read;
     let Ok(service) = serve_all(alloc, files, options, host) else {
         return Err(CommandFault::OutOfMemory);
     };
-    report(service, json_faults, writer)
+    report(service, file_faults, writer)
 }
 
 /// Serves the tasks of the files by workers with a thread each, and writes the report: a line for
@@ -175,11 +176,11 @@ pub fn serve_with_failures<W: Workflow + Send, R: Threads + Wait + Sync, O: Writ
     requires { AreWithinLimits workers cache cache_events slots }
     ensures report { let config = config_of workers cache cache_events slots in IfOk result
         (HasServed (IsHosted W.program) config (map reading_of files.items) (O.contents writer.old) (O.contents writer.new)) }
-    ensures faults { IfOk result (λ end. AreFaultsOf files.items end.json_faults.items) }
+    ensures faults { IfOk result (λ end. AreFaultsOf W.program files.items end.file_faults.items) }
     ensures unwritten { result ≡ Err CommandFault.OutOfMemory → writer.new ≡ writer.old }
 {
     let options = ServeOptions::new(workers, cache, cache_events, slots);
-    let Ok(read) = read_all(rt, alloc, files) else {
+    let Ok(read) = read_all::<W, R>(rt, alloc, files) else {
         return Err(CommandFault::OutOfMemory);
     };
     serve_read(
@@ -198,6 +199,7 @@ pub fn serve_with_failures<W: Workflow + Send, R: Threads + Wait + Sync, O: Writ
 /// Reads inputs, serves their tasks and writes the report, as `serve_with_failures` does with files
 /// that are there already. Nothing is written where an input cannot be read.
 pub(crate) fn serve_inputs<
+    W: Workflow + Send,
     R: ReadsInputs + AllocGlobal + Threads + Sync,
     F: Fn(Config, Vec<ServicePost>) -> Result<ServiceHost, OutOfMemory>,
     O: Write,
@@ -211,12 +213,12 @@ pub(crate) fn serve_inputs<
 where
     F: Drop,
     requires { IsHost (F.pre host) (leaves (F.post host)) }
-    ensures report { IfOk result (λ answer. IfOk answer (HasServedInputs R.gives (leaves (F.post host))
-        (sizes_of options) inputs.items (O.contents writer.old) (O.contents writer.new))) }
+    ensures report { IfOk result (λ answer. IfOk answer (HasServedInputs R.gives W.program
+        (leaves (F.post host)) (sizes_of options) inputs.items (O.contents writer.old) (O.contents writer.new))) }
     ensures unread { OnErr result (writer.new ≡ writer.old) }
     ensures unwritten { result ≡ Ok (Err CommandFault.OutOfMemory) → writer.new ≡ writer.old }
 {
-    let read = read_inputs(rt, inputs)?;
+    let read = read_inputs::<W, R>(rt, inputs)?;
     Ok(serve_read(rt.alloc(), read, options, writer, host))
 }
 

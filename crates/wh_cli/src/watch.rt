@@ -1,8 +1,7 @@
-//! What is told of live tasks while they are served.
+//! What the turns of live workers are counted by.
 
 use crate::progress::Progress;
 use std::sync::Wait;
-use std::time::Clock;
 use wh_poll::{Observer, Served, SourceFault};
 
 /// Counts the tasks of its worker, if they are counted.
@@ -12,7 +11,7 @@ pub(crate) struct Watch<'a, R> {
     pub(crate) progress: Option<&'a Progress>,
 }
 
-impl<R: Wait + Clock + Eprint> Observer for Watch<'_, R> {
+impl<R: Wait> Observer for Watch<'_, R> {
     ghost use Rattle.std.specs.Prelude.{◌≡◌};
 
     ghost hears = { λ old turn new. new ≡ old };

@@ -117,7 +117,7 @@ pub(crate) fn work<F: FnOnce(LivePlan) -> Result<LiveEnd, Failure>, E: Write>(
     alloc: Global,
     options: WorkOptions,
     live: F,
-    errors: &mut Complaints<E>,
+    errors: &mut Complaints<'_, E>,
 ) -> Result<u8, Failure>
 where
     F: Drop,

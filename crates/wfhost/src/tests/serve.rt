@@ -51,8 +51,8 @@ const SIZES: &str = "\
 ///
 /// There are no files, five samples, histories that end behind their last task in an event that is
 /// passed over or not in place, a file that is no JSON, an activity that the workflow does not ask
-/// for, a workflow that the program does not know, and histories that end in their last task, alone
-/// and between others.
+/// for, a workflow that the program does not know, a command that can't stand in a task before the
+/// last, and histories that end in their last task, alone and between others.
 const SERVICES: &str = "\
 4
 taken 0, completed 0, failed 0, in hand 0
@@ -95,9 +95,17 @@ status 1
 1 nap.json: nap | 'name':'Nap' -> 'name':'Napp'
 nap.json: 2 tasks, 0 completed, 2 failed
 taken 2, completed 0, failed 2, in hand 0
-nap.json: task at 3: task at 1: UnknownWorkflow
-nap.json: task at 8: task at 1: UnknownWorkflow
+nap.json: task at 3: UnknownWorkflow
+nap.json: task at 8: UnknownWorkflow
 not compared: true
+status 1
+
+1 nap.json: start:Nap timer:nap S T C S T
+nap.json: 2 tasks, 0 completed, 2 failed
+taken 2, completed 0, failed 2, in hand 0
+nap.json: task at 4: IdInUse
+nap.json: task at 7: IdInUse in the task at 4
+not compared: false
 status 1
 
 1 nap.json: nap/3

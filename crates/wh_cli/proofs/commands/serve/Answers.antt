@@ -8,7 +8,7 @@ use Rattle.wh_cli.proofs.commands.serve.Goals as goal
 pub returns : goal.returns
 returns g c =
     let hosts : HostsBy = λ config posts end. g.F.Fn.post c.args.host (config, (posts, tt)) (Ok end) in
-    served_all g.R.ReadsInputs.gives hosts (sizes_of c.args.options) c.args.inputs.items c.args.lacks
+    served_all g.R.ReadsInputs.gives g.W.Workflow.program hosts (sizes_of c.args.options) c.args.inputs.items c.args.lacks
     (g.O.Write.contents c.args.output.now) (g.O.Write.contents c.serve_inputs.new.writer) (g.O.Write.contents c.served.new.output)
     g.E.Write.contents c.args.errors.now c.served.new.errors c.in_ok-answer.answer c.served.result
     c.in_ok-answer.ensures.report c.served.ensures.kept c.served.ensures.end

@@ -7,7 +7,8 @@ use Rattle.wh_cli.proofs.commands.serve_folder.Goals as goal
 -- the host is one that runs the program
 pub returns : goal.returns
 returns g c =
-    served_folder g.W.Workflow.program c.args.dir (sizes_of c.args.options) c.args.require_files c.lacks_files-lacks.result c.in_ok-inputs.inputs.items
+    let listed = c.in_ok-listed.listed in
+    served_folder g.W.Workflow.program c.args.dir (sizes_of c.args.options) c.args.require_files listed.left_out c.lacks_files-lacks.result listed.inputs.items
     (g.O.Write.contents c.args.output.now) (g.O.Write.contents c.serve.new.output)
     g.E.Write.contents c.args.errors.now c.folder_of.new.errors c.serve.new.errors c.serve.result
-    c.in_ok-inputs.ensures (c.lacks_files-lacks.ensures ∙ ap (lacks_files c.args.require_files) c.as_slice.ensures.value) c.serve.ensures
+    c.in_ok-listed.ensures (c.lacks_files-lacks.ensures ∙ ap (lacks_files listed.left_out c.args.require_files) c.as_slice.ensures.value) c.serve.ensures

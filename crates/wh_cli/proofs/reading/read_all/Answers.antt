@@ -7,10 +7,10 @@ use Rattle.wh_cli.proofs.reading.read_all.Goals as goal
 pub returns-clause-readings : goal.returns-clause-readings
 returns-clause-readings g c =
     let files = c.args.files.items in
-    all_ok c.in_ok-all_made.field-0 (λ parts made. readings_are files parts.0.items (made_of_each IsReading files parts.0.items parts.1.items made)) c.in_ok-all_made.ensures
+    all_ok c.in_ok-all_made.field-0 (λ parts made. readings_are files parts.0.items (made_of_each g.W.Workflow.program IsReading files parts.0.items parts.1.items made)) c.in_ok-all_made.ensures
 
 -- and what is told is told of each
 pub returns-clause-told : goal.returns-clause-told
 returns-clause-told g c =
     let files = c.args.files.items in
-    all_ok c.in_ok-all_made.field-0 (λ parts made. told_of_each IsReading files parts.0.items parts.1.items made) c.in_ok-all_made.ensures
+    all_ok c.in_ok-all_made.field-0 (λ parts made. told_of_each g.W.Workflow.program IsReading files parts.0.items parts.1.items made) c.in_ok-all_made.ensures

@@ -8,4 +8,5 @@ pub returns : goal.returns
 returns g c =
     let inputs = c.args.inputs.items in
     let gives = g.R.ReadsInputs.gives in
-    all_ok c.in-Ok.parts (λ parts made. are_read gives inputs parts.0.items parts.1.items (of_files (IsReadAs gives) IsReading inputs parts.0.items parts.1.items made)) c.in-Ok.ensures
+    let program = g.W.Workflow.program in
+    all_ok c.in-Ok.parts (λ parts made. are_read gives program inputs parts.0.items parts.1.items (of_files program (IsReadAs gives) IsReading inputs parts.0.items parts.1.items made)) c.in-Ok.ensures

@@ -1,7 +1,7 @@
 use Rattle.std.proofs.Common.{◌≡◌, map}
 use Rattle.std.specs.List.{flat_map}
 use Rattle.wh_cli.specs.Faults.{told_of}
-use Rattle.wh_cli.proofs.json_faults.parted.Given as goal
+use Rattle.wh_cli.proofs.file_faults.parted.Given as goal
 
 -- what was made of the files so far, and what is told of them
 abbrev pub invariant-loop-both : goal.invariant-loop-both

@@ -1,5 +1,5 @@
 use Rattle.wh_cli.proofs.Collected.{firsts_push, told_push}
-use Rattle.wh_cli.proofs.json_faults.parted.Goals as goal
+use Rattle.wh_cli.proofs.file_faults.parted.Goals as goal
 
 -- what was made of one file more, and what is told of it, stands behind that of those before it
 pub loop-both-preserved : goal.loop-both-preserved
