@@ -95,9 +95,9 @@ pub struct HostEnd<S, A, O> {
 /// Each worker leaves its post as its turns led to it, with its handler and its observer, which was
 /// told of each turn; its source comes from the one of the post, delivers and tells the same, and
 /// was sent at most as many answers as the worker took tasks. The totals are the sums of what the
-/// workers counted, and the sizes are those that it was opened with. `BadConfig` where a size is not within its range, or the seats are not as many
-/// as the posts; `OutOfMemory` where no room was found. Then the posts are given up. (Temporal
-/// documentation, "Workers": a Worker Process.)
+/// workers counted, and the sizes are those that it was opened with. `BadConfig` where a size is
+/// not within its range, or the seats are not as many as the posts; `OutOfMemory` where no room was
+/// found. Then the posts are given up. (Temporal documentation, "Workers": a Worker Process.)
 pub fn run_host<
     W: Workflow + Send,
     R: Threads + Wait + Sync,
