@@ -2,11 +2,11 @@
 """What `Run::advance` costs on a long run whose tasks start 64 timers each, by the program of bench_trials. It is no part of the
 gate. It prints
 
-- with valgrind, the growths of memory of one call behind 1, 10, 100 and 650 tasks: those of the program that makes the call,
+- with valgrind, the growths of memory of one call after 1, 10, 100 and 650 tasks: those of the program that makes the call,
   less those of the program that makes all but the call; and the instructions of the next call: those of the program that makes
   two, less those of the program that makes one (the program that makes none takes some millions of instructions more on a long
   run than the one that makes one; why was not looked into);
-- with `rt try`, what becomes of the call behind 100 tasks where growth 4,001 of it and of the making of the events that it is
+- with `rt try`, what becomes of the call after 100 tasks where growth 4,001 of it and of the making of the events that it is
   given is refused, and where one in the middle of these is
   (a replay of 100 such tasks makes 6,400 texts for its timers alone, so a call that replayed could not pass by that growth);
 - by the program's clock, the first 100 tasks of a run of 49,983 events, one call each, and the last 100: the least of some runs.
@@ -53,19 +53,19 @@ def microseconds(tasks, calls):
 
 
 def counted():
-    """Whether a call costs the same behind few tasks and behind many."""
+    """Whether a call costs the same after few tasks and after many."""
     most, costs = 0, []
     for tasks in (1, 10, 100, 650):
         before = growths(tasks, 0)
         more = growths(tasks, 1) - before
         costs.append(instructions(tasks, 2) - instructions(tasks, 1))
         most = max(most, more)
-        print(f"one call behind {tasks} tasks: {more} growths, and {before} for all before it; {costs[-1]:,} instructions")
+        print(f"one call after {tasks} tasks: {more} growths, and {before} for all before it; {costs[-1]:,} instructions")
     return most <= MOST_GROWTHS and 0 < min(costs) and max(costs) < 2 * min(costs)
 
 
 def refused(growth):
-    """What the program says of one call behind 100 tasks where a growth of the whole program is refused, with its status."""
+    """What the program says of one call after 100 tasks where a growth of the whole program is refused, with its status."""
     ran = run("rt", "try", "--fail-alloc", growth, "--", 100, 1, cwd=CRATE)
     status = re.search(r"^run=ended status=(\d+) ", ran.stdout + ran.stderr, re.M)
     said = re.search(r"^(100 tasks, and 1 more: .*|bench_trials: could not be tried)$", ran.stdout + ran.stderr, re.M)
@@ -86,7 +86,7 @@ def passes_by():
 def steady():
     """Whether the last tasks of a long run take as long as the first."""
     first, last = microseconds(1, 100), microseconds(635, 100)
-    print(f"100 tasks behind 1: {first:,} microseconds; behind 635: {last:,}; ratio {last / first:.2f}")
+    print(f"100 tasks after 1: {first:,} microseconds; after 635: {last:,}; ratio {last / first:.2f}")
     return last < 2 * first
 
 

@@ -51,7 +51,7 @@ def signals(count, data=""):
 
 
 def tasks(count):
-    """A history of tasks that command nothing, behind the one that starts the nap."""
+    """A history of tasks that command nothing, after the one that starts the nap."""
     return nap()[:5] + [event(n, TASK[n % 3]) for n in range(6, count + 1)]
 
 

@@ -231,13 +231,13 @@ PLACES = {
 
 
 def up_to(history, number, *others):
-    """A history up to the event of this number, and other events behind it."""
+    """A history up to the event of this number, and other events after it."""
     events = json.loads(history)["events"][:number]
     return json.dumps({"events": events + list(others)}).encode()
 
 
 def padded(size):
-    """The history of a nap with blanks behind it, so many bytes in all."""
+    """The history of a nap with blanks after it, so many bytes in all."""
     return NAP + b" " * (size - len(NAP))
 
 

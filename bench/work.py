@@ -1,15 +1,15 @@
 #!/usr/bin/env python3
 """Plays the talks of the folder work/ with `wfhost work`, and compares each request of it, byte for byte, with the one
-that stands there, written by hand. It ends with status 1 where something differs. Words behind its name are names of
+that stands there, written by hand. It ends with status 1 where something differs. Words after its name are names of
 talks, all where there is none; --program WORDS tries another program.
 
 A talk is a file of lines:
 
     # WORDS          a comment
-    run WORDS        the options of the command, behind those that all talks have
+    run WORDS        the options of the command, after those that all talks have
     let NAME TEXT    $NAME stands for the text in what is sent
     -> LINE          the next request, which has to be this line
-    => LINE          so too, but those that stand one behind another come in any order; @NAME in one is a number, and from
+    => LINE          so too, but those that stand one after another come in any order; @NAME in one is a number, and from
                      then on that number, but @any is any number each time
     =N> LINE         so too, N times the same line
     <- LINE          a line that is sent to the program

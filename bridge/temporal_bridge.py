@@ -3,7 +3,7 @@
 
     temporal_bridge.py --address localhost:7233 -- ./wfhost work --task-queue orders --identity {identity}
 
-It starts the command behind `--`, reads its requests (JSON-RPC 2.0, an object a line, on the command's standard output),
+It starts the command after `--`, reads its requests (JSON-RPC 2.0, an object a line, on the command's standard output),
 makes each call of `temporal.api.workflowservice.v1.WorkflowService`, and writes the response to the command's standard
 input. It decides nothing about a workflow. `{identity}` among the words of the command is replaced by a name that no other
 process has. On SIGTERM and SIGINT it tells the command to shut down and waits for its end; a second one ends both. Its

@@ -29,7 +29,7 @@ class Check:
         if fault:
             return fault
         if self.closed:
-            return f"{kind} stands behind a closing command"
+            return f"{kind} stands after a closing command"
         self.closed = kind in CLOSINGS
         look = getattr(self, kind.lower(), None)
         return look(attributes) if look else ""

@@ -217,7 +217,7 @@ def event_line():
 
 
 def add_enum(file, line):
-    """Adds the enum of a line. A number in it is that of the value behind it."""
+    """Adds the enum of a line. A number in it is that of the value after it."""
     name, prefix, *words = line.split()
     enum, number = file.enum_type.add(name=name), 0
     for word in words:

@@ -1,4 +1,4 @@
-"""The stand-in behind gRPC: the same server, over HTTP/2, for workers that come through the bridge.
+"""The stand-in after gRPC: the same server, over HTTP/2, for workers that come through the bridge.
 
 It needs Python's grpcio and protobuf (Debian's packages python3-grpcio and python3-protobuf).
 """
@@ -53,7 +53,7 @@ class Waiting:
 
 
 class Front(grpc.GenericRpcHandler):
-    """All bridges, and the server behind its port."""
+    """All bridges, and the server after its port."""
 
     def __init__(self, server, troubles):
         self.server, self.troubles = server, troubles

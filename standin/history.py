@@ -1,14 +1,14 @@
 """Runs: their histories, what is open in them, and their workflow tasks.
 
 A run writes its events as a Temporal server does. What comes in from outside while a workflow task is in hand is held
-back, and stands behind the events of the task's commands, with its own earlier time. A task that follows a failed one
+back, and stands after the events of the task's commands, with its own earlier time. A task that follows a failed one
 directly is written only once it is completed: until then its two events are shown to the worker alone.
 """
 
 from datetime import datetime, timedelta, timezone
 
 FIRST = datetime(2024, 5, 1, 10, 0, 0, tzinfo=timezone.utc)
-# Ends of activities and children are written behind all else that was held back.
+# Ends of activities and children are written after all else that was held back.
 LAST_OF_ALL = ("ActivityTaskCompleted", "ActivityTaskFailed", "ActivityTaskTimedOut", "ActivityTaskCanceled")
 LAST_OF_ALL += tuple(f"ChildWorkflowExecution{end}" for end in ("Completed", "Failed", "Canceled", "TimedOut", "Terminated"))
 

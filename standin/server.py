@@ -91,7 +91,7 @@ class Server(Tasks, Activities, Others):
             self.dispatch(*self.offered.popleft())
 
     def response(self, peer, method, params):
-        """The response to an answer or to the call for a page, which may fail for good, before or behind what it does."""
+        """The response to an answer or to the call for a page, which may fail for good, before or after what it does."""
         take = getattr(self, "take_" + method)
         if not self.troubles.happens("calls"):
             return take(peer, params), None

@@ -32,7 +32,7 @@ class Tasks:
             run.give_up_sticky(is_told)
 
     def dispatch(self, is_activity, name):
-        """Gives tasks of a queue to polls of it, as long as there are both; behind the response to an answer."""
+        """Gives tasks of a queue to polls of it, as long as there are both; after the response to an answer."""
         if self.is_answering:
             return self.offered.append((is_activity, name))
         tasks = self.tasks.get((is_activity, name))

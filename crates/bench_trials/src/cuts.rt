@@ -46,7 +46,7 @@ pub(crate) fn until_completed(events: &[Event]) -> &[Event] {
     events
 }
 
-/// What stands behind the next completed task.
+/// What stands after the next completed task.
 pub(crate) fn after_completed(events: &[Event]) -> &[Event] {
     for (place, event) in events.iter().enumerate() {
         if completes(event) {

@@ -5,7 +5,7 @@ use rand_pcg::Pcg32;
 use std::alloc::Global;
 use wh_events::{Event, OutOfMemory};
 
-/// The most events behind the start of a history of letters.
+/// The most events after the start of a history of letters.
 const MOST_EVENTS: usize = 14;
 
 /// A number below the bound; 0 where that is 0.
@@ -13,7 +13,7 @@ fn below(random: &mut Pcg32, bound: usize) -> usize {
     random.next_word() as usize % bound.max(1)
 }
 
-/// Appends the start of a history of letters, and some events behind it.
+/// Appends the start of a history of letters, and some events after it.
 fn push_letters(
     alloc: Global,
     random: &mut Pcg32,
@@ -47,7 +47,7 @@ fn append_copy(events: &mut Vec<Event>, event: &Event) -> Result<(), OutOfMemory
     append(events, 0, event.body.try_copy()?)
 }
 
-/// Appends the events of a history, with one left out, with that of another place behind it, or
+/// Appends the events of a history, with one left out, with that of another place after it, or
 /// with that in its place.
 fn push_changed(
     random: &mut Pcg32,

@@ -15,7 +15,7 @@ pub(crate) struct LongRun {
 }
 
 impl LongRun {
-    /// How many events stand before the task that is taken behind so many completed ones: those of
+    /// How many events stand before the task that is taken after so many completed ones: those of
     /// each, which are its completion, its timers, a signal and the start of the next, and the
     /// first three of the run.
     fn events_before(self, tasks: u64) -> u64 {
@@ -25,20 +25,20 @@ impl LongRun {
     }
 
     /// Appends what completes a task, counted from 0, and the next one up to its start, to events
-    /// that go on behind so many others.
+    /// that go on after so many others.
     fn append_task(
         self,
         alloc: Global,
         events: &mut Vec<Event>,
-        behind: u64,
+        after: u64,
         task: u64,
     ) -> Result<(), OutOfMemory> {
-        append(events, behind, EventKind::WorkflowTaskCompleted)?;
+        append(events, after, EventKind::WorkflowTaskCompleted)?;
         let first = task.saturating_mul(self.timers);
         for timer in first..first.saturating_add(self.timers) {
-            append_timer(alloc, events, behind, timer)?;
+            append_timer(alloc, events, after, timer)?;
         }
-        append_start(events, behind, signal(alloc, "more")?)
+        append_start(events, after, signal(alloc, "more")?)
     }
 
     /// So many completed tasks, and one more that is taken.
@@ -71,21 +71,21 @@ impl LongRun {
 }
 
 /// Appends a task up to its start: what it is told, and that it is put in the queue and taken.
-fn append_start(events: &mut Vec<Event>, behind: u64, told: EventKind) -> Result<(), OutOfMemory> {
-    append(events, behind, told)?;
-    append(events, behind, EventKind::WorkflowTaskScheduled)?;
-    append(events, behind, EventKind::WorkflowTaskStarted)
+fn append_start(events: &mut Vec<Event>, after: u64, told: EventKind) -> Result<(), OutOfMemory> {
+    append(events, after, told)?;
+    append(events, after, EventKind::WorkflowTaskScheduled)?;
+    append(events, after, EventKind::WorkflowTaskStarted)
 }
 
 /// Appends the start of a timer, whose id is the number.
 fn append_timer(
     alloc: Global,
     events: &mut Vec<Event>,
-    behind: u64,
+    after: u64,
     timer: u64,
 ) -> Result<(), OutOfMemory> {
     let id = Text::new(format!(in alloc; "{timer}")?);
-    append(events, behind, EventKind::TimerStarted { id })
+    append(events, after, EventKind::TimerStarted { id })
 }
 
 /// The key of the runs.

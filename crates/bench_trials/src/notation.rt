@@ -126,14 +126,14 @@ pub(crate) fn push(
     append(events, 0, kind_of(alloc, letter, number)?)
 }
 
-/// Appends an event of the kind, with the next number, to events that go on behind so many others.
+/// Appends an event of the kind, with the next number, to events that go on after so many others.
 /// `OutOfMemory` too where the numbers end.
 pub(crate) fn append(
     events: &mut Vec<Event>,
-    behind: u64,
+    after: u64,
     body: EventKind,
 ) -> Result<(), OutOfMemory> {
-    let next = behind.saturating_add(events.len() as u64).saturating_add(1);
+    let next = after.saturating_add(events.len() as u64).saturating_add(1);
     let Some(number) = EventNo::new(next) else {
         drop(body);
         return Err(OutOfMemory);

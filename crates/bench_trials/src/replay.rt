@@ -74,10 +74,10 @@ fn record_end(rest: &[Event]) -> usize {
     if !is_recorded(rest) {
         return 0;
     }
-    let behind = after_completed(rest);
+    let after = after_completed(rest);
     rest.len()
-        .saturating_sub(behind.len())
-        .saturating_add(until_completed(behind).len())
+        .saturating_sub(after.len())
+        .saturating_add(until_completed(after).len())
 }
 
 /// The commands that a workflow gives for a job.
@@ -117,7 +117,7 @@ fn match_record(
 }
 
 impl<'a> Task<'a> {
-    /// The task of the cut in a place, behind the last cut. `None` where the tables refuse the
+    /// The task of the cut in a place, after the last cut. `None` where the tables refuse the
     /// events.
     fn new(alloc: Global, events: &'a [Event], last: usize, place: usize) -> Option<Task<'a>> {
         let after = place.saturating_add(1);

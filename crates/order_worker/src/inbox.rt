@@ -9,7 +9,7 @@ use wh_replay::Answer;
 use wh_slots::TaskName;
 
 /// A source that gives the tasks that were put into it, in their order, and keeps what they are
-/// answered. Behind the last task of a kind it is closed. No call fails but for want of memory.
+/// answered. After the last task of a kind it is closed. No call fails but for want of memory.
 ///
 /// A workflow task has the events of its run since the task before, as a server gives them to a
 /// worker that is expected to have cached the run.
@@ -36,13 +36,13 @@ impl Inbox {
         }
     }
 
-    /// Puts a workflow task behind the others.
+    /// Puts a workflow task after the others.
     pub fn add_workflow(&mut self, task: WorkflowTask) -> Result<(), OutOfMemory> {
         self.workflow_tasks.push(task)?;
         Ok(())
     }
 
-    /// Puts an activity task behind the others.
+    /// Puts an activity task after the others.
     pub fn add_activity(&mut self, task: ActivityTask) -> Result<(), OutOfMemory> {
         self.activity_tasks.push(task)?;
         Ok(())

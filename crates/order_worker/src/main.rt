@@ -14,7 +14,7 @@ use std::process::ExitCode;
 use std::{env, thread};
 use wh_cli::{calls_over, no_memory, read_input, run};
 
-/// Whether a word stands behind the program's name.
+/// Whether a word stands after the program's name.
 fn has_words<R: Env + AllocGlobal>(rt: &R) -> bool {
     match env::args(rt) {
         Ok(mut words) => {

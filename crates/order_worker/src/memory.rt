@@ -12,7 +12,7 @@ use std::sync::Wait;
 use std::thread::Threads;
 use wh_events::OutOfMemory;
 use wh_host::{Config, OpenFault};
-use wh_poll::{HostEnd, NoObserver, OpenGate, Post, run_host};
+use wh_poll::{HostEnd, NoObserver, OpenGate, WorkerSetup, run_host};
 
 /// How many workers there are, each with a thread.
 const WORKERS: usize = 2;
@@ -21,13 +21,13 @@ const WORKERS: usize = 2;
 const ORDERS: u64 = 6;
 
 /// What a worker of orders begins with.
-type OrderPost = Post<Inbox, Till, NoObserver>;
+type OrderSetup = WorkerSetup<Inbox, Till, NoObserver>;
 
 /// What a host of orders leaves.
 type OrderEnd = HostEnd<Inbox, Till, NoObserver>;
 
 /// What the worker of a place begins with: every second order is for it.
-fn post_at(alloc: Global, place: usize) -> Result<OrderPost, OutOfMemory> {
+fn post_at(alloc: Global, place: usize) -> Result<OrderSetup, OutOfMemory> {
     let mut source = Inbox::new(alloc);
     for order in 1..=ORDERS {
         if order % WORKERS as u64 == place as u64 {
@@ -35,7 +35,7 @@ fn post_at(alloc: Global, place: usize) -> Result<OrderPost, OutOfMemory> {
         }
     }
     let turns = source.turns();
-    Ok(Post {
+    Ok(WorkerSetup {
         source,
         handler: Till { alloc },
         observer: NoObserver,
@@ -44,12 +44,12 @@ fn post_at(alloc: Global, place: usize) -> Result<OrderPost, OutOfMemory> {
 }
 
 /// What each worker begins with.
-fn posts(alloc: Global) -> Result<Vec<OrderPost>, OutOfMemory> {
-    let mut posts = Vec::new(alloc);
+fn setups(alloc: Global) -> Result<Vec<OrderSetup>, OutOfMemory> {
+    let mut setups = Vec::new(alloc);
     for place in 0..WORKERS {
-        posts.push(post_at(alloc, place)?)?;
+        setups.push(post_at(alloc, place)?)?;
     }
-    Ok(posts)
+    Ok(setups)
 }
 
 /// Serves all orders.
@@ -61,8 +61,8 @@ fn serve<R: Threads + Wait + Sync>(rt: &R, alloc: Global) -> Result<OrderEnd, Op
         cache_events: 0,
         seats: WORKERS,
     };
-    let posts = posts(alloc)?;
-    run_host::<Order, R, Inbox, Till, NoObserver, OpenGate>(rt, alloc, config, posts, &OpenGate)
+    let setups = setups(alloc)?;
+    run_host::<Order, R, Inbox, Till, NoObserver, OpenGate>(rt, alloc, config, setups, &OpenGate)
 }
 
 /// Prints what each worker and what the host has done.

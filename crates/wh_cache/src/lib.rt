@@ -74,7 +74,7 @@ impl<W: Workflow> Model for Sticky<W> {
 
 impl<W: Workflow> Sticky<W> {
     /// An empty cache of at most `capacity` runs, none where it is 0. Where `events` is not 0, the
-    /// cached runs hold at most so many events together. `OutOfMemory` where no room was found.
+    /// cached runs hold at most so many events together. `OutOfMemory` where there was no memory.
     pub fn open(alloc: Global, capacity: usize, events: u64) -> Result<Self, OutOfMemory>
         requires capacity { capacity ≤ MOST_RUNS }
         requires events { events ≤ MOST_CACHED_EVENTS }
@@ -210,7 +210,7 @@ impl<W: Workflow> Sticky<W> {
         ensures replayed { IsReplayed W.program (history_of run.now) }
     {
         // Made for the proof: its contract says that the run is replayed.
-        run.attest();
+        run.invariant();
         let left = room_beside(self.bound, run.held_len() as u64);
         let count = self.others(run.key());
         let held = self.held - replaced_len(&self.runs, run.key());

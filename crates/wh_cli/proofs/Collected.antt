@@ -90,13 +90,13 @@ pub all_ok : {X E : Type 0} {P Q : X → Type 0} (r : Result X E) → ((x : X) �
 all_ok (Ok x) f p = f x p
 all_ok (Err e) f p = tt
 
--- what comes first in one pair more stands behind what comes first in those before it
+-- what comes first in one pair more stands after what comes first in those before it
 pub firsts_push : {A B : Type 0} (pairs : List (A × B)) (both : A × B) (old new : List A) → new ≡ old ++ (both.0 ∷ []) → old ≡ map (λ one. one.0) pairs → new ≡ map (λ one. one.0) (pairs ++ (both ∷ []))
 firsts_push {A} {B} pairs both old new added firsts =
     let first : A × B → A = λ one. one.0 in
     added ∙ ap (λ (l : List A). l ++ (both.0 ∷ [])) firsts ∙ sym (map-append first pairs (both ∷ []))
 
--- what is told of one pair more stands behind what is told of those before it
+-- what is told of one pair more stands after what is told of those before it
 pub told_push : {A : Type 0} (pairs : List (A × Option FileFault)) (both : A × Option FileFault) (old new : List FileFault) → new ≡ old ++ told_of both.1 → old ≡ flat_map told_of (map (λ one. one.1) pairs) → new ≡ flat_map told_of (map (λ one. one.1) (pairs ++ (both ∷ [])))
 told_push {A} pairs both old new added told =
     let second : A × Option FileFault → Option FileFault = λ one. one.1 in

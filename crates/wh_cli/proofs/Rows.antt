@@ -4,24 +4,24 @@ use Rattle.std.specs.Prelude.{◌%◌, get_or}
 use Rattle.std.proofs.lemmas.List.{append-nil, append_assoc, get_or-map, length-map, map-append}
 use Rattle.std.proofs.Math.Nat.{mod-lt}
 use Rattle.wh_recorded.specs.Rounds.{Stage}
-use Rattle.wh_cli.specs.declared.dealing.Dealt.{Dealt}
+use Rattle.wh_cli.specs.declared.assigning.AssignedFile.{AssignedFile}
 use Rattle.wh_recorded.specs.declared.failed_task.FailedTask.{FailedTask}
 use Rattle.wh_cli.specs.declared.service_report.Row.{Row}
 use Rattle.wh_cli.specs.declared.service_report.FileFailure.{FileFailure}
 use Rattle.wh_cli.specs.Services.{no_source, source_at, row_from, rows_from, failures_in, failures_of, failures_from}
 
-rows_length : (sources : List Stage) (before : ℕ) (files : List Dealt) → length (rows_from sources before files) ≡ length files
+rows_length : (sources : List Stage) (before : ℕ) (files : List AssignedFile) → length (rows_from sources before files) ≡ length files
 rows_length sources before [] = refl
 rows_length sources before (f ∷ fs) = ap suc (rows_length sources (before + 1) fs)
 
-more_rows : (sources : List Stage) (before : ℕ) (files : List Dealt) (file : Dealt) → rows_from sources before (files ++ (file ∷ [])) ≡ rows_from sources before files ++ (row_from (source_at sources (before + length files)) file ∷ [])
+more_rows : (sources : List Stage) (before : ℕ) (files : List AssignedFile) (file : AssignedFile) → rows_from sources before (files ++ (file ∷ [])) ≡ rows_from sources before files ++ (row_from (source_at sources (before + length files)) file ∷ [])
 more_rows sources before [] file = let none : before ≡ before + 0 = omega arith in ap (λ n. row_from (source_at sources n) file ∷ []) none
 more_rows sources before (f ∷ fs) file =
     let one : before + 1 + length fs ≡ before + length (f ∷ fs) = omega arith in
     ap (λ l. row_from (source_at sources before) f ∷ l) (more_rows sources (before + 1) fs file ∙ ap (λ n. rows_from sources (before + 1) fs ++ (row_from (source_at sources n) file ∷ [])) one)
 
 -- the source of the worker whose turn it is
-own_source : {W : Type 0} (source : W → Stage) (workers : List W) (files : List Dealt) (rows : List Row) (worker : W)
+own_source : {W : Type 0} (source : W → Stage) (workers : List W) (files : List AssignedFile) (rows : List Row) (worker : W)
     → rows ≡ rows_from (map source workers) 0 files → 0 < length workers → worker ≡ get_or workers (length rows % length workers) worker
     → source_at (map source workers) (0 + length files) ≡ source worker
 own_source source workers files rows worker is some at =
@@ -32,7 +32,7 @@ own_source source workers files rows worker is some at =
     ap (λ n. get_or all n no_source) place ∙ get_or-map source workers (length rows % length workers) worker no_source (mod-lt (length rows) some) ∙ ap source (sym at)
 
 -- the row of one more file, by the source of the worker whose turn it is
-pub rows_push : {W : Type 0} (source : W → Stage) (workers : List W) (files : List Dealt) (file : Dealt) (rows : List Row) (row : Row) (worker : W)
+pub rows_push : {W : Type 0} (source : W → Stage) (workers : List W) (files : List AssignedFile) (file : AssignedFile) (rows : List Row) (row : Row) (worker : W)
     → rows ≡ rows_from (map source workers) 0 files → 0 < length workers → worker ≡ get_or workers (length rows % length workers) worker → row ≡ row_from (source worker) file
     → rows ++ (row ∷ []) ≡ rows_from (map source workers) 0 (files ++ (file ∷ []))
 rows_push source workers files file rows row worker is some at given =
@@ -46,7 +46,7 @@ more_failures first name tasks task =
     let failure : FailedTask → FileFailure = λ t. record { name = name; task = t } in
     append_assoc first (map failure tasks) (failure task ∷ []) ∙ ap (λ l. first ++ l) (sym (map-append failure tasks (task ∷ [])))
 
-more_failed : (sources : List Stage) (before : ℕ) (files : List Dealt) (file : Dealt) → failures_from sources before (files ++ (file ∷ [])) ≡ failures_from sources before files ++ failures_of (source_at sources (before + length files)) file
+more_failed : (sources : List Stage) (before : ℕ) (files : List AssignedFile) (file : AssignedFile) → failures_from sources before (files ++ (file ∷ [])) ≡ failures_from sources before files ++ failures_of (source_at sources (before + length files)) file
 more_failed sources before [] file =
     let none : before ≡ before + 0 = omega arith in
     append-nil (failures_of (source_at sources before) file) ∙ ap (λ n. failures_of (source_at sources n) file) none
@@ -57,7 +57,7 @@ more_failed sources before (f ∷ fs) file =
     ∙ sym (append_assoc own (failures_from sources (before + 1) fs) (failures_of (source_at sources (before + length (f ∷ fs))) file))
 
 -- the failed tasks of one more file, by the source of the worker whose turn it is
-pub failures_push : {W : Type 0} (source : W → Stage) (workers : List W) (files : List Dealt) (file : Dealt) (rows : List Row) (failures more : List FileFailure) (worker : W)
+pub failures_push : {W : Type 0} (source : W → Stage) (workers : List W) (files : List AssignedFile) (file : AssignedFile) (rows : List Row) (failures more : List FileFailure) (worker : W)
     → rows ≡ rows_from (map source workers) 0 files → failures ≡ failures_from (map source workers) 0 files → 0 < length workers → worker ≡ get_or workers (length rows % length workers) worker
     → more ≡ failures ++ failures_of (source worker) file
     → more ≡ failures_from (map source workers) 0 (files ++ (file ∷ []))

@@ -14,7 +14,7 @@ use Rattle.wh_cli.specs.declared.serving.ServiceEnd.{ServiceEnd}
 use Rattle.wh_cli.specs.declared.failures.Failure.{Failure}
 use Rattle.wh_files.specs.Inputs.{IsCalled, IsOf, IsReadFrom, IsSingle}
 use Rattle.wh_cli.specs.Commands.{HasExplained, HasExplainedInput, HasExplainedPath, HasReplayed, HasReplayedPaths, HasServedAll, HasServedFolder}
-use Rattle.wh_cli.specs.Complaints.{Told, service_told}
+use Rattle.wh_cli.specs.Complaints.{Reported, service_told}
 use Rattle.wh_cli.specs.Listings.{AreListed, IsListed, is_by_path}
 use Rattle.wh_cli.specs.Readings.{Gives}
 use Rattle.wh_cli.specs.Served.{HasServedInputs}
@@ -29,7 +29,7 @@ written_kept (Some x) None c text p q = absurd p
 written_kept (Some x) (Some y) None text p q = absurd q
 written_kept (Some x) (Some y) (Some z) text p q = q ∙ p
 
--- what is told behind a line, and where nothing is
+-- what is told after a line, and where nothing is
 pub nothing_more : (a b : Option (List ℕ)) (xs ys : List ℕ) → Appends a b xs → ys ≡ [] → Appends a b (xs ++ ys)
 nothing_more a b xs ys p none = subst (λ l. Appends a b l) (sym (ap (λ l. xs ++ l) none ∙ append-nil xs)) p
 
@@ -123,7 +123,7 @@ served_kept gives program hosts config inputs old mid new end h kept = record {
 pub served_all : {S E : Type 0} (gives : Gives) (program : Program S) (hosts : HostsBy) (config : Config) (inputs : List Input) (lacks : Bool) (old mid new : Option (List ℕ)) (contents : E → Option (List ℕ)) (before after : Complaints E) (answer : Result ServiceEnd CommandFault) (result : Result ℕ Failure)
     → IfOk answer (HasServedInputs gives program hosts config inputs old mid)
     → Keeps mid new
-    → IfOk result (λ status. (end : ServiceEnd) × (answer ≡ Ok end) × (status ≡ status_with lacks end.status) × Told contents before after (service_told end))
+    → IfOk result (λ status. (end : ServiceEnd) × (answer ≡ Ok end) × (status ≡ status_with lacks end.status) × Reported contents before after (service_told end))
     → IfOk result (HasServedAll gives program hosts config inputs lacks old new contents before after)
 served_all gives program hosts config inputs lacks old mid new contents before after answer (Ok status) report kept h = record {
   end = h.0;
@@ -150,7 +150,7 @@ served_folder program dir config required left_out lacks inputs old new contents
         served = record {
           files = h.served.files;
           from = h.served.from;
-          served = served_by (by_closure (IsHosted program)) (IsHosted program) config _ old new h.end (λ posts left hosted. hosted.2) h.served.served;
+          served = served_by (by_closure (IsHosted program)) (IsHosted program) config _ old new h.end (λ setups left hosted. hosted.2) h.served.served;
           faults = h.served.faults;
         };
         told = h.told;

@@ -23,7 +23,7 @@ use Rattle.wh_cli.specs.declared.failures.Failure.TheVariants.{Output}
 use Rattle.wh_cli.specs.declared.file_faults.FileFault.{FileFault}
 use Rattle.wh_cli.specs.declared.serving.ServiceEnd.{ServiceEnd}
 use Rattle.wh_cli.specs.declared.working.LivePlan.{LivePlan}
-use Rattle.wh_cli.specs.Complaints.{Told, failed_text, fault_lines, service_told}
+use Rattle.wh_cli.specs.Complaints.{Reported, failed_text, fault_lines, service_told}
 use Rattle.wh_cli.specs.Faults.{AreMadeOf, IsFaultOf, IsNoJson, told_of}
 use Rattle.wh_cli.specs.Listings.{AreListed, IsListed, is_by_path}
 use Rattle.wh_cli.specs.Live.{IsLivePlan, LivesBy, live_status, live_text}
@@ -44,7 +44,7 @@ pub record HasReported {E : Type 0} (lines : List Line) (faults : List FileFault
     (old new : Option (List ℕ)) (contents : E → Option (List ℕ)) (before after : Complaints E)
     (status : ℕ) : Type 0 where
   pub written : Appends old new (report_as json lines)
-  pub told : Told contents before after (fault_lines faults)
+  pub told : Reported contents before after (fault_lines faults)
   pub ends : status ≡ status_with lacks (status_of lines)
 
 -- inputs were read as files and replayed, and the report of their lines was written
@@ -72,7 +72,7 @@ pub record HasToldOf {E : Type 0} (name bytes : List ℕ) (contents : E → Opti
     (before after : Complaints E) : Type 0 where
   pub fault : Option FileFault
   pub own : IfSome fault (IsFaultOf IsNoJson name bytes)
-  pub told : Told contents before after (fault_lines (told_of fault))
+  pub told : Reported contents before after (fault_lines (told_of fault))
 
 -- a file was explained, and at most one line was told of it, that it is no JSON
 pub record HasExplained {S E : Type 0} (program : Program S) (name bytes : List ℕ) (json : Bool)
@@ -95,7 +95,7 @@ pub record HasServedAll {S E : Type 0} (gives : Gives) (program : Program S) (ho
     (status : ℕ) : Type 0 where
   pub end : ServiceEnd
   pub served : HasServedInputs gives program hosts config inputs old new end
-  pub told : Told contents before after (service_told end)
+  pub told : Reported contents before after (service_told end)
   pub ends : status ≡ status_with lacks end.status
 
 -- what paths name was replayed
@@ -137,7 +137,7 @@ pub record HasWorked {E : Type 0} (lives : LivesBy) (options : WorkOptions) (con
   pub planned : IsLivePlan options plan
   pub end : LiveEnd
   pub served : lives plan end
-  pub told : Told contents before after (λ name. live_text end)
+  pub told : Reported contents before after (λ name. live_text end)
   pub ends : status ≡ live_status end
 
 -- what a plan asks for was done
@@ -184,7 +184,7 @@ pub record HasFailed {E : Type 0} (closed : Bool) (contents : E → Option (List
     (status : ℕ) : Type 0 where
   pub failure : Failure
   pub between : Complaints E
-  pub told : Told contents between after (end_text failure closed)
+  pub told : Reported contents between after (end_text failure closed)
   pub ends : status ≡ 2
 
 -- what the words ask for was done, or there is no full report

@@ -99,9 +99,9 @@ complaint_text (Served end) name = service_told end name
 complaint_text (Worked end) name = live_text end
 complaint_text (Failed failure) name = failed_text failure name
 
--- the standard error was told what a text is under its name, behind what it was told before: where it took all, it
+-- the standard error was told what a text is under its name, after what it was told before: where it took all, it
 -- holds just that more
-pub record Told {E : Type 0} (contents : E → Option (List ℕ)) (old new : Complaints E)
+pub record Reported {E : Type 0} (contents : E → Option (List ℕ)) (old new : Complaints E)
     (text : List ℕ → List ℕ) : Type 0 where
   pub named : new.name ≡ old.name
   pub told : new.whole ≡ true

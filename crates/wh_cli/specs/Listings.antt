@@ -5,7 +5,7 @@ use Rattle.wh_files.specs.Inputs.{IsCalled, IsOf}
 use Rattle.wh_files.specs.Names.{IsBadName}
 use Rattle.wh_files.specs.declared.Input.{Input}
 use Rattle.wh_cli.specs.declared.complaints.Complaints.{Complaints}
-use Rattle.wh_cli.specs.Complaints.{Told, bad_name_lines, told_line}
+use Rattle.wh_cli.specs.Complaints.{Reported, bad_name_lines, told_line}
 
 -- files are called by their paths where there is more than one path
 abbrev pub is_by_path : List (List ℕ) → Bool
@@ -27,7 +27,7 @@ pub record IsListed {E : Type 0} (contents : E → Option (List ℕ)) (by_path :
   pub names : List (String Global)
   pub bad : All IsBadName names
   pub left : left_out ≡ not (length names == 0)
-  pub told : Told contents old new (listing_told path inputs names)
+  pub told : Reported contents old new (listing_told path inputs names)
 
 -- the inputs are those of paths, in their order, files are left out where those of a path are, and what was told of the
 -- paths was told in their order

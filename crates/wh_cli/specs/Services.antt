@@ -13,7 +13,7 @@ use Rattle.wh_tasks.specs.declared.handler.NoActivities.{NoActivities}
 use Rattle.wh_tasks.specs.declared.source.ActivityAnswer.TheVariants.{Failed}
 use Rattle.wh_poll.specs.declared.hosting.HostEnd.{HostEnd}
 use Rattle.wh_poll.specs.declared.observer.NoObserver.{NoObserver}
-use Rattle.wh_poll.specs.declared.post.Post.{Post}
+use Rattle.wh_poll.specs.declared.setup.WorkerSetup.{WorkerSetup}
 use Rattle.wh_poll.specs.Turns.{IsLedBy}
 use Rattle.wh_events.specs.declared.event.Event.{Event}
 use Rattle.wh_replay.specs.declared.fault.Fault.{Fault}
@@ -27,7 +27,7 @@ use Rattle.wh_workflow.specs.declared.fault.WorkflowFault.TheVariants.{UnknownWo
 use Rattle.wh_tester.specs.Faults.{replay_fault_text, workflow_fault_name}
 use Rattle.wh_tester.specs.Report.{shown, line_text}
 use Rattle.wh_tester.specs.declared.line.Verdict.TheVariants.{Unreadable}
-use Rattle.wh_cli.specs.declared.dealing.Dealt.{Dealt}
+use Rattle.wh_cli.specs.declared.assigning.AssignedFile.{AssignedFile}
 use Rattle.wh_cli.specs.declared.file_faults.Cause.{Cause}
 use Rattle.wh_cli.specs.declared.file_faults.Cause.TheVariants.{NotJson, NoCode}
 use Rattle.wh_cli.specs.declared.file_faults.FileFault.{FileFault}
@@ -54,8 +54,8 @@ abbrev pub reading_of : File → Reading
 reading_of file = (string_bytes file.0, history file.1.items)
 
 -- a file by its name, and why it cannot be read
-abbrev pub dealt_as : Reading → Dealt
-dealt_as reading = record { name = reading.0; fault = fault_of reading.1 }
+abbrev pub assigned_as : Reading → AssignedFile
+assigned_as reading = record { name = reading.0; fault = fault_of reading.1 }
 
 -- the history of a file, under the index and the name of the file, where it can be read
 abbrev pub read_as : ℕ → List ℕ → Result (List Event) ReadFault → List Scripted
@@ -65,19 +65,19 @@ read_as index name (Err fault) = []
 abbrev pub history_of : ℕ → Reading → List Scripted
 history_of index reading = read_as index reading.0 reading.1
 
--- what one of so many workers is dealt of files, where so many stand before them: the workers take turns
+-- what one of so many workers is assigned of files, where so many stand before them: the workers take turns
 abbrev pub hand_from : (count worker before : ℕ) → List Reading → List Scripted
 hand_from count worker before [] = []
 hand_from count worker before (reading ∷ rest) =
     (if eqb (before % count) worker then history_of before reading else []) ++ hand_from count worker (before + 1) rest
 
--- what a worker is dealt of all files
-abbrev pub hand_in : (count worker : ℕ) → List Reading → List Scripted
-hand_in count worker readings = hand_from count worker 0 readings
+-- what a worker is assigned of all files
+abbrev pub assigned_to : (count worker : ℕ) → List Reading → List Scripted
+assigned_to count worker readings = hand_from count worker 0 readings
 
--- a hand as contracts see it
-abbrev pub hand_seen : Vec (ℕ × String Global × Vec Event Global) Global → List Scripted
-hand_seen hand = map scripted hand.items
+-- a list as contracts see it
+abbrev pub histories_seen : Vec (ℕ × String Global × Vec Event Global) Global → List Scripted
+histories_seen list = map scripted list.items
 
 -- how many tasks of a file its source gave, and how they ended: none, where it has none of its name
 abbrev pub tally_from : Option (ℕ × ℕ × ℕ) → Tally
@@ -89,7 +89,7 @@ outcome_from source name None = Ok (tally_from (tally_of source name))
 outcome_from source name (Some fault) = Err fault
 
 -- the row of a file: why it cannot be read, or its tally in the source of its worker
-abbrev pub row_from : Stage → Dealt → Row
+abbrev pub row_from : Stage → AssignedFile → Row
 row_from source file = record { name = file.name; outcome = outcome_from source file.name file.fault }
 
 -- a source without histories
@@ -101,7 +101,7 @@ abbrev pub source_at : List Stage → ℕ → Stage
 source_at sources before = get_or sources (before % length sources) no_source
 
 -- the rows of files in their order, where so many stand before them
-abbrev pub rows_from : List Stage → ℕ → List Dealt → List Row
+abbrev pub rows_from : List Stage → ℕ → List AssignedFile → List Row
 rows_from sources before [] = []
 rows_from sources before (file ∷ rest) = row_from (source_at sources before) file ∷ rows_from sources (before + 1) rest
 
@@ -114,87 +114,87 @@ abbrev pub failures_by : Stage → List ℕ → Option ReadFault → List FileFa
 failures_by source name None = failures_in name (failed_in source name)
 failures_by source name (Some fault) = []
 
-abbrev pub failures_of : Stage → Dealt → List FileFailure
+abbrev pub failures_of : Stage → AssignedFile → List FileFailure
 failures_of source file = failures_by source file.name file.fault
 
 -- the failed tasks of files in their order, where so many stand before them
-abbrev pub failures_from : List Stage → ℕ → List Dealt → List FileFailure
+abbrev pub failures_from : List Stage → ℕ → List AssignedFile → List FileFailure
 failures_from sources before [] = []
 failures_from sources before (file ∷ rest) =
     failures_of (source_at sources before) file ++ failures_from sources (before + 1) rest
 
 -- what a worker of a service begins with, and what is left of its host
-abbrev pub ServicePost : Type 0
-ServicePost = Post Stage NoActivities NoObserver
+abbrev pub ServiceSetup : Type 0
+ServiceSetup = WorkerSetup Stage NoActivities NoObserver
 
 abbrev pub ServiceHost : Type 0
 ServiceHost = HostEnd Stage NoActivities NoObserver
 
--- what a host of some sizes may leave of its posts
+-- what a host of some sizes may leave of its setups
 abbrev pub HostsBy : Type 1
-HostsBy = Config → Vec ServicePost Global → ServiceHost → Type 0
+HostsBy = Config → Vec ServiceSetup Global → ServiceHost → Type 0
 
--- what runs a host: it may be called with posts for all seats of a host of good sizes, and what it leaves has a worker
--- for each post
-pub record IsHost (may : Config → Vec ServicePost Global → Type 0) (leaves : HostsBy) : Type 0 where
-  pub runs : (config : Config) (posts : Vec ServicePost Global) → IsConfig config → config.seats ≡ vec_len posts
-      → may config posts
-  pub many : (config : Config) (posts : Vec ServicePost Global) (end : ServiceHost) → leaves config posts end
-      → vec_len end.workers ≡ vec_len posts
+-- what runs a host: it may be called with setups for all seats of a host of good sizes, and what it leaves has a worker
+-- for each setup
+pub record IsHost (may : Config → Vec ServiceSetup Global → Type 0) (leaves : HostsBy) : Type 0 where
+  pub runs : (config : Config) (setups : Vec ServiceSetup Global) → IsConfig config → config.seats ≡ vec_len setups
+      → may config setups
+  pub many : (config : Config) (setups : Vec ServiceSetup Global) (end : ServiceHost) → leaves config setups end
+      → vec_len end.workers ≡ vec_len setups
 
 -- what is left where a call that runs a host gives it
-abbrev pub leaves : {E : Type 0} → (Config → Vec ServicePost Global → Result ServiceHost E → Type 0) → HostsBy
-leaves gives config posts end = gives config posts (Ok end)
+abbrev pub leaves : {E : Type 0} → (Config → Vec ServiceSetup Global → Result ServiceHost E → Type 0) → HostsBy
+leaves gives config setups end = gives config setups (Ok end)
 
--- a host was opened with these sizes, worked by a worker for each post, and closed: what each worker leaves is what turns
--- with the program led to from its post, its source comes from that of the post by calls, with no more answers than its
+-- a host was opened with these sizes, worked by a worker for each setup, and closed: what each worker leaves is what turns
+-- with the program led to from its setup, its source comes from that of the setup by calls, with no more answers than its
 -- seat took tasks, and it has no fault but want of memory; the totals are the sums of what the seats counted
-pub record IsHosted {P : Type 0} (program : Program P) (config : Config) (posts : Vec ServicePost Global)
+pub record IsHosted {P : Type 0} (program : Program P) (config : Config) (setups : Vec ServiceSetup Global)
     (end : ServiceHost) : Type 0 where
   pub sizes : IsConfig config
   pub opened : end.config ≡ config
-  pub seats : config.seats ≡ vec_len posts
-  pub workers : vec_len end.workers ≡ vec_len posts
+  pub seats : config.seats ≡ vec_len setups
+  pub workers : vec_len end.workers ≡ vec_len setups
   pub led : AllZip (IsLedBy program (λ source. Recounts source.histories) (λ source. Gives source.histories)
       (λ source. source.answers) (λ source. 0) ComesFrom
       (λ handler task answer. answer ≡ Failed (codes "no activities")) (λ old turn new. new ≡ old) no_shares)
-      posts.items end.workers.items
-  pub origins : AllZip (λ post left. KeepsOrigin ComesFrom post.source left.source) posts.items end.workers.items
-  pub answered : AllZip (λ post left. length left.source.answers ≤ length post.source.answers + left.counted.taken)
-      posts.items end.workers.items
-  pub faults : AllZip (λ post left. RoseIfFailed left.fault 0 0) posts.items end.workers.items
+      setups.items end.workers.items
+  pub origins : AllZip (λ setup left. KeepsOrigin ComesFrom setup.source left.source) setups.items end.workers.items
+  pub answered : AllZip (λ setup left. length left.source.answers ≤ length setup.source.answers + left.counted.taken)
+      setups.items end.workers.items
+  pub faults : AllZip (λ setup left. RoseIfFailed left.fault 0 0) setups.items end.workers.items
   pub sums : end.totals ≡ totals_of (sums_of (map (λ left. left.counted) end.workers.items))
   pub balanced : end.totals.taken ≡ end.totals.completed + end.totals.failed + end.totals.in_hand
 
--- a post has at least as many turns as its source has tasks
-abbrev pub IsLongEnough : ServicePost → Type 0
-IsLongEnough post = deliveries_of post.source.histories ≤ post.turns
+-- a setup has at least as many turns as its source has tasks
+abbrev pub IsLongEnough : ServiceSetup → Type 0
+IsLongEnough setup = deliveries_of setup.source.histories ≤ setup.turns
 
--- the posts of so many workers: each has a source over the histories that it was dealt, and no others, and turns for all
+-- the setups of so many workers: each has a source over the histories that it was assigned, and no others, and turns for all
 -- of their tasks
-pub record ArePosts (count : ℕ) (readings : List Reading) (posts : List ServicePost) : Type 0 where
-  pub many : length posts ≡ count
+pub record AreSetups (count : ℕ) (readings : List Reading) (setups : List ServiceSetup) : Type 0 where
+  pub many : length setups ≡ count
   pub sources : (worker : ℕ) → worker < count
-      → get_or (map (λ post. post.source) posts) worker no_source ≡ opening_stage (hand_in count worker readings)
-  pub turns : All IsLongEnough posts
+      → get_or (map (λ setup. setup.source) setups) worker no_source ≡ opening_stage (assigned_to count worker readings)
+  pub turns : All IsLongEnough setups
 
 -- what is gathered of the files and of what is left of the host: a row for each file, the totals, and whether none of
 -- the workers has a fault
-pub record IsGathered (end : ServiceHost) (dealt : List Dealt) (rows : List Row) (totals : Totals)
+pub record IsGathered (end : ServiceHost) (assigned : List AssignedFile) (rows : List Row) (totals : Totals)
     (faultless : Bool) : Type 0 where
-  pub told : rows ≡ rows_from (map (λ worker. worker.source) end.workers.items) 0 dealt
+  pub told : rows ≡ rows_from (map (λ worker. worker.source) end.workers.items) 0 assigned
   pub sums : totals ≡ end.totals
   pub no_fault : faultless ≡ list_all (λ worker. is_none worker.fault) end.workers.items
 
--- a host of these sizes was run on posts over the files, by what was read of these, and the rest is gathered of what is
+-- a host of these sizes was run on setups over the files, by what was read of these, and the rest is gathered of what is
 -- left of it
 pub record IsService (hosts : HostsBy) (config : Config) (readings : List Reading) (rows : List Row) (totals : Totals)
     (faultless : Bool) : Type 0 where
-  pub posts : Vec ServicePost Global
+  pub setups : Vec ServiceSetup Global
   pub end : ServiceHost
-  pub opened : ArePosts config.seats readings posts.items
-  pub hosted : hosts config posts end
-  pub gathered : IsGathered end (map dealt_as readings) rows totals faultless
+  pub opened : AreSetups config.seats readings setups.items
+  pub hosted : hosts config setups end
+  pub gathered : IsGathered end (map assigned_as readings) rows totals faultless
 
 -- a service with what is told of it beside its report: by the sources that the workers leave, the
 -- failed tasks of the files, and whether the last task of a history has a record, which it was not
@@ -203,7 +203,7 @@ pub record IsToldService (hosts : HostsBy) (config : Config) (readings : List Re
     (totals : Totals) (faultless : Bool) (failures : List FileFailure) (uncompared : Bool) : Type 0 where
   pub service : IsService hosts config readings rows totals faultless
   pub failed : failures
-      ≡ failures_from (map (λ worker. worker.source) service.end.workers.items) 0 (map dealt_as readings)
+      ≡ failures_from (map (λ worker. worker.source) service.end.workers.items) 0 (map assigned_as readings)
   pub last : uncompared ≡ list_any (λ worker. has_last_record worker.source) service.end.workers.items
 
 -- `<tasks> tasks, <completed> completed, <failed> failed`
@@ -253,7 +253,7 @@ is_of_another at own _ = not (eqb own at)
 abbrev pub at_task : ℕ → List ℕ → List ℕ
 at_task at words = codes "task at " ++ (decimal at ++ (codes ": " ++ words))
 
--- why a task failed where commands have a fault: its name, and where it is another task's, that task behind it
+-- why a task failed where commands have a fault: its name, and where it is another task's, that task after it
 abbrev pub commands_text : (at own : ℕ) → WorkflowFault → List ℕ
 commands_text at own fault =
     if is_of_another at own fault
@@ -270,7 +270,7 @@ why_text at (Some fault) = at_task at (replay_fault_text fault)
 abbrev pub failure_text : FileFailure → List ℕ
 failure_text failure = shown failure.name ++ (codes ": " ++ why_text failure.task.at failure.task.fault)
 
--- what a file begins with, behind its place
+-- what a file begins with, after its place
 abbrev pub mark_text : Option Mark → List ℕ
 mark_text None = []
 mark_text (Some ByteOrderMark) = codes ": it begins with a byte order mark"

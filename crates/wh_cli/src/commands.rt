@@ -5,7 +5,7 @@ ghost use Rattle.std.specs.Io.KnownBytes.{Keeps};
 ghost use Rattle.wh_cli.specs.Commands.{HasExplained, HasExplainedInput, HasExplainedPath};
 ghost use Rattle.wh_cli.specs.Commands.{HasPrinted, HasReplayed, HasReplayedPaths, HasReported};
 ghost use Rattle.wh_cli.specs.Commands.{HasServedAll, HasServedFolder, HasToldOf, Obeys};
-ghost use Rattle.wh_cli.specs.Complaints.{Told, service_told};
+ghost use Rattle.wh_cli.specs.Complaints.{Reported, service_told};
 ghost use Rattle.wh_cli.specs.Live.{MayServe, lives};
 ghost use Rattle.wh_cli.specs.Served.{sizes_of};
 ghost use Rattle.wh_cli.specs.Services.{IsHost, IsHosted, leaves};
@@ -18,7 +18,7 @@ use crate::complaints::{Complaint, Complaints};
 use crate::explaining::explain_command;
 use crate::failures::Failure;
 use crate::file_faults::{FileFault, json_fault};
-use crate::hosts::{ServiceHost, ServicePost, host_of};
+use crate::hosts::{ServiceHost, ServiceSetup, host_of};
 use crate::inputs::ReadsInputs;
 use crate::listing::{all_inputs, folder_of, input_of};
 use crate::replaying::{CommandFault, lines_of, report};
@@ -180,7 +180,7 @@ fn served<O: Write, E: Write>(
     errors: &mut Complaints<'_, E>,
 ) -> Result<u8, Failure>
     ensures end { IfOk result (λ status. (end : ServiceEnd) × (answer ≡ Ok end)
-        × (status ≡ status_with lacks end.status) × Told E.contents errors.old errors.new (service_told end)) }
+        × (status ≡ status_with lacks end.status) × Reported E.contents errors.old errors.new (service_told end)) }
     ensures kept { Keeps (O.contents output.old) (O.contents output.new) }
 {
     match answer {
@@ -197,7 +197,7 @@ fn served<O: Write, E: Write>(
 fn serve<
     W: Workflow + Send,
     R: ReadsInputs + AllocGlobal + Threads + Sync,
-    F: Fn(Config, Vec<ServicePost>) -> Result<ServiceHost, OutOfMemory>,
+    F: Fn(Config, Vec<ServiceSetup>) -> Result<ServiceHost, OutOfMemory>,
     O: Write,
     E: Write,
 >(
@@ -211,8 +211,8 @@ fn serve<
 ) -> Result<u8, Failure>
 where
     F: Drop,
-    requires { IsHost (F.pre host) (leaves (F.post host)) }
-    ensures { IfOk result (HasServedAll R.gives W.program (leaves (F.post host)) (sizes_of options) inputs.items lacks
+    requires { IsHost (F.pre host) (leaves (F.setup host)) }
+    ensures { IfOk result (HasServedAll R.gives W.program (leaves (F.setup host)) (sizes_of options) inputs.items lacks
         (O.contents output.old) (O.contents output.new) E.contents errors.old errors.new) }
 {
     let answer = serve_inputs::<W, R, F, O>(rt, inputs, options, output, host)?;
@@ -282,11 +282,11 @@ where
         listed.inputs,
         options,
         lacks,
-        |config: Config, posts: Vec<ServicePost>| -> Result<ServiceHost, OutOfMemory>
+        |config: Config, setups: Vec<ServiceSetup>| -> Result<ServiceHost, OutOfMemory>
             requires sizes { IsConfig config }
-            requires seats { config.seats ≡ vec_len posts }
-            ensures { IfOk result (IsHosted W.program config posts) }
-        { host_of::<W, R>(rt, rt.alloc(), config, posts) },
+            requires seats { config.seats ≡ vec_len setups }
+            ensures { IfOk result (IsHosted W.program config setups) }
+        { host_of::<W, R>(rt, rt.alloc(), config, setups) },
         output,
         errors,
     )
@@ -312,7 +312,7 @@ where
     F: Drop,
     requires limits { IsWithinLimits plan }
     requires serves { MayServe (F.pre live) }
-    ensures { IfOk result (Obeys W.program (lives (F.post live)) plan
+    ensures { IfOk result (Obeys W.program (lives (F.setup live)) plan
         (O.contents output.old) (O.contents output.new) E.contents errors.old errors.new) }
 {
     match plan {

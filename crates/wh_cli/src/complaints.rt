@@ -2,7 +2,7 @@
 
 ghost use Rattle.std.specs.Prelude.{◌≡◌, ◌++◌, OnOk, codes, true};
 ghost use Rattle.std.specs.Io.KnownBytes.{Appends};
-ghost use Rattle.wh_cli.specs.Complaints.{Told, bad_name_line, bad_name_lines, complaint_text, entry_line, failed_text};
+ghost use Rattle.wh_cli.specs.Complaints.{Reported, bad_name_line, bad_name_lines, complaint_text, entry_line, failed_text};
 ghost use Rattle.wh_cli.specs.Complaints.{failure_line, failure_lines, fault_line, fault_lines};
 ghost use Rattle.wh_cli.specs.Complaints.{path_line, reason_line, service_told, told_line, uncompared_told, worker_told};
 ghost use Rattle.wh_cli.specs.Live.{calls_text, live_text};
@@ -340,7 +340,7 @@ impl<'a, E: Write> Complaints<'a, E> {
 
     /// Tells a complaint. Where the writer fails, nothing more comes of that.
     pub(crate) fn tell(&mut self, complaint: Complaint)
-        ensures { Told E.contents self.old self.new (complaint_text complaint) }
+        ensures { Reported E.contents self.old self.new (complaint_text complaint) }
     {
         match tell_complaint(complaint, self.name, &mut self.writer) {
             Ok(()) => {}

@@ -40,7 +40,7 @@ pub struct FileFault {
     pub cause: Cause,
 }
 
-/// What a file begins with, in words behind its place.
+/// What a file begins with, in words after its place.
 #[derive(Clone, Copy)]
 struct MarkText(Option<Mark>);
 

@@ -5,12 +5,12 @@ ghost use Rattle.std.specs.List.{list_all, list_any};
 ghost use Rattle.wh_recorded.specs.Rounds.{tally_of, has_last_record};
 ghost use Rattle.wh_cli.specs.Services.{tally_from, row_from, rows_from, failures_of, failures_from};
 
-use crate::dealing::Dealt;
+use crate::assigning::AssignedFile;
 use crate::service_report::{FileFailure, Row, Tally};
 use std::alloc::Global;
 use wh_events::OutOfMemory;
 use wh_host::Totals;
-use wh_poll::{HostEnd, Left, NoActivities, NoObserver};
+use wh_poll::{HostEnd, WorkerEnd, NoActivities, NoObserver};
 use wh_recorded::ScriptSource;
 
 /// What the workers did.
@@ -45,10 +45,10 @@ fn tally_in(source: &ScriptSource, name: &str) -> Tally
 }
 
 /// What came of a file, as the source of its worker tells it.
-fn row_of(file: Dealt, source: &ScriptSource) -> Row
+fn row_of(file: AssignedFile, source: &ScriptSource) -> Row
     ensures { result ≡ row_from source.now file }
 {
-    let Dealt { name, fault } = file;
+    let AssignedFile { name, fault } = file;
     let outcome = match fault {
         Some(fault) => Err(fault),
         None => Ok(tally_in(source, name.get())),
@@ -57,12 +57,12 @@ fn row_of(file: Dealt, source: &ScriptSource) -> Row
 }
 
 /// What a worker of a service leaves.
-type Served = Left<ScriptSource, NoActivities, NoObserver>;
+type Served = WorkerEnd<ScriptSource, NoActivities, NoObserver>;
 
 /// Adds the failed tasks of a file, as the source of its worker tells them.
 #[tactic(auto, using(crate::proofs::Rows::more_failures))]
 fn add_failures(
-    file: &Dealt,
+    file: &AssignedFile,
     source: &ScriptSource,
     failures: &mut Vec<FileFailure>,
 ) -> Result<(), OutOfMemory>
@@ -80,10 +80,10 @@ fn add_failures(
     Ok(())
 }
 
-/// The rows of the files, which were dealt to the workers in turn, and their failed tasks.
+/// The rows of the files, which were assigned to the workers in turn, and their failed tasks.
 fn rows_of(
     alloc: Global,
-    files: Vec<Dealt>,
+    files: Vec<AssignedFile>,
     workers: &[Served],
 ) -> Result<(Vec<Row>, Vec<FileFailure>), OutOfMemory>
     requires { 0 < length workers.now }
@@ -124,20 +124,20 @@ fn are_faultless(workers: &[Served]) -> bool
     workers.iter().all(|worker| is_faultless(worker))
 }
 
-/// Gathers what workers did with the files that were dealt to them.
+/// Gathers what workers did with the files that were assigned to them.
 pub(crate) fn gather(
     alloc: Global,
-    dealt: Vec<Dealt>,
+    assigned: Vec<AssignedFile>,
     end: HostEnd<ScriptSource, NoActivities, NoObserver>,
 ) -> Result<Service, OutOfMemory>
     requires { 0 < vec_len end.workers }
     ensures rows { IfOk result (λ service.
-        service.rows.items ≡ rows_from (map (λ worker. worker.source) end.workers.items) 0 dealt.items) }
+        service.rows.items ≡ rows_from (map (λ worker. worker.source) end.workers.items) 0 assigned.items) }
     ensures totals { IfOk result (λ service. service.totals ≡ end.totals) }
     ensures faultless { IfOk result (λ service.
         service.faultless ≡ list_all (λ worker. is_none worker.fault) end.workers.items) }
     ensures failures { IfOk result (λ service.
-        service.failures.items ≡ failures_from (map (λ worker. worker.source) end.workers.items) 0 dealt.items) }
+        service.failures.items ≡ failures_from (map (λ worker. worker.source) end.workers.items) 0 assigned.items) }
     ensures uncompared { IfOk result (λ service.
         service.uncompared ≡ list_any (λ worker. has_last_record worker.source) end.workers.items) }
 {
@@ -146,7 +146,7 @@ pub(crate) fn gather(
         totals,
         ..
     } = end;
-    let (rows, failures) = rows_of(alloc, dealt, workers.as_slice())?;
+    let (rows, failures) = rows_of(alloc, assigned, workers.as_slice())?;
     Ok(Service {
         rows,
         totals,

@@ -6,7 +6,7 @@
 mod calls;
 mod commands;
 mod complaints;
-mod dealing;
+mod assigning;
 mod explaining;
 mod failures;
 mod file_faults;

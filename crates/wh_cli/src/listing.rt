@@ -3,7 +3,7 @@
 ghost use Rattle.std.specs.Prelude.{◌≡◌, ◌==◌, ◌||◌, ◌∷◌, [], All, IfOk, false, length, not, true};
 ghost use Rattle.wh_files.specs.Inputs.{IsCalled, IsOf, IsSingle};
 ghost use Rattle.wh_cli.specs.Listings.{AreListed, IsListed, is_by_path, listing_told};
-ghost use Rattle.wh_cli.specs.Complaints.{Told};
+ghost use Rattle.wh_cli.specs.Complaints.{Reported};
 
 use crate::complaints::{Complaint, Complaints};
 use crate::failures::{Failure, unreadable};
@@ -25,7 +25,7 @@ pub(crate) struct Listed {
 fn told<E: Write>(path: Text, listing: Listing, errors: &mut Complaints<'_, E>) -> Listed
     ensures inputs { result.inputs ≡ listing.inputs }
     ensures left { result.left_out ≡ not (length listing.bad_names.items == 0) }
-    ensures told { Told E.contents errors.old errors.new
+    ensures told { Reported E.contents errors.old errors.new
         (listing_told path listing.inputs.items listing.bad_names.items) }
 {
     let Listing { inputs, bad_names } = listing;

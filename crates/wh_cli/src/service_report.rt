@@ -39,7 +39,7 @@ pub struct Row {
 
 /// A failed task of a file. As a text: the name of the file as the report shows it, the task by the
 /// event that starts it, and its fault as the report of replay has it, or that it was not answered.
-/// Of a fault of commands only the name is said, and behind it which task has it, where that is
+/// Of a fault of commands only the name is said, and after it which task has it, where that is
 /// another.
 #[derive(Drop)]
 pub struct FileFailure {

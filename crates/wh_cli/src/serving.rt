@@ -12,10 +12,10 @@ ghost use Rattle.wh_cli.specs.Services.{IsHost, IsHosted, IsLongEnough, IsServic
 ghost use Rattle.wh_cli.specs.Services.{reading_of, service_text, status_of};
 ghost use Rattle.wh_cli.specs.declared.service_report.Row.{Row};
 
-use crate::dealing::deal_sources;
+use crate::assigning::assign_sources;
 use crate::file_faults::FileFault;
 use crate::gathering::{Service, gather};
-use crate::hosts::{ServiceHost, ServicePost, host_of};
+use crate::hosts::{ServiceHost, ServiceSetup, host_of};
 use crate::inputs::ReadsInputs;
 use crate::reading::{ReadFile, read_all, read_inputs};
 use crate::replaying::CommandFault;
@@ -28,32 +28,32 @@ use wh_command_line::ServeOptions;
 use wh_events::OutOfMemory;
 use wh_files::{Input, InputFault};
 use wh_host::Config;
-use wh_poll::{NoActivities, NoObserver, Post};
+use wh_poll::{NoActivities, NoObserver, WorkerSetup};
 use wh_recorded::ScriptSource;
 use wh_workflow::Workflow;
 
-/// A post for each source: without activities, without an observer, and with as many turns as the
+/// A setup for each source: without activities, without an observer, and with as many turns as the
 /// source has tasks, and one more for each kind of tasks, by which the worker learns that there are
 /// no more.
-fn posts_of(alloc: Global, sources: Vec<ScriptSource>) -> Result<Vec<ServicePost>, OutOfMemory>
-    ensures sources { IfOk result (λ posts. map (λ post. post.source) posts.items ≡ sources.items) }
-    ensures turns { IfOk result (λ posts. All IsLongEnough posts.items) }
+fn setups_of(alloc: Global, sources: Vec<ScriptSource>) -> Result<Vec<ServiceSetup>, OutOfMemory>
+    ensures sources { IfOk result (λ setups. map (λ setup. setup.source) setups.items ≡ sources.items) }
+    ensures turns { IfOk result (λ setups. All IsLongEnough setups.items) }
 {
-    let mut posts = Vec::new(alloc);
+    let mut setups = Vec::new(alloc);
     for source in sources {
         let turns = source.deliveries().saturating_add(2);
-        posts.push(Post {
+        setups.push(WorkerSetup {
             source,
             handler: NoActivities { alloc },
             observer: NoObserver,
             turns,
         })?;
     }
-    Ok(posts)
+    Ok(setups)
 }
 
 /// Serves the files with these options, by a host of the sizes that they ask for.
-fn serve_all<F: Fn(Config, Vec<ServicePost>) -> Result<ServiceHost, OutOfMemory>>(
+fn serve_all<F: Fn(Config, Vec<ServiceSetup>) -> Result<ServiceHost, OutOfMemory>>(
     alloc: Global,
     files: Vec<ReadFile>,
     options: ServeOptions,
@@ -61,14 +61,14 @@ fn serve_all<F: Fn(Config, Vec<ServicePost>) -> Result<ServiceHost, OutOfMemory>
 ) -> Result<Service, OutOfMemory>
 where
     F: Drop,
-    requires { IsHost (F.pre host) (leaves (F.post host)) }
-    ensures { IfOk result (IsServiceOf (leaves (F.post host)) (sizes_of options) (map reading files.items)) }
+    requires { IsHost (F.pre host) (leaves (F.setup host)) }
+    ensures { IfOk result (IsServiceOf (leaves (F.setup host)) (sizes_of options) (map reading files.items)) }
 {
     let config = options.config();
-    let (dealt, sources) = deal_sources(alloc, files, config.seats)?;
-    let posts = posts_of(alloc, sources)?;
-    let end = host(config, posts)?;
-    gather(alloc, dealt, end)
+    let (assigned, sources) = assign_sources(alloc, files, config.seats)?;
+    let setups = setups_of(alloc, sources)?;
+    let end = host(config, setups)?;
+    gather(alloc, assigned, end)
 }
 
 /// The status: 0 where each file was read, no task failed and no worker has a fault, and else 1.
@@ -136,7 +136,7 @@ fn report<O: Write>(
 
 /// Serves the tasks of files that were read, of some of which a fault is told, and writes the report.
 /// Nothing is written where the answer is `OutOfMemory`.
-fn serve_read<F: Fn(Config, Vec<ServicePost>) -> Result<ServiceHost, OutOfMemory>, O: Write>(
+fn serve_read<F: Fn(Config, Vec<ServiceSetup>) -> Result<ServiceHost, OutOfMemory>, O: Write>(
     alloc: Global,
     read: (Vec<ReadFile>, Vec<FileFault>),
     options: ServeOptions,
@@ -145,8 +145,8 @@ fn serve_read<F: Fn(Config, Vec<ServicePost>) -> Result<ServiceHost, OutOfMemory
 ) -> Result<ServiceEnd, CommandFault>
 where
     F: Drop,
-    requires { IsHost (F.pre host) (leaves (F.post host)) }
-    ensures report { IfOk result (HasServed (leaves (F.post host)) (sizes_of options) (map reading read.0.items)
+    requires { IsHost (F.pre host) (leaves (F.setup host)) }
+    ensures report { IfOk result (HasServed (leaves (F.setup host)) (sizes_of options) (map reading read.0.items)
         (O.contents writer.old) (O.contents writer.new)) }
     ensures faults { IfOk result (λ end. end.file_faults.items ≡ read.1.items) }
     ensures unwritten { result ≡ Err CommandFault.OutOfMemory → writer.new ≡ writer.old }
@@ -159,10 +159,10 @@ where
 }
 
 /// Serves the tasks of the files by workers with a thread each, and writes the report: a line for
-/// each file in their order, then the totals. File by file the workers are dealt the histories in
+/// each file in their order, then the totals. File by file the workers are assigned the histories in
 /// turn. The status is 0 where each file can be read, no task failed and no worker has a fault, and
 /// else 1. Of equal names each has the tally and the failed tasks of the first that its worker was
-/// dealt. Nothing is written where the answer is `OutOfMemory`.
+/// assigned. Nothing is written where the answer is `OutOfMemory`.
 pub fn serve_with_failures<W: Workflow + Send, R: Threads + Wait + Sync, O: Write>(
     rt: &R,
     alloc: Global,
@@ -188,11 +188,11 @@ pub fn serve_with_failures<W: Workflow + Send, R: Threads + Wait + Sync, O: Writ
         read,
         options,
         writer,
-        |config: Config, posts: Vec<ServicePost>| -> Result<ServiceHost, OutOfMemory>
+        |config: Config, setups: Vec<ServiceSetup>| -> Result<ServiceHost, OutOfMemory>
             requires sizes { IsConfig config }
-            requires seats { config.seats ≡ vec_len posts }
-            ensures { IfOk result (IsHosted W.program config posts) }
-        { host_of::<W, R>(rt, alloc, config, posts) },
+            requires seats { config.seats ≡ vec_len setups }
+            ensures { IfOk result (IsHosted W.program config setups) }
+        { host_of::<W, R>(rt, alloc, config, setups) },
     )
 }
 
@@ -201,7 +201,7 @@ pub fn serve_with_failures<W: Workflow + Send, R: Threads + Wait + Sync, O: Writ
 pub(crate) fn serve_inputs<
     W: Workflow + Send,
     R: ReadsInputs + AllocGlobal + Threads + Sync,
-    F: Fn(Config, Vec<ServicePost>) -> Result<ServiceHost, OutOfMemory>,
+    F: Fn(Config, Vec<ServiceSetup>) -> Result<ServiceHost, OutOfMemory>,
     O: Write,
 >(
     rt: &R,
@@ -212,9 +212,9 @@ pub(crate) fn serve_inputs<
 ) -> Result<Result<ServiceEnd, CommandFault>, InputFault>
 where
     F: Drop,
-    requires { IsHost (F.pre host) (leaves (F.post host)) }
+    requires { IsHost (F.pre host) (leaves (F.setup host)) }
     ensures report { IfOk result (λ answer. IfOk answer (HasServedInputs R.gives W.program
-        (leaves (F.post host)) (sizes_of options) inputs.items (O.contents writer.old) (O.contents writer.new))) }
+        (leaves (F.setup host)) (sizes_of options) inputs.items (O.contents writer.old) (O.contents writer.new))) }
     ensures unread { OnErr result (writer.new ≡ writer.old) }
     ensures unwritten { result ≡ Ok (Err CommandFault.OutOfMemory) → writer.new ≡ writer.old }
 {

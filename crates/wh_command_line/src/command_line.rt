@@ -22,7 +22,7 @@ use clap::{Arg, ArgAction, ArgMatches, Command, Error};
 use std::alloc::{AllocError, Global};
 use wh_events::Text;
 
-/// What `--version` prints behind the program's name.
+/// What `--version` prints after the program's name.
 const VERSION: &str = "0.1.0";
 
 /// What the help says of the statuses.

@@ -17,7 +17,7 @@ use wh_slots::MOST_SLOTS;
 
 /// An option that takes a number.
 pub(crate) struct NumberOption {
-    /// Its name, which stands behind `--`.
+    /// Its name, which stands after `--`.
     pub(crate) name: &'static str,
     /// Its number where it is not given, or nothing where there is none then.
     pub(crate) otherwise: &'static str,

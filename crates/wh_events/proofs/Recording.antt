@@ -23,7 +23,7 @@ commanded-filter : (xs : List Event) → commanded xs ≡ filter is_commanded xs
 commanded-filter [] = refl
 commanded-filter (x ∷ xs) = ap (λ (l : List Event). cond (is_commanded x) (x ∷ l) l) (commanded-filter xs)
 
--- where no task is completed, nothing stands behind one
+-- where no task is completed, nothing stands after one
 after_none : (xs : List Event) → CompletesNone xs → after_completed xs ≡ []
 after_none [] none = refl
 after_none (x ∷ xs) none =

@@ -35,6 +35,6 @@ named kind id = record { kind = kind; id = Some id; name = None; detail = Nothin
 abbrev pub typed : List ℕ → List ℕ → List ℕ → Phrase
 typed kind id name = record { kind = kind; id = Some id; name = Some name; detail = Nothing }
 
--- a kind with an id and what stands behind it
+-- a kind with an id and what stands after it
 abbrev pub detailed : List ℕ → List ℕ → Detail → Phrase
 detailed kind id detail = record { kind = kind; id = Some id; name = None; detail = detail }

@@ -20,7 +20,7 @@ pub struct Payload {
 }
 
 impl Payload {
-    /// A copy with the same content. `OutOfMemory` where no room was found for it.
+    /// A copy with the same content. `OutOfMemory` where there was no memory for it.
     pub fn try_copy(&self) -> Result<Self, OutOfMemory>
         ensures { IfOk result (λ copy. copy ≡ self.now) }
     {
@@ -81,7 +81,7 @@ impl Event {
         self.body.refers_to()
     }
 
-    /// A copy with the same content. `OutOfMemory` where no room was found for it.
+    /// A copy with the same content. `OutOfMemory` where there was no memory for it.
     pub fn try_copy(&self) -> Result<Self, OutOfMemory>
         ensures { IfOk result (λ copy. copy ≡ self.now) }
     {

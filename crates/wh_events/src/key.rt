@@ -19,7 +19,7 @@ pub struct RunKey {
 }
 
 impl RunKey {
-    /// A copy with the same content. `OutOfMemory` where no room was found for it.
+    /// A copy with the same content. `OutOfMemory` where there was no memory for it.
     pub fn try_copy(&self) -> Result<Self, OutOfMemory>
         ensures { IfOk result (λ copy. copy ≡ self.now) }
     {

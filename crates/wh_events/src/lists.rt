@@ -48,7 +48,7 @@ impl Text {
         self.text
     }
 
-    /// A copy of the same text. `OutOfMemory` where no room was found for it.
+    /// A copy of the same text. `OutOfMemory` where there was no memory for it.
     pub fn try_copy(&self) -> Result<Self, OutOfMemory>
         ensures { IfOk result (λ copy. copy ≡ self.now) }
     {
@@ -139,7 +139,7 @@ impl<T: Clone + Drop> Clone for Items<T> {
 
 impl<T: Clone + Drop> Items<T> {
     /// A copy of the same items, for a type whose clones equal what they are made of. `OutOfMemory`
-    /// where no room was found for it.
+    /// where there was no memory for it.
     pub fn try_copy(&self) -> Result<Self, OutOfMemory>
         requires { (item copy : T) → T.is_clone item copy → copy ≡ item }
         ensures { IfOk result (λ copy. copy ≡ self.now) }

@@ -3,7 +3,7 @@
 ghost use Rattle.std.specs.Prelude.{◌≡◌};
 ghost use Rattle.wh_events.specs.Phrases.{phrase_seen, bare, named, typed, detailed};
 
-/// What stands behind the ids and types of a phrase.
+/// What stands after the ids and types of a phrase.
 #[derive(Clone, Copy)]
 pub enum Detail {
     /// Nothing does.
@@ -32,7 +32,7 @@ pub struct Phrase<'a> {
     pub id: Option<&'a str>,
     /// A type, a signal or an end.
     pub name: Option<&'a str>,
-    /// What stands behind them.
+    /// What stands after them.
     pub detail: Detail,
 }
 
@@ -69,7 +69,7 @@ impl<'a> Phrase<'a> {
         }
     }
 
-    /// A kind with an id and what stands behind it.
+    /// A kind with an id and what stands after it.
     pub fn detailed(kind: &'static str, id: &'a str, detail: Detail) -> Self
         ensures { phrase_seen result ≡ detailed kind.now id.now detail }
     {

@@ -21,8 +21,8 @@ use Rattle.wh_workflow.proofs.Following.{whole_meets}
 use Rattle.wh_workflow.proofs.Scripting.{longest_in_words, one_is_longest}
 use Rattle.wh_replay.specs.declared.fault.Fault.{Fault}
 use Rattle.wh_replay.specs.declared.fault.Fault.TheVariants.{NotATask, Place as PlaceFaulty, Workflow as WorkflowFaulty, Mismatch as Mismatched}
-use Rattle.wh_replay.specs.Replays.{Upshot, begin_at, reached, close_task, task_after, unless_mismatch, replay_after, replay_known, replay_placed, replay_tasks, start, workflow_of}
-use Rattle.wh_replay.specs.Views.{standpoint_after}
+use Rattle.wh_replay.specs.Replays.{ReplayResult, begin_at, reached, close_task, task_after, unless_mismatch, replay_after, replay_known, replay_placed, replay_tasks, start, workflow_of}
+use Rattle.wh_replay.specs.Views.{context_after}
 use Rattle.wh_replay.proofs.Stepping.{IsNext, next_is, no_cut, task_at, walk_next}
 use Rattle.wh_explain.specs.declared.explanation.ExplainedTask.{ExplainedTask}
 use Rattle.wh_explain.specs.declared.explanation.RecordedEvent.{RecordedEvent}
@@ -72,12 +72,12 @@ unlike one a b = cc
 
 module _ {S : Type 0} where
   -- the replay of a task, and the ending of its explanation
-  TaskEnds : Program S → List Event → ℕ → ℕ → Upshot S → ExplainedTask → Type 0
+  TaskEnds : Program S → List Event → ℕ → ℕ → ReplayResult S → ExplainedTask → Type 0
   TaskEnds program events last number current task =
-      ((left : Upshot S) × (task_at program events last number current ≡ Ok left) × (stops task.ending ≡ false) × (left.state ≡ state_after program current.state task.steps) × (left.settled ≡ settled_after current.settled task.steps) × (left.meter ≤ top))
+      ((left : ReplayResult S) × (task_at program events last number current ≡ Ok left) × (stops task.ending ≡ false) × (left.state ≡ state_after program current.state task.steps) × (left.settled ≡ settled_after current.settled task.steps) × (left.meter ≤ top))
       ⊎ ((fault : Fault) × (task_at program events last number current ≡ Err fault) × (stops task.ending ≡ true) × ((front : List ExplainedTask) → EndAs {S = S} (Err fault) (front ++ task ∷ [])))
 
-  longer : (result : Result (Upshot S) Fault) (task : ExplainedTask) (tasks : List ExplainedTask) → stops task.ending ≡ false → EndAs result tasks → EndAs result (task ∷ tasks)
+  longer : (result : Result (ReplayResult S) Fault) (task : ExplainedTask) (tasks : List ExplainedTask) → stops task.ending ≡ false → EndAs result tasks → EndAs result (task ∷ tasks)
   longer (Ok left) task tasks pass e = ap (λ b. b || list_any (λ (x : ExplainedTask). stops x.ending) tasks) pass ∙ e
   longer (Err (WorkflowFaulty at fault)) task tasks pass e = (task ∷ e.0, e.1, ap (λ l. task ∷ l) e.2, e.3, e.4)
   longer (Err (Mismatched at mismatch)) task tasks pass e = (task ∷ e.0, e.1, e.2, ap (λ l. task ∷ l) e.3, e.4, e.5, e.6)
@@ -85,59 +85,59 @@ module _ {S : Type 0} where
   longer (Err NotATask) task tasks pass e = e
 
 module _ {S : Type 0} (program : Program S) (lawful : IsLawful program) (events : List Event) where
-  activates : (last number : ℕ) (current : Upshot S) (task : ExplainedTask) → current.meter ≤ top → IsTask program events last number current.state current.settled task
-      → activate program (standpoint_after events last number) (jobs_at events last number) (begin_at current) ≡ outcome program (standpoint_after events last number) current.state current.settled current.meter task.steps
+  activates : (last number : ℕ) (current : ReplayResult S) (task : ExplainedTask) → current.meter ≤ top → IsTask program events last number current.state current.settled task
+      → activate program (context_after events last number) (jobs_at events last number) (begin_at current) ≡ outcome program (context_after events last number) current.state current.settled current.meter task.steps
   activates last number current task below t =
-      let standpoint = standpoint_after events last number in
+      let context = context_after events last number in
       let jobs = jobs_at events last number in
-      let meets = whole_meets program lawful standpoint jobs current.state current.settled current.meter (told_plain events last number) below in
-      let same = one_is_longest program standpoint jobs current.state current.settled task.steps meets.0 t.steps (longest_in_words program standpoint jobs current.state current.settled meets.0 meets.1) in
-      meets.3 ∙ ap (outcome program standpoint current.state current.settled current.meter) (sym same)
+      let meets = whole_meets program lawful context jobs current.state current.settled current.meter (told_plain events last number) below in
+      let same = one_is_longest program context jobs current.state current.settled task.steps meets.0 t.steps (longest_in_words program context jobs current.state current.settled meets.0 meets.1) in
+      meets.3 ∙ ap (outcome program context current.state current.settled current.meter) (sym same)
 
   -- a task whose commands can stand, by its record
-  closes : (last number : ℕ) (current : Upshot S) (task : ExplainedTask) (progress : Progress S) (recorded : Option (List Event)) → task.at ≡ number → progress.meter ≤ top → progress.state ≡ state_after program current.state task.steps → progress.script.settled ≡ settled_after current.settled task.steps
-      → task_at program events last number current ≡ close_task events (standpoint_after events last number) number recorded progress → task.ending ≡ sent_ending events (reduced (standpoint_after events last number) progress.script.issued) recorded → TaskEnds program events last number current task
+  closes : (last number : ℕ) (current : ReplayResult S) (task : ExplainedTask) (progress : Progress S) (recorded : Option (List Event)) → task.at ≡ number → progress.meter ≤ top → progress.state ≡ state_after program current.state task.steps → progress.script.settled ≡ settled_after current.settled task.steps
+      → task_at program events last number current ≡ close_task events (context_after events last number) number recorded progress → task.ending ≡ sent_ending events (reduced (context_after events last number) progress.script.issued) recorded → TaskEnds program events last number current task
   unfolding TaskEnds
-  closes last number current task progress None named below state settled is ending = inl (reached progress (reduced (standpoint_after events last number) progress.script.issued), is, ap stops ending, state, settled, below)
+  closes last number current task progress None named below state settled is ending = inl (reached progress (reduced (context_after events last number) progress.script.issued), is, ap stops ending, state, settled, below)
   closes last number current task progress (Some recorded) named below state settled is ending =
-      let sent = reduced (standpoint_after events last number) progress.script.issued in
+      let sent = reduced (context_after events last number) progress.script.issued in
       by (mismatch events sent recorded) is (ap stops ending ∙ differ_is events 1 sent recorded) (shown_is events 1 sent recorded)
     where
       by : (difference : Option Mismatch) → task_at program events last number current ≡ unless_mismatch number difference (reached progress []) → stops task.ending ≡ is_some difference
-          → difference_from 1 (pairings events (reduced (standpoint_after events last number) progress.script.issued) recorded) ≡ difference → TaskEnds program events last number current task
+          → difference_from 1 (pairings events (reduced (context_after events last number) progress.script.issued) recorded) ≡ difference → TaskEnds program events last number current task
       by None is stop same = inl (reached progress [], is, stop, state, settled, below)
       by (Some difference) is stop same =
-          let shown = pairings events (reduced (standpoint_after events last number) progress.script.issued) recorded in
+          let shown = pairings events (reduced (context_after events last number) progress.script.issued) recorded in
           inr (Mismatched number difference, is, stop, λ front. (front, task, shown, refl, named, ending, same))
 
   -- what the steps of a task leave
-  abbrev left_of : (last number : ℕ) → Upshot S → ExplainedTask → Progress S
+  abbrev left_of : (last number : ℕ) → ReplayResult S → ExplainedTask → Progress S
   left_of last number current task = record {
     state = state_after program current.state task.steps;
-    script = record { settled = settled_after current.settled task.steps; issued = issued_in (standpoint_after events last number) current.settled task.steps };
+    script = record { settled = settled_after current.settled task.steps; issued = issued_in (context_after events last number) current.settled task.steps };
     meter = risen current.meter (length task.steps);
   }
 
-  ends_by : (last number : ℕ) (current : Upshot S) (task : ExplainedTask) → current.meter ≤ top → IsTask program events last number current.state current.settled task → (fault : Option WorkflowFault) → fault_in (standpoint_after events last number) current.settled [] task.steps ≡ fault
+  ends_by : (last number : ℕ) (current : ReplayResult S) (task : ExplainedTask) → current.meter ≤ top → IsTask program events last number current.state current.settled task → (fault : Option WorkflowFault) → fault_in (context_after events last number) current.settled [] task.steps ≡ fault
       → TaskEnds program events last number current task
   unfolding TaskEnds
   ends_by last number current task below t None none =
-      let standpoint = standpoint_after events last number in
+      let context = context_after events last number in
       let left = left_of last number current task in
-      let done : task_at program events last number current ≡ task_after events standpoint number (Ok left) = ap (task_after events standpoint number) (activates last number current task below t ∙ ap (λ o. ok_unless o left) none) in
-      let ending = t.ending ∙ ap (λ o. unless_refused o (sent_ending events (reduced standpoint left.script.issued) standpoint.recorded)) none in
-      closes last number current task left standpoint.recorded t.number (below_risen left.meter current.meter (length task.steps) refl) refl refl done ending
+      let done : task_at program events last number current ≡ task_after events context number (Ok left) = ap (task_after events context number) (activates last number current task below t ∙ ap (λ o. ok_unless o left) none) in
+      let ending = t.ending ∙ ap (λ o. unless_refused o (sent_ending events (reduced context left.script.issued) context.recorded)) none in
+      closes last number current task left context.recorded t.number (below_risen left.meter current.meter (length task.steps) refl) refl refl done ending
   ends_by last number current task below t (Some fault) some =
-      let standpoint = standpoint_after events last number in
+      let context = context_after events last number in
       let left = left_of last number current task in
-      let done : task_at program events last number current ≡ task_after events standpoint number (Err fault) = ap (task_after events standpoint number) (activates last number current task below t ∙ ap (λ o. ok_unless o left) some) in
-      let ending = t.ending ∙ ap (λ o. unless_refused o (sent_ending events (reduced standpoint left.script.issued) standpoint.recorded)) some in
+      let done : task_at program events last number current ≡ task_after events context number (Err fault) = ap (task_after events context number) (activates last number current task below t ∙ ap (λ o. ok_unless o left) some) in
+      let ending = t.ending ∙ ap (λ o. unless_refused o (sent_ending events (reduced context left.script.issued) context.recorded)) some in
       inr (WorkflowFaulty number fault, done, ap stops ending, λ front. (front, task, refl, t.number, ending))
 
-  task_ends : (last number : ℕ) (current : Upshot S) (task : ExplainedTask) → current.meter ≤ top → IsTask program events last number current.state current.settled task → TaskEnds program events last number current task
-  task_ends last number current task below t = ends_by last number current task below t (fault_in (standpoint_after events last number) current.settled [] task.steps) refl
+  task_ends : (last number : ℕ) (current : ReplayResult S) (task : ExplainedTask) → current.meter ≤ top → IsTask program events last number current.state current.settled task → TaskEnds program events last number current task
+  task_ends last number current task below t = ends_by last number current task below t (fault_in (context_after events last number) current.settled [] task.steps) refl
 
-  stops_at : (last number : ℕ) (task : ExplainedTask) (current : Upshot S) → IsNext events last number → stops task.ending ≡ true → TaskEnds program events last number current task → EndAs (replay_after program (take last events) [] (drop last events) current) (task ∷ [])
+  stops_at : (last number : ℕ) (task : ExplainedTask) (current : ReplayResult S) → IsNext events last number → stops task.ending ≡ true → TaskEnds program events last number current task → EndAs (replay_after program (take last events) [] (drop last events) current) (task ∷ [])
   unfolding TaskEnds
   stops_at last number task current n stop ends =
       elim ends [
@@ -145,8 +145,8 @@ module _ {S : Type 0} (program : Program S) (lawful : IsLawful program) (events 
         | inr fault ↦ subst (λ r. EndAs r (task ∷ [])) (sym (walk_next program events last number current n ∙ ap (λ r. and_then r (replay_after program (take number events) [] (drop number events))) fault.1)) (fault.3 [])
       ]
 
-  goes_on : (last number : ℕ) (task : ExplainedTask) (more : List ExplainedTask) (current : Upshot S) → IsNext events last number → stops task.ending ≡ false → TaskEnds program events last number current task
-      → ((left : Upshot S) → left.state ≡ state_after program current.state task.steps → left.settled ≡ settled_after current.settled task.steps → left.meter ≤ top → EndAs (replay_after program (take number events) [] (drop number events) left) more)
+  goes_on : (last number : ℕ) (task : ExplainedTask) (more : List ExplainedTask) (current : ReplayResult S) → IsNext events last number → stops task.ending ≡ false → TaskEnds program events last number current task
+      → ((left : ReplayResult S) → left.state ≡ state_after program current.state task.steps → left.settled ≡ settled_after current.settled task.steps → left.meter ≤ top → EndAs (replay_after program (take number events) [] (drop number events) left) more)
       → EndAs (replay_after program (take last events) [] (drop last events) current) (task ∷ more)
   unfolding TaskEnds
   goes_on last number task more current n pass ends later =
@@ -157,7 +157,7 @@ module _ {S : Type 0} (program : Program S) (lawful : IsLawful program) (events 
       ]
 
   agrees : (last : ℕ) (numbers : List ℕ) (state : S) (settled : Settled) (tasks : List ExplainedTask) → AreTasks program events last numbers state settled tasks → fault_after [] events ≡ None → numbers ≡ cuts (drop last events) → last ≤ length events
-      → (current : Upshot S) → current.state ≡ state → current.settled ≡ settled → current.meter ≤ top → EndAs (replay_after program (take last events) [] (drop last events) current) tasks
+      → (current : ReplayResult S) → current.state ≡ state → current.settled ≡ settled → current.meter ≤ top → EndAs (replay_after program (take last events) [] (drop last events) current) tasks
   agrees last numbers state settled tasks (all at from versions) placed counts low current a b below =
       let none : first_of (cuts (drop last events)) ≡ None = sym (ap first_of counts) in
       subst (λ r. EndAs r []) (sym (no_cut program (take last events) [] (drop last events) current none)) refl

@@ -9,7 +9,7 @@ use Rattle.wh_workflow.specs.Scripts.{Settled}
 use Rattle.wh_workflow.specs.ActivationScripts.{Step, settled_after, state_after}
 use Rattle.wh_workflow.proofs.Scripting.{one_is_longest}
 use Rattle.wh_replay.specs.Replays.{workflow_of}
-use Rattle.wh_replay.specs.Views.{standpoint_after}
+use Rattle.wh_replay.specs.Views.{context_after}
 use Rattle.wh_explain.specs.declared.explanation.Ending.{Ending}
 use Rattle.wh_explain.specs.declared.explanation.ExplainedTask.{ExplainedTask}
 use Rattle.wh_explain.specs.Explaining.{in_place, ending_of, stops, IsTask, AreTasks, all, stopped, passed, AreTasksIf, AreTasksPlaced}
@@ -28,9 +28,9 @@ both_ways one other a b e = cc
 module _ {S : Type 0} (program : Program S) (events : List Event) where
   same_task : (last number : ℕ) (state : S) (settled : Settled) (task other : ExplainedTask) → IsTask program events last number state settled task → IsTask program events last number state settled other → task ≡ other
   same_task last number state settled task other t o =
-      let standpoint = standpoint_after events last number in
-      let steps = one_is_longest program standpoint (jobs_at events last number) state settled task.steps other.steps t.steps o.steps in
-      same_parts task other (t.number ∙ sym o.number) steps (t.ending ∙ (ap (ending_of events standpoint settled) steps ∙ sym o.ending))
+      let context = context_after events last number in
+      let steps = one_is_longest program context (jobs_at events last number) state settled task.steps other.steps t.steps o.steps in
+      same_parts task other (t.number ∙ sym o.number) steps (t.ending ∙ (ap (ending_of events context settled) steps ∙ sym o.ending))
 
   same_tasks : (last : ℕ) (numbers : List ℕ) (state : S) (settled : Settled) (tasks other : List ExplainedTask) → AreTasks program events last numbers state settled tasks → AreTasks program events last numbers state settled other → tasks ≡ other
   same_tasks last numbers state settled tasks other (all at from versions) (all at2 from2 versions2) = refl

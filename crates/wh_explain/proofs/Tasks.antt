@@ -11,12 +11,12 @@ use Rattle.wh_workflow.specs.declared.command.Command.{Command}
 use Rattle.wh_workflow.specs.declared.job.Job.{Job}
 use Rattle.wh_workflow.specs.declared.fault.WorkflowFault.{WorkflowFault}
 use Rattle.wh_workflow.specs.Law.{Program, IsLawful}
-use Rattle.wh_workflow.specs.Scripts.{Standpoint, Settled, reduced}
+use Rattle.wh_workflow.specs.Scripts.{ActivationContext, Settled, reduced}
 use Rattle.wh_workflow.specs.Activations.{Progress}
 use Rattle.wh_workflow.specs.ActivationScripts.{IsLongest, fault_in, issued_in, settled_after, state_after, ok_unless}
 use Rattle.wh_workflow.proofs.Following.{no_versions}
 use Rattle.wh_workflow.proofs.Plain.{jobs_plain}
-use Rattle.wh_match.specs.Issuing.{standpoint_at}
+use Rattle.wh_match.specs.Issuing.{context_at}
 use Rattle.wh_activation.specs.Cutting.{jobs_in, jobs_at}
 use Rattle.wh_replay.specs.Views.{progress}
 use Rattle.wh_replay.proofs.Taking.{refused}
@@ -64,25 +64,25 @@ told_plain events last number = by (slice_get events (number - 1))
 
 module _ {S : Type 0} where
   -- what is explained of a task whose steps are traced
-  pub task_traced : (program : Program S) → IsLawful program → (events : List Event) (standpoint : Standpoint) (jobs told : List Job) (at : ℕ) (state : S) (settled : Settled) (meter : ℕ) (begin : Progress S) (task : ExplainedTask) (fault : Option WorkflowFault) (left : Progress S)
-      → jobs ≡ told → IsTrue (no_versions told) → begin ≡ progress state settled [] meter → IsTraced program standpoint jobs begin task.steps (ok_unless fault left)
-      → task.at ≡ at → task.ending ≡ unless_refused fault (sent_ending events (reduced standpoint left.script.issued) standpoint.recorded)
-      → IsTaskAt program events standpoint told at state settled task × (fault_in standpoint settled [] task.steps ≡ None → (left.state ≡ state_after program state task.steps) × (left.script.settled ≡ settled_after settled task.steps))
-  task_traced program lawful events standpoint jobs told at state settled meter begin task fault left same plain begins traced number ending =
-      let P : List Job → Type 0 = λ l. IsTraced program standpoint l begin task.steps (ok_unless fault left) in
-      let Q : Progress S → Type 0 = λ b. IsTraced program standpoint told b task.steps (ok_unless fault left) in
-      let both = longest_traced program lawful standpoint told state settled meter task.steps (ok_unless fault left) plain (subst Q begins (subst P same traced)) in
+  pub task_traced : (program : Program S) → IsLawful program → (events : List Event) (context : ActivationContext) (jobs told : List Job) (at : ℕ) (state : S) (settled : Settled) (meter : ℕ) (begin : Progress S) (task : ExplainedTask) (fault : Option WorkflowFault) (left : Progress S)
+      → jobs ≡ told → IsTrue (no_versions told) → begin ≡ progress state settled [] meter → IsTraced program context jobs begin task.steps (ok_unless fault left)
+      → task.at ≡ at → task.ending ≡ unless_refused fault (sent_ending events (reduced context left.script.issued) context.recorded)
+      → IsTaskAt program events context told at state settled task × (fault_in context settled [] task.steps ≡ None → (left.state ≡ state_after program state task.steps) × (left.script.settled ≡ settled_after settled task.steps))
+  task_traced program lawful events context jobs told at state settled meter begin task fault left same plain begins traced number ending =
+      let P : List Job → Type 0 = λ l. IsTraced program context l begin task.steps (ok_unless fault left) in
+      let Q : Progress S → Type 0 = λ b. IsTraced program context told b task.steps (ok_unless fault left) in
+      let both = longest_traced program lawful context told state settled meter task.steps (ok_unless fault left) plain (subst Q begins (subst P same traced)) in
       by fault (both.1) ending both.0
     where
-      by : (fault : Option WorkflowFault) → Comes program standpoint state settled [] [] task.steps (ok_unless fault left) → task.ending ≡ unless_refused fault (sent_ending events (reduced standpoint left.script.issued) standpoint.recorded) → IsLongest program standpoint told state settled task.steps
-          → IsTaskAt program events standpoint told at state settled task × (fault_in standpoint settled [] task.steps ≡ None → (left.state ≡ state_after program state task.steps) × (left.script.settled ≡ settled_after settled task.steps))
+      by : (fault : Option WorkflowFault) → Comes program context state settled [] [] task.steps (ok_unless fault left) → task.ending ≡ unless_refused fault (sent_ending events (reduced context left.script.issued) context.recorded) → IsLongest program context told state settled task.steps
+          → IsTaskAt program events context told at state settled task × (fault_in context settled [] task.steps ≡ None → (left.state ≡ state_after program state task.steps) × (left.script.settled ≡ settled_after settled task.steps))
       by None comes ends longest = (
         record {
           number = number;
           steps = longest;
           ending =
-              ends ∙ (ap (λ l. sent_ending events (reduced standpoint l) standpoint.recorded) comes.3
-              ∙ sym (ap (λ o. unless_refused o (sent_ending events (reduced standpoint (issued_in standpoint settled task.steps)) standpoint.recorded)) comes.0));
+              ends ∙ (ap (λ l. sent_ending events (reduced context l) context.recorded) comes.3
+              ∙ sym (ap (λ o. unless_refused o (sent_ending events (reduced context (issued_in context settled task.steps)) context.recorded)) comes.0));
         },
         λ none. (comes.1, comes.2),
       )
@@ -90,7 +90,7 @@ module _ {S : Type 0} where
         record {
           number = number;
           steps = longest;
-          ending = ends ∙ sym (ap (λ o. unless_refused o (sent_ending events (reduced standpoint (issued_in standpoint settled task.steps)) standpoint.recorded)) comes);
+          ending = ends ∙ sym (ap (λ o. unless_refused o (sent_ending events (reduced context (issued_in context settled task.steps)) context.recorded)) comes);
         },
         λ none. absurd (let w : Some found ≡ None = sym comes ∙ none in cc),
       )
@@ -98,9 +98,9 @@ module _ {S : Type 0} where
 module _ {S : Type 0} (program : Program S) (events : List Event) where
   -- the task of a cut of the code is that at its number
   pub task_here : (last number : ℕ) (there : Option (List Event)) (state : S) (settled : Settled) (task : ExplainedTask) → there ≡ (if is_recorded (drop number events) then Some (record_of (drop number events)) else None)
-      → IsTaskAt program events (standpoint_at events last number there) (jobs_at events last number) number state settled task → IsTask program events last number state settled task
+      → IsTaskAt program events (context_at events last number there) (jobs_at events last number) number state settled task → IsTask program events last number state settled task
   task_here last number there state settled task is task_at =
-      let P : Option (List Event) → Type 0 = λ recorded. IsTaskAt program events (standpoint_at events last number recorded) (jobs_at events last number) number state settled task in
+      let P : Option (List Event) → Type 0 = λ recorded. IsTaskAt program events (context_at events last number recorded) (jobs_at events last number) number state settled task in
       subst P is task_at
 
   -- what is explained of the cuts that are left continues the tasks so far

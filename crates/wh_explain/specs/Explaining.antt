@@ -11,10 +11,10 @@ use Rattle.wh_workflow.specs.declared.command.Command.{Command}
 use Rattle.wh_workflow.specs.declared.job.Job.{Job}
 use Rattle.wh_workflow.specs.declared.fault.WorkflowFault.{WorkflowFault}
 use Rattle.wh_workflow.specs.Law.{Program}
-use Rattle.wh_workflow.specs.Scripts.{Standpoint, Settled, reduced}
+use Rattle.wh_workflow.specs.Scripts.{ActivationContext, Settled, reduced}
 use Rattle.wh_workflow.specs.ActivationScripts.{Step, IsLongest, fault_in, issued_in, settled_after, state_after}
 use Rattle.wh_replay.specs.Replays.{workflow_of}
-use Rattle.wh_replay.specs.Views.{standpoint_after}
+use Rattle.wh_replay.specs.Views.{context_after}
 use Rattle.wh_explain.specs.declared.explanation.Ending.{Ending}
 use Rattle.wh_explain.specs.declared.explanation.Ending.TheVariants.{Refused, Live, Recorded}
 use Rattle.wh_explain.specs.declared.explanation.ExplainedTask.{ExplainedTask}
@@ -37,10 +37,10 @@ unless_refused (Some fault) ending = Refused
 
 -- how a task of these steps ends: the last command can't stand, or what is sent of the commands of
 -- the steps is not recorded yet or stands beside the record
-abbrev pub ending_of : List Event → Standpoint → Settled → List Step → Ending
-ending_of events standpoint settled steps =
-    let sent = reduced standpoint (issued_in standpoint settled steps) in
-    unless_refused (fault_in standpoint settled [] steps) (sent_ending events sent standpoint.recorded)
+abbrev pub ending_of : List Event → ActivationContext → Settled → List Step → Ending
+ending_of events context settled steps =
+    let sent = reduced context (issued_in context settled steps) in
+    unless_refused (fault_in context settled [] steps) (sent_ending events sent context.recorded)
 
 -- a command is refused, or what is sent differs from what is recorded
 abbrev pub stops : Ending → Bool
@@ -51,20 +51,20 @@ stops (Recorded pairings) = list_any differs pairings
 module _ {S : Type 0} where
   -- what is explained of a task that is told these jobs: its number, the activation's script, from
   -- a state and settled versions, and how that ends
-  pub record IsTaskAt (program : Program S) (events : List Event) (standpoint : Standpoint) (jobs : List Job) (at : ℕ)
+  pub record IsTaskAt (program : Program S) (events : List Event) (context : ActivationContext) (jobs : List Job) (at : ℕ)
       (state : S) (settled : Settled) (task : ExplainedTask) : Type 0 where
     pub number : task.at ≡ at
-    pub steps : IsLongest program standpoint jobs state settled task.steps
-    pub ending : task.ending ≡ ending_of events standpoint settled task.steps
+    pub steps : IsLongest program context jobs state settled task.steps
+    pub ending : task.ending ≡ ending_of events context settled task.steps
 
   -- what is explained of the task at the cut of a number of a history, where the cut before has the
   -- other number
   abbrev pub IsTask : Program S → List Event → (last number : ℕ) → S → Settled → ExplainedTask → Type 0
   IsTask program events last number state settled task =
-      IsTaskAt program events (standpoint_after events last number)
+      IsTaskAt program events (context_after events last number)
       (jobs_at events last number) number state settled task
 
-  -- what is explained of the cuts of these numbers behind the last one: each of them once, in
+  -- what is explained of the cuts of these numbers after the last one: each of them once, in
   -- order, in what the steps before it leave, up to the first that stops
   pub data AreTasks (program : Program S) (events : List Event) :
       ℕ → List ℕ → S → Settled → List ExplainedTask → Type 0 where

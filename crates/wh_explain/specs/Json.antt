@@ -89,12 +89,12 @@ kind_keys _ = keyed [] []
 
 -- ---- phrases
 
--- a word as a member behind another one, where there is a word, shown as names in reports are
+-- a word as a member after another one, where there is a word, shown as names in reports are
 abbrev pub word_member : List ℕ → Option (List ℕ) → List ℕ
 word_member key None = []
 word_member key (Some word) = codes "," ++ text_member key (shown word)
 
--- the members of what stands behind ids and types, each behind another one
+-- the members of what stands after ids and types, each after another one
 abbrev pub detail_members : Detail → List ℕ
 detail_members Nothing = []
 detail_members (Time time) = codes ",\"time\":\"" ++ (time_text time ++ codes "\"")
@@ -103,7 +103,7 @@ detail_members (Version version) = codes ",\"version\":" ++ signed_decimal versi
 detail_members (Range min max) =
     codes ",\"min\":" ++ (signed_decimal min ++ (codes ",\"max\":" ++ signed_decimal max))
 
--- the kind of a phrase as a string, and the members of its words and of what stands behind them
+-- the kind of a phrase as a string, and the members of its words and of what stands after them
 abbrev pub phrase_json : Keys → Phrase → List ℕ
 phrase_json keys phrase =
     codes "\"" ++ (escaped (shown phrase.kind) ++ (codes "\""

@@ -7,7 +7,7 @@ use Rattle.wh_workflow.specs.declared.fault.Mismatch.{Mismatch as Difference}
 use Rattle.wh_workflow.specs.Law.{Program}
 use Rattle.wh_replay.specs.declared.fault.Fault.{Fault}
 use Rattle.wh_replay.specs.declared.fault.Fault.TheVariants.{NotATask, Place, Workflow, Mismatch}
-use Rattle.wh_replay.specs.Replays.{Upshot, workflow_of, replay_tasks}
+use Rattle.wh_replay.specs.Replays.{ReplayResult, workflow_of, replay_tasks}
 use Rattle.wh_tester.specs.Report.{shown}
 use Rattle.wh_explain.specs.declared.explanation.Ending.TheVariants.{Refused, Recorded}
 use Rattle.wh_explain.specs.declared.explanation.Pairing.{Pairing}
@@ -39,7 +39,7 @@ NamesArePrintable = (name : List ℕ) → list_all is_printable (shown name) ≡
 module _ {S : Type 0} where
   -- the tasks end as the replay does: none stops where it has no fault, and else the last one at
   -- the fault
-  abbrev pub EndAs : Result (Upshot S) Fault → List ExplainedTask → Type 0
+  abbrev pub EndAs : Result (ReplayResult S) Fault → List ExplainedTask → Type 0
   EndAs (Ok left) tasks = list_any (λ task. stops task.ending) tasks ≡ false
   EndAs (Err (Workflow at fault)) tasks = EndsRefused at tasks
   EndAs (Err (Mismatch at mismatch)) tasks = EndsDifferent at mismatch tasks

@@ -13,12 +13,12 @@ use Rattle.wh_explain.specs.Times.{time_text}
 abbrev pub event_phrase : RecordedEvent → Phrase
 event_phrase event = kind_phrase event.id event.kind
 
--- a word behind a space, where there is one, shown as names in reports are
+-- a word after a space, where there is one, shown as names in reports are
 abbrev pub word_text : Option (List ℕ) → List ℕ
 word_text None = []
 word_text (Some word) = codes " " ++ shown word
 
--- what stands behind ids and types
+-- what stands after ids and types
 abbrev pub detail_text : Detail → List ℕ
 detail_text Nothing = []
 detail_text (Time time) = codes " " ++ time_text time

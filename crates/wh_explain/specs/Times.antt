@@ -5,14 +5,14 @@ use Rattle.std.specs.Int.{int_div_euclid, int_rem_euclid}
 use Rattle.jiff_core.specs.Calendar.{day_count}
 use Rattle.jiff_fmt.specs.Text.{pad2, year_text, fraction_part}
 
--- of so many years behind a first one the last whose first day is not after the day that so many
+-- of so many years after a first one the last whose first day is not after the day that so many
 -- days are before, counted from the year -10000 on
 unfoldable pub year_at : (left : ℕ) → ℤ → ℕ → ℤ
 year_at zero year days = year
 year_at (suc left) year days =
     if nat_lt days (day_count (year +ℤ pos 1) 1 1) then year else year_at left (year +ℤ pos 1) days
 
--- of so many months behind one of the year the last whose first day is not after that day
+-- of so many months after one of the year the last whose first day is not after that day
 unfoldable pub month_at : (left : ℕ) → ℤ → ℕ → ℕ → ℕ
 month_at zero year month days = month
 month_at (suc left) year month days =

@@ -4,22 +4,22 @@ use Rattle.wh_events.specs.Cuts.{commanded}
 use Rattle.wh_workflow.specs.declared.fault.WorkflowFault.{WorkflowFault}
 use Rattle.wh_workflow.specs.declared.job.Job.{Job}
 use Rattle.wh_workflow.specs.Law.{Program}
-use Rattle.wh_workflow.specs.Scripts.{Standpoint, Settled}
+use Rattle.wh_workflow.specs.Scripts.{ActivationContext, Settled}
 use Rattle.wh_workflow.specs.ActivationScripts.{Step, settled_after, state_after}
 use Rattle.wh_workflow.specs.Activations.{Progress, Turn}
-use Rattle.wh_match.specs.Issuing.{Issuing, standpoint_at, late_marks}
+use Rattle.wh_match.specs.Issuing.{Issuing, context_at, late_marks}
 use Rattle.wh_replay.specs.Views.{progress}
 use Rattle.wh_explain.specs.declared.cut.Cut.{Cut}
 use Rattle.wh_explain.specs.declared.activation.Reached.{Reached}
 use Rattle.wh_explain.specs.declared.activation.Turned.{Turned}
 use Rattle.wh_explain.specs.declared.activation.Turned.TheVariants.{Next, Refused}
 
--- the standpoint that a cut of the code stands for
-abbrev pub standpoint_of : Cut → Standpoint
-standpoint_of cut =
-    standpoint_at cut.track.now cut.previous cut.number (option_map (λ events. commanded events.now) cut.recorded)
+-- the context that a cut of the code stands for
+abbrev pub context_of : Cut → ActivationContext
+context_of cut =
+    context_at cut.track.now cut.previous cut.number (option_map (λ events. commanded events.now) cut.recorded)
 
--- the history has the cut, behind the cut before
+-- the history has the cut, after the cut before
 pub record IsWithin (cut : Cut) : Type 0 where
   pub rising : cut.previous < cut.number
   pub within : cut.number ≤ length cut.track.now
@@ -28,7 +28,7 @@ pub record IsWithin (cut : Cut) : Type 0 where
 pub record IsOf (cut : Cut) (script : Issuing) : Type 0 where
   pub previous : script.previous ≡ cut.previous
   pub number : script.cut ≡ cut.number
-  pub late : script.late ≡ late_marks (standpoint_of cut) script.issued
+  pub late : script.late ≡ late_marks (context_of cut) script.issued
 
 -- how far an activation of the code has come, with the script of its cut
 abbrev pub progress_of : {W S : Type 0} → Reached W S → Issuing → Progress S

@@ -9,7 +9,7 @@ ghost use Rattle.wh_workflow.specs.ActivationScripts.{ok_unless};
 ghost use Rattle.wh_replay.specs.Views.{script_of, reply_of};
 ghost use Rattle.wh_replay.specs.Activating.{IsPlain};
 ghost use Rattle.wh_explain.specs.Tracing.{stood, step_of, IsTraced};
-ghost use Rattle.wh_explain.specs.Walking.{IsWithin, IsOf, standpoint_of, progress_of, turn_of, comes_to};
+ghost use Rattle.wh_explain.specs.Walking.{IsWithin, IsOf, context_of, progress_of, turn_of, comes_to};
 
 use crate::cut::Cut;
 use crate::explanation::Step;
@@ -45,8 +45,8 @@ fn issue_one(
     requires within { IsWithin cut.now }
     requires script { IsOf cut.now script.old }
     requires plain { IsPlain (command ∷ []) }
-    ensures fault { (settled : Settled) → let standpoint = standpoint_of cut.now in
-        IfOk result (λ fault. fault ≡ command_fault standpoint settled script.old.issued command) }
+    ensures fault { (settled : Settled) → let context = context_of cut.now in
+        IfOk result (λ fault. fault ≡ command_fault context settled script.old.issued command) }
     ensures issued { IfOk result
         (λ fault. fault ≡ None → script.new.issued ≡ script.old.issued ++ command ∷ []) }
     ensures script { OnOk result (IsOf cut.now script.new) }
@@ -77,8 +77,8 @@ fn issue_shown(
     requires within { IsWithin cut.now }
     requires script { IsOf cut.now script.old }
     requires plain { IsPlain (command ∷ []) }
-    ensures fault { (settled : Settled) → let standpoint = standpoint_of cut.now in
-        IfOk result (λ fault. fault ≡ command_fault standpoint settled script.old.issued command) }
+    ensures fault { (settled : Settled) → let context = context_of cut.now in
+        IfOk result (λ fault. fault ≡ command_fault context settled script.old.issued command) }
     ensures issued { IfOk result
         (λ fault. fault ≡ None → script.new.issued ≡ script.old.issued ++ command ∷ []) }
     ensures given { OnOk result (given.new.items ≡ given.old.items ++ command ∷ []) }
@@ -105,10 +105,10 @@ fn issue_all(
     requires script { IsOf cut.now script.old }
     requires plain { IsPlain commands.items }
     ensures issued { (settled : Settled) →
-        let whole = issue_all (standpoint_of cut.now) (script_of settled script.old) commands.items in
+        let whole = issue_all (context_of cut.now) (script_of settled script.old) commands.items in
         IfOk result (λ fault. ok_unless fault (script_of settled script.new) ≡ whole) }
     ensures given { (settled : Settled) →
-        let shown = stood (standpoint_of cut.now) settled script.old.issued commands.items in
+        let shown = stood (context_of cut.now) settled script.old.issued commands.items in
         OnOk result (given.new.items ≡ given.old.items ++ shown) }
     ensures script { OnOk result (IsOf cut.now script.new) }
 {
@@ -130,7 +130,7 @@ fn ask(
     requires within { IsWithin cut.now }
     requires script { IsOf cut.now script.old }
     requires not_marker { is_marker command ≡ false }
-    ensures issued { let reply = respond (standpoint_of cut.now) (script_of versions.old script.old) (command ∷ []) in
+    ensures issued { let reply = respond (context_of cut.now) (script_of versions.old script.old) (command ∷ []) in
         IfOk result (λ turned. comes_to turned (reply_of versions.new script.new) ≡ reply) }
     ensures script { OnOk result (IsOf cut.now script.new) }
 {
@@ -162,7 +162,7 @@ fn respond_last(
     requires within { IsWithin cut.now }
     requires script { IsOf cut.now script.old }
     requires not_marker { is_marker last ≡ false }
-    ensures issued { let reply = respond (standpoint_of cut.now) (script_of versions.old script.old) (last ∷ []) in
+    ensures issued { let reply = respond (context_of cut.now) (script_of versions.old script.old) (last ∷ []) in
         IfOk result (λ turned. comes_to turned (reply_of versions.new script.new) ≡ reply) }
     ensures given { OnOk result (given.new.items ≡ given.old.items ++ last ∷ []) }
     ensures script { OnOk result (IsOf cut.now script.new) }
@@ -188,9 +188,9 @@ fn respond(
     requires within { IsWithin cut.now }
     requires script { IsOf cut.now script.old }
     requires answer { IsAnswer commands.items }
-    ensures issued { let reply = respond (standpoint_of cut.now) (script_of versions.old script.old) commands.items in
+    ensures issued { let reply = respond (context_of cut.now) (script_of versions.old script.old) commands.items in
         IfOk result (λ turned. comes_to turned (reply_of versions.new script.new) ≡ reply) }
-    ensures given { let shown = stood (standpoint_of cut.now) versions.old script.old.issued commands.items in
+    ensures given { let shown = stood (context_of cut.now) versions.old script.old.issued commands.items in
         OnOk result (given.new.items ≡ given.old.items ++ shown) }
     ensures script { OnOk result (IsOf cut.now script.new) }
 {
@@ -225,11 +225,11 @@ impl<W: Workflow> Reached<W> {
         requires within { IsWithin cut.now }
         requires script { IsOf cut.now script.old }
         ensures given { let before = progress_of self.old script.old in
-            let step = step_of W.program (standpoint_of cut.now) before job.now in
+            let step = step_of W.program (context_of cut.now) before job.now in
             OnOk result (given.new.items ≡ given.old.items ++ step.commands) }
         ensures room { OnOk result (vec_len steps.new < vec_capacity steps.new) }
         ensures steps { OnOk result (steps.new.items ≡ steps.old.items) }
-        ensures turned { let whole = turn W.program (standpoint_of cut.now) job.now (progress_of self.old script.old) in
+        ensures turned { let whole = turn W.program (context_of cut.now) job.now (progress_of self.old script.old) in
             IfOk result (λ turned. comes_to turned (turn_of self.new script.new) ≡ whole) }
         ensures script { OnOk result (IsOf cut.now script.new) }
     {
@@ -251,9 +251,9 @@ impl<W: Workflow> Reached<W> {
     ) -> Result<Turned, OutOfMemory>
         requires within { IsWithin cut.now }
         requires script { IsOf cut.now script.old }
-        ensures step { let step = step_of W.program (standpoint_of cut.now) (progress_of self.old script.old) job in
+        ensures step { let step = step_of W.program (context_of cut.now) (progress_of self.old script.old) job in
             OnOk result (steps.new.items ≡ steps.old.items ++ step ∷ []) }
-        ensures turned { let whole = turn W.program (standpoint_of cut.now) job (progress_of self.old script.old) in
+        ensures turned { let whole = turn W.program (context_of cut.now) job (progress_of self.old script.old) in
             IfOk result (λ turned. comes_to turned (turn_of self.new script.new) ≡ whole) }
         ensures script { OnOk result (IsOf cut.now script.new) }
     {
@@ -282,7 +282,7 @@ impl<W: Workflow> Reached<W> {
         requires within { IsWithin cut.now }
         requires script { IsOf cut.now script.old }
         ensures traced { let before = progress_of self.old script.old in
-            IfOk result (λ ran. IsTraced W.program (standpoint_of cut.now) jobs.items before ran.0.items
+            IfOk result (λ ran. IsTraced W.program (context_of cut.now) jobs.items before ran.0.items
             (ok_unless ran.1 (progress_of self.new script.new))) }
         ensures script { OnOk result (IsOf cut.now script.new) }
     {

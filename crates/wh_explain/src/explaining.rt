@@ -10,13 +10,13 @@ ghost use Rattle.wh_tester.specs.Verdicts.{IsVerdict};
 ghost use Rattle.wh_explain.specs.Explaining.{unless_refused, sent_ending, stops, IsTaskAt};
 ghost use Rattle.wh_explain.specs.Explaining.{AreTasks, AreTasksPlaced, AreTasksOf, AreTasksIn};
 ghost use Rattle.wh_explain.specs.Explaining.{unknown_placed, unknown_of, unknown_in};
-ghost use Rattle.wh_explain.specs.Walking.{IsWithin, IsOf, Leaves, standpoint_of};
+ghost use Rattle.wh_explain.specs.Walking.{IsWithin, IsOf, Leaves, context_of};
 
 use crate::activation::Reached;
 use crate::cut::Cut;
 use crate::explanation::{Ending, ExplainedTask, Explanation};
 use crate::pairing::{pair_up, some_differ};
-use crate::records::record_behind;
+use crate::records::record_after;
 use crate::tracking::track_of;
 use std::alloc::Global;
 use wh_activation::jobs;
@@ -65,8 +65,8 @@ fn end_task(
     fault: Option<WorkflowFault>,
 ) -> Result<Ending, OutOfMemory>
     requires script { IsOf cut.now script }
-    ensures { let standpoint = standpoint_of cut.now in
-        let sent = sent_ending cut.now.track.now (reduced standpoint script.issued) standpoint.recorded in
+    ensures { let context = context_of cut.now in
+        let sent = sent_ending cut.now.track.now (reduced context script.issued) context.recorded in
         IfOk result (λ ending. ending ≡ unless_refused fault sent) }
 {
     if let Some(_fault) = fault {
@@ -95,7 +95,7 @@ fn stops(ending: &Ending) -> bool
     }
 }
 
-/// Explains the task of a cut behind what the tasks before it left. What it leaves is known where
+/// Explains the task of a cut after what the tasks before it left. What it leaves is known where
 /// its commands can stand.
 fn explain_task<W: Workflow>(
     alloc: Global,
@@ -104,10 +104,10 @@ fn explain_task<W: Workflow>(
 ) -> Result<ExplainedTask, OutOfMemory>
     requires within { IsWithin cut.now }
     ensures task { let told = jobs_at cut.now.track.now cut.now.previous cut.now.number in
-        IfOk result (λ task. IsTaskAt W.program cut.now.track.now (standpoint_of cut.now) told cut.now.number
+        IfOk result (λ task. IsTaskAt W.program cut.now.track.now (context_of cut.now) told cut.now.number
         reached.old.state reached.old.versions task) }
-    ensures left { let standpoint = standpoint_of cut.now in
-        IfOk result (λ task. fault_in standpoint reached.old.versions [] task.steps ≡ None
+    ensures left { let context = context_of cut.now in
+        IfOk result (λ task. fault_in context reached.old.versions [] task.steps ≡ None
         → Leaves W.program reached.old.state reached.old.versions task.steps reached.new.state reached.new.versions) }
 {
     let jobs = jobs(alloc, cut.track, cut.previous, cut.number)?;
@@ -137,7 +137,7 @@ fn explain_tasks<W: Workflow>(
             track,
             previous: last,
             number,
-            recorded: record_behind(track.events(), number.get() as usize),
+            recorded: record_after(track.events(), number.get() as usize),
         };
         let task = explain_task::<W>(alloc, &cut, reached)?;
         let stop = stops(&task.ending);

@@ -20,7 +20,7 @@ use wh_events::{Detail, Phrase, Text};
 use wh_tester::{EscapedName, write_json_line};
 use wh_workflow::{Command, Job};
 
-/// A word as a member behind another one, where there is a word.
+/// A word as a member after another one, where there is a word.
 #[derive(Drop)]
 struct WordMember<'a>(&'static str, Option<&'a str>);
 
@@ -39,7 +39,7 @@ impl fmt::Display for WordMember<'_> {
     }
 }
 
-/// The members of what stands behind ids and types.
+/// The members of what stands after ids and types.
 #[derive(Clone, Copy)]
 struct DetailMembers(Detail);
 
@@ -281,7 +281,7 @@ fn write_tasks<O: Write>(tasks: &[ExplainedTask], writer: &mut O) -> io::Result<
 /// - `{"sends":COMMAND}` of a live task, then `{"live":true}`;
 /// - last the object of the file in the report of replay.
 ///
-/// A job, a command or an event is its name, and behind that its members in Temporal's words, as
+/// A job, a command or an event is its name, and after that its members in Temporal's words, as
 /// `"activityId"`, `"activityType"`, `"timerId"`, `"time"` and `"seconds"`. After an error some of
 /// the lines may have been written.
 #[tactic(auto, unfolding(crate::specs::Json::json_explanation))]

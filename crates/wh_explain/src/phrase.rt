@@ -17,7 +17,7 @@ pub(crate) fn event_phrase(event: &RecordedEvent) -> Phrase<'_>
     event.kind.phrase(event.id.get())
 }
 
-/// A word behind a space, where there is one.
+/// A word after a space, where there is one.
 #[derive(Drop)]
 struct Word<'a>(Option<&'a str>);
 
@@ -35,7 +35,7 @@ impl fmt::Display for Word<'_> {
     }
 }
 
-/// The text of what stands behind ids and types.
+/// The text of what stands after ids and types.
 #[derive(Clone, Copy)]
 struct DetailText(Detail);
 

@@ -25,7 +25,7 @@ fn is_recorded(events: &[Event]) -> bool
     false
 }
 
-/// What stands behind the first completed task.
+/// What stands after the first completed task.
 fn after_completed(events: &[Event]) -> &[Event]
     ensures { result.now ≡ after_completed events.now }
 {
@@ -50,7 +50,7 @@ fn until_completed(events: &[Event]) -> &[Event]
 }
 
 /// The events among which the record of the task before a place stands, if that is completed.
-pub(crate) fn record_behind(events: &[Event], number: usize) -> Option<&[Event]>
+pub(crate) fn record_after(events: &[Event], number: usize) -> Option<&[Event]>
     requires { number ≤ length events.now }
     ensures { let rest = drop number events.now in
         let there = option_map (λ events. commanded events.now) result in

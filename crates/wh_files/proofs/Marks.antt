@@ -8,7 +8,7 @@ use Rattle.std.specs.declared.alloc.Global.{Global}
 use Rattle.std.specs.Str.Lossy.{utf8_invalid_len, utf8_valid_len}
 use Rattle.wh_files.specs.Names.{IsBadName, IsMarked, marked_run}
 
--- a run more stands before what is made of the bytes behind it
+-- a run more stands before what is made of the bytes after it
 front_run : (bytes valid invalid after text : List ℕ) → bytes ≡ valid ++ (invalid ++ after)
     → length valid ≡ utf8_valid_len bytes → length invalid ≡ utf8_invalid_len (drop (utf8_valid_len bytes) bytes)
     → IsMarked after text → IsMarked bytes (valid ++ (replicate (length invalid) 63 ++ text))

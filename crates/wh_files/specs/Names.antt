@@ -5,7 +5,7 @@ use Rattle.std.specs.Str.{IsUtf8}
 use Rattle.std.specs.Str.Lossy.{utf8_invalid_len, utf8_valid_len}
 use Rattle.std.specs.declared.alloc.Global.{Global}
 
--- bytes cut into runs: each the longest text at the front, and the bytes behind it that begin no character
+-- bytes cut into runs: each the longest text at the front, and the bytes after it that begin no character
 abbrev pub AreRuns : List ℕ → List (List ℕ × List ℕ) → Type 0
 AreRuns bytes [] = bytes ≡ []
 AreRuns bytes (run ∷ runs) =
@@ -15,7 +15,7 @@ AreRuns bytes (run ∷ runs) =
     × (length run.1 ≡ utf8_invalid_len (drop (utf8_valid_len bytes) bytes))
     × AreRuns after runs
 
--- the text of a run, and `?` for each byte behind it
+-- the text of a run, and `?` for each byte after it
 abbrev pub marked_run : List ℕ × List ℕ → List ℕ
 marked_run run = run.0 ++ replicate (length run.1) 63
 

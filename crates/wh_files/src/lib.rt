@@ -167,7 +167,7 @@ pub struct Listing {
     pub bad_names: Vec<String>,
 }
 
-/// The path of a folder, with a slash behind it, so that a link to it is followed.
+/// The path of a folder, with a slash after it, so that a link to it is followed.
 fn folder_path(alloc: Global, dir: &str) -> Result<String, AllocError> {
     if dir.is_empty() {
         return Ok(String::new(alloc));
@@ -338,7 +338,7 @@ pub fn folder_inputs<R: Files + AllocGlobal>(
     Ok(listed(rt.alloc(), dir, sorted, by_path)?)
 }
 
-/// The end of a path, behind its last slash.
+/// The end of a path, after its last slash.
 fn file_name(path: &str) -> &str
     ensures { IsEndOf path.now result.now }
 {

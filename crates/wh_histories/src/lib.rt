@@ -24,7 +24,7 @@ impl From<AllocError> for HistoryFault {
 }
 
 /// How an event is written, by a short word: its type, and what else it has. `$1` and `$2` stand
-/// for what follows the short word behind colons, and `'` stands for a quotation mark.
+/// for what follows the short word after colons, and `'` stands for a quotation mark.
 const FORMS: &str = "\
 start WorkflowExecutionStarted ,'workflowExecutionStartedEventAttributes':{'workflowType':{'name':'$1'}}
 S WorkflowTaskScheduled
@@ -84,7 +84,7 @@ late start:Racer S T C activity:1:race timer:t activity_started:5 timer_fired:6 
 caller start:Caller S T C external:other:go external_sent:5 S T C completed
 ";
 
-/// What stands behind a name in a list with a line for each name.
+/// What stands after a name in a list with a line for each name.
 fn line_named(lines: &'static str, name: &str) -> Option<&'static str> {
     for line in lines.lines() {
         let (first, rest) = line.split_once(' ').unwrap_or((line, ""));
@@ -95,7 +95,7 @@ fn line_named(lines: &'static str, name: &str) -> Option<&'static str> {
     None
 }
 
-/// A word, and the number behind a sign in it, if there is one.
+/// A word, and the number after a sign in it, if there is one.
 fn counted(
     word: &'static str,
     sign: &str,
@@ -129,7 +129,7 @@ fn push_first(
     Ok(())
 }
 
-/// Adds one event as many times as its word says behind `*`.
+/// Adds one event as many times as its word says after `*`.
 fn push_times(words: &mut Vec<&'static str>, word: &'static str) -> Result<(), HistoryFault> {
     let (event, times) = counted(word, "*", 1)?;
     for _ in 0..times {
@@ -139,7 +139,7 @@ fn push_times(words: &mut Vec<&'static str>, word: &'static str) -> Result<(), H
 }
 
 /// Adds the events that a word stands for: those of a history with that name, as many as it says
-/// behind `/`, or one event as many times as it says behind `*`.
+/// after `/`, or one event as many times as it says after `*`.
 fn push_events(words: &mut Vec<&'static str>, word: &'static str) -> Result<(), HistoryFault> {
     let (name, count) = counted(word, "/", usize::MAX)?;
     match line_named(HISTORIES, name) {
@@ -243,7 +243,7 @@ fn changed_text(alloc: Global, history: &'static str) -> Result<String, HistoryF
     Ok(text)
 }
 
-/// A history in JSON. Behind the events stand changes of its text, each behind a `|`.
+/// A history in JSON. After the events stand changes of its text, each after a `|`.
 pub fn json(alloc: Global, history: &'static str) -> Result<String, HistoryFault> {
     let text = changed_text(alloc, history)?;
     let json = text.as_str().replace(alloc, "'", "\"");
@@ -273,24 +273,24 @@ pub fn events(alloc: Global, history: &'static str) -> Result<Vec<Event>, Histor
     events
 }
 
-/// The events behind so many, which are left.
-fn split_behind(events: &mut Vec<Event>, behind: usize) -> Result<Vec<Event>, HistoryFault> {
-    if events.len() < behind {
+/// The events after so many, which are left.
+fn split_after(events: &mut Vec<Event>, after: usize) -> Result<Vec<Event>, HistoryFault> {
+    if events.len() < after {
         return Err(HistoryFault::BadWord);
     }
-    Ok(events.split_off(behind)?)
+    Ok(events.split_off(after)?)
 }
 
-/// The events of a history behind so many, or behind as many as the history says itself: those of
-/// `nap/8 behind 3` are events 4 to 8 of `nap`.
-pub fn events_behind(
+/// The events of a history after so many, or after as many as the history says itself: those of
+/// `nap/8 after 3` are events 4 to 8 of `nap`.
+pub fn events_after(
     alloc: Global,
     history: &'static str,
     otherwise: usize,
 ) -> Result<Vec<Event>, HistoryFault> {
-    let (history, behind) = counted(history, " behind ", otherwise)?;
+    let (history, after) = counted(history, " after ", otherwise)?;
     let mut all = events(alloc, history)?;
-    let later = split_behind(&mut all, behind);
+    let later = split_after(&mut all, after);
     drop(all);
     later
 }

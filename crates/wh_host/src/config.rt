@@ -48,7 +48,7 @@ impl Config {
 pub enum OpenFault {
     /// A size is not within its range.
     BadConfig,
-    /// No room was found.
+    /// There was no memory.
     OutOfMemory,
 }
 

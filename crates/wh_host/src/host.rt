@@ -24,7 +24,7 @@ pub struct Host<W: Workflow, T: Ledger, C: Ledger, F: Ledger> {
 impl<W: Workflow, T: Ledger, C: Ledger, F: Ledger> Host<W, T, C, F> {
     /// A host with all places free, an empty cache and empty books, and its seats, each of which
     /// has counted nothing. The three blanks have as many parts as there are seats. `BadConfig`
-    /// where a size is not within its range, `OutOfMemory` where no room was found.
+    /// where a size is not within its range, `OutOfMemory` where there was no memory.
     pub fn open(
         alloc: Global,
         config: Config,
@@ -62,7 +62,7 @@ impl<W: Workflow, T: Ledger, C: Ledger, F: Ledger> Host<W, T, C, F> {
         ensures { IsHost W.program (mutex_guard_value result) }
     {
         let guard = self.state.lock(rt);
-        guard.attest();
+        guard.invariant();
         guard
     }
 

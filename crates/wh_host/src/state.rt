@@ -66,7 +66,7 @@ impl<W: Workflow, T: Ledger, C: Ledger, F: Ledger> Model for HostState<W, T, C, 
 impl<W: Workflow, T: Ledger, C: Ledger, F: Ledger> HostState<W, T, C, F> {
     /// A state with all places free, an empty cache and empty books, and its seats, each of which
     /// has counted nothing. The three blanks have as many parts as there are seats. `BadConfig`
-    /// where a size is not within its range, `OutOfMemory` where no room was found.
+    /// where a size is not within its range, `OutOfMemory` where there was no memory.
     pub fn open(
         alloc: Global,
         config: Config,
@@ -96,7 +96,7 @@ impl<W: Workflow, T: Ledger, C: Ledger, F: Ledger> HostState<W, T, C, F> {
     }
 
     /// A state beside empty books, with all places free and an empty cache. `OutOfMemory` where no
-    /// room was found.
+    /// memory was left.
     fn beside(alloc: Global, config: Config, books: Books<T, C, F>) -> Result<Self, OutOfMemory>
         requires config { IsConfig config }
         requires books { books ≡ no_shares }
@@ -276,7 +276,7 @@ impl<W: Workflow, T: Ledger, C: Ledger, F: Ledger> HostState<W, T, C, F> {
     }
 
     /// Does nothing. Its contract tells a caller what holds of every state.
-    pub(crate) fn attest(&self)
+    pub(crate) fn invariant(&self)
         ensures { IsHost W.program self.now }
     {
         let _books = &self.books;

@@ -107,7 +107,7 @@ pub struct SeatsMissing;
 
 impl<T: Ledger, C: Ledger, F: Ledger> Books<T, C, F> {
     /// Empty books and as many empty seats, over three new ledgers that are cut into as many parts.
-    /// `OutOfMemory` where no room was found for the seats; the ledgers are spent then. No later
+    /// `OutOfMemory` where there was no memory for the seats; the ledgers are spent then. No later
     /// call takes memory.
     pub fn open(
         alloc: Global,

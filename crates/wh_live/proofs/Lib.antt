@@ -1,4 +1,4 @@
 pub mod Keeping
 pub mod Paging
-pub mod Posts
+pub mod Setups
 pub mod Statuses

@@ -19,7 +19,7 @@ pub paged_by : (gives : Gives) (names : WorkerNames) (run : RunKey) (token : Lis
 paged_by gives names run token params result page asked given read =
     record { result = result; given = subst (λ p. gives (codes "GetWorkflowExecutionHistory") p result) asked given; read = sym read }
 
--- the members of one page more stand behind the others
+-- the members of one page more stand after the others
 pub all_members-append : (pages : List Page) (page : Page) → all_members (pages ++ page ∷ []) ≡ all_members pages ++ page.members
 all_members-append [] page = append-nil page.members
 all_members-append (first ∷ pages) page =
@@ -45,7 +45,7 @@ reads_all gives names run token reached pages page old new lead given ends appen
       appended = ap (λ l. l ++ page.members) appended ∙ (append_assoc old (all_members pages) page.members ∙ ap (λ l. old ++ l) (sym (all_members-append pages page)));
     }
 
--- members that were appended are seen behind the others
+-- members that were appended are seen after the others
 pub map-appended : {A B : Type 0} (f : A → B) (xs ys : List A) → map f (xs ++ ys) ≡ map f xs ++ map f ys
 map-appended f [] ys = refl
 map-appended f (x ∷ xs) ys = ap (λ l. f x ∷ l) (map-appended f xs ys)

@@ -44,7 +44,7 @@ pub record IsWorkflowPoll (gives : Gives) (names : WorkerNames) (sticky : Bool) 
   pub given : gives (codes "PollWorkflowTaskQueue") (poll_workflow names sticky) result
   pub read : poll ≡ workflow_poll result
 
--- all members are those before, and those of the pages behind the token, if there is one
+-- all members are those before, and those of the pages after the token, if there is one
 abbrev pub HasAllMembers : Gives → WorkerNames → RunKey → List ℕ → List Data → List Data → Type 0
 HasAllMembers gives names run token members all =
     ((token ≡ []) × (all ≡ members)) ⊎ ReadsOn gives names run token members all

@@ -25,7 +25,7 @@ abbrev pub all_members : List Page → List Data
 all_members [] = []
 all_members (page ∷ pages) = page.members ++ all_members pages
 
--- all pages behind a token: those that lead to the last one, and that one
+-- all pages after a token: those that lead to the last one, and that one
 pub record AreAllPages (gives : Gives) (names : WorkerNames) (run : RunKey) (token : List ℕ)
     (pages : List Page) : Type 0 where
   pub before : List Page
@@ -36,7 +36,7 @@ pub record AreAllPages (gives : Gives) (names : WorkerNames) (run : RunKey) (tok
   pub given : IsPaged gives names run reached last
   pub ends : last.next_page ≡ []
 
--- the members of all pages behind the token were appended
+-- the members of all pages after the token were appended
 pub record ReadsOn (gives : Gives) (names : WorkerNames) (run : RunKey) (token : List ℕ)
     (old new : List Data) : Type 0 where
   pub pages : List Page

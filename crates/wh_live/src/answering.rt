@@ -9,7 +9,7 @@ ghost use Rattle.wh_live.specs.Codes.{keeps_run};
 use crate::asking::{AskFault, ask, fault_text, history_text};
 use crate::codes::{Receipt, refused_answer};
 use crate::connection::Connection;
-use crate::desks::Desk;
+use crate::service_client::ServiceClient;
 use crate::journals::Journal;
 use crate::replies::Reply;
 use crate::tasks::OpenTask;
@@ -79,7 +79,7 @@ fn request_text(alloc: Global, fault: &RequestFault) -> Result<String, AllocErro
     }
 }
 
-impl<L: Connection> Desk<'_, L> {
+impl<L: Connection> ServiceClient<'_, L> {
     /// Tells a person something of a task.
     fn tell_of(&self, open: &OpenTask, what: &str) {
         if let Ok(text) = open.said(self.allocator(), what) {
@@ -200,11 +200,12 @@ impl<L: Connection> Desk<'_, L> {
         name: TaskName,
         answer: &Answer,
         events: &[Event],
+        steps: u64,
     ) -> Receipt {
         match open {
             Some(open) if open.name == name => {
                 let receipt = self.respond(&open, answer, events);
-                self.log_workflow(&open, answer, events, receipt);
+                self.log_workflow(&open, answer, events, steps, receipt);
                 receipt
             }
             _ => Receipt::Lost,
@@ -237,6 +238,7 @@ impl<L: Connection> Desk<'_, L> {
         name: TaskName,
         answer: &Answer,
         events: &[Event],
+        steps: u64,
     ) -> Result<(), SourceFault>
         ensures sent { OnOk result (taken.new.items ≡ taken.old.items ++ (name, OfWorkflow answer.now) ∷ []) }
         ensures unsent { OnErr result (taken.new.items ≡ taken.old.items) }
@@ -246,7 +248,7 @@ impl<L: Connection> Desk<'_, L> {
         let Ok(copy) = answer.try_copy(self.allocator()) else {
             return Err(SourceFault::OutOfMemory);
         };
-        let receipt = self.answer_open(open, name, answer, events);
+        let receipt = self.answer_open(open, name, answer, events, steps);
         settle(journal, taken, receipt, (name, Sent::Workflow(copy)))
     }
 

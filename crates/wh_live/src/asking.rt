@@ -33,7 +33,7 @@ pub(crate) enum AskFault {
     TooManyPages,
     /// The events of a history can't be read.
     History(ReadFault),
-    /// No room was found.
+    /// There was no memory.
     OutOfMemory,
 }
 

@@ -77,7 +77,7 @@ pub enum Receipt {
     Cut,
     /// The server or the bridge gave up, or it could not be written to the bridge.
     Lost,
-    /// No room was found.
+    /// There was no memory.
     NoMemory,
 }
 

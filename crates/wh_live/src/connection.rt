@@ -23,7 +23,7 @@ pub trait Connection {
 
     /// Sends a request, waits for its response, and gives its id and what the response says.
     /// `Closed` where no response will come, `Output` where the request could not be written,
-    /// `OutOfMemory` where no room was found for it.
+    /// `OutOfMemory` where there was no memory for it.
     fn call(&self, method: &str, params: Value) -> Result<(u64, Outcome), CallFault>
         ensures { IfOk result (λ told. OnGiven (gives method.now (view params)) told.1) };
 

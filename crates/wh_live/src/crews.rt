@@ -14,7 +14,7 @@ use std::thread::Threads;
 use wh_events::OutOfMemory;
 use wh_host::Host;
 use wh_ledger::Seat;
-use wh_poll::{ActivityHandler, Left, Observer, OpenGate, Post, run_posts};
+use wh_poll::{ActivityHandler, WorkerEnd, Observer, OpenGate, WorkerSetup, run_on_host};
 use wh_workflow::Workflow;
 
 /// How many of the workflow workers poll the queue that all workers poll: one in five and at least
@@ -46,37 +46,37 @@ fn role_at(normal: usize, workers: usize, place: usize) -> Role
     }
 }
 
-/// A post for each worker, without an end to its turns. Each polls what is for its place.
-/// `OutOfMemory` where no room was found.
-pub(crate) fn posts_of<'a, L: Connection, A: Drop, O: Drop>(
+/// A setup for each worker, without an end to its turns. Each polls what is for its place.
+/// `OutOfMemory` where there was no memory.
+pub(crate) fn setups_of<'a, L: Connection, A: Drop, O: Drop>(
     alloc: Global,
     line: &'a L,
     options: &'a LiveOptions,
     workers: usize,
     crew: Vec<(A, O)>,
-) -> Result<Vec<Post<LiveSource<'a, L>, A, O>>, OutOfMemory>
-    ensures count { IfOk result (λ posts. vec_len posts ≡ vec_len crew) }
-    ensures members { IfOk result (λ posts. map (λ post. (post.handler, post.observer)) posts.items ≡ crew.items) }
-    ensures roles { IfOk result (λ posts. map (λ post. post.source.desk.role) posts.items
+) -> Result<Vec<WorkerSetup<LiveSource<'a, L>, A, O>>, OutOfMemory>
+    ensures count { IfOk result (λ setups. vec_len setups ≡ vec_len crew) }
+    ensures members { IfOk result (λ setups. map (λ setup. (setup.handler, setup.observer)) setups.items ≡ crew.items) }
+    ensures roles { IfOk result (λ setups. map (λ setup. setup.source.client.role) setups.items
         ≡ roles_of (normal_workers workers (is_some options.entry.now.sticky)) workers (vec_len crew)) }
 {
     let normal = normal_workers(workers, options.sticky.is_some());
-    let mut posts = Vec::new(alloc);
+    let mut setups = Vec::new(alloc);
     for (handler, observer) in crew {
-        let role = role_at(normal, workers, posts.len());
+        let role = role_at(normal, workers, setups.len());
         let source = LiveSource::new(line, options, role);
-        posts.push(Post {
+        setups.push(WorkerSetup {
             source,
             handler,
             observer,
             turns: u64::MAX,
         })?;
     }
-    Ok(posts)
+    Ok(setups)
 }
 
 /// What all sources have counted.
-fn gathered<L: Connection, A, O>(left: &[Left<LiveSource<'_, L>, A, O>]) -> Tally {
+fn gathered<L: Connection, A, O>(left: &[WorkerEnd<LiveSource<'_, L>, A, O>]) -> Tally {
     let mut all = Tally::new();
     for worker in left {
         all.add(worker.source.tally());
@@ -99,12 +99,12 @@ pub(crate) fn run_crew<
     alloc: Global,
     host: &Host<W, T, K, F>,
     seats: Vec<Seat<T, K, F>>,
-    posts: Vec<Post<LiveSource<'_, L>, A, O>>,
+    setups: Vec<WorkerSetup<LiveSource<'_, L>, A, O>>,
 ) -> Result<(Vec<Seat<T, K, F>>, Tally), OutOfMemory>
-    requires { vec_len seats ≡ vec_len posts }
-    ensures { IfOk result (λ ended. vec_len ended.0 ≡ vec_len posts.entry) }
+    requires { vec_len seats ≡ vec_len setups }
+    ensures { IfOk result (λ ended. vec_len ended.0 ≡ vec_len setups.entry) }
 {
-    let (seats, left) = run_posts(rt, alloc, host, seats, posts, &OpenGate)?;
+    let (seats, left) = run_on_host(rt, alloc, host, seats, setups, &OpenGate)?;
     let tally = gathered(left.as_slice());
     drop(left);
     Ok((seats, tally))

@@ -7,7 +7,7 @@ mod asking;
 mod codes;
 mod connection;
 mod crews;
-mod desks;
+mod service_client;
 mod journals;
 pub mod laws;
 mod link_connection;

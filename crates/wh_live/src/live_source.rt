@@ -3,7 +3,7 @@
 ghost use Rattle.std.specs.Prelude.{◌≡◌, []};
 
 use crate::connection::Connection;
-use crate::desks::Desk;
+use crate::service_client::ServiceClient;
 use crate::journals::Journal;
 use crate::options::{LiveOptions, Role};
 use crate::tallies::Tally;
@@ -27,7 +27,7 @@ use wh_tasks::{ActivityAnswer, ActivityTask, Polled, Sent, SourceFault, TaskSour
 /// A query that comes by itself is refused within the poll.
 #[derive(Drop)]
 pub struct LiveSource<'a, L> {
-    desk: Desk<'a, L>,
+    client: ServiceClient<'a, L>,
     open: Option<OpenTask>,
     journal: Journal,
     taken: GhostList<(TaskName, Sent)>,
@@ -38,10 +38,10 @@ impl<'a, L: Connection> LiveSource<'a, L> {
     pub fn new(line: &'a L, options: &'a LiveOptions, role: Role) -> LiveSource<'a, L>
         ensures taken { result.taken.items ≡ [] }
         ensures failures { result.journal.tally.failures ≡ 0 }
-        ensures role { result.desk.role ≡ role }
+        ensures role { result.client.role ≡ role }
     {
         LiveSource {
-            desk: Desk {
+            client: ServiceClient {
                 line,
                 options,
                 role,
@@ -67,30 +67,31 @@ impl<L: Connection> TaskSource for LiveSource<'_, L> {
 
     ghost failures = { λ source. source.journal.tally.failures };
 
-    ghost delivers = { λ source. Delivers L.gives source.desk.options.now.names source.desk.role };
+    ghost delivers = { λ source. Delivers L.gives source.client.options.now.names source.client.role };
 
-    ghost tells = { λ source. Recounts L.gives source.desk.options.now.names };
+    ghost tells = { λ source. Recounts L.gives source.client.options.now.names };
 
     ghost comes_from = { λ later first. ComesFrom
-        later.desk.role first.desk.role later.desk.options.now.names first.desk.options.now.names
+        later.client.role first.client.role later.client.options.now.names first.client.options.now.names
         later.taken.items first.taken.items later.journal.tally.failures first.journal.tally.failures };
 
     fn poll_workflow(&mut self) -> Result<Polled<WorkflowTask>, SourceFault> {
-        self.desk.poll_workflow(&mut self.journal, &mut self.open)
+        self.client.poll_workflow(&mut self.journal, &mut self.open)
     }
 
     fn poll_activity(&mut self) -> Result<Polled<ActivityTask>, SourceFault> {
-        self.desk.poll_activity(&mut self.journal, &mut self.open)
+        self.client.poll_activity(&mut self.journal, &mut self.open)
     }
 
     fn whole(&mut self, key: &RunKey, up_to: u64) -> Result<Vec<Event>, SourceFault> {
-        self.desk
+        self.client
             .recount(&mut self.journal, &mut self.open, key, up_to)
     }
 
     fn answer_workflow(&mut self, name: TaskName, answer: &Answer) -> Result<(), SourceFault> {
         let open = self.open.take();
-        self.desk.answer_workflow(&mut self.journal, &mut self.taken, open, name, answer, &[])
+        self.client
+            .answer_workflow(&mut self.journal, &mut self.taken, open, name, answer, &[], 0)
     }
 
     fn answer_replayed(
@@ -98,15 +99,17 @@ impl<L: Connection> TaskSource for LiveSource<'_, L> {
         name: TaskName,
         answer: &Answer,
         events: &[Event],
+        steps: u64,
     ) -> Result<(), SourceFault> {
         let open = self.open.take();
-        self.desk.answer_workflow(
+        self.client.answer_workflow(
             &mut self.journal,
             &mut self.taken,
             open,
             name,
             answer,
             events,
+            steps,
         )
     }
 
@@ -122,7 +125,7 @@ impl<L: Connection> TaskSource for LiveSource<'_, L> {
         answer: &ActivityAnswer,
     ) -> Result<(), SourceFault> {
         let open = self.open.take();
-        self.desk
+        self.client
             .answer_activity(&mut self.journal, &mut self.taken, open, name, answer)
     }
 }

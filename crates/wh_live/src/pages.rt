@@ -14,7 +14,7 @@ use wh_messages::{HistoryPage, WorkerNames, history, history_page};
 /// The most pages of a history.
 const MOST_PAGES: u64 = 1_000_000;
 
-/// The page of a run's history behind a token, or the first one where the token is empty.
+/// The page of a run's history after a token, or the first one where the token is empty.
 #[tactic(auto, using(crate::proofs::Paging::paged_by))]
 fn ask_page<L: Connection>(
     line: &L,
@@ -33,7 +33,7 @@ fn ask_page<L: Connection>(
     }
 }
 
-/// Appends the members of all pages of a run's history behind a token, or of the whole history
+/// Appends the members of all pages of a run's history after a token, or of the whole history
 /// where the token is empty. After an error some of them may have been appended.
 pub(crate) fn append_pages<L: Connection>(
     line: &L,

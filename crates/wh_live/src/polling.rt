@@ -11,7 +11,7 @@ ghost use Rattle.wh_live.specs.Roles.{polls_sticky};
 
 use crate::asking::AskFault;
 use crate::connection::Connection;
-use crate::desks::{Desk, read_history};
+use crate::service_client::{ServiceClient, read_history};
 use crate::journals::Journal;
 use crate::options::Role;
 use crate::tasks::{Brought, OpenTask};
@@ -61,7 +61,7 @@ fn note_history(open: &mut Option<OpenTask>, history: &[Event]) {
     }
 }
 
-impl<L: Connection> Desk<'_, L> {
+impl<L: Connection> ServiceClient<'_, L> {
     /// The task of an id with these members, to be answered and to be given. Where they can't be
     /// read the task is failed.
     fn read_task(

@@ -5,7 +5,7 @@ ghost use Rattle.wh_messages.specs.Requests.{workflow_completed, workflow_failed
 ghost use Rattle.wh_live.specs.Replies.{IsActivityReply, IsReply, Replies};
 
 use crate::connection::Connection;
-use crate::desks::Desk;
+use crate::service_client::ServiceClient;
 use crate::tasks::OpenTask;
 use serde_json::Value;
 use wh_events::{Event, OutOfMemory};
@@ -23,7 +23,7 @@ pub(crate) struct Reply {
     pub(crate) params: Value,
 }
 
-impl<L: Connection> Desk<'_, L> {
+impl<L: Connection> ServiceClient<'_, L> {
     /// Completes a workflow task with commands, after the events that they were replayed from.
     pub(crate) fn completed(
         &self,

@@ -18,7 +18,7 @@ use std::time::{Clock, Duration};
 use wh_events::OutOfMemory;
 use wh_host::{Config, Counts, Host, MOST_SEATS};
 use wh_ledger::Seat;
-use wh_poll::{ActivityHandler, Observer, Post};
+use wh_poll::{ActivityHandler, Observer, WorkerSetup};
 use wh_workflow::Workflow;
 
 /// Is told from time to time what a host counts, caches and holds, in a thread beside its workers.
@@ -184,12 +184,12 @@ fn run_beside<
     host: &Host<W, T, K, F>,
     seats: Vec<Seat<T, K, F>>,
     spare: Option<Seat<T, K, F>>,
-    posts: Vec<Post<LiveSource<'_, L>, A, O>>,
+    setups: Vec<WorkerSetup<LiveSource<'_, L>, A, O>>,
     reporter: &P,
 ) -> (Option<Seat<T, K, F>>, Result<CrewEnd<T, K, F>, OutOfMemory>)
-    requires { vec_len seats ≡ vec_len posts }
+    requires { vec_len seats ≡ vec_len setups }
     ensures spare { result.0 ≡ spare }
-    ensures seats { IfOk result.1 (λ ended. vec_len ended.0 ≡ vec_len posts.entry) }
+    ensures seats { IfOk result.1 (λ ended. vec_len ended.0 ≡ vec_len setups.entry) }
 {
     let bell = &Bell::new();
     thread::join(
@@ -199,11 +199,11 @@ fn run_beside<
             ensures { result ≡ spare }
         { report_until(rt, host, spare, bell, reporter) },
         move || -> Result<CrewEnd<T, K, F>, OutOfMemory>
-            requires { vec_len seats ≡ vec_len posts }
-            ensures { IfOk result (λ ended. vec_len ended.0 ≡ vec_len posts.entry) }
+            requires { vec_len seats ≡ vec_len setups }
+            ensures { IfOk result (λ ended. vec_len ended.0 ≡ vec_len setups.entry) }
         {
             bell.ring(rt, Stage::Working);
-            let ended = run_crew(rt, alloc, host, seats, posts);
+            let ended = run_crew(rt, alloc, host, seats, setups);
             bell.ring(rt, Stage::Ended);
             ended
         },
@@ -228,15 +228,15 @@ pub(crate) fn run_told<
     host: &Host<W, T, K, F>,
     seats: Vec<Seat<T, K, F>>,
     spare: Option<Seat<T, K, F>>,
-    posts: Vec<Post<LiveSource<'_, L>, A, O>>,
+    setups: Vec<WorkerSetup<LiveSource<'_, L>, A, O>>,
     reporter: Option<&P>,
 ) -> Result<CrewEnd<T, K, F>, OutOfMemory>
-    requires { vec_len seats ≡ vec_len posts }
-    ensures { IfOk result (λ ended. vec_len ended.0 ≡ vec_len posts.entry + spare_count spare) }
+    requires { vec_len seats ≡ vec_len setups }
+    ensures { IfOk result (λ ended. vec_len ended.0 ≡ vec_len setups.entry + spare_count spare) }
 {
     let (spare, ended) = match reporter {
-        Some(reporter) => run_beside(rt, alloc, host, seats, spare, posts, reporter),
-        None => (spare, run_crew(rt, alloc, host, seats, posts)),
+        Some(reporter) => run_beside(rt, alloc, host, seats, spare, setups, reporter),
+        None => (spare, run_crew(rt, alloc, host, seats, setups)),
     };
     let (mut seats, tally) = ended?;
     put_spare(&mut seats, spare)?;

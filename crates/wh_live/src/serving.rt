@@ -4,7 +4,7 @@ ghost use Rattle.std.specs.Prelude.{◌≡◌, ◌≤◌, ◌+◌, ◌↔◌, Er
 ghost use Rattle.wh_host.specs.Machine.{IsConfig};
 
 use crate::connection::Connection;
-use crate::crews::posts_of;
+use crate::crews::setups_of;
 use crate::link_connection::LinkConnection;
 use crate::options::LiveOptions;
 use crate::reports::{CrewEnd, Reporter, run_told, take_spare, with_spare};
@@ -82,8 +82,8 @@ fn run_open<
 {
     let spare = take_spare(&mut seats, crew.len());
     let line = LinkConnection { rt, calls };
-    let posts = posts_of(alloc, &line, options, workers, crew)?;
-    let ended = run_told(rt, alloc, host, seats, spare, posts, reporter)?;
+    let setups = setups_of(alloc, &line, options, workers, crew)?;
+    let ended = run_told(rt, alloc, host, seats, spare, setups, reporter)?;
     give_up_queue(&line, options);
     Ok(ended)
 }
@@ -158,7 +158,7 @@ fn serve_with<
 /// members of the crew take all that a host may have.
 ///
 /// `BadConfig` where a size is not within its range, or there are not as many seats as members of
-/// the crew; `OutOfMemory` where no room was found. Then the crew is given up. (Temporal
+/// the crew; `OutOfMemory` where there was no memory. Then the crew is given up. (Temporal
 /// documentation, "Workers": a Worker Process.)
 pub fn serve_live<
     W: Workflow + Send,

@@ -2,7 +2,7 @@
 
 use crate::codes::Receipt;
 use crate::connection::Connection;
-use crate::desks::Desk;
+use crate::service_client::ServiceClient;
 use crate::tasks::{OpenTask, workflow_type};
 use wh_events::Event;
 use wh_replay::Answer;
@@ -39,14 +39,16 @@ fn type_of<'a>(open: &'a OpenTask, held: &'a [Event]) -> &'a str {
     }
 }
 
-impl<L: Connection> Desk<'_, L> {
+impl<L: Connection> ServiceClient<'_, L> {
     /// Tells how a workflow task ended that was replayed from these events, where tasks are told:
-    /// its run and type, how many events it came with, and whether it was a hit of the cache.
+    /// its run and type, how many events it came with, whether it was a hit of the cache, and how
+    /// many steps replay took.
     pub(crate) fn log_workflow(
         &self,
         open: &OpenTask,
         answer: &Answer,
         held: &[Event],
+        steps: u64,
         receipt: Receipt,
     ) {
         if !self.options.verbose {
@@ -58,7 +60,7 @@ impl<L: Connection> Desk<'_, L> {
         let (events, commands) = (open.events, count_commands(answer));
         let outcome = outcome_words(is_completed, receipt);
         if let Ok(text) = format!(in self.allocator();
-            "workflow {what}: {events} events, {found}, {commands} commands, {outcome}"
+            "workflow {what}: {events} events, {found}, {steps} steps, {commands} commands, {outcome}"
         ) {
             self.log_of(open, text.as_str());
         }

@@ -91,7 +91,7 @@ module _ (events : List Event) (event : Event) (jumps : List Jump) (jump : Jump)
 
 -- ---- where a jump comes to
 
--- what is two jumps behind is alike too
+-- what is two jumps before is alike too
 pub short_alike : (events : List Event) (jumps : List Jump) (role : Role) (from to : ℕ) → JumpsBack events jumps → IsAlike events role from → IsShort jumps from to → IsAlike events role to
 short_alike events jumps role from to back start (inl same) = rw (← same) start
 short_alike events jumps role from to back start (inr jumped) =

@@ -20,7 +20,7 @@ abbrev pub back_by : ℕ → Option ℕ → Option ℕ → Option ℕ
 back_by place None previous = previous
 back_by place (Some to) previous = if nat_lt place to then Some to else previous
 
--- the number is the one given, or two jumps behind it
+-- the number is the one given, or two jumps before it
 abbrev pub IsShort : List Jump → ℕ → ℕ → Type 0
 IsShort jumps from to =
     (from ≡ to) ⊎ ((middle : ℕ) × (jump_at jumps from ≡ Some middle) × (jump_at jumps middle ≡ Some to))

@@ -38,7 +38,7 @@ fn depth(jumps: &[Jump], number: EventNo) -> u64 {
 /// The jump of a thing that comes next after the one of the number. It goes there, or, where two
 /// jumps from there are equally long, past both: so a walk back takes steps in proportion to the
 /// logarithm of what it passes (E. W. Myers, "An applicative random-access stack", 1983).
-pub fn jump_behind(jumps: &[Jump], previous: EventNo) -> Jump
+pub fn jump_to(jumps: &[Jump], previous: EventNo) -> Jump
     ensures some { IsSome result.to }
     ensures short { IfSome result.to (IsShort jumps.now previous) }
 {

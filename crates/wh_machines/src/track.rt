@@ -14,7 +14,7 @@ ghost use Rattle.wh_machines.specs.Lookups.{thing_of, last_at, events_between};
 ghost use Rattle.wh_machines.specs.Tables.{IsSound, opening_in, named_in};
 
 use crate::fault::PushFault;
-use crate::jumps::{Jump, NO_JUMP, jump_behind, step_back};
+use crate::jumps::{Jump, NO_JUMP, jump_to, step_back};
 use crate::names::Names;
 use crate::note::note;
 use crate::openings::Openings;
@@ -208,7 +208,7 @@ impl Track {
     }
 
     /// The events strictly between two numbers, of which 0 stands before the first event and one
-    /// more than their count behind the last.
+    /// more than their count after the last.
     pub fn between(&self, from: u64, to: u64) -> &[Event]
         requires rising { from < to }
         requires within { to ≤ length self.now + 1 }
@@ -217,7 +217,7 @@ impl Track {
         &self.events[from as usize..(to - 1) as usize]
     }
 
-    /// A track of the same events. `OutOfMemory` where no room was found for it; this one stays as
+    /// A track of the same events. `OutOfMemory` where there was no memory for it; this one stays as
     /// it is.
     pub fn try_copy(&self) -> Result<Self, OutOfMemory>
         ensures { IfOk result (λ copy. copy ≡ self.now) }
@@ -272,7 +272,7 @@ impl Track {
             return NO_JUMP;
         };
         match self.names.last(thing, id) {
-            Some(previous) => jump_behind(&self.jumps, previous),
+            Some(previous) => jump_to(&self.jumps, previous),
             None => NO_JUMP,
         }
     }

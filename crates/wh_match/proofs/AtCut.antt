@@ -9,9 +9,9 @@ use Rattle.wh_machines.specs.Lookups.{thing_of, last_at, with_status, events_bet
 use Rattle.wh_machines.proofs.Histories.{place_none, later_none}
 use Rattle.wh_machines.proofs.OpenNamed.{open_if, open_named_last}
 use Rattle.wh_machines.proofs.Found.{is_named_kind}
-use Rattle.wh_workflow.specs.Scripts.{Standpoint, cancels_open, closer_of, has_outside}
+use Rattle.wh_workflow.specs.Scripts.{ActivationContext, cancels_open, closer_of, has_outside}
 use Rattle.wh_match.specs.declared.standing.Standing.{Standing}
-use Rattle.wh_match.specs.Issuing.{standpoint_at}
+use Rattle.wh_match.specs.Issuing.{context_at}
 use Rattle.wh_match.specs.Standings.{standing_of, standing_by}
 
 -- the first events of a history in place are in place
@@ -29,15 +29,15 @@ standing_in between None = record { is_open = false; is_cancelling = false; is_e
 standing_in between (Some last) = standing_by between last.1
 
 -- how things stand, where this one of them is open and that one is the last
-abbrev standing_with : Standpoint → Option ℕ → Option ℕ → Standing
-standing_with standpoint found last = record { is_open = is_some found; is_cancelling = cancels_open standpoint found; is_ended = has_outside (closer_of standpoint.seen last) standpoint.between }
+abbrev standing_with : ActivationContext → Option ℕ → Option ℕ → Standing
+standing_with context found last = record { is_open = is_some found; is_cancelling = cancels_open context found; is_ended = has_outside (closer_of context.seen last) context.between }
 
-standing_last : (standpoint : Standpoint) (last : Option ℕ) → standing_with standpoint (open_if standpoint.seen last) last ≡ standing_in standpoint.between (with_status standpoint.seen last)
-standing_last standpoint None = refl
-standing_last standpoint (Some number) = by (closed_by number standpoint.seen) (is_cancelling standpoint.seen number) (is_started standpoint.seen number) refl
+standing_last : (context : ActivationContext) (last : Option ℕ) → standing_with context (open_if context.seen last) last ≡ standing_in context.between (with_status context.seen last)
+standing_last context None = refl
+standing_last context (Some number) = by (closed_by number context.seen) (is_cancelling context.seen number) (is_started context.seen number) refl
   where
-    by : (closed : Option ℕ) (cancelling started : Bool) → is_cancelling standpoint.seen number ≡ cancelling
-        → record { is_open = is_some (cond (is_none closed) (Some number) None); is_cancelling = cancels_open standpoint (cond (is_none closed) (Some number) None); is_ended = has_outside closed standpoint.between } ≡ standing_by standpoint.between (status_by closed cancelling started)
+    by : (closed : Option ℕ) (cancelling started : Bool) → is_cancelling context.seen number ≡ cancelling
+        → record { is_open = is_some (cond (is_none closed) (Some number) None); is_cancelling = cancels_open context (cond (is_none closed) (Some number) None); is_ended = has_outside closed context.between } ≡ standing_by context.between (status_by closed cancelling started)
     by (Some closer) cancelling started e = refl
     by None true started e = ap (λ b. record { is_open = true; is_cancelling = b; is_ended = false }) e
     by None false true e = ap (λ b. record { is_open = true; is_cancelling = b; is_ended = false }) e
@@ -45,18 +45,18 @@ standing_last standpoint (Some number) = by (closed_by number standpoint.seen) (
 
 -- a look-up of the last thing tells how things stand
 pub standing_found : (events : List Event) (previous cut : ℕ) (kind : OpenKind) (id : List ℕ) → fault_after [] events ≡ None
-    → standing_of (standpoint_at events previous cut None) (thing_of kind) id ≡ standing_in (events_between events previous cut) (last_at events (thing_of kind) id cut)
+    → standing_of (context_at events previous cut None) (thing_of kind) id ≡ standing_in (events_between events previous cut) (last_at events (thing_of kind) id cut)
 standing_found events previous cut kind id placed =
-    let standpoint = standpoint_at events previous cut None in
+    let context = context_at events previous cut None in
     let thing = thing_of kind in
     let found = open_named_last thing id (take cut events) (is_named_kind kind) (first_placed cut [] events placed) in
-    ap (λ o. standing_with standpoint o (last_named (take cut events) thing id)) found ∙ standing_last standpoint (last_named (take cut events) thing id)
+    ap (λ o. standing_with context o (last_named (take cut events) thing id)) found ∙ standing_last context (last_named (take cut events) thing id)
 
 module _ (events : List Event) (previous cut : ℕ) (kind : OpenKind) (id : List ℕ) (placed : fault_after [] events ≡ None) (place : ℕ) (here : place ≡ cut) where
-  pub standing_absent : None ≡ last_at events (thing_of kind) id place → record { is_open = false; is_cancelling = false; is_ended = false } ≡ standing_of (standpoint_at events previous cut None) (thing_of kind) id
+  pub standing_absent : None ≡ last_at events (thing_of kind) id place → record { is_open = false; is_cancelling = false; is_ended = false } ≡ standing_of (context_at events previous cut None) (thing_of kind) id
   standing_absent h = sym (standing_found events previous cut kind id placed ∙ ap (standing_in (events_between events previous cut)) (ap (last_at events (thing_of kind) id) (sym here) ∙ sym h))
 
-  pub standing_told : (number : ℕ) (status : Status) → Some (number, status) ≡ last_at events (thing_of kind) id place → standing_by (events_between events previous place) status ≡ standing_of (standpoint_at events previous cut None) (thing_of kind) id
+  pub standing_told : (number : ℕ) (status : Status) → Some (number, status) ≡ last_at events (thing_of kind) id place → standing_by (events_between events previous place) status ≡ standing_of (context_at events previous cut None) (thing_of kind) id
   standing_told number status h =
       ap (λ n. standing_by (events_between events previous n) status) here
       ∙ sym (standing_found events previous cut kind id placed ∙ ap (standing_in (events_between events previous cut)) (ap (last_at events (thing_of kind) id) (sym here) ∙ sym h))

@@ -8,7 +8,7 @@ use Rattle.wh_workflow.specs.declared.command.Command.{Command}
 use Rattle.wh_workflow.specs.declared.fault.WorkflowFault.{WorkflowFault}
 use Rattle.wh_workflow.specs.declared.fault.WorkflowFault.TheVariants.{AfterClosing, TooManyCommands}
 use Rattle.wh_workflow.specs.Law.{is_marker}
-use Rattle.wh_workflow.specs.Scripts.{Standpoint, Settled, act_of, act_closes, some_act, fault_if, given, most_commands, act_fault, command_fault}
+use Rattle.wh_workflow.specs.Scripts.{ActivationContext, Settled, act_of, act_closes, some_act, fault_if, given, most_commands, act_fault, command_fault}
 use Rattle.wh_match.specs.Faults.{early_fault}
 use Rattle.wh_match.proofs.Judged.{fault_in_parts}
 
@@ -20,8 +20,8 @@ is_less : (n m : ℕ) → leb m n ≡ false → n < m
 is_less n m h = grind (arith, nat_tests)
 
 -- nothing forbids a command after the earlier ones
-pub unfaulted : (standpoint : Standpoint) (settled : Settled) (earlier : List Command) (command : Command) → None ≡ command_fault standpoint settled earlier command → early_fault earlier ≡ None
-unfaulted standpoint settled earlier command h = first_none (early_fault earlier) (act_fault standpoint settled earlier (act_of command)) (sym (fault_in_parts standpoint settled earlier command) ∙ sym h)
+pub unfaulted : (context : ActivationContext) (settled : Settled) (earlier : List Command) (command : Command) → None ≡ command_fault context settled earlier command → early_fault earlier ≡ None
+unfaulted context settled earlier command h = first_none (early_fault earlier) (act_fault context settled earlier (act_of command)) (sym (fault_in_parts context settled earlier command) ∙ sym h)
 
 pub still_few : (earlier : List Command) → early_fault earlier ≡ None → length (given earlier) < 4096
 still_few earlier h = is_less (length (given earlier)) most_commands (not_faulty (leb most_commands (length (given earlier))) TooManyCommands (second_none (fault_if (some_act act_closes earlier) AfterClosing) (fault_if (leb most_commands (length (given earlier))) TooManyCommands) h))

@@ -45,13 +45,13 @@ module _ (by : ℕ) where
       passed event (take m rest) (ne_eqb by event.number (omega arith)) ∙ before_all (n + 1) zero m rest numbered.1 (omega arith)
   before_all n (suc k) (suc m) (event ∷ rest) numbered h = before_all (n + 1) k m rest numbered.1 (omega arith)
 
-  behind_all : (n k m : ℕ) (events : List Event) → NumberedFrom n events → n + m < by → has_outside (Some by) (drop k (take m events)) ≡ false
-  behind_all n k m [] numbered h = none_among k m
-  behind_all n k zero (event ∷ rest) numbered h = none_taken k (event ∷ rest)
-  behind_all n zero (suc m) (event ∷ rest) numbered h =
+  after_all : (n k m : ℕ) (events : List Event) → NumberedFrom n events → n + m < by → has_outside (Some by) (drop k (take m events)) ≡ false
+  after_all n k m [] numbered h = none_among k m
+  after_all n k zero (event ∷ rest) numbered h = none_taken k (event ∷ rest)
+  after_all n zero (suc m) (event ∷ rest) numbered h =
       let number = numbered.0 in
-      passed event (take m rest) (ne_eqb by event.number (omega arith)) ∙ behind_all (n + 1) zero m rest numbered.1 (omega arith)
-  behind_all n (suc k) (suc m) (event ∷ rest) numbered h = behind_all (n + 1) k m rest numbered.1 (omega arith)
+      passed event (take m rest) (ne_eqb by event.number (omega arith)) ∙ after_all (n + 1) zero m rest numbered.1 (omega arith)
+  after_all n (suc k) (suc m) (event ∷ rest) numbered h = after_all (n + 1) k m rest numbered.1 (omega arith)
 
   shifted : (n : ℕ) (event : Event) (rest : List Event) → n + 1 < by → is_outside_in (slice_get rest (by - 1 - (n + 1))) ≡ is_outside_in (slice_get (event ∷ rest) (by - 1 - n))
   shifted n event rest h =
@@ -88,8 +88,8 @@ module _ (events : List Event) (previous cut by : ℕ) (placed : fault_after [] 
   pub none_before : by ≤ previous → has_outside (Some by) (events_between events previous cut) ≡ false
   none_before h = before_all by 0 previous (cut - 1) events numbers (omega arith)
 
-  pub none_behind : 0 < by → cut ≤ by → has_outside (Some by) (events_between events previous cut) ≡ false
-  none_behind positive h = behind_all by 0 previous (cut - 1) events numbers (omega arith)
+  pub none_after : 0 < by → cut ≤ by → has_outside (Some by) (events_between events previous cut) ≡ false
+  none_after positive h = after_all by 0 previous (cut - 1) events numbers (omega arith)
 
   -- and a number between is that of the event at its place, if there is one
   pub found_between : previous < by → by < cut → has_outside (Some by) (events_between events previous cut) ≡ is_outside_in (slice_get events (by - 1))

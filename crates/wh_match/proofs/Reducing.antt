@@ -1,40 +1,40 @@
--- What a script sends is what is sent at its standpoint, where its marks are of that standpoint.
+-- What a script sends is what is sent at its context, where its marks are of that context.
 use Rattle.std.proofs.Common.{◌≡◌, ℕ, ◌+◌, ◌-◌, ◌<◌, Bool, true, false, cond, List, [], ◌∷◌, ◌++◌, length, get_or, take, drop, refl, sym, ap, ◌∙◌, append_assoc, arith}
 use Rattle.std.proofs.lemmas.List.{append-nil, take_more, drop_more, take_rest}
 use Rattle.wh_workflow.specs.declared.command.Command.{Command}
-use Rattle.wh_workflow.specs.Scripts.{Standpoint, Act, act_of, is_sent_act, sent_after, reduced}
+use Rattle.wh_workflow.specs.Scripts.{ActivationContext, Act, act_of, is_sent_act, sent_after, reduced}
 use Rattle.wh_workflow.specs.Scripts.Act.{Opening, Cancelling, Closing, Asking, Other}
 use Rattle.wh_match.specs.Issuing.{is_late_act, late_after, late_marks, is_sent_by, sent_by, reduced_by}
 
-late_after-push : (standpoint : Standpoint) (earlier issued : List Command) (command : Command) → late_after standpoint earlier (issued ++ command ∷ []) ≡ late_after standpoint earlier issued ++ is_late_act standpoint (earlier ++ issued) (act_of command) ∷ []
-late_after-push standpoint earlier [] command = ap (λ l. is_late_act standpoint l (act_of command) ∷ []) (sym (append-nil earlier))
-late_after-push standpoint earlier (first ∷ rest) command =
-    let later = late_after-push standpoint (earlier ++ first ∷ []) rest command in
+late_after-push : (context : ActivationContext) (earlier issued : List Command) (command : Command) → late_after context earlier (issued ++ command ∷ []) ≡ late_after context earlier issued ++ is_late_act context (earlier ++ issued) (act_of command) ∷ []
+late_after-push context earlier [] command = ap (λ l. is_late_act context l (act_of command) ∷ []) (sym (append-nil earlier))
+late_after-push context earlier (first ∷ rest) command =
+    let later = late_after-push context (earlier ++ first ∷ []) rest command in
     let joined = append_assoc earlier (first ∷ []) rest in
-    ap (λ l. is_late_act standpoint earlier (act_of first) ∷ l) (later ∙ ap (λ l. late_after standpoint (earlier ++ first ∷ []) rest ++ is_late_act standpoint l (act_of command) ∷ []) joined)
+    ap (λ l. is_late_act context earlier (act_of first) ∷ l) (later ∙ ap (λ l. late_after context (earlier ++ first ∷ []) rest ++ is_late_act context l (act_of command) ∷ []) joined)
 
 -- one more command has a mark more
-pub late_marks-push : (standpoint : Standpoint) (issued : List Command) (command : Command) → late_marks standpoint (issued ++ command ∷ []) ≡ late_marks standpoint issued ++ is_late_act standpoint issued (act_of command) ∷ []
-late_marks-push standpoint issued command = late_after-push standpoint [] issued command
+pub late_marks-push : (context : ActivationContext) (issued : List Command) (command : Command) → late_marks context (issued ++ command ∷ []) ≡ late_marks context issued ++ is_late_act context issued (act_of command) ∷ []
+late_marks-push context issued command = late_after-push context [] issued command
 
-sent_alike : (standpoint : Standpoint) (earlier later : List Command) (act : Act) → is_sent_by (is_late_act standpoint earlier act) earlier later act ≡ is_sent_act standpoint earlier later act
-sent_alike standpoint earlier later (Opening thing id) = refl
-sent_alike standpoint earlier later (Cancelling thing id) = refl
-sent_alike standpoint earlier later (Asking change_id low high) = refl
-sent_alike standpoint earlier later Closing = refl
-sent_alike standpoint earlier later Other = refl
+sent_alike : (context : ActivationContext) (earlier later : List Command) (act : Act) → is_sent_by (is_late_act context earlier act) earlier later act ≡ is_sent_act context earlier later act
+sent_alike context earlier later (Opening thing id) = refl
+sent_alike context earlier later (Cancelling thing id) = refl
+sent_alike context earlier later (Asking change_id low high) = refl
+sent_alike context earlier later Closing = refl
+sent_alike context earlier later Other = refl
 
-sent_by-standpoint : (standpoint : Standpoint) (earlier issued : List Command) → sent_by earlier (late_after standpoint earlier issued) issued ≡ sent_after standpoint earlier issued
-sent_by-standpoint standpoint earlier [] = refl
-sent_by-standpoint standpoint earlier (command ∷ later) =
-    let more = sent_by-standpoint standpoint (earlier ++ command ∷ []) later in
-    let sent = sent_alike standpoint earlier later (act_of command) in
-    ap (λ l. cond (is_sent_by (is_late_act standpoint earlier (act_of command)) earlier later (act_of command)) (command ∷ l) l) more
-    ∙ ap (λ b. cond b (command ∷ sent_after standpoint (earlier ++ command ∷ []) later) (sent_after standpoint (earlier ++ command ∷ []) later)) sent
+sent_by-context : (context : ActivationContext) (earlier issued : List Command) → sent_by earlier (late_after context earlier issued) issued ≡ sent_after context earlier issued
+sent_by-context context earlier [] = refl
+sent_by-context context earlier (command ∷ later) =
+    let more = sent_by-context context (earlier ++ command ∷ []) later in
+    let sent = sent_alike context earlier later (act_of command) in
+    ap (λ l. cond (is_sent_by (is_late_act context earlier (act_of command)) earlier later (act_of command)) (command ∷ l) l) more
+    ∙ ap (λ b. cond b (command ∷ sent_after context (earlier ++ command ∷ []) later) (sent_after context (earlier ++ command ∷ []) later)) sent
 
--- commands that are marked at a standpoint are reduced as there
-pub reduced_by-standpoint : (standpoint : Standpoint) (issued : List Command) → reduced_by (late_marks standpoint issued) issued ≡ reduced standpoint issued
-reduced_by-standpoint standpoint issued = sent_by-standpoint standpoint [] issued
+-- commands that are marked at a context are reduced as there
+pub reduced_by-context : (context : ActivationContext) (issued : List Command) → reduced_by (late_marks context issued) issued ≡ reduced context issued
+reduced_by-context context issued = sent_by-context context [] issued
 
 module _ (late : List Bool) (issued : List Command) (place : ℕ) (command : Command) (within : place < length issued) (each : length late ≡ length issued) (here : command ≡ get_or issued place command) where
   -- what is sent of the commands after this one

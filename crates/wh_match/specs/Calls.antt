@@ -2,8 +2,8 @@
 use Rattle.std.specs.Prelude.{◌≡◌, ℕ, ℤ, List, [], ◌∷◌, Option}
 use Rattle.wh_events.specs.declared.event.Event.{Event}
 use Rattle.wh_workflow.specs.declared.command.Command.{Command}
-use Rattle.wh_workflow.specs.Scripts.{Standpoint, Choice, act_of, reduced}
-use Rattle.wh_match.specs.Issuing.{Issuing, standpoint_at, standpoint_in, is_late_act, late_marks, with_issued, with_asked, reduced_by}
+use Rattle.wh_workflow.specs.Scripts.{ActivationContext, Choice, act_of, reduced}
+use Rattle.wh_match.specs.Issuing.{Issuing, context_at, context_in, is_late_act, late_marks, with_issued, with_asked, reduced_by}
 
 -- an accepted call: a command, or an ask, with the version that it got
 pub data Call : Type 0 where
@@ -13,7 +13,7 @@ pub data Call : Type 0 where
 -- the script after a call
 abbrev pub after_call : List Event → Option (List Event) → Issuing → Call → Issuing
 after_call events recorded script (issue command) =
-    with_issued script command (is_late_act (standpoint_in events script recorded) script.issued (act_of command))
+    with_issued script command (is_late_act (context_in events script recorded) script.issued (act_of command))
 after_call events recorded script (ask change_id low high choice) = with_asked script change_id low high choice
 
 -- the script after the calls, one after the other
@@ -26,22 +26,22 @@ after_calls events recorded script (call ∷ calls) =
 abbrev pub begun : ℕ → ℕ → Issuing
 begun previous cut = record { previous = previous; cut = cut; issued = []; late = [] }
 
--- the marks are those of the standpoint
-abbrev pub IsMarked : Standpoint → Issuing → Type 0
-IsMarked standpoint script = script.late ≡ late_marks standpoint script.issued
+-- the marks are those of the context
+abbrev pub IsMarked : ActivationContext → Issuing → Type 0
+IsMarked context script = script.late ≡ late_marks context script.issued
 
--- what is sent by marks of a standpoint is what is sent there
+-- what is sent by marks of a context is what is sent there
 abbrev pub MarksReduce : Type 0
 MarksReduce =
-    (standpoint : Standpoint) (issued : List Command)
-    → reduced_by (late_marks standpoint issued) issued ≡ reduced standpoint issued
+    (context : ActivationContext) (issued : List Command)
+    → reduced_by (late_marks context issued) issued ≡ reduced context issued
 
--- no list of calls makes a script's marks others than those of its standpoint
+-- no list of calls makes a script's marks others than those of its context
 abbrev pub CallsKeepMarks : Type 0
 CallsKeepMarks =
     (events : List Event) (recorded : Option (List Event)) (script : Issuing) (calls : List Call)
-    → IsMarked (standpoint_in events script recorded) script
-    → IsMarked (standpoint_in events script recorded) (after_calls events recorded script calls)
+    → IsMarked (context_in events script recorded) script
+    → IsMarked (context_in events script recorded) (after_calls events recorded script calls)
 
 -- what is sent after a list of calls from the beginning
 abbrev pub sent_of : List Event → Option (List Event) → ℕ → ℕ → List Call → List Command
@@ -49,10 +49,10 @@ sent_of events recorded previous cut calls =
     reduced_by (after_calls events recorded (begun previous cut) calls).late
     (after_calls events recorded (begun previous cut) calls).issued
 
--- after each list of calls from the beginning, what is sent is what is sent of the issued commands at the standpoint
+-- after each list of calls from the beginning, what is sent is what is sent of the issued commands at the context
 abbrev pub CallsReduce : Type 0
 CallsReduce =
     (events : List Event) (recorded : Option (List Event)) (previous cut : ℕ) (calls : List Call)
     → sent_of events recorded previous cut calls
-    ≡ reduced (standpoint_at events previous cut recorded)
+    ≡ reduced (context_at events previous cut recorded)
     (after_calls events recorded (begun previous cut) calls).issued

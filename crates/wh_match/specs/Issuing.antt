@@ -4,7 +4,7 @@ use Rattle.wh_events.specs.declared.event.Event.{Event}
 use Rattle.wh_machines.specs.Lookups.{events_between}
 use Rattle.wh_workflow.specs.declared.command.Command.{Command}
 use Rattle.wh_workflow.specs.declared.command.Command.TheVariants.{Ask}
-use Rattle.wh_workflow.specs.Scripts.{Standpoint, Settled, Choice, Act, act_of, act_cancels, some_act, left_open, is_late, choice_by, lookup_version}
+use Rattle.wh_workflow.specs.Scripts.{ActivationContext, Settled, Choice, Act, act_of, act_cancels, some_act, left_open, is_late, choice_by, lookup_version}
 use Rattle.wh_workflow.specs.Scripts.Act.{Opening, Cancelling, Asking}
 use Rattle.wh_workflow.specs.Activations.{marker_if}
 
@@ -18,28 +18,28 @@ pub record Issuing : Type 0 where
   pub late : List Bool
 
 -- what an activation knows at the cut of a number, after the cut before
-abbrev pub standpoint_at : List Event → ℕ → ℕ → Option (List Event) → Standpoint
-standpoint_at events previous cut recorded =
+abbrev pub context_at : List Event → ℕ → ℕ → Option (List Event) → ActivationContext
+context_at events previous cut recorded =
     record { seen = take cut events; between = events_between events previous cut; recorded = recorded }
 
 -- what it knows where these commands are issued
-abbrev pub standpoint_in : List Event → Issuing → Option (List Event) → Standpoint
-standpoint_in events script recorded = standpoint_at events script.previous script.cut recorded
+abbrev pub context_in : List Event → Issuing → Option (List Event) → ActivationContext
+context_in events script recorded = context_at events script.previous script.cut recorded
 
 -- a command that does this is a late cancel after the earlier ones
-abbrev pub is_late_act : Standpoint → List Command → Act → Bool
-is_late_act standpoint earlier (Cancelling thing id) = is_late standpoint earlier thing id
-is_late_act standpoint earlier _ = false
+abbrev pub is_late_act : ActivationContext → List Command → Act → Bool
+is_late_act context earlier (Cancelling thing id) = is_late context earlier thing id
+is_late_act context earlier _ = false
 
 -- of each of the commands after the earlier ones, whether it is a late cancel
-abbrev pub late_after : Standpoint → List Command → List Command → List Bool
-late_after standpoint earlier [] = []
-late_after standpoint earlier (command ∷ rest) =
-    is_late_act standpoint earlier (act_of command) ∷ late_after standpoint (earlier ++ command ∷ []) rest
+abbrev pub late_after : ActivationContext → List Command → List Command → List Bool
+late_after context earlier [] = []
+late_after context earlier (command ∷ rest) =
+    is_late_act context earlier (act_of command) ∷ late_after context (earlier ++ command ∷ []) rest
 
 -- of each of the issued commands, whether it is a late cancel
-abbrev pub late_marks : Standpoint → List Command → List Bool
-late_marks standpoint issued = late_after standpoint [] issued
+abbrev pub late_marks : ActivationContext → List Command → List Bool
+late_marks context issued = late_after context [] issued
 
 -- with one more command
 abbrev pub with_issued : Issuing → Command → Bool → Issuing

@@ -7,7 +7,7 @@ use Rattle.wh_events.specs.declared.place.Thing.{Thing}
 use Rattle.wh_events.specs.Cuts.{is_outside}
 use Rattle.wh_events.specs.Machines.{open_named, last_named}
 use Rattle.wh_machines.specs.Lookups.{thing_of}
-use Rattle.wh_workflow.specs.Scripts.{Standpoint, Act, open_at, cancels_open, closer_of, has_outside}
+use Rattle.wh_workflow.specs.Scripts.{ActivationContext, Act, open_at, cancels_open, closer_of, has_outside}
 use Rattle.wh_workflow.specs.Scripts.Act.{Opening, Cancelling, Closing, Asking, Other as OtherAct}
 use Rattle.wh_match.specs.declared.act.Act.{Act as CodeAct}
 use Rattle.wh_match.specs.declared.act.Act.TheVariants.{Opens, Cancels, Closes, Asks, Other}
@@ -22,11 +22,11 @@ act_seen (Asks change_id min max) = Asking change_id.now min max
 act_seen Other = OtherAct
 
 -- how the things of a kind under an id stand at a cut
-abbrev pub standing_of : Standpoint → Thing → List ℕ → Standing
-standing_of standpoint thing id = record {
-  is_open = open_at standpoint thing id;
-  is_cancelling = cancels_open standpoint (open_named standpoint.seen thing id);
-  is_ended = has_outside (closer_of standpoint.seen (last_named standpoint.seen thing id)) standpoint.between;
+abbrev pub standing_of : ActivationContext → Thing → List ℕ → Standing
+standing_of context thing id = record {
+  is_open = open_at context thing id;
+  is_cancelling = cancels_open context (open_named context.seen thing id);
+  is_ended = has_outside (closer_of context.seen (last_named context.seen thing id)) context.between;
 }
 
 -- how they stand, by the status of the last of them at the cut

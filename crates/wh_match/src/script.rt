@@ -10,9 +10,9 @@ ghost use Rattle.std.specs.Result.{result_err};
 ghost use Rattle.std.specs.Vec.{vec_capacity};
 ghost use Rattle.wh_machines.specs.Lookups.{thing_of};
 ghost use Rattle.wh_workflow.specs.Law.{is_ask, is_marker};
-ghost use Rattle.wh_workflow.specs.Scripts.{Standpoint, Settled, act_of, act_fault, command_fault, with_version};
+ghost use Rattle.wh_workflow.specs.Scripts.{ActivationContext, Settled, act_of, act_fault, command_fault, with_version};
 ghost use Rattle.wh_match.specs.Faults.{early_fault, range_fault, workflow_fault};
-ghost use Rattle.wh_match.specs.Issuing.{standpoint_in, is_late_act, with_issued, with_asked};
+ghost use Rattle.wh_match.specs.Issuing.{context_in, is_late_act, with_issued, with_asked};
 ghost use Rattle.wh_match.specs.Issuing.{choice_in, unmarked_if, reduced_by};
 ghost use Rattle.wh_match.specs.Standings.{standing_of};
 
@@ -85,7 +85,7 @@ impl Script {
     /// Takes the next command, which is neither an ask nor a marker, and judges it by how things
     /// stood at the cut and by the commands before it; later events of the track change nothing.
     /// Where the cut before is not below the cut, no event stands between them; where the track
-    /// does not hold the cut, all its events are seen, and those behind the cut before are between.
+    /// does not hold the cut, all its events are seen, and those after the cut before are between.
     ///
     /// `Workflow` where the command can't stand, with the least fault that it has; this comes
     /// before `OutOfMemory`. After either the script is as it was.
@@ -93,10 +93,10 @@ impl Script {
         requires not_ask { is_ask command ≡ false }
         requires not_marker { is_marker command ≡ false }
         ensures fault { (recorded : Option (List Event)) (settled : Settled) →
-            let standpoint = standpoint_in track.now self.old recorded in
-            workflow_fault result ≡ command_fault standpoint settled self.old.issued command }
+            let context = context_in track.now self.old recorded in
+            workflow_fault result ≡ command_fault context settled self.old.issued command }
         ensures ok { let late : Option (List Event) → Bool
-            = λ recorded. is_late_act (standpoint_in track.now self.old recorded) self.old.issued (act_of command) in
+            = λ recorded. is_late_act (context_in track.now self.old recorded) self.old.issued (act_of command) in
             OnOk result ((recorded : Option (List Event)) → self.new ≡ with_issued self.old command (late recorded)) }
         ensures err { OnErr result (self.new ≡ self.old) }
     {
@@ -129,9 +129,9 @@ impl Script {
     ) -> Result<i32, ScriptFault>
         ensures fault { (seen between : List Event) →
             let there = option_map (λ events. commanded events.now) recorded.entry in
-            let standpoint : Standpoint = record { seen = seen; between = between; recorded = there } in
+            let context : ActivationContext = record { seen = seen; between = between; recorded = there } in
             let ask = Command.Ask change_id.now min max in
-            workflow_fault result ≡ command_fault standpoint versions.old self.old.issued ask }
+            workflow_fault result ≡ command_fault context versions.old self.old.issued ask }
         ensures version { let there = option_map (λ events. commanded events.now) recorded.entry in
             let choice = choice_in there versions.old change_id.now max in
             IfOk result (λ version. version ≡ choice.version) }
@@ -194,9 +194,9 @@ impl Script {
         ensures fault { (seen between : List Event) →
             let asked = question.entry in
             let there = option_map (λ events. commanded events.now) recorded.entry in
-            let standpoint : Standpoint = record { seen = seen; between = between; recorded = there } in
+            let context : ActivationContext = record { seen = seen; between = between; recorded = there } in
             let ask = Command.Ask asked.change_id.now asked.min asked.max in
-            workflow_fault result ≡ command_fault standpoint versions.old self.old.issued ask }
+            workflow_fault result ≡ command_fault context versions.old self.old.issued ask }
         ensures version { let asked = question.entry in
             let there = option_map (λ events. commanded events.now) recorded.entry in
             let choice = choice_in there versions.old asked.change_id.now asked.max in
@@ -250,7 +250,7 @@ impl Script {
 
     /// How the things of a kind under an id stand at the cut.
     fn standing(&self, track: &Track, kind: OpenKind, id: &str) -> Standing
-        ensures { result ≡ standing_of (standpoint_in track.now self.now None) (thing_of kind) id.now }
+        ensures { result ≡ standing_of (context_in track.now self.now None) (thing_of kind) id.now }
     {
         standing_at(track, self.previous, self.cut, kind, id)
     }
@@ -259,10 +259,10 @@ impl Script {
     #[tactic(auto, unfolding(wh_workflow::specs::Scripts::opening_fault, wh_workflow::specs::Scripts::cancel_fault))]
     fn judge_act(&self, track: &Track, command: &Command) -> Result<bool, WorkflowFault>
         requires not_ask { is_ask command.now ≡ false }
-        ensures fault { let standpoint = standpoint_in track.now self.now None in
-            result_err result ≡ act_fault standpoint [] self.now.issued (act_of command.now) }
-        ensures late { let standpoint = standpoint_in track.now self.now None in
-            IfOk result (λ late. late ≡ is_late_act standpoint self.now.issued (act_of command.now)) }
+        ensures fault { let context = context_in track.now self.now None in
+            result_err result ≡ act_fault context [] self.now.issued (act_of command.now) }
+        ensures late { let context = context_in track.now self.now None in
+            IfOk result (λ late. late ≡ is_late_act context self.now.issued (act_of command.now)) }
     {
         let earlier = self.issued.as_slice();
         match read_act(command) {
@@ -284,10 +284,10 @@ impl Script {
     fn judge(&self, track: &Track, command: &Command) -> Result<bool, WorkflowFault>
         requires not_ask { is_ask command.now ≡ false }
         ensures fault { (recorded : Option (List Event)) (settled : Settled) →
-            let standpoint = standpoint_in track.now self.now recorded in
-            result_err result ≡ command_fault standpoint settled self.now.issued command.now }
-        ensures late { let standpoint = standpoint_in track.now self.now None in
-            IfOk result (λ late. late ≡ is_late_act standpoint self.now.issued (act_of command.now)) }
+            let context = context_in track.now self.now recorded in
+            result_err result ≡ command_fault context settled self.now.issued command.now }
+        ensures late { let context = context_in track.now self.now None in
+            IfOk result (λ late. late ≡ is_late_act context self.now.issued (act_of command.now)) }
     {
         match self.early_fault() {
             Some(fault) => Err(fault),

@@ -3,7 +3,7 @@ ghost use Rattle.std.specs.Prelude.{◌≡◌, ◌-◌, [], Some, None, slice_ge
 ghost use Rattle.wh_events.specs.Places.{fault_after};
 ghost use Rattle.wh_machines.specs.Lookups.{thing_of, events_between};
 ghost use Rattle.wh_workflow.specs.Scripts.{has_outside};
-ghost use Rattle.wh_match.specs.Issuing.{standpoint_at};
+ghost use Rattle.wh_match.specs.Issuing.{context_at};
 ghost use Rattle.wh_match.specs.Standings.{standing_of, standing_by, is_outside_in};
 
 use wh_events::{Class, Event, EventNo, OpenKind, Status};
@@ -72,7 +72,7 @@ pub(crate) fn standing_at(
     kind: OpenKind,
     id: &str,
 ) -> Standing
-    ensures { result ≡ standing_of (standpoint_at track.now previous cut None) (thing_of kind) id.now }
+    ensures { result ≡ standing_of (context_at track.now previous cut None) (thing_of kind) id.now }
 {
     let events = track.events();
     let place = cut.get();

@@ -64,7 +64,7 @@ module _ (names : WorkerNames) (options : ActivityOptions) (events : List Event)
       ∙ ap (λ xs. xs ++ map Some cs) (map_append (command_in events) before (d ∷ []) ∙ ap (λ x. reads before ++ x ∷ []) (command_back names options events c d history sent e))
       ∙ append_assoc (reads before) (Some c ∷ []) (map Some cs)
 
-  -- commands that were written after others are read behind them
+  -- commands that were written after others are read after them
   commands_back : (cs : List Command) (before ds : List Data) → AreSent cs → written_after write before cs ≡ Ok ds
       → reads ds ≡ reads before ++ map Some cs
   commands_back [] before ds sent is = ap reads (sym (lists_same (Ok before) before ds refl is)) ∙ sym (append-nil _)

@@ -163,7 +163,7 @@ written names options events (commands.Fail message) = Ok (fail message)
 written names options events commands.Cancel = Ok cancel
 written names options events (commands.ContinueAsNew workflow input) = Ok (continue_as_new names workflow input)
 
--- these, and how the commands behind them are written, one after another; or the first fault
+-- these, and how the commands after them are written, one after another; or the first fault
 abbrev pub written_after : (Command → Result Data RequestFault) → List Data → List Command → Result (List Data) RequestFault
 written_after write before [] = Ok before
 written_after write before (command ∷ commands) =

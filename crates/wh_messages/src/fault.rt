@@ -12,7 +12,7 @@ pub enum RequestFault {
     NotScheduled { activity_id: Text },
     /// The version of the change of this name is asked for. Asks are never sent.
     NeverSent { change_id: Text },
-    /// No room was found. This can come in place of every request and every fault.
+    /// There was no memory. This can come in place of every request and every fault.
     OutOfMemory,
 }
 

@@ -22,7 +22,7 @@ pub struct WorkerNames {
 
 impl WorkerNames {
     /// The names of a worker. Its sticky queue is named by the identity and the Task Queue, with a
-    /// colon between them. `OutOfMemory` where no room was found for that name.
+    /// colon between them. `OutOfMemory` where there was no memory for that name.
     pub fn new(
         alloc: Global,
         namespace: String,

@@ -66,7 +66,7 @@ fn poll(alloc: Global, names: &WorkerNames, queue: Value) -> Result<Value, Alloc
 }
 
 /// The request of `PollWorkflowTaskQueue`, of the sticky queue or of the one that all workers poll.
-/// `OutOfMemory` where no room was found for it.
+/// `OutOfMemory` where there was no memory for it.
 pub fn poll_workflow(alloc: Global, names: &WorkerNames, sticky: bool) -> Result<Value, OutOfMemory>
     ensures { IfOk result (λ params. view params ≡ spec.poll_workflow names.now sticky) }
 {
@@ -78,7 +78,7 @@ pub fn poll_workflow(alloc: Global, names: &WorkerNames, sticky: bool) -> Result
     Ok(poll(alloc, names, queue?)?)
 }
 
-/// The request of `PollActivityTaskQueue`. `OutOfMemory` where no room was found for it.
+/// The request of `PollActivityTaskQueue`. `OutOfMemory` where there was no memory for it.
 pub fn poll_activity(alloc: Global, names: &WorkerNames) -> Result<Value, OutOfMemory>
     ensures { IfOk result (λ params. view params ≡ spec.poll_activity names.now) }
 {
@@ -105,7 +105,7 @@ fn put_page(members: &mut Members, alloc: Global, page: &str) -> Result<(), Allo
 }
 
 /// The request of `GetWorkflowExecutionHistory` for the page of a token, or for the first page where
-/// the token is empty. `OutOfMemory` where no room was found for it.
+/// the token is empty. `OutOfMemory` where there was no memory for it.
 pub fn history(
     alloc: Global,
     names: &WorkerNames,
@@ -266,7 +266,7 @@ pub fn workflow_failed(
 }
 
 /// The request of `RespondQueryTaskCompleted` for a query that is not answered, with the reason.
-/// `OutOfMemory` where no room was found for it.
+/// `OutOfMemory` where there was no memory for it.
 pub fn query_failed(
     alloc: Global,
     names: &WorkerNames,
@@ -289,7 +289,7 @@ pub fn query_failed(
 }
 
 /// The request of `RespondActivityTaskCompleted`, with the activity's result. `OutOfMemory` where no
-/// room was found for it.
+/// memory was left for it.
 pub fn activity_completed(
     alloc: Global,
     names: &WorkerNames,
@@ -303,7 +303,7 @@ pub fn activity_completed(
     Ok(Value::Object(members))
 }
 
-/// The request of `RespondActivityTaskFailed`, with the reason. `OutOfMemory` where no room was found
+/// The request of `RespondActivityTaskFailed`, with the reason. `OutOfMemory` where there was no memory
 /// for it.
 pub fn activity_failed(
     alloc: Global,

@@ -195,7 +195,7 @@ fn page_in(alloc: Global, value: Value) -> Result<Option<HistoryPage>, OutOfMemo
 
 /// Reads a result of `GetWorkflowExecutionHistory`: a page of the history, which may be empty. Its
 /// members are those of the result, not copies. `None` where the list of events is no list or the
-/// token is no text. `OutOfMemory` where no room was found for the token.
+/// token is no text. `OutOfMemory` where there was no memory for the token.
 pub fn history_page(alloc: Global, value: Value) -> Result<Option<HistoryPage>, OutOfMemory>
     ensures { IfOk result (λ page. option_map page_seen page ≡ spec.page_in (view value)) }
 {
@@ -278,7 +278,7 @@ fn task_in(alloc: Global, token: Text, value: Value) -> Result<Option<PolledTask
 /// Reads a result of `PollWorkflowTaskQueue`. Without a token it is an empty poll; else a query that
 /// came by itself, or a task. The members of the task's history are those of the result, not copies.
 /// A task without the ids of its run, or with a field of another form, is unreadable. `OutOfMemory`
-/// where no room was found for its texts.
+/// where there was no memory for its texts.
 pub fn workflow_poll(alloc: Global, value: Value) -> Result<WorkflowPoll, OutOfMemory>
     ensures { IfOk result (λ poll. poll_seen poll ≡ spec.workflow_poll (view value)) }
 {
@@ -350,7 +350,7 @@ fn activity_in(
 
 /// Reads a result of `PollActivityTaskQueue`. Without a token it is an empty poll; else a task. A task
 /// without the ids of its run and of its activity, without a type, or with a field of another form, is
-/// unreadable. `OutOfMemory` where no room was found for its texts and payloads.
+/// unreadable. `OutOfMemory` where there was no memory for its texts and payloads.
 pub fn activity_poll(alloc: Global, value: &Value) -> Result<ActivityPoll, OutOfMemory>
     ensures { IfOk result (λ poll. poll ≡ spec.activity_poll (view value.now)) }
 {

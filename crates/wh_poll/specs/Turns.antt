@@ -8,8 +8,8 @@ use Rattle.wh_tasks.specs.declared.source.SourceFault.{SourceFault}
 use Rattle.wh_tasks.specs.Source.{Answers, Answerable, Delivers, Tells, FailsOnly, KeepsOrigin, RoseIfFailed, SameMay, SameTasks}
 use Rattle.wh_poll.specs.declared.observer.NoObserver.{NoObserver}
 use Rattle.wh_poll.specs.declared.serve.Served.{Served}
-use Rattle.wh_poll.specs.declared.post.Post.{Post}
-use Rattle.wh_poll.specs.declared.post.Left.{Left}
+use Rattle.wh_poll.specs.declared.setup.WorkerSetup.{WorkerSetup}
+use Rattle.wh_poll.specs.declared.setup.WorkerEnd.{WorkerEnd}
 use Rattle.wh_poll.specs.declared.workers.Rota.{Rota}
 use Rattle.wh_poll.specs.declared.workers.Worker.{Worker}
 use Rattle.wh_poll.specs.Serve.{Serves, Counts}
@@ -28,7 +28,7 @@ Hears O = O → Turn → O → Type 0
 -- keep, the fault that it keeps, and what its observer is told
 pub record IsTurn {P S A O : Type 0} (program : Program P) (tells : S → Tells) (delivers : S → Delivers)
     (answers : S → Answers) (failures : S → ℕ) (comes_from : S → S → Type 0) (may : A → Answerable) (hears : Hears O)
-    (kind : SlotKind) (old : Left S A O) (turn : Turn) (new : Left S A O) : Type 0 where
+    (kind : SlotKind) (old : WorkerEnd S A O) (turn : Turn) (new : WorkerEnd S A O) : Type 0 where
   pub serves : Serves kind program (tells old.source) (delivers old.source) (may old.handler)
       (answers old.source) (answers new.source) turn
   pub counts : Counts old.counted new.counted turn
@@ -53,27 +53,27 @@ Ends step count turns rota old new =
     ((length turns ≡ count) × (new ≡ old))
     ⊎ ((turn : Turn) × step rota.kind old turn new × (is_last rota.other_closed turn ≡ true) × (length turns < count))
 
--- what a worker has at its post before its first turn
-abbrev pub at_first : {S A O : Type 0} → Shares → Post S A O → Left S A O
-at_first counted post =
-    record { counted = counted; source = post.source; handler = post.handler; observer = post.observer; fault = None }
+-- what a worker has at its setup before its first turn
+abbrev pub at_first : {S A O : Type 0} → Shares → WorkerSetup S A O → WorkerEnd S A O
+at_first counted setup =
+    record { counted = counted; source = setup.source; handler = setup.handler; observer = setup.observer; fault = None }
 
--- the turns of a post led to what is left: workflow and activity tasks by turns, workflow tasks first, a closed kind
+-- the turns of a setup led to what is left: workflow and activity tasks by turns, workflow tasks first, a closed kind
 -- not again, until both are closed, the host drains or all turns are done; its observer was told of each turn
 pub record IsLedBy {P S A O : Type 0} (program : Program P) (tells : S → Tells) (delivers : S → Delivers)
     (answers : S → Answers) (failures : S → ℕ) (comes_from : S → S → Type 0) (may : A → Answerable) (hears : Hears O)
-    (counted : Shares) (post : Post S A O) (left : Left S A O) : Type 0 where
+    (counted : Shares) (setup : WorkerSetup S A O) (left : WorkerEnd S A O) : Type 0 where
   pub turns : List Turn
   pub rota : Rota
-  pub before : Left S A O
+  pub before : WorkerEnd S A O
   pub led : GoesOn (IsTurn program tells delivers answers failures comes_from may hears)
-      first_rota (at_first counted post) turns rota before
-  pub ended : Ends (IsTurn program tells delivers answers failures comes_from may hears) post.turns turns rota before left
+      first_rota (at_first counted setup) turns rota before
+  pub ended : Ends (IsTurn program tells delivers answers failures comes_from may hears) setup.turns turns rota before left
 
--- what a worker's job, a seat with a post, has become: the seat, and what is left of the post
+-- what a worker's job, a seat with a setup, has become: the seat, and what is left of the setup
 pub record IsWorked {P S A O : Type 0} (program : Program P) (tells : S → Tells) (delivers : S → Delivers)
     (answers : S → Answers) (failures : S → ℕ) (comes_from : S → S → Type 0) (may : A → Answerable) (hears : Hears O)
-    (job : Shares × Post S A O) (ended : Shares × Left S A O) : Type 0 where
+    (job : Shares × WorkerSetup S A O) (ended : Shares × WorkerEnd S A O) : Type 0 where
   pub seat : ended.0 ≡ ended.1.counted
   pub taken : ended.0.taken ≤ job.0.taken + job.1.turns
   pub fault : RoseIfFailed ended.1.fault (failures job.1.source) (failures ended.1.source)
@@ -83,32 +83,32 @@ pub record IsWorked {P S A O : Type 0} (program : Program P) (tells : S → Tell
   pub answered : length (answers ended.1.source) + job.0.taken ≤ length (answers job.1.source) + ended.0.taken
   pub told : IsLedBy program tells delivers answers failures comes_from may hears job.0 job.1 ended.1
 
--- what workers leave of their posts, by what each seat had counted before
-pub record AreLeft {P S A O : Type 0} (program : Program P) (tells : S → Tells) (delivers : S → Delivers)
+-- what workers leave of their setups, by what each seat had counted before
+pub record AreEnds {P S A O : Type 0} (program : Program P) (tells : S → Tells) (delivers : S → Delivers)
     (answers : S → Answers) (failures : S → ℕ) (comes_from : S → S → Type 0) (may : A → Answerable) (hears : Hears O)
-    (seats : List Shares) (posts : List (Post S A O)) (lefts : List (Left S A O)) : Type 0 where
-  pub count : length lefts ≡ length posts
-  pub turns : AllZip (λ job left. left.counted.taken ≤ job.0.taken + job.1.turns) (zip seats posts) lefts
-  pub faults : AllZip (λ post left. RoseIfFailed left.fault (failures post.source) (failures left.source)) posts lefts
-  pub same : AllZip (λ post left. SameTasks (delivers post.source) (tells post.source)
-      (delivers left.source) (tells left.source)) posts lefts
-  pub origins : AllZip (λ post left. KeepsOrigin comes_from post.source left.source) posts lefts
-  pub handlers : AllZip (λ post left. SameMay (may post.handler) (may left.handler)) posts lefts
+    (seats : List Shares) (setups : List (WorkerSetup S A O)) (ends : List (WorkerEnd S A O)) : Type 0 where
+  pub count : length ends ≡ length setups
+  pub turns : AllZip (λ job left. left.counted.taken ≤ job.0.taken + job.1.turns) (zip seats setups) ends
+  pub faults : AllZip (λ setup left. RoseIfFailed left.fault (failures setup.source) (failures left.source)) setups ends
+  pub same : AllZip (λ setup left. SameTasks (delivers setup.source) (tells setup.source)
+      (delivers left.source) (tells left.source)) setups ends
+  pub origins : AllZip (λ setup left. KeepsOrigin comes_from setup.source left.source) setups ends
+  pub handlers : AllZip (λ setup left. SameMay (may setup.handler) (may left.handler)) setups ends
   pub answered : AllZip (λ job left. length (answers left.source) + job.0.taken
-      ≤ length (answers job.1.source) + left.counted.taken) (zip seats posts) lefts
+      ≤ length (answers job.1.source) + left.counted.taken) (zip seats setups) ends
   pub told : AllZip (λ job left. IsLedBy program tells delivers answers failures comes_from may hears job.0 job.1 left)
-      (zip seats posts) lefts
+      (zip seats setups) ends
 
 -- what a worker without an observer hands back: what its turns led to
 pub record IsWorkOf {T C F P S A : Type 0} (program : Program P) (tells : S → Tells) (delivers : S → Delivers)
     (answers : S → Answers) (failures : S → ℕ) (comes_from : S → S → Type 0) (may : A → Answerable)
     (seat : Shares) (source : S) (handler : A) (turns : ℕ) (worker : Worker T C F S) : Type 0 where
-  pub post : Post S A NoObserver
-  pub source_is : post.source ≡ source
-  pub handler_is : post.handler ≡ handler
-  pub turns_are : post.turns ≡ turns
-  pub left : Left S A NoObserver
-  pub led : IsLedBy program tells delivers answers failures comes_from may (λ old turn new. new ≡ old) seat post left
+  pub setup : WorkerSetup S A NoObserver
+  pub source_is : setup.source ≡ source
+  pub handler_is : setup.handler ≡ handler
+  pub turns_are : setup.turns ≡ turns
+  pub left : WorkerEnd S A NoObserver
+  pub led : IsLedBy program tells delivers answers failures comes_from may (λ old turn new. new ≡ old) seat setup left
   pub worker_is : worker ≡ worker_of (left.counted, left)
 
 -- so do workers, each of the seat, the source, the handler and the turns of its place

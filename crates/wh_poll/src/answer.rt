@@ -47,7 +47,7 @@ pub fn answer_by_replay<W: Workflow, S: TaskSource>(
 {
     if let Some(run) = &run {
         // Made for the proof: its contract says that the run is replayed.
-        run.attest();
+        run.invariant();
     }
     let WorkflowTask {
         name,
@@ -62,7 +62,7 @@ pub fn answer_by_replay<W: Workflow, S: TaskSource>(
         Err(fault) => return not_answered(fault),
     };
     let steps = meter.count();
-    let sent = match send_answer(alloc, name, &run, fault, source) {
+    let sent = match send_answer(alloc, name, &run, fault, steps, source) {
         Ok(outcome) => Ok(Reply {
             hit,
             steps,
@@ -83,12 +83,13 @@ fn not_answered<W: Workflow>(fault: StepFault) -> Answered<W>
     }
 }
 
-/// Sends the answer to a workflow task that was replayed.
+/// Sends the answer to a workflow task that was replayed in so many steps.
 fn send_answer<W: Workflow, S: TaskSource>(
     alloc: Global,
     name: TaskName,
     run: &Option<Run<W>>,
     fault: Option<Fault>,
+    steps: u64,
     source: &mut S,
 ) -> Result<Outcome, StepFault>
     requires { HasAnswer run.now fault }
@@ -99,7 +100,7 @@ fn send_answer<W: Workflow, S: TaskSource>(
 {
     let answer = answer_of(alloc, run, fault)?;
     let outcome = outcome_of(&answer);
-    let sent = source.answer_replayed(name, &answer, events_of(run));
+    let sent = source.answer_replayed(name, &answer, events_of(run), steps);
     drop(answer);
     match sent {
         Ok(()) => Ok(outcome),

@@ -1,14 +1,14 @@
-//! The posts of an open host, and a host in one call.
+//! The setups of an open host, and a host in one call.
 ghost use Rattle.std.specs.Prelude.{◌≡◌, ◌≤◌, ◌+◌, ◌↔◌, IfOk, Err, OnErr, length, map, replicate, vec_len};
 ghost use Rattle.std.specs.List.{AllZip, zip};
 ghost use Rattle.wh_ledger.specs.Shares.{no_shares, sums_of};
 ghost use Rattle.wh_host.specs.Machine.{IsConfig, totals_of};
 ghost use Rattle.wh_tasks.specs.Source.{KeepsOrigin, RoseIfFailed, SameMay, SameTasks};
-ghost use Rattle.wh_poll.specs.Turns.{AreLeft, IsLedBy};
+ghost use Rattle.wh_poll.specs.Turns.{AreEnds, IsLedBy};
 
 use crate::observer::Observer;
 use crate::pairs::{room_for, unzipped, zipped};
-use crate::post::{Left, Post};
+use crate::setup::{WorkerEnd, WorkerSetup};
 use crate::workers::run_jobs;
 use std::alloc::Global;
 use std::marker::Brand;
@@ -21,17 +21,17 @@ use wh_ledger::Seat;
 use wh_tasks::{ActivityHandler, Gate, TaskSource};
 use wh_workflow::Workflow;
 
-/// Runs a worker in a thread of its own for each post, on a host that stays the caller's: another
+/// Runs a worker in a thread of its own for each setup, on a host that stays the caller's: another
 /// thread may lock it meanwhile, to evict runs or to drain it, and it is closed with the seats that
-/// come back. There is a seat for each post, in their order.
+/// come back. There is a seat for each setup, in their order.
 ///
-/// The seats and what the workers leave come back in the order of the posts. Each worker leaves its
-/// post as its turns led to it, with its handler and its observer, which was told of each turn; its
-/// source comes from the one of the post, delivers and tells the same, and was sent at most as many
-/// answers as the worker took tasks. `OutOfMemory` where no room was found. Then the seats and the
-/// posts are given up, so the host can't be closed any more, and what workers did until then they
+/// The seats and what the workers leave come back in the order of the setups. Each worker leaves its
+/// setup as its turns led to it, with its handler and its observer, which was told of each turn; its
+/// source comes from the one of the setup, delivers and tells the same, and was sent at most as many
+/// answers as the worker took tasks. `OutOfMemory` where there was no memory. Then the seats and the
+/// setups are given up, so the host can't be closed any more, and what workers did until then they
 /// have done.
-pub fn run_posts<
+pub fn run_on_host<
     R: Threads + Wait + Sync,
     W: Workflow + Send,
     T: Ledger + Send,
@@ -46,33 +46,33 @@ pub fn run_posts<
     alloc: Global,
     host: &Host<W, T, C, F>,
     seats: Vec<Seat<T, C, F>>,
-    posts: Vec<Post<S, A, O>>,
+    setups: Vec<WorkerSetup<S, A, O>>,
     gate: &G,
-) -> Result<(Vec<Seat<T, C, F>>, Vec<Left<S, A, O>>), OutOfMemory>
-    requires seats { vec_len seats ≡ vec_len posts }
-    ensures seats { IfOk result (λ ended. vec_len ended.0 ≡ vec_len posts) }
-    ensures count { IfOk result (λ ended. vec_len ended.1 ≡ vec_len posts) }
+) -> Result<(Vec<Seat<T, C, F>>, Vec<WorkerEnd<S, A, O>>), OutOfMemory>
+    requires seats { vec_len seats ≡ vec_len setups }
+    ensures seats { IfOk result (λ ended. vec_len ended.0 ≡ vec_len setups) }
+    ensures count { IfOk result (λ ended. vec_len ended.1 ≡ vec_len setups) }
     ensures counted { IfOk result (λ ended. ended.0.items ≡ map (λ left. left.counted) ended.1.items) }
     ensures turns { IfOk result (λ ended. AllZip
-        (λ job left. left.counted.taken ≤ job.0.taken + job.1.turns) (zip seats.items posts.items) ended.1.items) }
+        (λ job left. left.counted.taken ≤ job.0.taken + job.1.turns) (zip seats.items setups.items) ended.1.items) }
     ensures faults { IfOk result (λ ended.
-        AllZip (λ post left. RoseIfFailed left.fault (S.failures post.source) (S.failures left.source))
-        posts.items ended.1.items) }
+        AllZip (λ setup left. RoseIfFailed left.fault (S.failures setup.source) (S.failures left.source))
+        setups.items ended.1.items) }
     ensures same { IfOk result (λ ended.
-        AllZip (λ post left. SameTasks (S.delivers post.source) (S.tells post.source)
-        (S.delivers left.source) (S.tells left.source)) posts.items ended.1.items) }
+        AllZip (λ setup left. SameTasks (S.delivers setup.source) (S.tells setup.source)
+        (S.delivers left.source) (S.tells left.source)) setups.items ended.1.items) }
     ensures origins { IfOk result (λ ended.
-        AllZip (λ post left. KeepsOrigin S.comes_from post.source left.source) posts.items ended.1.items) }
+        AllZip (λ setup left. KeepsOrigin S.comes_from setup.source left.source) setups.items ended.1.items) }
     ensures handlers { IfOk result (λ ended.
-        AllZip (λ post left. SameMay (A.may post.handler) (A.may left.handler)) posts.items ended.1.items) }
+        AllZip (λ setup left. SameMay (A.may setup.handler) (A.may left.handler)) setups.items ended.1.items) }
     ensures answered { IfOk result (λ ended. AllZip
         (λ job left. length (S.answers left.source) + job.0.taken
-        ≤ length (S.answers job.1.source) + left.counted.taken) (zip seats.items posts.items) ended.1.items) }
+        ≤ length (S.answers job.1.source) + left.counted.taken) (zip seats.items setups.items) ended.1.items) }
     ensures told { IfOk result (λ ended. AllZip
         (λ job left. IsLedBy W.program S.tells S.delivers S.answers S.failures S.comes_from A.may O.hears
-        job.0 job.1 left) (zip seats.items posts.items) ended.1.items) }
+        job.0 job.1 left) (zip seats.items setups.items) ended.1.items) }
 {
-    let jobs = zipped(alloc, seats, posts)?;
+    let jobs = zipped(alloc, seats, setups)?;
     let room = room_for(alloc, jobs.len())?;
     let ended = run_jobs(rt, alloc, host, gate, jobs)?;
     Ok(unzipped(ended, room))
@@ -83,21 +83,21 @@ pub fn run_posts<
 pub struct HostEnd<S, A, O> {
     /// The sizes that the host was opened with.
     pub config: Config,
-    /// What each worker left, in the order of their posts.
-    pub workers: Vec<Left<S, A, O>>,
+    /// What each worker left, in the order of their setups.
+    pub workers: Vec<WorkerEnd<S, A, O>>,
     /// What all of them counted.
     pub totals: Totals,
 }
 
-/// Opens a host of these sizes, runs a worker in a thread of its own for each post, and closes the
-/// host once all have ended. The host has a seat for each post.
+/// Opens a host of these sizes, runs a worker in a thread of its own for each setup, and closes the
+/// host once all have ended. The host has a seat for each setup.
 ///
-/// Each worker leaves its post as its turns led to it, with its handler and its observer, which was
-/// told of each turn; its source comes from the one of the post, delivers and tells the same, and
+/// Each worker leaves its setup as its turns led to it, with its handler and its observer, which was
+/// told of each turn; its source comes from the one of the setup, delivers and tells the same, and
 /// was sent at most as many answers as the worker took tasks. The totals are the sums of what the
 /// workers counted, and the sizes are those that it was opened with. `BadConfig` where a size is
-/// not within its range, or the seats are not as many as the posts; `OutOfMemory` where no room was
-/// found. Then the posts are given up. (Temporal documentation, "Workers": a Worker Process.)
+/// not within its range, or the seats are not as many as the setups; `OutOfMemory` where no room was
+/// found. Then the setups are given up. (Temporal documentation, "Workers": a Worker Process.)
 pub fn run_host<
     W: Workflow + Send,
     R: Threads + Wait + Sync,
@@ -109,44 +109,44 @@ pub fn run_host<
     rt: &R,
     alloc: Global,
     config: Config,
-    posts: Vec<Post<S, A, O>>,
+    setups: Vec<WorkerSetup<S, A, O>>,
     gate: &G,
 ) -> Result<HostEnd<S, A, O>, OpenFault>
-    ensures bad { (result ≡ Err OpenFault.BadConfig) ↔ (¬ (IsConfig config × (config.seats ≡ vec_len posts))) }
+    ensures bad { (result ≡ Err OpenFault.BadConfig) ↔ (¬ (IsConfig config × (config.seats ≡ vec_len setups))) }
     ensures sizes { IfOk result (λ end. end.config ≡ config) }
-    ensures count { IfOk result (λ end. vec_len end.workers ≡ vec_len posts) }
+    ensures count { IfOk result (λ end. vec_len end.workers ≡ vec_len setups) }
     ensures turns { IfOk result (λ end.
-        AllZip (λ post left. left.counted.taken ≤ post.turns) posts.items end.workers.items) }
+        AllZip (λ setup left. left.counted.taken ≤ setup.turns) setups.items end.workers.items) }
     ensures faults { IfOk result (λ end.
-        AllZip (λ post left. RoseIfFailed left.fault (S.failures post.source) (S.failures left.source))
-        posts.items end.workers.items) }
+        AllZip (λ setup left. RoseIfFailed left.fault (S.failures setup.source) (S.failures left.source))
+        setups.items end.workers.items) }
     ensures same { IfOk result (λ end.
-        AllZip (λ post left. SameTasks (S.delivers post.source) (S.tells post.source)
-        (S.delivers left.source) (S.tells left.source)) posts.items end.workers.items) }
+        AllZip (λ setup left. SameTasks (S.delivers setup.source) (S.tells setup.source)
+        (S.delivers left.source) (S.tells left.source)) setups.items end.workers.items) }
     ensures origins { IfOk result (λ end.
-        AllZip (λ post left. KeepsOrigin S.comes_from post.source left.source) posts.items end.workers.items) }
+        AllZip (λ setup left. KeepsOrigin S.comes_from setup.source left.source) setups.items end.workers.items) }
     ensures handlers { IfOk result (λ end.
-        AllZip (λ post left. SameMay (A.may post.handler) (A.may left.handler)) posts.items end.workers.items) }
+        AllZip (λ setup left. SameMay (A.may setup.handler) (A.may left.handler)) setups.items end.workers.items) }
     ensures answered { IfOk result (λ end.
-        AllZip (λ post left. length (S.answers left.source) ≤ length (S.answers post.source) + left.counted.taken)
-        posts.items end.workers.items) }
+        AllZip (λ setup left. length (S.answers left.source) ≤ length (S.answers setup.source) + left.counted.taken)
+        setups.items end.workers.items) }
     ensures told { IfOk result (λ end. AllZip
         (IsLedBy W.program S.tells S.delivers S.answers S.failures S.comes_from A.may O.hears no_shares)
-        posts.items end.workers.items) }
+        setups.items end.workers.items) }
     ensures gathered { IfOk result (λ end.
         end.totals ≡ totals_of (sums_of (map (λ left. left.counted) end.workers.items))) }
     ensures balanced { IfOk result (λ end.
         end.totals.taken ≡ end.totals.completed + end.totals.failed + end.totals.in_hand) }
 {
     let seats = config.seats;
-    if seats != posts.len() {
+    if seats != setups.len() {
         return Err(OpenFault::BadConfig);
     }
     run_with::<W, R, S, A, O, G, Brand, Brand, Brand>(
         rt,
         alloc,
         config,
-        posts,
+        setups,
         gate,
         Blank::new(seats as u64),
         Blank::new(seats as u64),
@@ -169,28 +169,28 @@ fn run_with<
     rt: &R,
     alloc: Global,
     config: Config,
-    posts: Vec<Post<S, A, O>>,
+    setups: Vec<WorkerSetup<S, A, O>>,
     gate: &G,
     taken: Blank,
     completed: Blank,
     failed: Blank,
 ) -> Result<HostEnd<S, A, O>, OpenFault>
-    requires seats { config.seats ≡ vec_len posts }
+    requires seats { config.seats ≡ vec_len setups }
     requires taken { (taken.name ≡ T.name) × (taken.parts ≡ T.parts) × (taken.parts ≡ config.seats) }
     requires completed { (completed.name ≡ C.name) × (completed.parts ≡ C.parts)
         × (completed.parts ≡ config.seats) }
     requires failed { (failed.name ≡ F.name) × (failed.parts ≡ F.parts) × (failed.parts ≡ config.seats) }
     ensures bad { (result ≡ Err OpenFault.BadConfig) ↔ (¬ IsConfig config) }
     ensures sizes { IfOk result (λ end. end.config ≡ config) }
-    ensures left { IfOk result (λ end. AreLeft W.program S.tells S.delivers S.answers S.failures S.comes_from
-        A.may O.hears (replicate (vec_len posts) no_shares) posts.items end.workers.items) }
+    ensures left { IfOk result (λ end. AreEnds W.program S.tells S.delivers S.answers S.failures S.comes_from
+        A.may O.hears (replicate (vec_len setups) no_shares) setups.items end.workers.items) }
     ensures gathered { IfOk result (λ end.
         end.totals ≡ totals_of (sums_of (map (λ left. left.counted) end.workers.items))) }
     ensures balanced { IfOk result (λ end.
         end.totals.taken ≡ end.totals.completed + end.totals.failed + end.totals.in_hand) }
 {
     let (host, seats) = Host::<W, T, C, F>::open(alloc, config, taken, completed, failed)?;
-    run_open(rt, alloc, config, host, seats, posts, gate)
+    run_open(rt, alloc, config, host, seats, setups, gate)
 }
 
 /// Runs the workers of a host that has just opened with these sizes, and closes it.
@@ -210,21 +210,21 @@ fn run_open<
     config: Config,
     host: Host<W, T, C, F>,
     seats: Vec<Seat<T, C, F>>,
-    posts: Vec<Post<S, A, O>>,
+    setups: Vec<WorkerSetup<S, A, O>>,
     gate: &G,
 ) -> Result<HostEnd<S, A, O>, OpenFault>
-    requires seats { seats.items ≡ replicate (vec_len posts) no_shares }
-    requires parts { T.parts ≡ vec_len posts }
+    requires seats { seats.items ≡ replicate (vec_len setups) no_shares }
+    requires parts { T.parts ≡ vec_len setups }
     ensures fault { OnErr result (result ≡ Err OpenFault.OutOfMemory) }
     ensures sizes { IfOk result (λ end. end.config ≡ config) }
-    ensures left { IfOk result (λ end. AreLeft W.program S.tells S.delivers S.answers S.failures S.comes_from
-        A.may O.hears (replicate (vec_len posts) no_shares) posts.items end.workers.items) }
+    ensures left { IfOk result (λ end. AreEnds W.program S.tells S.delivers S.answers S.failures S.comes_from
+        A.may O.hears (replicate (vec_len setups) no_shares) setups.items end.workers.items) }
     ensures gathered { IfOk result (λ end.
         end.totals ≡ totals_of (sums_of (map (λ left. left.counted) end.workers.items))) }
     ensures balanced { IfOk result (λ end.
         end.totals.taken ≡ end.totals.completed + end.totals.failed + end.totals.in_hand) }
 {
-    let (seats, workers) = run_posts(rt, alloc, &host, seats, posts, gate)?;
+    let (seats, workers) = run_on_host(rt, alloc, &host, seats, setups, gate)?;
     let totals = close(host, seats);
     Ok(HostEnd {
         config,

@@ -42,7 +42,7 @@ pub enum Served {
         /// `Completed` where the activity's result was sent, `Failed` where its failure was.
         outcome: Outcome,
     },
-    /// No room was found, and the task was not answered.
+    /// There was no memory, and the task was not answered.
     NoMemory {
         /// The task's name.
         name: TaskName,

@@ -6,12 +6,12 @@ ghost use Rattle.wh_tasks.specs.Source.{KeepsOrigin, SameMay, SameTasks, FailsOn
 ghost use Rattle.wh_poll.specs.Workers.{first_fault, first_rota, other, is_last, next_rota};
 ghost use Rattle.wh_poll.specs.Serve.{WithinTurns, AllRoseIfFailed, AllAnsweredWithin};
 ghost use Rattle.wh_poll.specs.Turns.{IsTurn, IsLedBy, IsWorked, IsWorkOf, AreWorkOf};
-ghost use Rattle.wh_poll.specs.Stations.{left_at, worker_of};
+ghost use Rattle.wh_poll.specs.Stations.{end_at, worker_of};
 ghost use Rattle.std.specs.List.{AllZip};
 
 use crate::observer::{NoObserver, Observer};
 use crate::pairs::zipped;
-use crate::post::{Left, Post};
+use crate::setup::{WorkerEnd, WorkerSetup};
 use crate::serve::{Served, serve_one};
 use std::alloc::{AllocError, Global};
 use std::sync::Wait;
@@ -36,8 +36,8 @@ pub struct Worker<T: Ledger, C: Ledger, F: Ledger, S> {
     pub fault: Option<SourceFault>,
 }
 
-/// A worker at its post: its seat, and what it leaves but for the count.
-struct Station<T: Ledger, C: Ledger, F: Ledger, S, A, O> {
+/// A worker at its setup: its seat, and what it leaves but for the count.
+struct WorkerLoop<T: Ledger, C: Ledger, F: Ledger, S, A, O> {
     seat: Seat<T, C, F>,
     source: S,
     handler: A,
@@ -45,7 +45,7 @@ struct Station<T: Ledger, C: Ledger, F: Ledger, S, A, O> {
     fault: Option<SourceFault>,
 }
 
-impl<T: Ledger, C: Ledger, F: Ledger, S: TaskSource, A: ActivityHandler, O: Observer> Station<
+impl<T: Ledger, C: Ledger, F: Ledger, S: TaskSource, A: ActivityHandler, O: Observer> WorkerLoop<
     T,
     C,
     F,
@@ -73,7 +73,7 @@ impl<T: Ledger, C: Ledger, F: Ledger, S: TaskSource, A: ActivityHandler, O: Obse
         ensures answered { length (S.answers self.new.source) + self.old.seat.taken
             ≤ length (S.answers self.old.source) + self.new.seat.taken }
         ensures turn { IsTurn W.program S.tells S.delivers S.answers S.failures S.comes_from A.may O.hears
-            kind (left_at self.old) result (left_at self.new) }
+            kind (end_at self.old) result (end_at self.new) }
     {
         let seat = &mut self.seat;
         let source = &mut self.source;
@@ -97,11 +97,11 @@ fn first_fault(
     }
 }
 
-/// A seat with the post of its worker.
-pub(crate) type Job<T, C, F, S, A, O> = (Seat<T, C, F>, Post<S, A, O>);
+/// A seat with the setup of its worker.
+pub(crate) type SeatedWorker<T, C, F, S, A, O> = (Seat<T, C, F>, WorkerSetup<S, A, O>);
 
 /// A seat with what its worker leaves.
-pub(crate) type Ended<T, C, F, S, A, O> = (Seat<T, C, F>, Left<S, A, O>);
+pub(crate) type Ended<T, C, F, S, A, O> = (Seat<T, C, F>, WorkerEnd<S, A, O>);
 
 /// Which kind a worker serves next, and whether the other one is closed.
 #[derive(Clone, Copy)]
@@ -149,7 +149,7 @@ fn other(kind: SlotKind) -> SlotKind
     }
 }
 
-/// Serves tasks at a post, at most one a turn.
+/// Serves tasks at a setup, at most one a turn.
 #[tactic(auto, using(crate::proofs::Turns::rose_kept))]
 fn work_at<
     R: Wait,
@@ -167,26 +167,26 @@ fn work_at<
     host: &Host<W, T, C, F>,
     gate: &G,
     seat: Seat<T, C, F>,
-    post: Post<S, A, O>,
-) -> Station<T, C, F, S, A, O>
-    ensures taken { result.seat.taken ≤ seat.taken + post.turns }
-    ensures fault { RoseIfFailed result.fault (S.failures post.source) (S.failures result.source) }
-    ensures same { SameTasks (S.delivers post.source) (S.tells post.source)
+    setup: WorkerSetup<S, A, O>,
+) -> WorkerLoop<T, C, F, S, A, O>
+    ensures taken { result.seat.taken ≤ seat.taken + setup.turns }
+    ensures fault { RoseIfFailed result.fault (S.failures setup.source) (S.failures result.source) }
+    ensures same { SameTasks (S.delivers setup.source) (S.tells setup.source)
         (S.delivers result.source) (S.tells result.source) }
-    ensures origin { KeepsOrigin S.comes_from post.source result.source }
-    ensures allows { SameMay (A.may post.handler) (A.may result.handler) }
+    ensures origin { KeepsOrigin S.comes_from setup.source result.source }
+    ensures allows { SameMay (A.may setup.handler) (A.may result.handler) }
     ensures answered { length (S.answers result.source) + seat.taken
-        ≤ length (S.answers post.source) + result.seat.taken }
+        ≤ length (S.answers setup.source) + result.seat.taken }
     ensures turns { IsLedBy W.program S.tells S.delivers S.answers S.failures S.comes_from A.may O.hears
-        seat post (left_at result) }
+        seat setup (end_at result) }
 {
-    let Post {
+    let WorkerSetup {
         source,
         handler,
         observer,
         turns,
-    } = post;
-    let mut station = Station {
+    } = setup;
+    let mut worker_loop = WorkerLoop {
         seat,
         source,
         handler,
@@ -195,12 +195,12 @@ fn work_at<
     };
     let mut rota = Rota::first();
     for _turn in 0..turns {
-        let served = station.serve(rt, alloc, host, gate, rota.kind);
+        let served = worker_loop.serve(rt, alloc, host, gate, rota.kind);
         if !rota.goes_on(served) {
             break;
         }
     }
-    station
+    worker_loop
 }
 
 /// Does a job.
@@ -219,29 +219,29 @@ fn work_job<
     alloc: Global,
     host: &Host<W, T, C, F>,
     gate: &G,
-    job: Job<T, C, F, S, A, O>,
+    job: SeatedWorker<T, C, F, S, A, O>,
 ) -> Ended<T, C, F, S, A, O>
     ensures { IsWorked W.program S.tells S.delivers S.answers S.failures S.comes_from A.may O.hears job result }
 {
-    let (seat, post) = job;
-    leave(work_at(rt, alloc, host, gate, seat, post))
+    let (seat, setup) = job;
+    leave(work_at(rt, alloc, host, gate, seat, setup))
 }
 
 /// The seat of a worker, and what it leaves.
 fn leave<T: Ledger, C: Ledger, F: Ledger, S, A, O>(
-    station: Station<T, C, F, S, A, O>,
+    worker_loop: WorkerLoop<T, C, F, S, A, O>,
 ) -> Ended<T, C, F, S, A, O>
-    ensures { result ≡ (station.seat, left_at station) }
+    ensures { result ≡ (worker_loop.seat, end_at worker_loop) }
 {
-    let counted = station.seat.share();
-    let Station {
+    let counted = worker_loop.seat.share();
+    let WorkerLoop {
         seat,
         source,
         handler,
         observer,
         fault,
-    } = station;
-    let left = Left {
+    } = worker_loop;
+    let left = WorkerEnd {
         counted,
         source,
         handler,
@@ -284,23 +284,23 @@ pub fn work<
     ensures work { IsWorkOf W.program S.tells S.delivers S.answers S.failures S.comes_from A.may
         seat source handler turns result }
 {
-    let post = Post {
+    let setup = WorkerSetup {
         source,
         handler,
         observer: NoObserver,
         turns,
     };
-    worker_of(work_job(rt, alloc, host, gate, (seat, post)))
+    worker_of(work_job(rt, alloc, host, gate, (seat, setup)))
 }
 
-/// The worker that comes back from its post.
+/// The worker that comes back from its setup.
 fn worker_of<T: Ledger, C: Ledger, F: Ledger, S, A: Drop>(
     ended: Ended<T, C, F, S, A, NoObserver>,
 ) -> Worker<T, C, F, S>
     ensures { result ≡ worker_of ended }
 {
     let (seat, left) = ended;
-    let Left { source, fault, .. } = left;
+    let WorkerEnd { source, fault, .. } = left;
     Worker {
         seat,
         source,
@@ -313,7 +313,7 @@ fn worker_of<T: Ledger, C: Ledger, F: Ledger, S, A: Drop>(
 /// seats, the taken share of each has risen by at most its turns, and where one kept a fault, its
 /// own source has failed. Each is what its turns led to, as in `work`: its source comes from the
 /// one of its place, and was sent at most as many answers as its seat took tasks. `OutOfMemory`
-/// where no room was found; then the seats are given up. (Temporal documentation, "Workers": a
+/// where there was no memory; then the seats are given up. (Temporal documentation, "Workers": a
 /// Worker Process runs many task executors.)
 pub fn run_workers<
     R: Threads + Wait + Sync,
@@ -350,15 +350,15 @@ pub fn run_workers<
         AreWorkOf W.program S.tells S.delivers S.answers S.failures S.comes_from A.may
         seats.items sources.items handlers.items turns.items workers.items) }
 {
-    let posts = posts_of(alloc, sources, handlers, turns)?;
-    let jobs = zipped(alloc, seats, posts)?;
+    let setups = setups_of(alloc, sources, handlers, turns)?;
+    let jobs = zipped(alloc, seats, setups)?;
     let mut room = Vec::new(alloc);
     room.reserve(jobs.len())?;
     let ended = run_jobs(rt, alloc, host, gate, jobs)?;
     Ok(workers_of(ended, room))
 }
 
-/// The workers that come back from their posts, in an empty list with room for them.
+/// The workers that come back from their setups, in an empty list with room for them.
 fn workers_of<T: Ledger, C: Ledger, F: Ledger, S: Drop, A: Drop>(
     mut ended: Vec<Ended<T, C, F, S, A, NoObserver>>,
     mut workers: Vec<Worker<T, C, F, S>>,
@@ -390,7 +390,7 @@ pub(crate) fn run_jobs<
     alloc: Global,
     host: &Host<W, T, C, F>,
     gate: &G,
-    jobs: Vec<Job<T, C, F, S, A, O>>,
+    jobs: Vec<SeatedWorker<T, C, F, S, A, O>>,
 ) -> Result<Vec<Ended<T, C, F, S, A, O>>, AllocError>
     ensures count { IfOk result (λ ended. vec_len ended ≡ vec_len jobs) }
     ensures each { IfOk result (λ ended. (i : ℕ) (job : _) (end : _) → i < vec_len jobs →
@@ -400,7 +400,7 @@ pub(crate) fn run_jobs<
     thread::map_vec(
         rt,
         jobs,
-        &|job: Job<T, C, F, S, A, O>| -> Ended<T, C, F, S, A, O>
+        &|job: SeatedWorker<T, C, F, S, A, O>| -> Ended<T, C, F, S, A, O>
             requires { IsSend W.row × IsSend W.State.row }
             ensures { IsWorked W.program S.tells S.delivers S.answers S.failures S.comes_from A.may O.hears
                 job result }
@@ -408,22 +408,22 @@ pub(crate) fn run_jobs<
     )
 }
 
-/// A post for each source, with the handler and the turns of its place, and no observer.
-fn posts_of<S: Drop, A: Drop>(
+/// A setup for each source, with the handler and the turns of its place, and no observer.
+fn setups_of<S: Drop, A: Drop>(
     alloc: Global,
     mut sources: Vec<S>,
     mut handlers: Vec<A>,
     mut turns: Vec<u64>,
-) -> Result<Vec<Post<S, A, NoObserver>>, OutOfMemory>
+) -> Result<Vec<WorkerSetup<S, A, NoObserver>>, OutOfMemory>
     requires handlers { vec_len handlers ≡ vec_len sources }
     requires turns { vec_len turns ≡ vec_len sources }
-    ensures count { IfOk result (λ posts. vec_len posts ≡ vec_len sources) }
-    ensures sources { IfOk result (λ posts. map (λ post. post.source) posts.items ≡ sources.items) }
-    ensures handlers { IfOk result (λ posts. map (λ post. post.handler) posts.items ≡ handlers.items) }
-    ensures turns { IfOk result (λ posts. map (λ post. post.turns) posts.items ≡ turns.items) }
+    ensures count { IfOk result (λ setups. vec_len setups ≡ vec_len sources) }
+    ensures sources { IfOk result (λ setups. map (λ setup. setup.source) setups.items ≡ sources.items) }
+    ensures handlers { IfOk result (λ setups. map (λ setup. setup.handler) setups.items ≡ handlers.items) }
+    ensures turns { IfOk result (λ setups. map (λ setup. setup.turns) setups.items ≡ turns.items) }
 {
-    let mut posts = Vec::new(alloc);
-    posts.reserve(sources.len())?;
+    let mut setups = Vec::new(alloc);
+    setups.reserve(sources.len())?;
     while let Some(source) = sources.pop() {
         let Some(handler) = handlers.pop() else {
             unreachable!()
@@ -431,13 +431,13 @@ fn posts_of<S: Drop, A: Drop>(
         let Some(turns) = turns.pop() else {
             unreachable!()
         };
-        posts.push_reserved(Post {
+        setups.push_reserved(WorkerSetup {
             source,
             handler,
             observer: NoObserver,
             turns,
         });
     }
-    posts.reverse();
-    Ok(posts)
+    setups.reverse();
+    Ok(setups)
 }

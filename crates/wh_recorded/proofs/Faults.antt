@@ -62,7 +62,7 @@ failed_same answers history n done =
     let more : Bool → List FailedTask = λ b. if b then [] else (record { at = at; fault = fault } ∷ []) in
     one_more answers history n ∙ ap (λ b. before ++ more b) done ∙ append-nil before
 
--- another one comes behind those before it
+-- another one comes after those before it
 pub failed_push : (answers : List (TaskName × Sent)) (history : Scripted) (n : ℕ) → is_completed answers (task_of history n).name ≡ false → failed_of answers (first_tasks history (n + 1)) ≡ failed_of answers (first_tasks history n) ++ (record { at = last_number (events_of history.events n); fault = fault_under answers (task_of history n).name } ∷ [])
 failed_push answers history n undone =
     let before = failed_of answers (first_tasks history n) in

@@ -34,7 +34,7 @@ having_rises n (suc p) (suc q) (x ∷ rest) low =
     let others = having_rises n p q rest (omega (arith, low)) in
     omega (arith, less, more, others)
 
--- a history that has the task is one more behind its place
+-- a history that has the task is one more after its place
 having_one_more : (n place next : ℕ) (histories : List Scripted) (history : Scripted) → slice_get histories place ≡ Some history → n < tasks_in history → place < next → having n (take place histories) < having n (take next histories)
 having_one_more n place zero histories history at has before = absurd (omega (arith, before))
 having_one_more n place (suc next) [] history at has before = absurd (none-some history at)

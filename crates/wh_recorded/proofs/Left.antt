@@ -23,7 +23,7 @@ left stage = left_by stage.histories stage.round stage.next
 
 -- ---- the first history that has a task
 
--- a history has the n-th task, and the round goes on behind it
+-- a history has the n-th task, and the round goes on after it
 record Found (before n : ℕ) (histories : List Scripted) (place : ℕ) : Type 0 where
   history : Scripted
   low : before ≤ place

@@ -8,7 +8,7 @@ part_begins xs place stop x before within =
     let inside : place < length xs = omega arith in
     ap (λ n. take n (drop place xs)) more ∙ ap (λ rest. take (suc (stop - (place + 1))) rest) (drop_more xs place x inside)
 
--- with the element at its begin a part goes on behind it
+-- with the element at its begin a part goes on after it
 pub part_goes_on : {A : Type 0} (copies after whole xs : List A) (x : A) (place stop : ℕ) → place < stop → stop ≤ length xs → after ≡ copies ++ x ∷ [] → x ≡ get_or xs place x → copies ++ take (stop - place) (drop place xs) ≡ whole → after ++ take (stop - (place + 1)) (drop (place + 1) xs) ≡ whole
 part_goes_on copies after whole xs x place stop before within pushed is held =
     let rest = take (stop - (place + 1)) (drop (place + 1) xs) in

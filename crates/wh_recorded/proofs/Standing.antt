@@ -27,7 +27,7 @@ round_length n (x ∷ rest) =
       | false ↦ omega (arith, more)
     ]) ∙ sym (having-cons n x rest)
 
--- the n-th task of a history stands behind those of the histories before it
+-- the n-th task of a history stands after those of the histories before it
 pub in_round : (n : ℕ) (histories : List Scripted) (place : ℕ) (history : Scripted) → slice_get histories place ≡ Some history → n < tasks_in history → slice_get (round_of n histories) (having n (take place histories)) ≡ Some (task_of history n)
 in_round n [] place history at has = absurd (none-some history at)
 in_round n (x ∷ rest) zero history at has =
@@ -121,7 +121,7 @@ before_all n (x ∷ rest) most =
     let others = before_all n rest (omega (arith, most)) in
     omega (arith, most, all, sum, others)
 
--- what stands at a place of the m-th round stands behind the rounds before it
+-- what stands at a place of the m-th round stands after the rounds before it
 in_rounds_from : (n more : ℕ) (histories : List Scripted) (m k i : ℕ) → n ≤ m → m < n + more → k < length (round_of m histories) → i + before n histories ≡ before m histories + k → slice_get (rounds_from n more histories) i ≡ slice_get (round_of m histories) k
 in_rounds_from n zero histories m k i low high within is = absurd (omega (arith, low, high))
 in_rounds_from n (suc more) histories m k i low high within is =

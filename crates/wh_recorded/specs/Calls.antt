@@ -69,7 +69,7 @@ EnoughPollsGiveAll =
     (histories : List Scripted) (calls : List Call) (last : Stage) → Makes histories calls last
     → length (in_rounds histories) ≤ polls_in calls → tasks_given calls ≡ in_rounds histories
 
--- whatever was called before, a poll gives the task behind those that were given
+-- whatever was called before, a poll gives the task after those that were given
 abbrev pub PollGivesNext : Type 0
 PollGivesNext =
     (histories : List Scripted) (calls : List Call) (last after : Stage) (polled : Polled WorkflowTask)

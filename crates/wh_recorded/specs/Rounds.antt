@@ -117,7 +117,7 @@ upcoming stage =
     (first_with stage.next stage.round (drop stage.next stage.histories))
     (first_with 0 (stage.round + 1) stage.histories)
 
--- a poll gives the next task and goes on behind it, and where no task is left the source is closed
+-- a poll gives the next task and goes on after it, and where no task is left the source is closed
 -- and stays as it is
 abbrev pub Polls : Stage → Polled WorkflowTask → Stage → Type 0
 Polls old (Task task) new =
@@ -235,7 +235,7 @@ failed_by stage (Some found) = failed_of stage.answers (first_tasks found.1 (pol
 abbrev pub failed_in : Stage → List ℕ → List FailedTask
 failed_in stage name = failed_by stage (first_named 0 name stage.histories)
 
--- the last task of a history has a record: an event that completes a task stands behind the one that starts it
+-- the last task of a history has a record: an event that completes a task stands after the one that starts it
 abbrev pub is_last_recorded : Scripted → Bool
 is_last_recorded history =
     ltb 0 (tasks_in history)

@@ -4,8 +4,8 @@ ghost use Rattle.wh_recorded.specs.Order.{EachStandsAtItsRank, NothingElseStands
 ghost use Rattle.wh_recorded.specs.Calls.{PollsGoInRounds, EnoughPollsGiveAll, PollGivesNext};
 ghost use Rattle.wh_recorded.specs.Calls.{ClosedWhereAllGiven, PolledAreGiven, GivenNamesAreOwn};
 
-/// In the order of the rounds the n-th task of a history stands behind the first n of each, and
-/// behind the n-th of the histories before it. Nothing else stands there, so each task stands there
+/// In the order of the rounds the n-th task of a history stands after the first n of each, and
+/// after the n-th of the histories before it. Nothing else stands there, so each task stands there
 /// once.
 pub fn rounds_are_said()
     ensures ranks { EachStandsAtItsRank }

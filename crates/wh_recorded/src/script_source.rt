@@ -63,7 +63,7 @@ fn find_ends(alloc: Global, events: &[Event]) -> Result<Vec<usize>, OutOfMemory>
     Ok(ends)
 }
 
-/// Adds a copy of the event behind the copies.
+/// Adds a copy of the event after the copies.
 fn push_copy(copies: &mut Vec<Event>, event: &Event) -> Result<(), OutOfMemory>
     ensures { OnOk result (copies.new.items ≡ copies.old.items ++ event.now ∷ []) }
 {
@@ -71,7 +71,7 @@ fn push_copy(copies: &mut Vec<Event>, event: &Event) -> Result<(), OutOfMemory>
     Ok(())
 }
 
-/// Copies of the events behind the first `begin` of them, up to `end`.
+/// Copies of the events after the first `begin` of them, up to `end`.
 fn copy_between(
     alloc: Global,
     events: &[Event],
@@ -88,7 +88,7 @@ fn copy_between(
     Ok(copies)
 }
 
-/// The number of the last of the events behind the first `begin` of them, up to `end`.
+/// The number of the last of the events after the first `begin` of them, up to `end`.
 fn last_between(events: &[Event], begin: usize, end: usize) -> u64
     requires begins { begin ≤ end }
     requires ends { end ≤ length events.now }
@@ -287,7 +287,7 @@ fn find_later(histories: &[ScriptedHistory], n: usize) -> Option<(usize, usize)>
 ///
 /// A history has a task for each of its `WorkflowTaskStarted` events, failed and timed-out tasks
 /// too. The first round gives the first task of each history in their order, the second round the
-/// second of each that has one, and so on, and behind the last task the source is closed. The first
+/// second of each that has one, and so on, and after the last task the source is closed. The first
 /// task of a history has its events from the first up to the started event, a later one those since
 /// the task before. The key of a task is the history's name with the run id `recorded`. Its name is
 /// the file's index times 2^64 plus the number of the started event. There are no activity tasks.
@@ -387,7 +387,7 @@ impl ScriptSource {
 
     /// Those of the polled tasks of the first history of the name that none of the answers
     /// completes, in their order: as many as `tally` says. None where no history has the name.
-    /// `OutOfMemory` where no room was found for the list.
+    /// `OutOfMemory` where there was no memory for the list.
     pub fn failed(&self, name: &str) -> Result<Vec<FailedTask>, OutOfMemory>
         ensures { IfOk result (λ failed. failed.items ≡ failed_in self.now name.now) }
     {

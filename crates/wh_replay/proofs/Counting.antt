@@ -9,13 +9,13 @@ use Rattle.wh_workflow.specs.Counting.{risen}
 use Rattle.wh_workflow.specs.Law.{Program, IsLawful}
 use Rattle.wh_workflow.specs.Jobs.{jobs_of}
 use Rattle.wh_workflow.specs.Names.{mismatch}
-use Rattle.wh_workflow.specs.Scripts.{Standpoint, Settled, reduced}
+use Rattle.wh_workflow.specs.Scripts.{ActivationContext, Settled, reduced}
 use Rattle.wh_workflow.specs.Activations.{and_then, Progress, activate}
 use Rattle.wh_workflow.specs.ActivationScripts.{Step, fault_in, ok_unless, outcome}
 use Rattle.wh_workflow.proofs.Following.{whole_meets}
 use Rattle.wh_workflow.proofs.Scripting.{longest_in_words}
 use Rattle.wh_workflow.proofs.Plain.{jobs_plain}
-use Rattle.wh_replay.specs.Replays.{Upshot, standpoint_at, begin_at, reached, close_task, task, replay_after, start, workflow_of, unless_mismatch, with_machines, replay_tasks}
+use Rattle.wh_replay.specs.Replays.{ReplayResult, context_at, begin_at, reached, close_task, task, replay_after, start, workflow_of, unless_mismatch, with_machines, replay_tasks}
 use Rattle.wh_replay.specs.Runs.{counted, going_on}
 use Rattle.wh_replay.specs.Laws.{step_count, HasScripts, ended, passed, ran, StepsAreScripted, NewStepsAreScripted}
 use Rattle.wh_replay.proofs.Settling.{and_then_ok, ok_same}
@@ -38,24 +38,24 @@ faultless None x out e = ok_same x out e
 faultless (Some fault) x out e = cc
 
 module _ {S : Type 0} where
-  matched : (at : ℕ) (difference : Option Mismatch) (x out : Upshot S) → unless_mismatch at difference x ≡ Ok out → x ≡ out
+  matched : (at : ℕ) (difference : Option Mismatch) (x out : ReplayResult S) → unless_mismatch at difference x ≡ Ok out → x ≡ out
   matched at None x out e = ok_same x out e
   matched at (Some difference) x out e = cc
 
-  close_meter : (history : List Event) (standpoint : Standpoint) (at : ℕ) (recorded : Option (List Event)) (progress : Progress S) (out : Upshot S) → close_task history standpoint at recorded progress ≡ Ok out → out.meter ≡ progress.meter
-  close_meter history standpoint at None progress out e = sym (ap (λ (r : Upshot S). r.meter) (ok_same (reached progress (reduced standpoint progress.script.issued)) out e))
-  close_meter history standpoint at (Some events) progress out e = sym (ap (λ (r : Upshot S). r.meter) (matched at (mismatch history (reduced standpoint progress.script.issued) events) (reached progress []) out e))
+  close_meter : (history : List Event) (context : ActivationContext) (at : ℕ) (recorded : Option (List Event)) (progress : Progress S) (out : ReplayResult S) → close_task history context at recorded progress ≡ Ok out → out.meter ≡ progress.meter
+  close_meter history context at None progress out e = sym (ap (λ (r : ReplayResult S). r.meter) (ok_same (reached progress (reduced context progress.script.issued)) out e))
+  close_meter history context at (Some events) progress out e = sym (ap (λ (r : ReplayResult S). r.meter) (matched at (mismatch history (reduced context progress.script.issued) events) (reached progress []) out e))
 
-  outcome_meter : (program : Program S) (standpoint : Standpoint) (state : S) (settled : Settled) (meter : ℕ) (steps : List Step) (out : Progress S) → outcome program standpoint state settled meter steps ≡ Ok out → out.meter ≡ risen meter (length steps)
-  outcome_meter program standpoint state settled meter steps out e = sym (ap (λ (p : Progress S). p.meter) (faultless (fault_in standpoint settled [] steps) _ out e))
+  outcome_meter : (program : Program S) (context : ActivationContext) (state : S) (settled : Settled) (meter : ℕ) (steps : List Step) (out : Progress S) → outcome program context state settled meter steps ≡ Ok out → out.meter ≡ risen meter (length steps)
+  outcome_meter program context state settled meter steps out e = sym (ap (λ (p : Progress S). p.meter) (faultless (fault_in context settled [] steps) _ out e))
 
   -- the scripts of the rest of a history, and how far they raise the meter
-  Counts : Program S → List Event → List Event → List Event → Upshot S → Upshot S → Type 0
+  Counts : Program S → List Event → List Event → List Event → ReplayResult S → ReplayResult S → Type 0
   Counts program before between rest current left = (scripts : List (List Step)) × HasScripts program before between rest current scripts × (left.meter ≡ risen current.meter (step_count scripts))
 
-  counts : (program : Program S) → IsLawful program → (before between rest : List Event) (current left : Upshot S) → current.meter ≤ top → replay_after program before between rest current ≡ Ok left → Counts program before between rest current left
+  counts : (program : Program S) → IsLawful program → (before between rest : List Event) (current left : ReplayResult S) → current.meter ≤ top → replay_after program before between rest current ≡ Ok left → Counts program before between rest current left
   unfolding Counts
-  counts program lawful before between [] current left below e = ([], ended before between current, sym (ap (λ (r : Upshot S). r.meter) (ok_same current left e)) ∙ sym (risen_zero current.meter below))
+  counts program lawful before between [] current left below e = ([], ended before between current, sym (ap (λ (r : ReplayResult S). r.meter) (ok_same current left e)) ∙ sym (risen_zero current.meter below))
   counts program lawful before between (event ∷ rest) current left below e =
       let seen = before ++ event ∷ [] in
       let here = and_then (task program before between event rest current) (replay_after program seen [] rest) in
@@ -63,15 +63,15 @@ module _ {S : Type 0} where
       test_of (is_cut event rest)
       (λ c.
       let first = and_then_ok (task program before between event rest current) (replay_after program seen [] rest) left (sym (if_true (is_cut event rest) here past c) ∙ e) in
-      let standpoint = standpoint_at before between event rest in
+      let context = context_at before between event rest in
       let jobs = jobs_of seen between event in
-      let parts = task_parts (before ++ event ∷ rest) standpoint event.number first.0 (activate program standpoint jobs (begin_at current)) first.1 in
-      let script = whole_meets program lawful standpoint jobs current.state current.settled current.meter (jobs_plain seen between event) below in
+      let parts = task_parts (before ++ event ∷ rest) context event.number first.0 (activate program context jobs (begin_at current)) first.1 in
+      let script = whole_meets program lawful context jobs current.state current.settled current.meter (jobs_plain seen between event) below in
       let rises : first.0.meter ≡ risen current.meter (length script.0)
-      = close_meter (before ++ event ∷ rest) standpoint event.number standpoint.recorded parts.0 first.0 parts.2 ∙ outcome_meter program standpoint current.state current.settled current.meter script.0 parts.0 (sym script.3 ∙ parts.1) in
+      = close_meter (before ++ event ∷ rest) context event.number context.recorded parts.0 first.0 parts.2 ∙ outcome_meter program context current.state current.settled current.meter script.0 parts.0 (sym script.3 ∙ parts.1) in
       let later = counts program lawful seen [] rest first.0 left (below_risen first.0.meter current.meter (length script.0) rises) first.2 in (
         script.0 ∷ later.0,
-        ran before between event rest current first.0 script.0 later.0 c (longest_in_words program standpoint jobs current.state current.settled script.0 script.1) first.1 later.1,
+        ran before between event rest current first.0 script.0 later.0 c (longest_in_words program context jobs current.state current.settled script.0 script.1) first.1 later.1,
         later.2 ∙ (ap (λ m. risen m (step_count later.0)) rises ∙ risen_twice current.meter (length script.0) (step_count later.0)),
       ))
       (λ c.

@@ -15,7 +15,7 @@ use Rattle.wh_workflow.specs.Scripts.{Settled}
 use Rattle.wh_workflow.specs.Activations.{and_then}
 use Rattle.wh_replay.specs.declared.fault.Fault.{Fault}
 use Rattle.wh_replay.specs.declared.fault.Fault.TheVariants.{NotATask}
-use Rattle.wh_replay.specs.Replays.{Upshot, Replayed, with_machines, replay, replay_tasks, ends_in_task}
+use Rattle.wh_replay.specs.Replays.{ReplayResult, Replayed, with_machines, replay, replay_tasks, ends_in_task}
 use Rattle.wh_replay.specs.Runs.{Gives, IsRun, Shows, IsReplayed, run_of, advance_steps, advanced}
 use Rattle.wh_replay.specs.Views.{view_of}
 use Rattle.wh_replay.proofs.Raising.{top}
@@ -68,23 +68,23 @@ module _ {S : Type 0} where
       replay_of_run (ends_in_task events) (replay program events 0) e ∙ ap (λ r. and_then r (λ left. Ok (with_machines (machines_of events) left))) h
 
   -- what a replay on a meter gives makes a run
-  pub replayed_run : (program : Program S) (events : List Event) (meter : ℕ) (value : Upshot S) → ends_in_task events ≡ true → meter ≤ top → replay_tasks program events meter ≡ Ok value → IsRun program events value.state value.settled value.unsent
+  pub replayed_run : (program : Program S) (events : List Event) (meter : ℕ) (value : ReplayResult S) → ends_in_task events ≡ true → meter ≤ top → replay_tasks program events meter ≡ Ok value → IsRun program events value.state value.settled value.unsent
   replayed_run program events meter value ends below e = record { ends = ends; gives = replayed_gives program events meter value below e }
 
   -- the fault of a replay on a meter is what the history begins with
-  pub begins_err : {A : Type 0} (program : Program S) (events : List Event) (meter : ℕ) (fault : RunFault) (defined : Result (Upshot S) Fault) (seen : A → Upshot S) → replay_tasks program events meter ≡ defined → meter ≤ top → ends_in_task events ≡ true
+  pub begins_err : {A : Type 0} (program : Program S) (events : List Event) (meter : ℕ) (fault : RunFault) (defined : Result (ReplayResult S) Fault) (seen : A → ReplayResult S) → replay_tasks program events meter ≡ defined → meter ≤ top → ends_in_task events ≡ true
       → Answers (Err fault) defined seen → GivesHistory program events (Err fault)
   begins_err program events meter (Faulty fault) defined seen is below ends answers = run_fault program events fault ends (replayed_fault program events meter fault below (is ∙ answers))
   begins_err program events meter OutOfMemory defined seen is below ends answers = ends
 
   -- what holds of what the replay gives
-  gives_that : (machines : List Machine) (result : Result (Upshot S) Fault) (state : S) (settled : Settled) (unsent : List Command) (P : Replayed S → Type 0) → Gives result state settled unsent
-      → ((left : Upshot S) → left.state ≡ state → left.settled ≡ settled → left.unsent ≡ unsent → P (with_machines machines left)) → IsOkAnd (and_then result (λ left. Ok (with_machines machines left))) P
+  gives_that : (machines : List Machine) (result : Result (ReplayResult S) Fault) (state : S) (settled : Settled) (unsent : List Command) (P : Replayed S → Type 0) → Gives result state settled unsent
+      → ((left : ReplayResult S) → left.state ≡ state → left.settled ≡ settled → left.unsent ≡ unsent → P (with_machines machines left)) → IsOkAnd (and_then result (λ left. Ok (with_machines machines left))) P
   gives_that machines (Ok left) state settled unsent P gives h = h left gives.0 gives.1 gives.2
   gives_that machines (Err fault) state settled unsent P gives h = absurd gives
 
   pub run_that : (program : Program S) (events : List Event) (state : S) (settled : Settled) (unsent : List Command) (P : Replayed S → Type 0) → IsRun program events state settled unsent
-      → ((left : Upshot S) → left.state ≡ state → left.settled ≡ settled → left.unsent ≡ unsent → P (with_machines (machines_of events) left)) → IsOkAnd (run_of program events) P
+      → ((left : ReplayResult S) → left.state ≡ state → left.settled ≡ settled → left.unsent ≡ unsent → P (with_machines (machines_of events) left)) → IsOkAnd (run_of program events) P
   run_that program events state settled unsent P run h =
       let Q : Result (Replayed S) Fault → Type 0 = λ r. IsOkAnd r P in
       subst Q (sym (replay_of_run (ends_in_task events) (replay program events 0) run.ends)) (gives_that (machines_of events) (replay_tasks program events 0) state settled unsent P run.gives h)
@@ -110,7 +110,7 @@ module _ {S : Type 0} where
     pub count : held ≡ length before
     pub below : meter ≤ top
 
-  -- it is so where new events were taken behind held ones
+  -- it is so where new events were taken after held ones
   pub is_longer : (program : Program S) (before new track : List Event) (held meter : ℕ) (state : S) (settled : Settled) (unsent : List Command) → IsRun program before state settled unsent → ends_in_task new ≡ true → joined before new ≡ Ok track → held ≡ length before → meter ≤ top
       → IsLonger program before new track held meter state settled unsent
   is_longer program before new track held meter state settled unsent run ends taken count below = record {
@@ -136,7 +136,7 @@ module _ {S : Type 0} where
       ∙ ap (λ l. advanced program (take held joined) l meter) (sym (back_is before new joined held h.joins h.count))
 
   -- a run that is advanced is a run
-  pub longer_run : (program : Program S) → IsLawful program → (before new joined : List Event) (held meter : ℕ) (state : S) (settled : Settled) (unsent : List Command) (value : Upshot S) → IsLonger program before new joined held meter state settled unsent
+  pub longer_run : (program : Program S) → IsLawful program → (before new joined : List Event) (held meter : ℕ) (state : S) (settled : Settled) (unsent : List Command) (value : ReplayResult S) → IsLonger program before new joined held meter state settled unsent
       → advanced program (take held joined) (drop held joined) meter ≡ Ok value → IsRun program (before ++ new) value.state value.settled value.unsent
   longer_run program lawful before new joined held meter state settled unsent value h e = record {
     ends = ends_joined before new h.ends;
@@ -144,13 +144,13 @@ module _ {S : Type 0} where
   }
 
   -- its meter rises by the steps that were taken
-  pub longer_counts : (program : Program S) → IsLawful program → (before new joined : List Event) (held meter : ℕ) (state : S) (settled : Settled) (unsent : List Command) (value : Upshot S) → IsLonger program before new joined held meter state settled unsent
+  pub longer_counts : (program : Program S) → IsLawful program → (before new joined : List Event) (held meter : ℕ) (state : S) (settled : Settled) (unsent : List Command) (value : ReplayResult S) → IsLonger program before new joined held meter state settled unsent
       → advanced program (take held joined) (drop held joined) meter ≡ Ok value → value.meter ≡ risen meter (advance_steps program before new)
   longer_counts program lawful before new joined held meter state settled unsent value h e =
       advanced_counts program lawful before new meter state settled unsent value h.run h.below (parted program before new joined held meter state settled unsent h ∙ e)
 
   -- and its fault is that of the joined history
-  pub longer_err : {A : Type 0} (program : Program S) → IsLawful program → (before new joined : List Event) (held meter : ℕ) (state : S) (settled : Settled) (unsent : List Command) (fault : RunFault) (defined : Result (Upshot S) Fault) (seen : A → Upshot S)
+  pub longer_err : {A : Type 0} (program : Program S) → IsLawful program → (before new joined : List Event) (held meter : ℕ) (state : S) (settled : Settled) (unsent : List Command) (fault : RunFault) (defined : Result (ReplayResult S) Fault) (seen : A → ReplayResult S)
       → IsLonger program before new joined held meter state settled unsent → advanced program (take held joined) (drop held joined) meter ≡ defined → Answers (Err fault) defined seen → GivesHistory program (before ++ new) (Err fault)
   longer_err program lawful before new joined held meter state settled unsent (Faulty fault) defined seen h is answers =
       run_fault program (before ++ new) fault (ends_joined before new h.ends)

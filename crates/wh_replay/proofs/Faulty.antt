@@ -12,13 +12,13 @@ use Rattle.wh_workflow.specs.declared.job.Job.TheVariants.{Version}
 use Rattle.wh_workflow.specs.declared.fault.WorkflowFault.{WorkflowFault}
 use Rattle.wh_workflow.specs.declared.fault.WorkflowFault.TheVariants.{AfterClosing, TooManyCommands, BadRange, VersionOutOfRange}
 use Rattle.wh_workflow.specs.Law.{Program, IsLawful, is_ask, asks_last}
-use Rattle.wh_workflow.specs.Scripts.{Standpoint, Settled, Choice, Act, act_of, act_fault, opening_fault, cancel_fault, ask_fault, command_fault, fault_if, some_act, act_closes, given, most_commands, choice_by, choice_of, lookup_version}
+use Rattle.wh_workflow.specs.Scripts.{ActivationContext, Settled, Choice, Act, act_of, act_fault, opening_fault, cancel_fault, ask_fault, command_fault, fault_if, some_act, act_closes, given, most_commands, choice_by, choice_of, lookup_version}
 use Rattle.wh_workflow.specs.Scripts.Act.{Opening, Cancelling, Closing, Asking, Other}
 use Rattle.wh_workflow.specs.Activations.{Question, question_of, marker_if}
 use Rattle.wh_workflow.specs.ActivationScripts.{Step, commands_in, settled_from, settled_after, first_fault, Answers, markers_at, issued_in, fault_in, state_after}
 use Rattle.wh_workflow.proofs.Judging.{up_to_fault, all_stand, same_fault}
 use Rattle.wh_workflow.proofs.Following.{issued_last, fault_last, IsScriptBy, IsLongestBy}
-use Rattle.wh_replay.specs.Laws.{live_standpoint, recorded_standpoint, issued_marker, HasMarkers}
+use Rattle.wh_replay.specs.Laws.{live_context, recorded_context, issued_marker, HasMarkers}
 use Rattle.wh_replay.proofs.Confirming.{and_parts, not_true, true_false, asking, question_skip, choice_same, ask_same, fault_same, issued_marker-append, unmarked, no_markers, either, neither_version, lookup-append, same_bytes}
 
 settled_last : (settled : Settled) (xs : List Step) (x : Step) → settled_after settled (xs ++ x ∷ []) ≡ settled_from (settled_after settled xs) x.job
@@ -78,52 +78,52 @@ last_of (y ∷ ys) =
     ]
 
 -- the steps of a script before another one have no fault
-module _ {S : Type 0} (program : Program S) (standpoint : Standpoint) (jobs : List Job) (state : S) (settled : Settled) (steps : List Step) (p : IsScriptBy program standpoint jobs state settled steps) where
+module _ {S : Type 0} (program : Program S) (context : ActivationContext) (jobs : List Job) (state : S) (settled : Settled) (steps : List Step) (p : IsScriptBy program context jobs state settled steps) where
   abbrev fault_by : List Step → Step → Option WorkflowFault
-  fault_by before step = first_fault standpoint (settled_after settled (before ++ step ∷ [])) (commands_in before) step.commands
+  fault_by before step = first_fault context (settled_after settled (before ++ step ∷ [])) (commands_in before) step.commands
 
   faultless_at : (front : List Step) (y : Step) (mid : List Step) (x : Step) (after : List Step) → steps ≡ front ++ y ∷ (mid ++ x ∷ after) → fault_by front y ≡ None
   faultless_at front y [] x after e = p.faultless front after y x e
   faultless_at front y (z ∷ mid) x after e = p.faultless front (mid ++ x ∷ after) y z e
 
   -- the fault of steps without one and one more
-  with_last : (front : List Step) (y : Step) → fault_in standpoint settled [] front ≡ None → fault_in standpoint settled [] (front ++ y ∷ []) ≡ fault_by front y
-  with_last front y clean = fault_last standpoint settled [] front y ∙ ap (λ o. or_else o (fault_by front y)) clean
+  with_last : (front : List Step) (y : Step) → fault_in context settled [] front ≡ None → fault_in context settled [] (front ++ y ∷ []) ≡ fault_by front y
+  with_last front y clean = fault_last context settled [] front y ∙ ap (λ o. or_else o (fault_by front y)) clean
 
-  clean_to : (front mid : List Step) (x : Step) (after : List Step) → steps ≡ front ++ (mid ++ x ∷ after) → fault_in standpoint settled [] front ≡ None → fault_in standpoint settled [] (front ++ mid) ≡ None
-  clean_to front [] x after e clean = ap (fault_in standpoint settled []) (append-nil front) ∙ clean
+  clean_to : (front mid : List Step) (x : Step) (after : List Step) → steps ≡ front ++ (mid ++ x ∷ after) → fault_in context settled [] front ≡ None → fault_in context settled [] (front ++ mid) ≡ None
+  clean_to front [] x after e clean = ap (fault_in context settled []) (append-nil front) ∙ clean
   clean_to front (y ∷ mid) x after e clean =
-      ap (fault_in standpoint settled []) (sym (append_assoc front (y ∷ []) mid))
+      ap (fault_in context settled []) (sym (append_assoc front (y ∷ []) mid))
       ∙ clean_to (front ++ y ∷ []) mid x after (e ∙ sym (append_assoc front (y ∷ []) (mid ++ x ∷ after))) (with_last front y clean ∙ faultless_at front y mid x after e)
 
   -- the fault of a script is that of its last step
-  last_fault : (front : List Step) (x : Step) → steps ≡ front ++ x ∷ [] → fault_in standpoint settled [] steps ≡ fault_by front x
-  last_fault front x e = ap (fault_in standpoint settled []) e ∙ with_last front x (clean_to [] front x [] e refl)
+  last_fault : (front : List Step) (x : Step) → steps ≡ front ++ x ∷ [] → fault_in context settled [] steps ≡ fault_by front x
+  last_fault front x e = ap (fault_in context settled []) e ∙ with_last front x (clean_to [] front x [] e refl)
 
 module _ (seen between events : List Event) where
   other_same : (settled : Settled) (earlier : List Command) (command : Command) → is_ask command ≡ false
-      → command_fault (live_standpoint seen between) settled earlier command ≡ command_fault (recorded_standpoint seen between events) settled earlier command
+      → command_fault (live_context seen between) settled earlier command ≡ command_fault (recorded_context seen between events) settled earlier command
   other_same settled earlier command no_ask =
       fault_same seen between events settled earlier command (λ change_id low high e. absurd (true_false (sym ((asking command change_id low high e).1) ∙ no_ask)))
 
   -- a step's commands are cut off at the same one
   up_to_same : (settled : Settled) (commands earlier : List Command) → IsTrue (asks_last commands)
-      → up_to_fault (live_standpoint seen between) settled earlier commands ≡ up_to_fault (recorded_standpoint seen between events) settled earlier commands
+      → up_to_fault (live_context seen between) settled earlier commands ≡ up_to_fault (recorded_context seen between events) settled earlier commands
   up_to_same settled [] earlier last = refl
   up_to_same settled (command ∷ []) earlier last =
       ap (λ (l : List Command). command ∷ l)
-      (alone (is_some (command_fault (live_standpoint seen between) settled earlier command)) ∙ sym (alone (is_some (command_fault (recorded_standpoint seen between events) settled earlier command))))
+      (alone (is_some (command_fault (live_context seen between) settled earlier command)) ∙ sym (alone (is_some (command_fault (recorded_context seen between events) settled earlier command))))
   up_to_same settled (command ∷ next ∷ rest) earlier last =
       let parts = and_parts _ (asks_last (next ∷ rest)) last in
       let here = other_same settled earlier command (not_true (is_ask command) parts.0) in
       let there = up_to_same settled (next ∷ rest) (earlier ++ command ∷ []) parts.1 in
-      ap (λ fault. command ∷ cond (is_some fault) [] (up_to_fault (live_standpoint seen between) settled (earlier ++ command ∷ []) (next ∷ rest))) here
-      ∙ ap (λ (l : List Command). command ∷ cond (is_some (command_fault (recorded_standpoint seen between events) settled earlier command)) [] l) there
+      ap (λ fault. command ∷ cond (is_some fault) [] (up_to_fault (live_context seen between) settled (earlier ++ command ∷ []) (next ∷ rest))) here
+      ∙ ap (λ (l : List Command). command ∷ cond (is_some (command_fault (recorded_context seen between events) settled earlier command)) [] l) there
 
   -- they have the same first fault where their question has the same answer
   first_same : (settled : Settled) (commands earlier : List Command) → IsTrue (asks_last commands)
-      → ((question : Question) → question_of commands ≡ Some question → choice_of (live_standpoint seen between) settled question.0 question.1 ≡ choice_of (recorded_standpoint seen between events) settled question.0 question.1)
-      → first_fault (live_standpoint seen between) settled earlier commands ≡ first_fault (recorded_standpoint seen between events) settled earlier commands
+      → ((question : Question) → question_of commands ≡ Some question → choice_of (live_context seen between) settled question.0 question.1 ≡ choice_of (recorded_context seen between events) settled question.0 question.1)
+      → first_fault (live_context seen between) settled earlier commands ≡ first_fault (recorded_context seen between events) settled earlier commands
   first_same settled [] earlier last h = refl
   first_same settled (command ∷ []) earlier last h =
       ap (λ fault. or_else fault None) (fault_same seen between events settled earlier command (λ change_id low high e. h (change_id, high) ((asking command change_id low high e).0)))
@@ -131,32 +131,32 @@ module _ (seen between events : List Event) where
       let parts = and_parts _ (asks_last (next ∷ rest)) last in
       let here = other_same settled earlier command (not_true (is_ask command) parts.0) in
       let there = first_same settled (next ∷ rest) (earlier ++ command ∷ []) parts.1 (λ question e. h question (question_skip command next rest ∙ e)) in
-      ap (λ fault. or_else fault (first_fault (live_standpoint seen between) settled (earlier ++ command ∷ []) (next ∷ rest))) here
-      ∙ ap (or_else (command_fault (recorded_standpoint seen between events) settled earlier command)) there
+      ap (λ fault. or_else fault (first_fault (live_context seen between) settled (earlier ++ command ∷ []) (next ∷ rest))) here
+      ∙ ap (or_else (command_fault (recorded_context seen between events) settled earlier command)) there
 
   -- a live fault of an ask is a recorded one
-  ask_stays : (settled : Settled) (change_id : List ℕ) (low high : ℤ) (fault : WorkflowFault) → ask_fault (live_standpoint seen between) settled change_id low high ≡ Some fault
-      → ask_fault (recorded_standpoint seen between events) settled change_id low high ≡ Some fault
+  ask_stays : (settled : Settled) (change_id : List ℕ) (low high : ℤ) (fault : WorkflowFault) → ask_fault (live_context seen between) settled change_id low high ≡ Some fault
+      → ask_fault (recorded_context seen between events) settled change_id low high ≡ Some fault
   unfolding ask_fault
   ask_stays settled change_id low high fault e =
       elim (either (lookup_version change_id settled)) [
         | inl none ↦ unsettled none e
         | inr some ↦
             (let choice : (r : Option (List Event)) → choice_by (lookup_version change_id settled) r change_id high ≡ record { version = some.0; marked = false } = λ r. ap (λ o. choice_by o r change_id high) some.1 in
-            sym (ask_same (live_standpoint seen between) (recorded_standpoint seen between events) settled change_id low high (choice None ∙ sym (choice (Some events)))) ∙ e)
+            sym (ask_same (live_context seen between) (recorded_context seen between events) settled change_id low high (choice None ∙ sym (choice (Some events)))) ∙ e)
       ]
     where
-      unsettled : lookup_version change_id settled ≡ None → ask_fault (live_standpoint seen between) settled change_id low high ≡ Some fault → ask_fault (recorded_standpoint seen between events) settled change_id low high ≡ Some fault
+      unsettled : lookup_version change_id settled ≡ None → ask_fault (live_context seen between) settled change_id low high ≡ Some fault → ask_fault (recorded_context seen between events) settled change_id low high ≡ Some fault
       unsettled none e =
           let bad = int_lt high low || (int_lt low (negsuc 0) || int_lt high (pos 0)) in
           let got : ℤ → Option WorkflowFault = λ version. fault_if (int_lt version low || int_lt high version) VersionOutOfRange in
-          let live : (choice_of (live_standpoint seen between) settled change_id high).version ≡ high = ap (λ o. (choice_by o None change_id high).version) none in
+          let live : (choice_of (live_context seen between) settled change_id high).version ≡ high = ap (λ o. (choice_by o None change_id high).version) none in
           let fine : bad ≡ false → got high ≡ None
           = λ b. ap (λ test. fault_if (test || int_lt high high) VersionOutOfRange) ((or_parts (int_lt high low) (int_lt low (negsuc 0) || int_lt high (pos 0)) b).0) ∙ ap (λ test. fault_if test VersionOutOfRange) (not_below_itself high) in
-          range_stays bad (got high) (got ((choice_of (recorded_standpoint seen between events) settled change_id high).version)) fault fine
+          range_stays bad (got high) (got ((choice_of (recorded_context seen between events) settled change_id high).version)) fault fine
           (ap (λ version. or_else (fault_if bad BadRange) (got version)) (sym live) ∙ e)
 
-  act_stays : (settled : Settled) (earlier : List Command) (act : Act) (fault : WorkflowFault) → act_fault (live_standpoint seen between) settled earlier act ≡ Some fault → act_fault (recorded_standpoint seen between events) settled earlier act ≡ Some fault
+  act_stays : (settled : Settled) (earlier : List Command) (act : Act) (fault : WorkflowFault) → act_fault (live_context seen between) settled earlier act ≡ Some fault → act_fault (recorded_context seen between events) settled earlier act ≡ Some fault
   unfolding opening_fault cancel_fault
   act_stays settled earlier (Opening thing id) fault e = e
   act_stays settled earlier (Cancelling thing id) fault e = e
@@ -164,51 +164,51 @@ module _ (seen between events : List Event) where
   act_stays settled earlier Other fault e = e
   act_stays settled earlier (Asking change_id low high) fault e = ask_stays settled change_id low high fault e
 
-  fault_stays : (settled : Settled) (earlier : List Command) (command : Command) (fault : WorkflowFault) → command_fault (live_standpoint seen between) settled earlier command ≡ Some fault → command_fault (recorded_standpoint seen between events) settled earlier command ≡ Some fault
+  fault_stays : (settled : Settled) (earlier : List Command) (command : Command) (fault : WorkflowFault) → command_fault (live_context seen between) settled earlier command ≡ Some fault → command_fault (recorded_context seen between events) settled earlier command ≡ Some fault
   unfolding command_fault
   fault_stays settled earlier command fault e =
       let many = fault_if (leb most_commands (length (given earlier))) TooManyCommands in
-      let live = act_fault (live_standpoint seen between) settled earlier (act_of command) in
-      let recorded = act_fault (recorded_standpoint seen between events) settled earlier (act_of command) in
+      let live = act_fault (live_context seen between) settled earlier (act_of command) in
+      let recorded = act_fault (recorded_context seen between events) settled earlier (act_of command) in
       or_stays (fault_if (some_act act_closes earlier) AfterClosing) (or_else many live) (or_else many recorded) fault
       (or_stays many live recorded fault (act_stays settled earlier (act_of command) fault)) e
 
   -- a live first fault of a step is the recorded one
-  first_stays : (settled : Settled) (commands earlier : List Command) (fault : WorkflowFault) → IsTrue (asks_last commands) → first_fault (live_standpoint seen between) settled earlier commands ≡ Some fault → first_fault (recorded_standpoint seen between events) settled earlier commands ≡ Some fault
+  first_stays : (settled : Settled) (commands earlier : List Command) (fault : WorkflowFault) → IsTrue (asks_last commands) → first_fault (live_context seen between) settled earlier commands ≡ Some fault → first_fault (recorded_context seen between events) settled earlier commands ≡ Some fault
   first_stays settled [] earlier fault last e = cc
   first_stays settled (command ∷ []) earlier fault last e =
-      or_none (command_fault (recorded_standpoint seen between events) settled earlier command)
-      ∙ fault_stays settled earlier command fault (sym (or_none (command_fault (live_standpoint seen between) settled earlier command)) ∙ e)
+      or_none (command_fault (recorded_context seen between events) settled earlier command)
+      ∙ fault_stays settled earlier command fault (sym (or_none (command_fault (live_context seen between) settled earlier command)) ∙ e)
   first_stays settled (command ∷ next ∷ rest) earlier fault last e =
       let parts = and_parts _ (asks_last (next ∷ rest)) last in
       let here = other_same settled earlier command (not_true (is_ask command) parts.0) in
-      let live = first_fault (live_standpoint seen between) settled (earlier ++ command ∷ []) (next ∷ rest) in
-      let recorded = first_fault (recorded_standpoint seen between events) settled (earlier ++ command ∷ []) (next ∷ rest) in
-      or_stays (command_fault (recorded_standpoint seen between events) settled earlier command) live recorded fault
+      let live = first_fault (live_context seen between) settled (earlier ++ command ∷ []) (next ∷ rest) in
+      let recorded = first_fault (recorded_context seen between events) settled (earlier ++ command ∷ []) (next ∷ rest) in
+      or_stays (command_fault (recorded_context seen between events) settled earlier command) live recorded fault
       (first_stays settled (next ∷ rest) (earlier ++ command ∷ []) fault parts.1)
       (ap (λ o. or_else o live) (sym here) ∙ e)
 
   answers_same : (settled : Settled) (question : Option Question) (job : Job)
-      → ((q : Question) → question ≡ Some q → choice_of (live_standpoint seen between) settled q.0 q.1 ≡ choice_of (recorded_standpoint seen between events) settled q.0 q.1)
-      → Answers (live_standpoint seen between) settled question job → Answers (recorded_standpoint seen between events) settled question job
+      → ((q : Question) → question ≡ Some q → choice_of (live_context seen between) settled q.0 q.1 ≡ choice_of (recorded_context seen between events) settled q.0 q.1)
+      → Answers (live_context seen between) settled question job → Answers (recorded_context seen between events) settled question job
   answers_same settled None job h a = a
   answers_same settled (Some q) job h a = a ∙ ap (λ (choice : Choice). Version q.0 choice.version) (h q refl)
 
   -- the marker of a question that is not settled
-  unsettled_marker : (settled : Settled) (q : Question) → lookup_version q.0 settled ≡ None → markers_at (live_standpoint seen between) settled (Some q) ≡ Marker q.0 q.1 ∷ []
+  unsettled_marker : (settled : Settled) (q : Question) → lookup_version q.0 settled ≡ None → markers_at (live_context seen between) settled (Some q) ≡ Marker q.0 q.1 ∷ []
   unsettled_marker settled q none = ap (λ o. let choice = choice_by o None q.0 q.1 in marker_if choice.marked q.0 choice.version) none
 
-  settled_marker : (settled : Settled) (q : Question) (version : ℤ) → lookup_version q.0 settled ≡ Some version → markers_at (live_standpoint seen between) settled (Some q) ≡ []
+  settled_marker : (settled : Settled) (q : Question) (version : ℤ) → lookup_version q.0 settled ≡ Some version → markers_at (live_context seen between) settled (Some q) ≡ []
   settled_marker settled q version some = ap (λ o. let choice = choice_by o None q.0 q.1 in marker_if choice.marked q.0 choice.version) some
 
   -- a change that the answer to a question does not settle has no marker of it
-  marks_none : (settled : Settled) (question : Option Question) (job : Job) (change_id : List ℕ) → Answers (live_standpoint seen between) settled question job → lookup_version change_id (settled_from settled job) ≡ None
-      → issued_marker change_id (markers_at (live_standpoint seen between) settled question) ≡ None
+  marks_none : (settled : Settled) (question : Option Question) (job : Job) (change_id : List ℕ) → Answers (live_context seen between) settled question job → lookup_version change_id (settled_from settled job) ≡ None
+      → issued_marker change_id (markers_at (live_context seen between) settled question) ≡ None
   marks_none settled None job change_id a e = refl
   marks_none settled (Some q) job change_id a e =
       elim (either (lookup_version q.0 settled)) [
         | inl none ↦
-            (let version : (choice_of (live_standpoint seen between) settled q.0 q.1).version ≡ q.1 = ap (λ o. (choice_by o None q.0 q.1).version) none in
+            (let version : (choice_of (live_context seen between) settled q.0 q.1).version ≡ q.1 = ap (λ o. (choice_by o None q.0 q.1).version) none in
             let told : job ≡ Version q.0 q.1 = a ∙ ap (Version q.0) version in
             let with_it : settled_from settled job ≡ settled ++ (q.0, q.1) ∷ [] = ap (settled_from settled) told ∙ ap (λ o. cond (is_some o) settled (settled ++ (q.0, q.1) ∷ [])) none in
             let all : or_else (lookup_version change_id settled) (lookup_version change_id ((q.0, q.1) ∷ [])) ≡ None
@@ -218,7 +218,7 @@ module _ (seen between events : List Event) where
         | inr some ↦ ap (issued_marker change_id) (settled_marker settled q some.0 some.1)
       ]
 
-  module _ {S : Type 0} (program : Program S) (lawful : IsLawful program) (jobs : List Job) (state : S) (settled : Settled) (live : List Step) (p : IsScriptBy program (live_standpoint seen between) jobs state settled live)
+  module _ {S : Type 0} (program : Program S) (lawful : IsLawful program) (jobs : List Job) (state : S) (settled : Settled) (live : List Step) (p : IsScriptBy program (live_context seen between) jobs state settled live)
       (covers : HasMarkers seen between settled live events) where
     abbrev now : List Step → Step → Settled
     now before step = settled_after settled (before ++ step ∷ [])
@@ -227,12 +227,12 @@ module _ (seen between events : List Event) where
     gives before step = program.gives (state_after program state before) step.job
 
     abbrev fault_of : List Step → Step → Option WorkflowFault
-    fault_of before step = first_fault (live_standpoint seen between) (now before step) (commands_in before) step.commands
+    fault_of before step = first_fault (live_context seen between) (now before step) (commands_in before) step.commands
 
     -- a step without a fault has all commands
     all_given : (before after : List Step) (step : Step) → live ≡ before ++ step ∷ after → fault_of before step ≡ None → step.commands ≡ gives before step
     all_given before after step e none =
-        let here = live_standpoint seen between in
+        let here = live_context seen between in
         let stands = p.gives before after step e in
         let free : first_fault here (now before step) (commands_in before) (gives before step) ≡ None
         = sym (same_fault here (now before step) (commands_in before) (gives before step)) ∙ (ap (first_fault here (now before step) (commands_in before)) (sym stands) ∙ none) in
@@ -240,11 +240,11 @@ module _ (seen between events : List Event) where
 
     -- a change that a step finds unsettled has no marker before it
     abbrev Unmarked : List Step → Type 0
-    Unmarked front = (x : Step) (after : List Step) (change_id : List ℕ) → live ≡ front ++ x ∷ after → lookup_version change_id (now front x) ≡ None → issued_marker change_id (issued_in (live_standpoint seen between) settled front) ≡ None
+    Unmarked front = (x : Step) (after : List Step) (change_id : List ℕ) → live ≡ front ++ x ∷ after → lookup_version change_id (now front x) ≡ None → issued_marker change_id (issued_in (live_context seen between) settled front) ≡ None
 
     unmarked_next : (front : List Step) (y : Step) → Unmarked front → Unmarked (front ++ y ∷ [])
     unmarked_next front y before x after change_id e none =
-        let here = live_standpoint seen between in
+        let here = live_context seen between in
         let along : live ≡ front ++ y ∷ x ∷ after = e ∙ append_assoc front (y ∷ []) (x ∷ after) in
         let later : lookup_version change_id (settled_from (now front y) x.job) ≡ None = ap (lookup_version change_id) (sym (settled_last settled (front ++ y ∷ []) x)) ∙ none in
         let first = before y (x ∷ after) change_id along (still_unsettled (now front y) x.job change_id later) in
@@ -263,26 +263,26 @@ module _ (seen between events : List Event) where
     unmarked_at before = unmarked_to [] before (λ x after change_id e none. refl)
 
     -- the question of a step without a fault has the same answer
-    choice_here : (before after : List Step) (step : Step) (q : Question) → live ≡ before ++ step ∷ after → fault_in (live_standpoint seen between) settled [] before ≡ None → fault_of before step ≡ None → question_of step.commands ≡ Some q
-        → choice_of (live_standpoint seen between) (now before step) q.0 q.1 ≡ choice_of (recorded_standpoint seen between events) (now before step) q.0 q.1
+    choice_here : (before after : List Step) (step : Step) (q : Question) → live ≡ before ++ step ∷ after → fault_in (live_context seen between) settled [] before ≡ None → fault_of before step ≡ None → question_of step.commands ≡ Some q
+        → choice_of (live_context seen between) (now before step) q.0 q.1 ≡ choice_of (recorded_context seen between events) (now before step) q.0 q.1
     choice_here before after step q e clean none asked =
-        let here = live_standpoint seen between in
+        let here = live_context seen between in
         choice_same (lookup_version q.0 (now before step)) events q.0 q.1
         (λ unsettled.
         let commands : issued_marker q.0 step.commands ≡ None = ap (issued_marker q.0) (all_given before after step e none) ∙ no_markers q.0 (gives before step) ((lawful (state_after program state before) step.job).records) in
         let mark : issued_marker q.0 (Marker q.0 q.1 ∷ []) ≡ Some q.1 = ap (λ test. or_else (cond test (Some q.1) None) None) (same_bytes q.0) in
         let marks : issued_marker q.0 (markers_at here (now before step) (question_of step.commands)) ≡ Some q.1
         = ap (λ question. issued_marker q.0 (markers_at here (now before step) question)) asked ∙ (ap (issued_marker q.0) (unsettled_marker (now before step) q unsettled) ∙ mark) in
-        covers (before ++ step ∷ []) after q.0 q.1 (e ∙ sym (append_assoc before (step ∷ []) after)) (with_last program (live_standpoint seen between) jobs state settled live p before step clean ∙ none)
+        covers (before ++ step ∷ []) after q.0 q.1 (e ∙ sym (append_assoc before (step ∷ []) after)) (with_last program (live_context seen between) jobs state settled live p before step clean ∙ none)
         (ap (issued_marker q.0) (issued_last here settled before step)
         ∙ marked_last q.0 q.1 (issued_in here settled before) step.commands (markers_at here (now before step) (question_of step.commands)) (unmarked_at before step after q.0 e unsettled) commands marks))
 
     choice_at : (before after : List Step) (step next : Step) (q : Question) → live ≡ before ++ step ∷ next ∷ after → question_of step.commands ≡ Some q
-        → choice_of (live_standpoint seen between) (now before step) q.0 q.1 ≡ choice_of (recorded_standpoint seen between events) (now before step) q.0 q.1
-    choice_at before after step next q e asked = choice_here before (next ∷ after) step q e (clean_to program (live_standpoint seen between) jobs state settled live p [] before step (next ∷ after) e refl) (p.faultless before after step next e) asked
+        → choice_of (live_context seen between) (now before step) q.0 q.1 ≡ choice_of (recorded_context seen between events) (now before step) q.0 q.1
+    choice_at before after step next q e asked = choice_here before (next ∷ after) step q e (clean_to program (live_context seen between) jobs state settled live p [] before step (next ∷ after) e refl) (p.faultless before after step next e) asked
 
     -- the live script is a script of the recorded activation
-    recorded_script : IsScriptBy program (recorded_standpoint seen between events) jobs state settled live
+    recorded_script : IsScriptBy program (recorded_context seen between events) jobs state settled live
     recorded_script = record {
       first_jobs = p.first_jobs;
       begins = p.begins;
@@ -295,10 +295,10 @@ module _ (seen between events : List Event) where
     }
 
     -- its fault is one of the recorded activation
-    fault_there : (before : List Step) (x : Step) (fault : WorkflowFault) → live ≡ before ++ x ∷ [] → fault_of before x ≡ Some fault → first_fault (recorded_standpoint seen between events) (now before x) (commands_in before) x.commands ≡ Some fault
+    fault_there : (before : List Step) (x : Step) (fault : WorkflowFault) → live ≡ before ++ x ∷ [] → fault_of before x ≡ Some fault → first_fault (recorded_context seen between events) (now before x) (commands_in before) x.commands ≡ Some fault
     fault_there before x fault e some =
-        let here = live_standpoint seen between in
-        let there = recorded_standpoint seen between events in
+        let here = live_context seen between in
+        let there = recorded_context seen between events in
         let commands = gives before x in
         let whole : first_fault here (now before x) (commands_in before) commands ≡ Some fault
         = sym (same_fault here (now before x) (commands_in before) commands) ∙ (ap (first_fault here (now before x) (commands_in before)) (sym (p.gives before [] x e)) ∙ some) in
@@ -307,7 +307,7 @@ module _ (seen between events : List Event) where
         ∙ first_stays (now before x) commands (commands_in before) fault ((lawful (state_after program state before) x.job).asks) whole)
 
     -- so it is the longest there too
-    nothing_more : (recorded more before : List Step) (x : Step) (fault : WorkflowFault) → IsScriptBy program (recorded_standpoint seen between events) jobs state settled recorded → recorded ≡ live ++ more → live ≡ before ++ x ∷ [] → fault_of before x ≡ Some fault
+    nothing_more : (recorded more before : List Step) (x : Step) (fault : WorkflowFault) → IsScriptBy program (recorded_context seen between events) jobs state settled recorded → recorded ≡ live ++ more → live ≡ before ++ x ∷ [] → fault_of before x ≡ Some fault
         → live ≡ recorded
     nothing_more recorded [] before x fault r e last some = sym (append-nil live) ∙ sym e
     nothing_more recorded (y ∷ more) before x fault r e last some =
@@ -315,31 +315,31 @@ module _ (seen between events : List Event) where
         let none = r.faultless before more x y (e ∙ (ap (λ (l : List Step). l ++ y ∷ more) last ∙ append_assoc before (x ∷ []) (y ∷ more))) in
         cc)
 
-    pub faulty_equal : (recorded : List Step) (fault : WorkflowFault) → IsLongestBy program (recorded_standpoint seen between events) jobs state settled recorded → fault_in (live_standpoint seen between) settled [] live ≡ Some fault → live ≡ recorded
+    pub faulty_equal : (recorded : List Step) (fault : WorkflowFault) → IsLongestBy program (recorded_context seen between events) jobs state settled recorded → fault_in (live_context seen between) settled [] live ≡ Some fault → live ≡ recorded
     faulty_equal recorded fault r some =
         elim (last_of live) [
-          | inl empty ↦ absurd (let none : fault_in (live_standpoint seen between) settled [] live ≡ None = ap (fault_in (live_standpoint seen between) settled []) empty in cc)
+          | inl empty ↦ absurd (let none : fault_in (live_context seen between) settled [] live ≡ None = ap (fault_in (live_context seen between) settled []) empty in cc)
           | inr last ↦
-              (let here : fault_of last.0 last.1 ≡ Some fault = sym (last_fault program (live_standpoint seen between) jobs state settled live p last.0 last.1 last.2) ∙ some in
+              (let here : fault_of last.0 last.1 ≡ Some fault = sym (last_fault program (live_context seen between) jobs state settled live p last.0 last.1 last.2) ∙ some in
               let longer = r.longest live recorded_script in
               nothing_more recorded longer.0 last.0 last.1 fault r.script longer.1 last.2 here)
         ]
 
     -- the fault of the last step is the same
-    last_same : (before : List Step) (x : Step) (fault : Option WorkflowFault) → live ≡ before ++ x ∷ [] → fault_of before x ≡ fault → first_fault (recorded_standpoint seen between events) (now before x) (commands_in before) x.commands ≡ fault
+    last_same : (before : List Step) (x : Step) (fault : Option WorkflowFault) → live ≡ before ++ x ∷ [] → fault_of before x ≡ fault → first_fault (recorded_context seen between events) (now before x) (commands_in before) x.commands ≡ fault
     last_same before x (Some fault) e is = fault_there before x fault e is
     last_same before x None e is =
         let asks : IsTrue (asks_last x.commands) = ap asks_last (all_given before [] x e is) ∙ (lawful (state_after program state before) x.job).asks in
-        let clean = clean_to program (live_standpoint seen between) jobs state settled live p [] before x [] e refl in
+        let clean = clean_to program (live_context seen between) jobs state settled live p [] before x [] e refl in
         sym (first_same (now before x) x.commands (commands_in before) asks (λ q asked. choice_here before [] x q e clean is asked)) ∙ is
 
     -- the recorded activation finds the same fault in the live script
-    pub script_fault_same : fault_in (live_standpoint seen between) settled [] live ≡ fault_in (recorded_standpoint seen between events) settled [] live
+    pub script_fault_same : fault_in (live_context seen between) settled [] live ≡ fault_in (recorded_context seen between events) settled [] live
     script_fault_same =
         elim (last_of live) [
-          | inl empty ↦ ap (fault_in (live_standpoint seen between) settled []) empty ∙ sym (ap (fault_in (recorded_standpoint seen between events) settled []) empty)
+          | inl empty ↦ ap (fault_in (live_context seen between) settled []) empty ∙ sym (ap (fault_in (recorded_context seen between events) settled []) empty)
           | inr last ↦
-              (let here = last_fault program (live_standpoint seen between) jobs state settled live p last.0 last.1 last.2 in
-              let there = last_fault program (recorded_standpoint seen between events) jobs state settled live recorded_script last.0 last.1 last.2 in
+              (let here = last_fault program (live_context seen between) jobs state settled live p last.0 last.1 last.2 in
+              let there = last_fault program (recorded_context seen between events) jobs state settled live recorded_script last.0 last.1 last.2 in
               here ∙ (sym (last_same last.0 last.1 (fault_of last.0 last.1) last.2 refl) ∙ sym there))
         ]

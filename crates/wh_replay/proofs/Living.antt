@@ -27,7 +27,7 @@ started_core : (kind : EventKind) → is_task_started_kind kind ≡ true → is_
 started_core WorkflowTaskStarted h = refl
 started_core _ h = cc
 
--- a cut that is not recorded has no core event behind it
+-- a cut that is not recorded has no core event after it
 cut_before_none : (started : Bool) (next : Option Event) → (started && lets_cut next) ≡ true → ¬ (completes next ≡ true) → (started && is_none next) ≡ true
 cut_before_none true None e n = refl
 cut_before_none true (Some event) e n = absurd (n e)

@@ -8,12 +8,12 @@ use Rattle.wh_workflow.specs.declared.fault.WorkflowFault.{WorkflowFault}
 use Rattle.wh_workflow.specs.declared.fault.Mismatch.{Mismatch}
 use Rattle.wh_workflow.specs.Law.{Program}
 use Rattle.wh_workflow.specs.Names.{mismatch}
-use Rattle.wh_workflow.specs.Scripts.{Standpoint, reduced}
+use Rattle.wh_workflow.specs.Scripts.{ActivationContext, reduced}
 use Rattle.wh_workflow.specs.Activations.{and_then, Progress}
 use Rattle.wh_split.specs.Splits.{first_of}
 use Rattle.wh_replay.specs.declared.fault.Fault.{Fault}
 use Rattle.wh_replay.specs.declared.fault.Fault.TheVariants.{Mismatch as Mismatched}
-use Rattle.wh_replay.specs.Replays.{Upshot, Replayed, reached, close_task, task_after, task, unless_mismatch, replay_after, replay_known, replay_placed, workflow_of, with_machines, replay_tasks}
+use Rattle.wh_replay.specs.Replays.{ReplayResult, Replayed, reached, close_task, task_after, task, unless_mismatch, replay_after, replay_known, replay_placed, workflow_of, with_machines, replay_tasks}
 use Rattle.wh_replay.specs.Wholes.{HasNoCut, IsNextCut, PassedTask, events_through, left_by, cut_numbers, TaskAt, next_task, known_at, activated, TaskPasses, TaskFails, Passes, PassThrough, AllPass, FirstFails, IsKnown, start_of, PlaceFaultFirst, UnknownTypeNext, GivesWhereAllPass, FaultyWhereFirstFails, AllCutsPass, FirstCutsPass}
 use Rattle.wh_replay.proofs.Settling.{ok_same}
 use Rattle.wh_replay.proofs.Advancing.{task_parts}
@@ -46,7 +46,7 @@ passed_one : (events : List Event) (event : Event) (rest : List Event) → Passe
 passed_one [] event rest passed none = (none, tt)
 passed_one (x ∷ events) event rest passed none = (ap (is_cut x) (append_assoc events (event ∷ []) rest) ∙ passed.0, passed_one events event rest passed.1 none)
 
--- the cuts behind such events
+-- the cuts after such events
 cuts_over : (events rest : List Event) → Passed events rest → cuts (events ++ rest) ≡ cuts rest
 cuts_over [] rest passed = refl
 cuts_over (event ∷ events) rest passed = if_false (is_cut event (events ++ rest)) (event.number ∷ cuts (events ++ rest)) (cuts (events ++ rest)) passed.0 ∙ cuts_over events rest passed.1
@@ -64,54 +64,54 @@ along : (seen between : List Event) (cut : Event) (more : List Event) → (seen 
 along seen between cut more = append_assoc seen (between ++ cut ∷ []) more ∙ ap (λ l. seen ++ l) (append_assoc between (cut ∷ []) more)
 
 module _ {S : Type 0} where
-  module _ (history : List Event) (standpoint : Standpoint) (at : ℕ) (progress : Progress S) (events : List Event) where
+  module _ (history : List Event) (context : ActivationContext) (at : ℕ) (progress : Progress S) (events : List Event) where
     abbrev differs : Option Mismatch
-    differs = mismatch history (reduced standpoint progress.script.issued) events
+    differs = mismatch history (reduced context progress.script.issued) events
 
-    matched : (difference : Option Mismatch) (x left : Upshot S) → unless_mismatch at difference x ≡ Ok left → (difference ≡ None) × (left ≡ x)
+    matched : (difference : Option Mismatch) (x left : ReplayResult S) → unless_mismatch at difference x ≡ Ok left → (difference ≡ None) × (left ≡ x)
     matched None x left e = (refl, sym (ok_same x left e))
     matched (Some difference) x left e = cc
 
-    closed : (test : Bool) (left : Upshot S) → close_task history standpoint at (cond test (Some events) None) progress ≡ Ok left
-        → (test ≡ true → (differs ≡ None) × (left ≡ reached progress [])) × (¬ (test ≡ true) → left ≡ reached progress (reduced standpoint progress.script.issued))
+    closed : (test : Bool) (left : ReplayResult S) → close_task history context at (cond test (Some events) None) progress ≡ Ok left
+        → (test ≡ true → (differs ≡ None) × (left ≡ reached progress [])) × (¬ (test ≡ true) → left ≡ reached progress (reduced context progress.script.issued))
     closed true left e = (λ _. matched differs (reached progress []) left e, λ no_way. absurd (no_way refl))
-    closed false left e = (λ h. absurd (never_both false refl h), λ _. sym (ok_same (reached progress (reduced standpoint progress.script.issued)) left e))
+    closed false left e = (λ h. absurd (never_both false refl h), λ _. sym (ok_same (reached progress (reduced context progress.script.issued)) left e))
 
-    closes : (test : Bool) (left : Upshot S) → (test ≡ true → (differs ≡ None) × (left ≡ reached progress [])) → (¬ (test ≡ true) → left ≡ reached progress (reduced standpoint progress.script.issued))
-        → close_task history standpoint at (cond test (Some events) None) progress ≡ Ok left
-    closes true left recorded live = let facts = recorded refl in ap (λ m. unless_mismatch at m (reached progress [])) facts.0 ∙ ap (λ (x : Upshot S). Ok x) (sym facts.1)
-    closes false left recorded live = ap (λ (x : Upshot S). Ok x) (sym (live (never_both false refl)))
+    closes : (test : Bool) (left : ReplayResult S) → (test ≡ true → (differs ≡ None) × (left ≡ reached progress [])) → (¬ (test ≡ true) → left ≡ reached progress (reduced context progress.script.issued))
+        → close_task history context at (cond test (Some events) None) progress ≡ Ok left
+    closes true left recorded live = let facts = recorded refl in ap (λ m. unless_mismatch at m (reached progress [])) facts.0 ∙ ap (λ (x : ReplayResult S). Ok x) (sym facts.1)
+    closes false left recorded live = ap (λ (x : ReplayResult S). Ok x) (sym (live (never_both false refl)))
 
-    differed : (difference : Option Mismatch) (x : Upshot S) (fault : Fault) → unless_mismatch at difference x ≡ Err fault → (d : Mismatch) × (difference ≡ Some d) × (fault ≡ Mismatched at d)
+    differed : (difference : Option Mismatch) (x : ReplayResult S) (fault : Fault) → unless_mismatch at difference x ≡ Err fault → (d : Mismatch) × (difference ≡ Some d) × (fault ≡ Mismatched at d)
     differed None x fault e = cc
     differed (Some d) x fault e = (d, refl, sym (err_same e))
 
-    closed_err : (test : Bool) (fault : Fault) → close_task history standpoint at (cond test (Some events) None) progress ≡ Err fault
+    closed_err : (test : Bool) (fault : Fault) → close_task history context at (cond test (Some events) None) progress ≡ Err fault
         → (test ≡ true) × ((d : Mismatch) × (differs ≡ Some d) × (fault ≡ Mismatched at d))
     closed_err true fault e = (refl, differed differs (reached progress []) fault e)
     closed_err false fault e = cc
 
-    closes_err : (test : Bool) (fault : Fault) (d : Mismatch) → test ≡ true → differs ≡ Some d → fault ≡ Mismatched at d → close_task history standpoint at (cond test (Some events) None) progress ≡ Err fault
+    closes_err : (test : Bool) (fault : Fault) (d : Mismatch) → test ≡ true → differs ≡ Some d → fault ≡ Mismatched at d → close_task history context at (cond test (Some events) None) progress ≡ Err fault
     closes_err true fault d t e f = ap (λ m. unless_mismatch at m (reached progress [])) e ∙ ap (λ (x : Fault). Err x) (sym f)
     closes_err false fault d t e f = cc
 
-  module _ (program : Program S) (here : TaskAt) (current : Upshot S) where
+  module _ (program : Program S) (here : TaskAt) (current : ReplayResult S) where
     abbrev history_here : List Event
     history_here = here.before ++ here.cut ∷ here.rest
 
     abbrev given : Result (Progress S) WorkflowFault
     given = activated program here current
 
-    abbrev task_here : Result (Upshot S) Fault
+    abbrev task_here : Result (ReplayResult S) Fault
     task_here = task program here.before here.between here.cut here.rest current
 
-    task_passes : (left : Upshot S) → task_here ≡ Ok left → TaskPasses program here current left
+    task_passes : (left : ReplayResult S) → task_here ≡ Ok left → TaskPasses program here current left
     task_passes left e =
         let parts = task_parts history_here (known_at here) here.cut.number left given e in
         let facts = closed history_here (known_at here) here.cut.number parts.0 (record_of here.rest) (is_recorded here.rest) left parts.2 in
         record { progress = parts.0; succeeds = parts.1; recorded = facts.0; live = facts.1 }
 
-    passing_task : (left : Upshot S) → TaskPasses program here current left → task_here ≡ Ok left
+    passing_task : (left : ReplayResult S) → TaskPasses program here current left → task_here ≡ Ok left
     passing_task left h =
         ap (task_after history_here (known_at here) here.cut.number) h.succeeds
         ∙ closes history_here (known_at here) here.cut.number h.progress (record_of here.rest) (is_recorded here.rest) left h.recorded h.live
@@ -135,11 +135,11 @@ module _ {S : Type 0} where
         ]
 
   -- tasks that pass, one after the other, after the events seen and what was left before
-  Chain : Program S → List Event → Upshot S → List (PassedTask S) → List Event → Type 0
+  Chain : Program S → List Event → ReplayResult S → List (PassedTask S) → List Event → Type 0
   Chain program seen current [] rest = Unit {0}
   Chain program seen current (one ∷ more) rest = Passes program seen current one (events_through more ++ rest) × Chain program (seen ++ (one.between ++ one.cut ∷ [])) one.left more rest
 
-  each_of : (program : Program S) (seen : List Event) (current : Upshot S) (passed : List (PassedTask S)) (rest : List Event) → Chain program seen current passed rest
+  each_of : (program : Program S) (seen : List Event) (current : ReplayResult S) (passed : List (PassedTask S)) (rest : List Event) → Chain program seen current passed rest
       → (earlier : List (PassedTask S)) (one : PassedTask S) (later : List (PassedTask S)) → passed ≡ earlier ++ one ∷ later
       → Passes program (seen ++ events_through earlier) (left_by current earlier) one (events_through later ++ rest)
   unfolding Chain
@@ -159,7 +159,7 @@ module _ {S : Type 0} where
       = subst (λ (l : List Event). Passes program l (left_by p.left earlier) one (events_through later ++ rest)) (along seen p.between p.cut (events_through earlier)) there in
       subst (λ (y : PassedTask S). Passes program (seen ++ (y.between ++ y.cut ∷ events_through earlier)) (left_by y.left earlier) one (events_through later ++ rest)) same here
 
-  chain_of : (program : Program S) (seen : List Event) (current : Upshot S) (passed : List (PassedTask S)) (rest : List Event)
+  chain_of : (program : Program S) (seen : List Event) (current : ReplayResult S) (passed : List (PassedTask S)) (rest : List Event)
       → ((earlier : List (PassedTask S)) (one : PassedTask S) (later : List (PassedTask S)) → passed ≡ earlier ++ one ∷ later → Passes program (seen ++ events_through earlier) (left_by current earlier) one (events_through later ++ rest))
       → Chain program seen current passed rest
   unfolding Chain
@@ -174,7 +174,7 @@ module _ {S : Type 0} where
 
   module _ (program : Program S) where
     -- the task of the next cut, and what follows it
-    at_cut : (seen between : List Event) (cut : Event) (rest : List Event) (current : Upshot S) → IsNextCut between cut rest
+    at_cut : (seen between : List Event) (cut : Event) (rest : List Event) (current : ReplayResult S) → IsNextCut between cut rest
         → replay_after program seen [] (between ++ cut ∷ rest) current ≡ and_then (task program (seen ++ between) between cut rest current) (replay_after program (seen ++ (between ++ cut ∷ [])) [] rest)
     at_cut seen between cut rest current next =
         let first = task program (seen ++ between) between cut rest current in
@@ -183,7 +183,7 @@ module _ {S : Type 0} where
         ∙ ap (λ (l : List Event). and_then first (replay_after program l [] rest)) (append_assoc seen between (cut ∷ [])))
 
     -- over tasks that pass, replay goes on from what the last leaves
-    followed : (seen : List Event) (current : Upshot S) (passed : List (PassedTask S)) (rest : List Event) → Chain program seen current passed rest
+    followed : (seen : List Event) (current : ReplayResult S) (passed : List (PassedTask S)) (rest : List Event) → Chain program seen current passed rest
         → replay_after program seen [] (events_through passed ++ rest) current ≡ replay_after program (seen ++ events_through passed) [] rest (left_by current passed)
     unfolding Chain
     followed seen current [] rest chain = ap (λ (l : List Event). replay_after program l [] rest current) (sym (append-nil seen))
@@ -197,7 +197,7 @@ module _ {S : Type 0} where
         ∙ ap (λ (l : List Event). replay_after program l [] rest (left_by one.left more)) (along seen one.between one.cut (events_through more)))))
 
     -- the cuts of tasks that pass
-    numbered : (seen : List Event) (current : Upshot S) (passed : List (PassedTask S)) (rest : List Event) → Chain program seen current passed rest → cuts (events_through passed ++ rest) ≡ cut_numbers passed ++ cuts rest
+    numbered : (seen : List Event) (current : ReplayResult S) (passed : List (PassedTask S)) (rest : List Event) → Chain program seen current passed rest → cuts (events_through passed ++ rest) ≡ cut_numbers passed ++ cuts rest
     unfolding Chain
     numbered seen current [] rest chain = refl
     numbered seen current (one ∷ more) rest chain =
@@ -206,7 +206,7 @@ module _ {S : Type 0} where
         ∙ ap (λ (l : List ℕ). one.cut.number ∷ l) (numbered (seen ++ (one.between ++ one.cut ∷ [])) one.left more rest chain.1))
 
     -- the task of the next cut fails
-    record Stops (seen : List Event) (current : Upshot S) (rest : List Event) : Type 0 where
+    record Stops (seen : List Event) (current : ReplayResult S) (rest : List Event) : Type 0 where
       between : List Event
       cut : Event
       more : List Event
@@ -216,7 +216,7 @@ module _ {S : Type 0} where
       fails : task program (seen ++ between) between cut more current ≡ Err fault
 
     -- the tasks of some events that pass, and why no more do
-    record Parted (seen : List Event) (current : Upshot S) (events : List Event) : Type 0 where
+    record Parted (seen : List Event) (current : ReplayResult S) (events : List Event) : Type 0 where
       passed : List (PassedTask S)
       rest : List Event
       whole : events ≡ events_through passed ++ rest
@@ -224,7 +224,7 @@ module _ {S : Type 0} where
       ends : HasNoCut rest [] ⊎ Stops (seen ++ events_through passed) (left_by current passed) rest
 
     -- one more task before them
-    one_more : (seen : List Event) (current : Upshot S) (one : PassedTask S) (events : List Event) → Passes program seen current one events → Parted (seen ++ (one.between ++ one.cut ∷ [])) one.left events
+    one_more : (seen : List Event) (current : ReplayResult S) (one : PassedTask S) (events : List Event) → Passes program seen current one events → Parted (seen ++ (one.between ++ one.cut ∷ [])) one.left events
         → Parted seen current (one.between ++ one.cut ∷ events)
     unfolding Chain
     one_more seen current one events passes parted = record {
@@ -236,7 +236,7 @@ module _ {S : Type 0} where
           subst (λ (l : List Event). HasNoCut parted.rest [] ⊎ Stops l (left_by one.left parted.passed) parted.rest) (along seen one.between one.cut (events_through parted.passed)) parted.ends;
     }
 
-    part : (seen between rest : List Event) (current : Upshot S) → Passed between rest → Parted seen current (between ++ rest)
+    part : (seen between rest : List Event) (current : ReplayResult S) → Passed between rest → Parted seen current (between ++ rest)
     unfolding Chain
     part seen between [] current passed =
         let all : between ≡ between ++ [] = sym (append-nil between) in
@@ -254,7 +254,7 @@ module _ {S : Type 0} where
         by (λ left. part (seen ++ (between ++ event ∷ [])) [] rest left tt) next (task program (seen ++ between) between event rest current) refl)
         (λ none. subst (Parted seen current) (append_assoc between (event ∷ []) rest) (part seen (between ++ event ∷ []) rest current (passed_one between event rest passed none)))
       where
-        by : ((left : Upshot S) → Parted (seen ++ (between ++ event ∷ [])) left rest) → IsNextCut between event rest → (result : Result (Upshot S) Fault) → task program (seen ++ between) between event rest current ≡ result → Parted seen current (between ++ event ∷ rest)
+        by : ((left : ReplayResult S) → Parted (seen ++ (between ++ event ∷ [])) left rest) → IsNextCut between event rest → (result : Result (ReplayResult S) Fault) → task program (seen ++ between) between event rest current ≡ result → Parted seen current (between ++ event ∷ rest)
         by later next (Ok left) e =
             let one : PassedTask S = record { between = between; cut = event; left = left } in
             let passes : Passes program seen current one rest = record { next = next; passes = task_passes program (next_task seen between event rest) current left e } in
@@ -275,18 +275,18 @@ module _ {S : Type 0} where
           });
         }
 
-    module _ (history : List Event) (first : Upshot S) where
+    module _ (history : List Event) (first : ReplayResult S) where
       -- the events after the last cut change nothing
-      rests : (before rest : List Event) (current : Upshot S) → HasNoCut rest [] → replay_after program before [] rest current ≡ Ok current
+      rests : (before rest : List Event) (current : ReplayResult S) → HasNoCut rest [] → replay_after program before [] rest current ≡ Ok current
       rests before rest current none = no_cut program before [] rest current (ap first_of (cuts_none rest (passed_over rest [] none)))
 
       through : (passed : List (PassedTask S)) (rest : List Event) → PassThrough program history first passed rest → replay_after program [] [] history first ≡ replay_after program (events_through passed) [] rest (left_by first passed)
       through passed rest h =
           ap (λ (l : List Event). replay_after program [] [] l first) h.whole ∙ followed [] first passed rest (chain_of program [] first passed rest h.each)
 
-      all_pass : (left : Upshot S) → AllPass program history first left → replay_after program [] [] history first ≡ Ok left
+      all_pass : (left : ReplayResult S) → AllPass program history first left → replay_after program [] [] history first ≡ Ok left
       all_pass left h =
-          through h.passed h.rest h.pass ∙ (rests (events_through h.passed) h.rest (left_by first h.passed) h.none_left ∙ ap (λ (x : Upshot S). Ok x) (sym h.leaves))
+          through h.passed h.rest h.pass ∙ (rests (events_through h.passed) h.rest (left_by first h.passed) h.none_left ∙ ap (λ (x : ReplayResult S). Ok x) (sym h.leaves))
 
       first_fails : (fault : Fault) → FirstFails program history first fault → replay_after program [] [] history first ≡ Err fault
       first_fails fault h =
@@ -296,7 +296,7 @@ module _ {S : Type 0} where
           ∙ ap (λ r. and_then r (replay_after program (seen ++ (h.between ++ h.cut ∷ [])) [] h.rest)) (failing_task program (next_task seen h.between h.cut h.rest) (left_by first h.passed) fault h.fails))
 
       -- one of the two is so
-      either : ((left : Upshot S) × AllPass program history first left) ⊎ ((fault : Fault) × FirstFails program history first fault)
+      either : ((left : ReplayResult S) × AllPass program history first left) ⊎ ((fault : Fault) × FirstFails program history first fault)
       either =
           let p = part [] [] history first tt in
           let pass : PassThrough program history first p.passed p.rest = record { whole = p.whole; each = each_of program [] first p.passed p.rest p.chain } in
@@ -317,7 +317,7 @@ module _ {S : Type 0} where
                 )
           ]
 
-      gives_all : (left : Upshot S) → replay_after program [] [] history first ≡ Ok left → AllPass program history first left
+      gives_all : (left : ReplayResult S) → replay_after program [] [] history first ≡ Ok left → AllPass program history first left
       gives_all left e =
           elim either [
             | inl all ↦ subst (AllPass program history first) (ok_same all.0 left (sym (all_pass all.0 all.1) ∙ e)) all.1
@@ -337,12 +337,12 @@ module _ {S : Type 0} where
         let tasks = replay_after program [] [] history (start_of program history meter) in
         ap (λ fault. replay_placed fault (replay_known (program.knows (workflow_of history)) tasks)) h.in_place ∙ ap (λ known. replay_known known tasks) h.known
 
-    given_back : (machines : List _) (tasks : Result (Upshot S) Fault) (replayed : Replayed S) → and_then tasks (λ left. Ok (with_machines machines left)) ≡ Ok replayed
-        → (left : Upshot S) × (tasks ≡ Ok left) × (replayed ≡ with_machines machines left)
+    given_back : (machines : List _) (tasks : Result (ReplayResult S) Fault) (replayed : Replayed S) → and_then tasks (λ left. Ok (with_machines machines left)) ≡ Ok replayed
+        → (left : ReplayResult S) × (tasks ≡ Ok left) × (replayed ≡ with_machines machines left)
     given_back machines (Ok left) replayed e = (left, refl, sym (ok_same (with_machines machines left) replayed e))
     given_back machines (Err fault) replayed e = cc
 
-    fault_back : (machines : List _) (tasks : Result (Upshot S) Fault) (fault : Fault) → and_then tasks (λ left. Ok (with_machines machines left)) ≡ Err fault → tasks ≡ Err fault
+    fault_back : (machines : List _) (tasks : Result (ReplayResult S) Fault) (fault : Fault) → and_then tasks (λ left. Ok (with_machines machines left)) ≡ Err fault → tasks ≡ Err fault
     fault_back machines (Ok left) fault e = cc
     fault_back machines (Err other) fault e = ap (λ (x : Fault). Err x) (err_same e)
 
@@ -379,7 +379,7 @@ module _ {S : Type 0} where
         ap (λ found. and_then (replay_placed found (replay_known (program.knows (workflow_of history)) tasks)) (λ left. Ok (with_machines (machines_of history) left))) placed
         ∙ ap (λ known. and_then (replay_known known tasks) (λ left. Ok (with_machines (machines_of history) left))) (not_true (program.knows (workflow_of history)) unknown)
 
-    cuts_through : (history : List Event) (first : Upshot S) (passed : List (PassedTask S)) (rest : List Event) → PassThrough program history first passed rest → cuts history ≡ cut_numbers passed ++ cuts rest
+    cuts_through : (history : List Event) (first : ReplayResult S) (passed : List (PassedTask S)) (rest : List Event) → PassThrough program history first passed rest → cuts history ≡ cut_numbers passed ++ cuts rest
     cuts_through history first passed rest h = ap cuts h.whole ∙ numbered [] first passed rest (chain_of program [] first passed rest h.each)
 
     pub all_cuts_pass : AllCutsPass program

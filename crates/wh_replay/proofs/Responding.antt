@@ -6,19 +6,19 @@ use Rattle.wh_workflow.specs.declared.command.Command.TheVariants.{Ask, Marker}
 use Rattle.wh_workflow.specs.declared.job.Job.TheVariants.{Version}
 use Rattle.wh_workflow.specs.declared.fault.WorkflowFault.{WorkflowFault}
 use Rattle.wh_workflow.specs.Law.{is_ask, is_marker, asks_last, records_none}
-use Rattle.wh_workflow.specs.Scripts.{Standpoint, Settled, act_of, choice_of, with_version, command_fault, reduced}
+use Rattle.wh_workflow.specs.Scripts.{ActivationContext, Settled, act_of, choice_of, with_version, command_fault, reduced}
 use Rattle.wh_workflow.specs.Activations.{and_then, unless_fault, Script, issue_all, question_in, question_at, question_of, marker_if, Reply, reply, respond, Progress}
 use Rattle.wh_match.specs.declared.fault.ScriptFault.{ScriptFault}
 use Rattle.wh_match.specs.declared.fault.ScriptFault.TheVariants.{Workflow, OutOfMemory}
 use Rattle.wh_match.specs.Faults.{workflow_fault}
-use Rattle.wh_match.specs.Issuing.{Issuing, standpoint_at, standpoint_in, is_late_act, late_marks, with_issued, unmarked_if, with_asked, choice_in, reduced_by}
-use Rattle.wh_match.proofs.Reducing.{late_marks-push, reduced_by-standpoint}
+use Rattle.wh_match.specs.Issuing.{Issuing, context_at, context_in, is_late_act, late_marks, with_issued, unmarked_if, with_asked, choice_in, reduced_by}
+use Rattle.wh_match.proofs.Reducing.{late_marks-push, reduced_by-context}
 use Rattle.wh_workflow.specs.declared.fault.Mismatch.{Mismatch}
 use Rattle.wh_workflow.specs.Names.{mismatch}
 use Rattle.wh_replay.specs.declared.fault.Fault.TheVariants.{Mismatch as Mismatched}
 use Rattle.wh_replay.specs.Replays.{reached, close_task, unless_mismatch}
 use Rattle.wh_replay.specs.declared.cut.Cut.{Cut}
-use Rattle.wh_replay.specs.Views.{standpoint_of, script}
+use Rattle.wh_replay.specs.Views.{context_of, script}
 use Rattle.wh_replay.specs.Activating.{Gives, IsPlain, IsOf}
 use Rattle.wh_replay.proofs.Confirming.{and_parts}
 use Rattle.wh_replay.proofs.Stepping.{slice_get-seam}
@@ -44,11 +44,11 @@ fault_then : {A B : Type 0} (fault : Option WorkflowFault) (one : Result A Workf
 fault_then None one next other e = e
 fault_then (Some fault) one next other e = refl
 
-issue_all-push : (standpoint : Standpoint) (s : Script) (front : List Command) (last : Command) → issue_all standpoint s (front ++ last ∷ []) ≡ and_then (issue_all standpoint s front) (λ next. issue_all standpoint next (last ∷ []))
-issue_all-push standpoint s [] last = refl
-issue_all-push standpoint s (command ∷ front) last =
+issue_all-push : (context : ActivationContext) (s : Script) (front : List Command) (last : Command) → issue_all context s (front ++ last ∷ []) ≡ and_then (issue_all context s front) (λ next. issue_all context next (last ∷ []))
+issue_all-push context s [] last = refl
+issue_all-push context s (command ∷ front) last =
     let next : Script = record { settled = s.settled; issued = s.issued ++ command ∷ [] } in
-    fault_then (command_fault standpoint s.settled s.issued command) (issue_all standpoint next front) (λ t. issue_all standpoint t (last ∷ [])) (issue_all standpoint next (front ++ last ∷ [])) (issue_all-push standpoint next front last)
+    fault_then (command_fault context s.settled s.issued command) (issue_all context next front) (λ t. issue_all context t (last ∷ [])) (issue_all context next (front ++ last ∷ [])) (issue_all-push context next front last)
 
 question_of-push : (front : List Command) (last : Command) → question_of (front ++ last ∷ []) ≡ question_in last
 question_of-push front last =
@@ -60,53 +60,53 @@ and_then_twice (Ok x) f g = refl
 and_then_twice (Err fault) f g = refl
 
 -- the last command of a step, after those before it
-pub respond-push : (standpoint : Standpoint) (s : Script) (front : List Command) (last : Command) → respond standpoint s (front ++ last ∷ []) ≡ and_then (issue_all standpoint s front) (λ next. respond standpoint next (last ∷ []))
-respond-push standpoint s front last =
-    ap (λ question. and_then (issue_all standpoint s (front ++ last ∷ [])) (λ next. Ok (reply standpoint next question))) (question_of-push front last)
-    ∙ (ap (λ r. and_then r (λ next. Ok (reply standpoint next (question_in last)))) (issue_all-push standpoint s front last)
-    ∙ and_then_twice (issue_all standpoint s front) (λ next. issue_all standpoint next (last ∷ [])) (λ next. Ok (reply standpoint next (question_in last))))
+pub respond-push : (context : ActivationContext) (s : Script) (front : List Command) (last : Command) → respond context s (front ++ last ∷ []) ≡ and_then (issue_all context s front) (λ next. respond context next (last ∷ []))
+respond-push context s front last =
+    ap (λ question. and_then (issue_all context s (front ++ last ∷ [])) (λ next. Ok (reply context next question))) (question_of-push front last)
+    ∙ (ap (λ r. and_then r (λ next. Ok (reply context next (question_in last)))) (issue_all-push context s front last)
+    ∙ and_then_twice (issue_all context s front) (λ next. issue_all context next (last ∷ [])) (λ next. Ok (reply context next (question_in last))))
 
 question_plain : (command : Command) → is_ask command ≡ false → question_in command ≡ None
 question_plain (Ask _ _ _) h = cc
 question_plain _ h = refl
 
 -- a plain command that can stand
-pub plain_ok : (standpoint : Standpoint) (settled : Settled) (issued more : List Command) (command : Command) → command_fault standpoint settled issued command ≡ None → is_ask command ≡ false → more ≡ issued ++ command ∷ []
-    → respond standpoint (script settled issued) (command ∷ []) ≡ Ok (record { script = script settled more; next = None })
-plain_ok standpoint settled issued more command none plain is =
-    ap (λ fault. and_then (unless_fault fault (Ok (script settled (issued ++ command ∷ [])))) (λ next. Ok (reply standpoint next (question_in command)))) none
-    ∙ (ap (λ question. Ok (reply standpoint (script settled (issued ++ command ∷ [])) question)) (question_plain command plain)
+pub plain_ok : (context : ActivationContext) (settled : Settled) (issued more : List Command) (command : Command) → command_fault context settled issued command ≡ None → is_ask command ≡ false → more ≡ issued ++ command ∷ []
+    → respond context (script settled issued) (command ∷ []) ≡ Ok (record { script = script settled more; next = None })
+plain_ok context settled issued more command none plain is =
+    ap (λ fault. and_then (unless_fault fault (Ok (script settled (issued ++ command ∷ [])))) (λ next. Ok (reply context next (question_in command)))) none
+    ∙ (ap (λ question. Ok (reply context (script settled (issued ++ command ∷ [])) question)) (question_plain command plain)
     ∙ ap (λ l. let r : Reply = record { script = script settled l; next = None } in Ok r) (sym is))
 
 -- an ask that can stand
-pub asked_ok : (standpoint : Standpoint) (settled after : Settled) (issued more : List Command) (change_id : List ℕ) (low high version : ℤ) → command_fault standpoint settled issued (Ask change_id low high) ≡ None
-    → after ≡ with_version settled change_id (choice_of standpoint settled change_id high).version
-    → more ≡ (issued ++ Ask change_id low high ∷ []) ++ marker_if (choice_of standpoint settled change_id high).marked change_id (choice_of standpoint settled change_id high).version → version ≡ (choice_of standpoint settled change_id high).version
-    → respond standpoint (script settled issued) (Ask change_id low high ∷ []) ≡ Ok (record { script = script after more; next = Some (Version change_id version) })
-asked_ok standpoint settled after issued more change_id low high version none settles issues answers =
+pub asked_ok : (context : ActivationContext) (settled after : Settled) (issued more : List Command) (change_id : List ℕ) (low high version : ℤ) → command_fault context settled issued (Ask change_id low high) ≡ None
+    → after ≡ with_version settled change_id (choice_of context settled change_id high).version
+    → more ≡ (issued ++ Ask change_id low high ∷ []) ++ marker_if (choice_of context settled change_id high).marked change_id (choice_of context settled change_id high).version → version ≡ (choice_of context settled change_id high).version
+    → respond context (script settled issued) (Ask change_id low high ∷ []) ≡ Ok (record { script = script after more; next = Some (Version change_id version) })
+asked_ok context settled after issued more change_id low high version none settles issues answers =
     let made : Settled → List Command → ℤ → Result Reply WorkflowFault = λ a l v. Ok (record { script = script a l; next = Some (Version change_id v) }) in
-    let choice = choice_of standpoint settled change_id high in
+    let choice = choice_of context settled change_id high in
     let given = (issued ++ Ask change_id low high ∷ []) ++ marker_if choice.marked change_id choice.version in
-    ap (λ fault. and_then (unless_fault fault (Ok (script settled (issued ++ Ask change_id low high ∷ [])))) (λ next. Ok (reply standpoint next (question_in (Ask change_id low high))))) none
+    ap (λ fault. and_then (unless_fault fault (Ok (script settled (issued ++ Ask change_id low high ∷ [])))) (λ next. Ok (reply context next (question_in (Ask change_id low high))))) none
     ∙ (ap (λ a. made a given choice.version) (sym settles)
     ∙ (ap (λ l. made after l choice.version) (sym issues) ∙ ap (made after more) (sym answers)))
 
 -- a command that can't stand
-pub refused_last : {A : Type 0} (B : Type 0) (standpoint : Standpoint) (settled : Settled) (issued : List Command) (command : Command) (fault : ScriptFault) (seen : A → Reply) → workflow_fault {A = B} (Err fault) ≡ command_fault standpoint settled issued command
-    → Gives (Err fault) (respond standpoint (script settled issued) (command ∷ [])) seen
-refused_last B standpoint settled issued command (Workflow fault) seen is =
-    ap (λ o. and_then (unless_fault o (Ok (script settled (issued ++ command ∷ [])))) (λ next. Ok (reply standpoint next (question_in command)))) (sym is)
-refused_last B standpoint settled issued command OutOfMemory seen is = tt
+pub refused_last : {A : Type 0} (B : Type 0) (context : ActivationContext) (settled : Settled) (issued : List Command) (command : Command) (fault : ScriptFault) (seen : A → Reply) → workflow_fault {A = B} (Err fault) ≡ command_fault context settled issued command
+    → Gives (Err fault) (respond context (script settled issued) (command ∷ [])) seen
+refused_last B context settled issued command (Workflow fault) seen is =
+    ap (λ o. and_then (unless_fault o (Ok (script settled (issued ++ command ∷ [])))) (λ next. Ok (reply context next (question_in command)))) (sym is)
+refused_last B context settled issued command OutOfMemory seen is = tt
 
-pub refused_one : {A : Type 0} (B : Type 0) (standpoint : Standpoint) (settled : Settled) (issued : List Command) (command : Command) (rest : List Command) (fault : ScriptFault) (seen : A → Script) (whole : Result Script WorkflowFault) → workflow_fault {A = B} (Err fault) ≡ command_fault standpoint settled issued command
-    → issue_all standpoint (script settled issued) (command ∷ rest) ≡ whole → Gives (Err fault) whole seen
-refused_one B standpoint settled issued command rest (Workflow fault) seen whole is e = sym e ∙ ap (λ o. unless_fault o (issue_all standpoint (script settled (issued ++ command ∷ [])) rest)) (sym is)
-refused_one B standpoint settled issued command rest OutOfMemory seen whole is e = tt
+pub refused_one : {A : Type 0} (B : Type 0) (context : ActivationContext) (settled : Settled) (issued : List Command) (command : Command) (rest : List Command) (fault : ScriptFault) (seen : A → Script) (whole : Result Script WorkflowFault) → workflow_fault {A = B} (Err fault) ≡ command_fault context settled issued command
+    → issue_all context (script settled issued) (command ∷ rest) ≡ whole → Gives (Err fault) whole seen
+refused_one B context settled issued command rest (Workflow fault) seen whole is e = sym e ∙ ap (λ o. unless_fault o (issue_all context (script settled (issued ++ command ∷ [])) rest)) (sym is)
+refused_one B context settled issued command rest OutOfMemory seen whole is e = tt
 
 -- a command that can stand, and the rest
-pub issued_one : (standpoint : Standpoint) (settled : Settled) (issued more : List Command) (command : Command) (rest : List Command) → command_fault standpoint settled issued command ≡ None → more ≡ issued ++ command ∷ []
-    → issue_all standpoint (script settled more) rest ≡ issue_all standpoint (script settled issued) (command ∷ rest)
-issued_one standpoint settled issued more command rest none is = ap (λ l. issue_all standpoint (script settled l) rest) is ∙ sym (ap (λ o. unless_fault o (issue_all standpoint (script settled (issued ++ command ∷ [])) rest)) none)
+pub issued_one : (context : ActivationContext) (settled : Settled) (issued more : List Command) (command : Command) (rest : List Command) → command_fault context settled issued command ≡ None → more ≡ issued ++ command ∷ []
+    → issue_all context (script settled more) rest ≡ issue_all context (script settled issued) (command ∷ rest)
+issued_one context settled issued more command rest none is = ap (λ l. issue_all context (script settled l) rest) is ∙ sym (ap (λ o. unless_fault o (issue_all context (script settled (issued ++ command ∷ [])) rest)) none)
 
 -- an answer to what equals the whole is one to the whole
 pub gives_along : {A B : Type 0} (result : Result A ScriptFault) (defined whole : Result B WorkflowFault) (seen : A → B) → whole ≡ defined → Gives result defined seen → Gives result whole seen
@@ -118,75 +118,75 @@ gives_then (Ok x) defined seen next whole_seen same gives = ap (λ r. and_then r
 gives_then (Err (Workflow fault)) defined seen next whole_seen same gives = ap (λ r. and_then r (λ y. Ok (next y))) gives
 gives_then (Err OutOfMemory) defined seen next whole_seen same gives = tt
 
--- the standpoint of a script is that of its cut
-pub place_is : (cut : Cut) (s : Issuing) → IsOf cut s → standpoint_in cut.track.now s (standpoint_of cut).recorded ≡ standpoint_of cut
-place_is cut s of = ap (λ k. standpoint_at cut.track.now k s.cut (standpoint_of cut).recorded) of.previous ∙ ap (λ k. standpoint_at cut.track.now cut.previous k (standpoint_of cut).recorded) of.number
+-- the context of a script is that of its cut
+pub place_is : (cut : Cut) (s : Issuing) → IsOf cut s → context_in cut.track.now s (context_of cut).recorded ≡ context_of cut
+place_is cut s of = ap (λ k. context_at cut.track.now k s.cut (context_of cut).recorded) of.previous ∙ ap (λ k. context_at cut.track.now cut.previous k (context_of cut).recorded) of.number
 
--- one more command has the mark of its standpoint
-pub issued_late : (standpoint here : Standpoint) (s next : Issuing) (command : Command) → here ≡ standpoint → s.late ≡ late_marks standpoint s.issued → next ≡ with_issued s command (is_late_act here s.issued (act_of command)) → next.late ≡ late_marks standpoint next.issued
-issued_late standpoint here s next command place late is =
+-- one more command has the mark of its context
+pub issued_late : (context here : ActivationContext) (s next : Issuing) (command : Command) → here ≡ context → s.late ≡ late_marks context s.issued → next ≡ with_issued s command (is_late_act here s.issued (act_of command)) → next.late ≡ late_marks context next.issued
+issued_late context here s next command place late is =
     ap (λ (n : Issuing). n.late) is
-    ∙ (ap (λ standpoint. s.late ++ is_late_act standpoint s.issued (act_of command) ∷ []) place
-    ∙ (ap (λ l. l ++ is_late_act standpoint s.issued (act_of command) ∷ []) late
-    ∙ (sym (late_marks-push standpoint s.issued command) ∙ sym (ap (λ (n : Issuing). late_marks standpoint n.issued) is))))
+    ∙ (ap (λ context. s.late ++ is_late_act context s.issued (act_of command) ∷ []) place
+    ∙ (ap (λ l. l ++ is_late_act context s.issued (act_of command) ∷ []) late
+    ∙ (sym (late_marks-push context s.issued command) ∙ sym (ap (λ (n : Issuing). late_marks context n.issued) is))))
 
 -- a script with one more command is still that of its cut
-pub issued_of : (cut : Cut) (s next : Issuing) (command : Command) → IsOf cut s → next ≡ with_issued s command (is_late_act (standpoint_in cut.track.now s (standpoint_of cut).recorded) s.issued (act_of command)) → IsOf cut next
+pub issued_of : (cut : Cut) (s next : Issuing) (command : Command) → IsOf cut s → next ≡ with_issued s command (is_late_act (context_in cut.track.now s (context_of cut).recorded) s.issued (act_of command)) → IsOf cut next
 issued_of cut s next command of is = record {
   previous = ap (λ (n : Issuing). n.previous) is ∙ of.previous;
   number = ap (λ (n : Issuing). n.cut) is ∙ of.number;
-  late = issued_late (standpoint_of cut) _ s next command (place_is cut s of) of.late is;
+  late = issued_late (context_of cut) _ s next command (place_is cut s of) of.late is;
 }
 
-marks_asked : (standpoint : Standpoint) (issued : List Command) (change_id : List ℕ) (low high version : ℤ) (marked : Bool)
-    → (late_marks standpoint issued ++ false ∷ []) ++ unmarked_if marked ≡ late_marks standpoint ((issued ++ Ask change_id low high ∷ []) ++ marker_if marked change_id version)
-marks_asked standpoint issued change_id low high version true =
+marks_asked : (context : ActivationContext) (issued : List Command) (change_id : List ℕ) (low high version : ℤ) (marked : Bool)
+    → (late_marks context issued ++ false ∷ []) ++ unmarked_if marked ≡ late_marks context ((issued ++ Ask change_id low high ∷ []) ++ marker_if marked change_id version)
+marks_asked context issued change_id low high version true =
     let ask = Ask change_id low high in
-    ap (λ l. l ++ false ∷ []) (sym (late_marks-push standpoint issued ask)) ∙ sym (late_marks-push standpoint (issued ++ ask ∷ []) (Marker change_id version))
-marks_asked standpoint issued change_id low high version false =
+    ap (λ l. l ++ false ∷ []) (sym (late_marks-push context issued ask)) ∙ sym (late_marks-push context (issued ++ ask ∷ []) (Marker change_id version))
+marks_asked context issued change_id low high version false =
     let ask = Ask change_id low high in
-    append-nil (late_marks standpoint issued ++ false ∷ []) ∙ (sym (late_marks-push standpoint issued ask) ∙ ap (late_marks standpoint) (sym (append-nil (issued ++ ask ∷ []))))
+    append-nil (late_marks context issued ++ false ∷ []) ∙ (sym (late_marks-push context issued ask) ∙ ap (late_marks context) (sym (append-nil (issued ++ ask ∷ []))))
 
 -- an ask has the mark of none that is late, and so has its marker
-pub asked_late : (standpoint : Standpoint) (s next : Issuing) (settled : Settled) (change_id : List ℕ) (low high : ℤ) → s.late ≡ late_marks standpoint s.issued → next ≡ with_asked s change_id low high (choice_of standpoint settled change_id high) → next.late ≡ late_marks standpoint next.issued
-asked_late standpoint s next settled change_id low high late is =
-    let choice = choice_of standpoint settled change_id high in
+pub asked_late : (context : ActivationContext) (s next : Issuing) (settled : Settled) (change_id : List ℕ) (low high : ℤ) → s.late ≡ late_marks context s.issued → next ≡ with_asked s change_id low high (choice_of context settled change_id high) → next.late ≡ late_marks context next.issued
+asked_late context s next settled change_id low high late is =
+    let choice = choice_of context settled change_id high in
     ap (λ (n : Issuing). n.late) is
     ∙ (ap (λ l. (l ++ false ∷ []) ++ unmarked_if choice.marked) late
-    ∙ (marks_asked standpoint s.issued change_id low high choice.version choice.marked ∙ sym (ap (λ (n : Issuing). late_marks standpoint n.issued) is)))
+    ∙ (marks_asked context s.issued change_id low high choice.version choice.marked ∙ sym (ap (λ (n : Issuing). late_marks context n.issued) is)))
 
-asked_here : (cut : Cut) (s next : Issuing) (settled : Settled) (change_id : List ℕ) (low high : ℤ) → IsOf cut s → next ≡ with_asked s change_id low high (choice_of (standpoint_of cut) settled change_id high) → IsOf cut next
+asked_here : (cut : Cut) (s next : Issuing) (settled : Settled) (change_id : List ℕ) (low high : ℤ) → IsOf cut s → next ≡ with_asked s change_id low high (choice_of (context_of cut) settled change_id high) → IsOf cut next
 asked_here cut s next settled change_id low high of is = record {
   previous = ap (λ (n : Issuing). n.previous) is ∙ of.previous;
   number = ap (λ (n : Issuing). n.cut) is ∙ of.number;
-  late = asked_late (standpoint_of cut) s next settled change_id low high of.late is;
+  late = asked_late (context_of cut) s next settled change_id low high of.late is;
 }
 
 -- nor does an ask change that
-pub asked_of : (cut : Cut) (s next : Issuing) (settled : Settled) (change_id : List ℕ) (low high : ℤ) (recorded : Option (List Event)) → recorded ≡ (standpoint_of cut).recorded → IsOf cut s
+pub asked_of : (cut : Cut) (s next : Issuing) (settled : Settled) (change_id : List ℕ) (low high : ℤ) (recorded : Option (List Event)) → recorded ≡ (context_of cut).recorded → IsOf cut s
     → next ≡ with_asked s change_id low high (choice_in recorded settled change_id high) → IsOf cut next
 asked_of cut s next settled change_id low high recorded same of is =
     asked_here cut s next settled change_id low high of (is ∙ ap (λ o. with_asked s change_id low high (choice_in o settled change_id high)) same)
 
 -- what is sent of a script
-pub sent_is : (cut : Cut) (s : Issuing) (sent : List Command) → IsOf cut s → sent ≡ reduced_by s.late s.issued → sent ≡ reduced (standpoint_of cut) s.issued
-sent_is cut s sent of is = is ∙ (ap (λ l. reduced_by l s.issued) of.late ∙ reduced_by-standpoint (standpoint_of cut) s.issued)
+pub sent_is : (cut : Cut) (s : Issuing) (sent : List Command) → IsOf cut s → sent ≡ reduced_by s.late s.issued → sent ≡ reduced (context_of cut) s.issued
+sent_is cut s sent of is = is ∙ (ap (λ l. reduced_by l s.issued) of.late ∙ reduced_by-context (context_of cut) s.issued)
 
 -- the end of a task at a cut, of which this is sent
-module _ {S : Type 0} (history : List Event) (standpoint : Standpoint) (at : ℕ) (left : Progress S) (sent : List Command) (is : sent ≡ reduced standpoint left.script.issued) where
+module _ {S : Type 0} (history : List Event) (context : ActivationContext) (at : ℕ) (left : Progress S) (sent : List Command) (is : sent ≡ reduced context left.script.issued) where
   -- a live task
-  pub live_task : standpoint.recorded ≡ None → close_task history standpoint at standpoint.recorded left ≡ Ok (reached left sent)
-  live_task e = ap (λ o. close_task history standpoint at o left) e ∙ ap (λ l. Ok (reached left l)) (sym is)
+  pub live_task : context.recorded ≡ None → close_task history context at context.recorded left ≡ Ok (reached left sent)
+  live_task e = ap (λ o. close_task history context at o left) e ∙ ap (λ l. Ok (reached left l)) (sym is)
 
-  compared : (events : List Event) (difference : Option Mismatch) → standpoint.recorded ≡ Some events → difference ≡ mismatch history sent events → close_task history standpoint at standpoint.recorded left ≡ unless_mismatch at difference (reached left [])
+  compared : (events : List Event) (difference : Option Mismatch) → context.recorded ≡ Some events → difference ≡ mismatch history sent events → close_task history context at context.recorded left ≡ unless_mismatch at difference (reached left [])
   compared events difference e d =
-      ap (λ o. close_task history standpoint at o left) e
+      ap (λ o. close_task history context at o left) e
       ∙ (ap (λ l. unless_mismatch at (mismatch history l events) (reached left [])) (sym is) ∙ ap (λ m. unless_mismatch at m (reached left [])) (sym d))
 
   -- a recorded task whose commands match
-  pub matched_task : (events : List Event) (difference : Option Mismatch) → standpoint.recorded ≡ Some events → difference ≡ mismatch history sent events → difference ≡ None → close_task history standpoint at standpoint.recorded left ≡ Ok (reached left [])
+  pub matched_task : (events : List Event) (difference : Option Mismatch) → context.recorded ≡ Some events → difference ≡ mismatch history sent events → difference ≡ None → close_task history context at context.recorded left ≡ Ok (reached left [])
   matched_task events difference e d none = compared events difference e d ∙ ap (λ m. unless_mismatch at m (reached left [])) none
 
   -- and one whose commands differ
-  pub differing_task : (events : List Event) (difference : Option Mismatch) (first : Mismatch) → standpoint.recorded ≡ Some events → difference ≡ mismatch history sent events → difference ≡ Some first → close_task history standpoint at standpoint.recorded left ≡ Err (Mismatched at first)
+  pub differing_task : (events : List Event) (difference : Option Mismatch) (first : Mismatch) → context.recorded ≡ Some events → difference ≡ mismatch history sent events → difference ≡ Some first → close_task history context at context.recorded left ≡ Err (Mismatched at first)
   differing_task events difference first e d some = compared events difference e d ∙ ap (λ m. unless_mismatch at m (reached left [])) some

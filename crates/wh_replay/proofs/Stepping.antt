@@ -13,12 +13,12 @@ use Rattle.wh_machines.proofs.Placed.{NumberedFrom, numbered_after}
 use Rattle.wh_activation.specs.Cutting.{jobs_in, jobs_at}
 use Rattle.wh_split.specs.Splits.{first_of}
 use Rattle.wh_workflow.specs.Law.{Program}
-use Rattle.wh_workflow.specs.Scripts.{Standpoint}
+use Rattle.wh_workflow.specs.Scripts.{ActivationContext}
 use Rattle.wh_workflow.specs.Activations.{and_then, activate}
 use Rattle.wh_replay.specs.declared.fault.Fault.{Fault}
-use Rattle.wh_replay.specs.Replays.{Upshot, task, task_after, begin_at, replay_after}
+use Rattle.wh_replay.specs.Replays.{ReplayResult, task, task_after, begin_at, replay_after}
 use Rattle.wh_replay.specs.declared.cut.Cut.{Cut}
-use Rattle.wh_replay.specs.Views.{standpoint_of, standpoint_after, task_of}
+use Rattle.wh_replay.specs.Views.{context_of, context_after, task_of}
 use Rattle.wh_replay.specs.Checks.{ends_live}
 
 -- none of the first events is a cut, where the history goes on with the rest
@@ -26,7 +26,7 @@ abbrev pub Passed : List Event → List Event → Type 0
 Passed [] rest = Unit {0}
 Passed (event ∷ events) rest = (is_cut event (events ++ rest) ≡ false) × Passed events rest
 
--- the rest of a history up to its first cut, and behind that
+-- the rest of a history up to its first cut, and after that
 pub record Parts (rest : List Event) (number : ℕ) : Type 0 where
   pub front : List Event
   pub cut : Event
@@ -152,7 +152,7 @@ next_is events last number placed low h =
       lives = p.lives ∙ ap (λ l. cond (is_recorded l) (ends_live l) true) (sym more);
     }
 
--- the next cut, where a look behind the last one finds it
+-- the next cut, where a look after the last one finds it
 pub next_seen : (events seen : List Event) (last number : ℕ) (found : Option ℕ) → seen ≡ events → fault_after [] events ≡ None → last ≤ length events → found ≡ first_of (cuts (drop last seen)) → found ≡ Some number → IsNext events last number
 next_seen events seen last number found same placed low is some = next_is events last number placed low (ap (λ l. first_of (cuts (drop last l))) (sym same) ∙ (sym is ∙ some))
 
@@ -199,19 +199,19 @@ lives_span events last number live n seen span record_there is none e = ap (λ b
     by None false false e = refl
 
 module _ {S : Type 0} (program : Program S) where
-  pub pass : (before between front : List Event) (cut : Event) (more : List Event) (current : Upshot S) → Passed front (cut ∷ more)
+  pub pass : (before between front : List Event) (cut : Event) (more : List Event) (current : ReplayResult S) → Passed front (cut ∷ more)
       → replay_after program before between (front ++ cut ∷ more) current ≡ replay_after program (before ++ front) (between ++ front) (cut ∷ more) current
   pass before between [] cut more current h = ap (λ l. replay_after program l between (cut ∷ more) current) (sym (append-nil before)) ∙ ap (λ l. replay_after program (before ++ []) l (cut ∷ more) current) (sym (append-nil between))
   pass before between (event ∷ front) cut more current h =
       let next = front ++ cut ∷ more in
-      let rest : Result (Upshot S) Fault = and_then (task program before between event next current) (replay_after program (before ++ event ∷ []) [] next) in
+      let rest : Result (ReplayResult S) Fault = and_then (task program before between event next current) (replay_after program (before ++ event ∷ []) [] next) in
       ap (λ test. cond test rest (replay_after program (before ++ event ∷ []) (between ++ event ∷ []) next current)) h.0
       ∙ (pass (before ++ event ∷ []) (between ++ event ∷ []) front cut more current h.1
       ∙ (ap (λ l. replay_after program l ((between ++ event ∷ []) ++ front) (cut ∷ more) current) (append_assoc before (event ∷ []) front)
       ∙ ap (λ l. replay_after program (before ++ event ∷ front) l (cut ∷ more) current) (append_assoc between (event ∷ []) front)))
 
   -- no cut is left
-  pub no_cut : (before between rest : List Event) (current : Upshot S) → first_of (cuts rest) ≡ None → replay_after program before between rest current ≡ Ok current
+  pub no_cut : (before between rest : List Event) (current : ReplayResult S) → first_of (cuts rest) ≡ None → replay_after program before between rest current ≡ Ok current
   no_cut before between [] current h = refl
   no_cut before between (event ∷ rest) current h = by (is_cut event rest) refl (no_cut (before ++ event ∷ []) (between ++ event ∷ []) rest current)
     where
@@ -219,34 +219,34 @@ module _ {S : Type 0} (program : Program S) where
       by true e later = let all : cuts (event ∷ rest) ≡ event.number ∷ cuts rest = rw e refl in let first : Some event.number ≡ None = sym (ap first_of all) ∙ h in cc
       by false e later =
           let same : cuts (event ∷ rest) ≡ cuts rest = rw e refl in
-          let stop : Result (Upshot S) Fault = and_then (task program before between event rest current) (replay_after program (before ++ event ∷ []) [] rest) in
+          let stop : Result (ReplayResult S) Fault = and_then (task program before between event rest current) (replay_after program (before ++ event ∷ []) [] rest) in
           ap (λ test. cond test stop (replay_after program (before ++ event ∷ []) (between ++ event ∷ []) rest current)) e ∙ later (sym (ap first_of same) ∙ h)
 
   -- the task of the cut of a number
-  abbrev pub task_at : List Event → ℕ → ℕ → Upshot S → Result (Upshot S) Fault
-  task_at events last number current = let standpoint = standpoint_after events last number in task_after events standpoint number (activate program standpoint (jobs_at events last number) (begin_at current))
+  abbrev pub task_at : List Event → ℕ → ℕ → ReplayResult S → Result (ReplayResult S) Fault
+  task_at events last number current = let context = context_after events last number in task_after events context number (activate program context (jobs_at events last number) (begin_at current))
 
   -- the task at a cut of the code is that at its number
-  pub task_here : (cut : Cut) (current : Upshot S) → (standpoint_of cut).recorded ≡ (standpoint_after cut.track.now cut.previous cut.number).recorded → task_of program cut current ≡ task_at cut.track.now cut.previous cut.number current
+  pub task_here : (cut : Cut) (current : ReplayResult S) → (context_of cut).recorded ≡ (context_after cut.track.now cut.previous cut.number).recorded → task_of program cut current ≡ task_at cut.track.now cut.previous cut.number current
   task_here cut current e =
       let events = cut.track.now in
-      let P : Option (List Event) → Result (Upshot S) Fault
+      let P : Option (List Event) → Result (ReplayResult S) Fault
       = λ recorded.
-      let standpoint : Standpoint = record { seen = take cut.number events; between = events_between events cut.previous cut.number; recorded = recorded } in task_after events standpoint cut.number (activate program standpoint (jobs_at events cut.previous cut.number) (begin_at current)) in
+      let context : ActivationContext = record { seen = take cut.number events; between = events_between events cut.previous cut.number; recorded = recorded } in task_after events context cut.number (activate program context (jobs_at events cut.previous cut.number) (begin_at current)) in
       ap P e
 
   -- the next cut of a history, and what follows it
-  pub walk_next : (events : List Event) (last number : ℕ) (current : Upshot S) → IsNext events last number
+  pub walk_next : (events : List Event) (last number : ℕ) (current : ReplayResult S) → IsNext events last number
       → replay_after program (take last events) [] (drop last events) current ≡ and_then (task_at events last number current) (replay_after program (take number events) [] (drop number events))
   walk_next events last number current n =
       let before = take last events in
       let more = drop number events in
       let ys = before ++ n.front in
       let there = n.cuts_here in
-      let F : List Event → List Event → List Event → ℕ → Option Event → Result (Upshot S) Fault
+      let F : List Event → List Event → List Event → ℕ → Option Event → Result (ReplayResult S) Fault
       = λ whole seen between at got.
-      let standpoint : Standpoint = record { seen = seen; between = between; recorded = if is_recorded more then Some (record_of more) else None } in task_after whole standpoint at (activate program standpoint (jobs_in seen between got) (begin_at current)) in
-      let next : List Event → Result (Upshot S) Fault → Result (Upshot S) Fault = λ seen r. and_then r (replay_after program seen [] more) in
+      let context : ActivationContext = record { seen = seen; between = between; recorded = if is_recorded more then Some (record_of more) else None } in task_after whole context at (activate program context (jobs_in seen between got) (begin_at current)) in
+      let next : List Event → Result (ReplayResult S) Fault → Result (ReplayResult S) Fault = λ seen r. and_then r (replay_after program seen [] more) in
       let here : F (ys ++ n.cut ∷ more) (ys ++ n.cut ∷ []) n.front n.cut.number (Some n.cut) ≡ task_at events last number current
       = ap (λ l. F l (ys ++ n.cut ∷ []) n.front n.cut.number (Some n.cut)) (sym n.whole)
       ∙ (ap (λ l. F events l n.front n.cut.number (Some n.cut)) (sym n.seen)
@@ -260,10 +260,10 @@ module _ {S : Type 0} (program : Program S) where
       ∙ ap (λ l. next l (task_at events last number current)) (sym n.seen))))
 
   -- the task of the next cut leaves this
-  pub walk_ok : (events : List Event) (last number : ℕ) (current left : Upshot S) → IsNext events last number → task_at events last number current ≡ Ok left
+  pub walk_ok : (events : List Event) (last number : ℕ) (current left : ReplayResult S) → IsNext events last number → task_at events last number current ≡ Ok left
       → replay_after program (take number events) [] (drop number events) left ≡ replay_after program (take last events) [] (drop last events) current
   walk_ok events last number current left n e = sym (walk_next events last number current n ∙ ap (λ r. and_then r (replay_after program (take number events) [] (drop number events))) e)
 
   -- or has a fault
-  pub walk_err : (events : List Event) (last number : ℕ) (current : Upshot S) (fault : Fault) → IsNext events last number → task_at events last number current ≡ Err fault → replay_after program (take last events) [] (drop last events) current ≡ Err fault
+  pub walk_err : (events : List Event) (last number : ℕ) (current : ReplayResult S) (fault : Fault) → IsNext events last number → task_at events last number current ≡ Err fault → replay_after program (take last events) [] (drop last events) current ≡ Err fault
   walk_err events last number current fault n e = walk_next events last number current n ∙ ap (λ r. and_then r (replay_after program (take number events) [] (drop number events))) e

@@ -35,7 +35,7 @@ pub few : (events : List Event) → fault_after [] events ≡ None → length ev
 few [] e = omega arith
 few (event ∷ rest) e = ((no_fault_where_in_place (event ∷ rest)).0 e).1
 
--- of events in place those behind the first are so too
+-- of events in place those after the first are so too
 pub rest_in_place : (events : List Event) (held : ℕ) → fault_after [] events ≡ None → fault_after (take held events) (drop held events) ≡ None
 rest_in_place events held e =
     by (fault_after [] (take held events)) (fault_after (take held events) (drop held events)) (sym (fault_after-append [] (take held events) (drop held events)) ∙ (ap (fault_after []) (take-append-drop held events) ∙ e))

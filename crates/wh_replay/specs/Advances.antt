@@ -14,7 +14,7 @@ use Rattle.wh_replay.specs.declared.run.Answer.TheVariants.{Complete, Fail}
 use Rattle.wh_replay.specs.Replays.{Replayed, ends_in_task}
 use Rattle.wh_replay.specs.Runs.{HistoryView, Held, history_of, IsReplayed, follows, run_of, advance_steps}
 
--- the new events are joined to the held ones: they end in a started task and begin behind them
+-- the new events are joined to the held ones: they end in a started task and begin after them
 pub record IsJoined (held new : List Event) : Type 0 where
   pub ends : ends_in_task new ≡ true
   pub begins : follows (length held) new ≡ true

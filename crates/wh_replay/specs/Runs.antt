@@ -14,7 +14,7 @@ use Rattle.wh_workflow.specs.Scripts.{Settled}
 use Rattle.wh_workflow.specs.Activations.{and_then}
 use Rattle.wh_replay.specs.declared.fault.Fault.{Fault}
 use Rattle.wh_replay.specs.declared.fault.Fault.TheVariants.{NotATask}
-use Rattle.wh_replay.specs.Replays.{Upshot, Replayed, replay, replay_tasks, replay_after, replay_placed, ends_in_task}
+use Rattle.wh_replay.specs.Replays.{ReplayResult, Replayed, replay, replay_tasks, replay_after, replay_placed, ends_in_task}
 
 -- what contracts see of a replayed history: its events, and what their replay gives but the state,
 -- which has a type of each workflow's own
@@ -52,14 +52,14 @@ abbrev pub status_in : List Machine → ℕ → Option Status
 status_in [] number = None
 status_in (machine ∷ rest) number = if eqb machine.number number then Some machine.status else status_in rest number
 
--- the first of the new events has the number behind that many held ones
+-- the first of the new events has the number after that many held ones
 abbrev pub follows : ℕ → List Event → Bool
 follows held [] = false
 follows held (event ∷ _) = eqb event.number (held + 1)
 
 module _ {S : Type 0} where
   -- the tasks leave this state, these versions and these unsent commands
-  abbrev pub Gives : Result (Upshot S) Fault → S → Settled → List Command → Type 0
+  abbrev pub Gives : Result (ReplayResult S) Fault → S → Settled → List Command → Type 0
   Gives (Ok left) state settled unsent = (left.state ≡ state) × (left.settled ≡ settled) × (left.unsent ≡ unsent)
   Gives (Err fault) state settled unsent = ⊥
 
@@ -86,7 +86,7 @@ module _ {S : Type 0} where
     pub most : length history.events ≤ most_events
 
   -- the steps that tasks counted, from 0 on
-  abbrev pub counted : Result (Upshot S) Fault → ℕ
+  abbrev pub counted : Result (ReplayResult S) Fault → ℕ
   counted (Ok left) = left.meter
   counted (Err _) = 0
 
@@ -95,15 +95,15 @@ module _ {S : Type 0} where
   steps program events = counted (replay_tasks program events 0)
 
   -- what the new events make of what the held ones left, on this meter: its commands were sent
-  abbrev pub going_on : Program S → List Event → List Event → ℕ → Upshot S → Result (Upshot S) Fault
+  abbrev pub going_on : Program S → List Event → List Event → ℕ → ReplayResult S → Result (ReplayResult S) Fault
   going_on program held new meter kept = replay_after program held [] new (record kept { unsent = []; meter = meter })
 
-  -- the steps of the cuts behind the held events alone, no further than the top
+  -- the steps of the cuts after the held events alone, no further than the top
   abbrev pub new_steps : Program S → List Event → List Event → ℕ
   new_steps program held new = counted (and_then (replay_tasks program held 0) (going_on program held new 0))
 
   -- the commands that were left unsent match the record that the new events begin with
-  abbrev pub is_matched : List Event → List Event → Result (Upshot S) Fault → Bool
+  abbrev pub is_matched : List Event → List Event → Result (ReplayResult S) Fault → Bool
   is_matched held new (Ok left) = is_none (mismatch (held ++ new) left.unsent (record_of new))
   is_matched held new (Err _) = false
 
@@ -117,7 +117,7 @@ module _ {S : Type 0} where
       if confirms program held new then new_steps program held new else steps program (held ++ new)
 
   -- what advancing gives, on this meter
-  abbrev pub advanced : Program S → List Event → List Event → ℕ → Result (Upshot S) Fault
+  abbrev pub advanced : Program S → List Event → List Event → ℕ → Result (ReplayResult S) Fault
   advanced program held new meter =
       if confirms program held new
       then replay_placed (history_fault (held ++ new))

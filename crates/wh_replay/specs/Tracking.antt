@@ -13,7 +13,7 @@ abbrev pub in_place : Option (ℕ × PlaceFault) → List Event → Result (List
 in_place None events = Ok events
 in_place (Some fault) events = Err (PlaceFaulty fault.0 fault.1)
 
--- the events with the new ones behind them, or the first fault of the places of these
+-- the events with the new ones after them, or the first fault of the places of these
 abbrev pub joined : List Event → List Event → Result (List Event) Fault
 joined before new = in_place (fault_after before new) (before ++ new)
 

@@ -15,11 +15,11 @@ use Rattle.wh_workflow.specs.declared.fault.Mismatch.{Mismatch}
 use Rattle.wh_workflow.specs.Law.{Program}
 use Rattle.wh_workflow.specs.Jobs.{jobs_of}
 use Rattle.wh_workflow.specs.Names.{mismatch}
-use Rattle.wh_workflow.specs.Scripts.{Standpoint, reduced}
+use Rattle.wh_workflow.specs.Scripts.{ActivationContext, reduced}
 use Rattle.wh_workflow.specs.Activations.{Progress, activate}
 use Rattle.wh_replay.specs.declared.fault.Fault.{Fault}
 use Rattle.wh_replay.specs.declared.fault.Fault.TheVariants.{Place as PlaceFaulty, Workflow as WorkflowFaulty, Mismatch as Mismatched}
-use Rattle.wh_replay.specs.Replays.{Upshot, Replayed, standpoint_at, begin_at, reached, start, workflow_of, with_machines, replay}
+use Rattle.wh_replay.specs.Replays.{ReplayResult, Replayed, context_at, begin_at, reached, start, workflow_of, with_machines, replay}
 use Rattle.wh_replay.specs.Checks.{ends_live}
 
 -- none of the events is a cut of a history that goes on after them with the rest
@@ -34,7 +34,7 @@ pub record IsNextCut (between : List Event) (cut : Event) (rest : List Event) : 
   pub cuts_here : IsTrue (is_cut cut rest)
   pub none_between : HasNoCut between (cut ∷ rest)
 
--- where the task of a cut stands in a history: all events before the cut, those of them behind the
+-- where the task of a cut stands in a history: all events before the cut, those of them after the
 -- cut before it, the cut, and all events after it
 pub record TaskAt : Type 0 where
   pub before : List Event
@@ -47,10 +47,10 @@ abbrev pub next_task : List Event → List Event → Event → List Event → Ta
 next_task seen between cut rest = record { before = seen ++ between; between = between; cut = cut; rest = rest }
 
 -- what the activation of a task knows
-abbrev pub known_at : TaskAt → Standpoint
-known_at here = standpoint_at here.before here.between here.cut here.rest
+abbrev pub known_at : TaskAt → ActivationContext
+known_at here = context_at here.before here.between here.cut here.rest
 
-module _ {S : Type 0} (program : Program S) (here : TaskAt) (current : Upshot S) where
+module _ {S : Type 0} (program : Program S) (here : TaskAt) (current : ReplayResult S) where
   -- what the activation of a task gives, after what the tasks before it left
   abbrev pub activated : Result (Progress S) WorkflowFault
   activated =
@@ -67,7 +67,7 @@ module _ {S : Type 0} (program : Program S) (here : TaskAt) (current : Upshot S)
 
   -- the task passes: its activation has no fault; where the cut is recorded, what it sends matches
   -- the record, and nothing is unsent; where the cut is live, what it sends is unsent
-  pub record TaskPasses (left : Upshot S) : Type 0 where
+  pub record TaskPasses (left : ReplayResult S) : Type 0 where
     pub progress : Progress S
     pub succeeds : activated ≡ Ok progress
     pub recorded : IsTrue (is_recorded here.rest)
@@ -96,7 +96,7 @@ module _ {S : Type 0} (program : Program S) (here : TaskAt) (current : Upshot S)
 pub record PassedTask (S : Type 0) : Type 0 where
   pub between : List Event
   pub cut : Event
-  pub left : Upshot S
+  pub left : ReplayResult S
 
 module _ {S : Type 0} where
   -- the events up to and with the cut of the last of these tasks
@@ -105,7 +105,7 @@ module _ {S : Type 0} where
   events_through (one ∷ more) = one.between ++ one.cut ∷ events_through more
 
   -- what the last of the tasks leaves, or what there was at first
-  abbrev pub left_by : Upshot S → List (PassedTask S) → Upshot S
+  abbrev pub left_by : ReplayResult S → List (PassedTask S) → ReplayResult S
   left_by first [] = first
   left_by first (one ∷ more) = left_by one.left more
 
@@ -116,11 +116,11 @@ module _ {S : Type 0} where
 module _ {S : Type 0} (program : Program S) where
   -- the cut of the task is the next one after the events seen, and the task passes and leaves what
   -- it says, after what the tasks before it left
-  pub record Passes (seen : List Event) (current : Upshot S) (one : PassedTask S) (rest : List Event) : Type 0 where
+  pub record Passes (seen : List Event) (current : ReplayResult S) (one : PassedTask S) (rest : List Event) : Type 0 where
     pub next : IsNextCut one.between one.cut rest
     pub passes : TaskPasses program (next_task seen one.between one.cut rest) current one.left
 
-module _ {S : Type 0} (program : Program S) (history : List Event) (first : Upshot S) where
+module _ {S : Type 0} (program : Program S) (history : List Event) (first : ReplayResult S) where
   -- the history begins with these tasks, each of which passes after those before it, and goes on
   -- with the rest
   pub record PassThrough (passed : List (PassedTask S)) (rest : List Event) : Type 0 where
@@ -130,7 +130,7 @@ module _ {S : Type 0} (program : Program S) (history : List Event) (first : Upsh
         → Passes program (events_through earlier) (left_by first earlier) one (events_through later ++ rest)
 
   -- the tasks of all cuts pass, and this is what the last leaves
-  pub record AllPass (left : Upshot S) : Type 0 where
+  pub record AllPass (left : ReplayResult S) : Type 0 where
     pub passed : List (PassedTask S)
     pub rest : List Event
     pub pass : PassThrough passed rest
@@ -154,7 +154,7 @@ module _ {S : Type 0} (program : Program S) where
     pub known : IsTrue (program.knows (workflow_of history))
 
   -- what the tasks of a history begin with
-  abbrev pub start_of : List Event → ℕ → Upshot S
+  abbrev pub start_of : List Event → ℕ → ReplayResult S
   start_of history meter = start program (workflow_of history) meter
 
   -- a place fault comes before all other faults
@@ -176,7 +176,7 @@ module _ {S : Type 0} (program : Program S) where
   GivesWhereAllPass =
       (history : List Event) (meter : ℕ) (replayed : Replayed S) → IsKnown history
       → (replay program history meter ≡ Ok replayed)
-      ↔ ((left : Upshot S) × AllPass program history (start_of history meter) left
+      ↔ ((left : ReplayResult S) × AllPass program history (start_of history meter) left
       × (replayed ≡ with_machines (machines_of history) left))
 
   -- and it has a fault exactly where the task of some cut is the first that fails: the fault of
@@ -190,14 +190,14 @@ module _ {S : Type 0} (program : Program S) where
   -- where the tasks of all cuts pass, their cuts are those of the history, in order
   abbrev pub AllCutsPass : Type 0
   AllCutsPass =
-      (history : List Event) (first left : Upshot S) (all : AllPass program history first left)
+      (history : List Event) (first left : ReplayResult S) (all : AllPass program history first left)
       → cuts history ≡ cut_numbers all.passed
 
   -- where one is the first that fails, the cuts of the history are those that pass, that one, and
   -- the ones after it
   abbrev pub FirstCutsPass : Type 0
   FirstCutsPass =
-      (history : List Event) (first : Upshot S) (fault : Fault) (fails : FirstFails program history first fault)
+      (history : List Event) (first : ReplayResult S) (fault : Fault) (fails : FirstFails program history first fault)
       → cuts history ≡ cut_numbers fails.passed ++ fails.cut.number ∷ cuts fails.rest
 
 -- a place is live exactly where it is a live cut

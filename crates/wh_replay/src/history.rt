@@ -6,7 +6,7 @@ ghost use Rattle.wh_replay.specs.Replays.{ends_in_task};
 ghost use Rattle.wh_replay.specs.Runs.{IsReplayed, run_of, steps, advance_steps, status_in};
 ghost use Rattle.wh_replay.specs.Advances.{GivesHistory};
 
-use crate::checking::{Outcome, replay};
+use crate::checking::{ReplayState, replay};
 use crate::continuing::{ends_in_task, replay_joined};
 use crate::fault::{Fault, RunFault};
 use crate::pushing::push_all;
@@ -22,7 +22,7 @@ use wh_workflow::{Command, Meter, Workflow};
 #[derive(Drop)]
 pub struct ReplayedHistory<W: Workflow> {
     track: Track,
-    outcome: Outcome<W::State>,
+    replayed: ReplayState<W::State>,
 }
 
 impl<W: Workflow> Model for ReplayedHistory<W> {
@@ -31,9 +31,9 @@ impl<W: Workflow> Model for ReplayedHistory<W> {
 
     ghost Value = { HistoryView };
 
-    ghost view = { λ history. view_of history.track history.outcome.versions history.outcome.unsent.items };
+    ghost view = { λ history. view_of history.track history.replayed.versions history.replayed.unsent.items };
 
-    ghost invariant = { λ history. IsRunOf W.program history.track history.outcome };
+    ghost invariant = { λ history. IsRunOf W.program history.track history.replayed };
 }
 
 impl<W: Workflow> ReplayedHistory<W> {
@@ -55,7 +55,7 @@ impl<W: Workflow> ReplayedHistory<W> {
         let (track, walk) = replay::<W>(alloc, events, meter)?;
         Ok(ReplayedHistory {
             track,
-            outcome: walk.outcome,
+            replayed: walk.replayed,
         })
     }
 
@@ -71,19 +71,19 @@ impl<W: Workflow> ReplayedHistory<W> {
         ensures meter { OnOk result (meter.new ≡ risen meter.old (advance_steps W.program self.events events.items)) }
         ensures never_lowered { meter.old ≤ meter.new }
     {
-        let ReplayedHistory { mut track, outcome } = self;
+        let ReplayedHistory { mut track, replayed } = self;
         let held = track.len();
         if let Err(fault) = push_all(&mut track, events) {
-            drop(outcome);
+            drop(replayed);
             drop(track);
             return Err(fault);
         }
         // Made for the proof: its contract says that the meter fits 64 bits.
         let _proof_fits = meter.count();
-        match replay_joined::<W>(alloc, &track, held, outcome, meter) {
+        match replay_joined::<W>(alloc, &track, held, replayed, meter) {
             Ok(walk) => Ok(ReplayedHistory {
                 track,
-                outcome: walk.outcome,
+                replayed: walk.replayed,
             }),
             Err(fault) => {
                 drop(track);
@@ -93,7 +93,7 @@ impl<W: Workflow> ReplayedHistory<W> {
     }
 
     /// Does nothing. Its contract tells a caller what holds of every replayed history.
-    pub(crate) fn attest(&self)
+    pub(crate) fn invariant(&self)
         ensures { IsReplayed W.program self.now }
     {
         let _track = &self.track;
@@ -125,20 +125,20 @@ impl<W: Workflow> ReplayedHistory<W> {
     pub(crate) fn state(&self) -> &W::State
         ensures { IsOkAnd (run_of W.program self.now.events) (λ replayed. result.now ≡ replayed.state) }
     {
-        &self.outcome.state
+        &self.replayed.state
     }
 
     /// The commands that are not sent yet.
     pub(crate) fn commands(&self) -> &[Command]
         ensures { result.now ≡ self.now.unsent }
     {
-        self.outcome.unsent.as_slice()
+        self.replayed.unsent.as_slice()
     }
 
     /// The settled version of a change.
     pub(crate) fn version(&self, change_id: &str) -> Option<i32>
         ensures { result ≡ lookup_version change_id.now self.now.settled }
     {
-        self.outcome.versions.get(change_id)
+        self.replayed.versions.get(change_id)
     }
 }

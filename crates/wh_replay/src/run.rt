@@ -17,7 +17,7 @@ use wh_workflow::{Command, Meter, Workflow};
 /// A run of a workflow, as far as its history was replayed: a key, a history that ends in a started
 /// workflow task, and the state, machines, versions and unsent commands that its replay gives.
 /// Contracts see the key, the held events, the machines (each event that opened something with its
-/// status), the settled versions and the unsent commands. `attest` tells that replay of the held
+/// status), the settled versions and the unsent commands. `invariant` tells that replay of the held
 /// events from the first gives them, and `state` that it gives the state.
 #[derive(Drop)]
 pub struct Run<W: Workflow> {
@@ -184,10 +184,10 @@ impl<W: Workflow> Run<W> {
 
     /// Does nothing. Its contract tells a caller what holds of every run: replay of its held events
     /// from the first gives its machines, versions and unsent commands.
-    pub fn attest(&self)
+    pub fn invariant(&self)
         ensures { IsReplayed W.program (history_of self.now) }
     {
-        self.history.attest();
+        self.history.invariant();
     }
 
     /// The number of held events.

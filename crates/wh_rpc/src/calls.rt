@@ -18,7 +18,7 @@ pub trait Caller {
 
     /// Sends a request, waits for its response, and gives its id and what the response says.
     /// `Closed` where no response will come, `Output` where the request could not be written,
-    /// `OutOfMemory` where no room was found for it.
+    /// `OutOfMemory` where there was no memory for it.
     fn call<R: Wait>(
         &self,
         rt: &R,

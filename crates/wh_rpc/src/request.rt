@@ -19,7 +19,7 @@ fn request_value(alloc: Global, id: u64, method: &str, params: Value) -> Result<
 
 /// The text of a request, without a line end. Of parameters that hold no float it is compact and
 /// one line: no byte in it is below 32. It reads as the request, unless the parameters nest deeper
-/// than 126. An error where no room was found for it.
+/// than 126. An error where there was no memory for it.
 #[tactic(auto, using(crate::proofs::OneLine::compact_is_one_line))]
 pub fn request_text(
     alloc: Global,

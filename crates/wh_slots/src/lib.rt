@@ -178,7 +178,7 @@ impl Model for Slots {
 
 impl Slots {
     /// As many free places, 1 to 1,000, and 1 for the first number.
-    /// `OutOfMemory` where no room was found for them; no later call takes memory.
+    /// `OutOfMemory` where there was no memory for them; no later call takes memory.
     pub fn open(alloc: Global, kind: SlotKind, places: usize) -> Result<Slots, OutOfMemory>
         requires { (0 < places) × (places ≤ MOST_SLOTS) }
         ensures { IfOk result (λ slots. slots ≡ table kind (replicate places Free) 1 false) }
@@ -187,7 +187,7 @@ impl Slots {
     }
 
     /// As many free places, 1 to 1,000, and `next` for the first number, 1 to 2^63 - 1.
-    /// `OutOfMemory` where no room was found for them; no later call takes memory.
+    /// `OutOfMemory` where there was no memory for them; no later call takes memory.
     pub fn starting_at(
         alloc: Global,
         kind: SlotKind,

@@ -37,6 +37,6 @@ first_after-drop (suc count) from n (event ∷ rest) numbered is = by (is_cut ev
     by true later = let number = numbered.0 in let behind : nat_lt from event.number ≡ false = grind (arith, nat_tests) in rw behind later
     by false later = later
 
--- the first cut after a number is the first of what is behind it
+-- the first cut after a number is the first of what is after it
 pub next_cut-drop : (from : ℕ) (events : List Event) → IsNumbered events → next_cut events from ≡ first_of (cuts (drop from events))
 next_cut-drop from events numbered = first_after-drop from from 0 events (numbered_by_place events numbered) (omega arith)

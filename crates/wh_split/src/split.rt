@@ -7,7 +7,7 @@ use crate::cut;
 use std::alloc::Global;
 use wh_events::{Event, EventNo, OutOfMemory};
 
-/// The number of the first cut behind the first `from` events, which is the first cut after the
+/// The number of the first cut after the first `from` events, which is the first cut after the
 /// number `from` in a history whose event i has number i; `None` where no cut follows. The first
 /// cut of all is that after 0.
 ///
@@ -17,9 +17,9 @@ use wh_events::{Event, EventNo, OutOfMemory};
 /// <https://docs.temporal.io/tasks#workflow-task>.
 ///
 /// It needs no memory, and looks only at the events from `from` to the cut and at the inert ones
-/// behind that.
+/// after that.
 pub fn next_cut(events: &[Event], from: u64) -> Option<EventNo>
-    ensures behind { result ≡ first_of (cuts (drop from events.now)) }
+    ensures next { result ≡ first_of (cuts (drop from events.now)) }
 
     // In a history whose event i has number i, that is the first cut with a greater number.
     ensures after { IsNumbered events.now → result ≡ next_cut events.now from }
@@ -30,7 +30,7 @@ pub fn next_cut(events: &[Event], from: u64) -> Option<EventNo>
     first_cut(&events[from as usize..])
 }
 
-/// Whether the event in the place is a live cut: a WorkflowTaskStarted behind which there are inert
+/// Whether the event in the place is a live cut: a WorkflowTaskStarted after which there are inert
 /// events alone.
 pub fn is_live(events: &[Event], cut: EventNo) -> bool
     ensures { result ≡ is_live events.now cut }
@@ -49,7 +49,7 @@ fn is_live_before(event: &Event, rest: &[Event]) -> bool
     cut::is_task_started(event) && cut::next_core(rest).is_none()
 }
 
-/// The numbers of all cuts, in their order. `OutOfMemory` where no room was found for the list.
+/// The numbers of all cuts, in their order. `OutOfMemory` where there was no memory for the list.
 pub fn cuts(alloc: Global, events: &[Event]) -> Result<Vec<EventNo>, OutOfMemory>
     ensures { IfOk result (λ numbers. numbers.items ≡ cuts events.now) }
 {

@@ -17,7 +17,7 @@ pub trait ActivityHandler {
     /// Which answers a task may get. No call changes it.
     ghost may: { Self → ActivityTask → ActivityAnswer → Type 0 };
 
-    /// Runs the task and gives its answer. `OutOfMemory` where no room was found: the task then
+    /// Runs the task and gives its answer. `OutOfMemory` where there was no memory: the task then
     /// gets no answer.
     fn run(&mut self, task: &ActivityTask) -> Result<ActivityAnswer, OutOfMemory>
         ensures answer { IfOk result (λ answer. may self.old task.now answer) }

@@ -54,7 +54,7 @@ pub enum ActivityAnswer {
 }
 
 impl ActivityAnswer {
-    /// An equal answer. `OutOfMemory` where no room was found for the copy.
+    /// An equal answer. `OutOfMemory` where there was no memory for the copy.
     pub fn try_copy(&self) -> Result<ActivityAnswer, OutOfMemory>
         ensures { IfOk result (λ copy. copy ≡ self.now) }
     {
@@ -79,7 +79,7 @@ pub enum Sent {
 pub enum SourceFault {
     /// The source failed. Its count of failures rose in that call.
     Source,
-    /// No room was found.
+    /// There was no memory.
     OutOfMemory,
 }
 
@@ -147,14 +147,16 @@ pub trait TaskSource {
         ensures origin { KeepsOrigin comes_from self.old self.new };
 
     /// Sends the answer to the workflow task of a name, and shows the events that it was replayed
-    /// from: those of the run that replay gave, and none where it gave no run. A source that has to
-    /// know them, as for the number of the event that a cancelled activity was scheduled by, answers
-    /// here; for every other one this is `answer_workflow`.
+    /// from, those of the run that replay gave and none where it gave no run, and how many steps
+    /// replay took. A source that has to know the events, as for the number of the one that a
+    /// cancelled activity was scheduled by, or that logs the steps, answers here; for every other
+    /// one this is `answer_workflow`.
     fn answer_replayed(
         &mut self,
         name: TaskName,
         answer: &Answer,
         _events: &[Event],
+        _steps: u64,
     ) -> Result<(), SourceFault>
         ensures sent { OnOk result (answers self.new ≡ answers self.old ++ (name, OfWorkflow answer.now) ∷ []) }
         ensures unsent { OnErr result (answers self.new ≡ answers self.old) }

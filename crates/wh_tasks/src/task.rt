@@ -34,7 +34,7 @@ pub struct Stepped<W: Workflow> {
 pub enum StepFault {
     /// A call of the source failed.
     Source(SourceFault),
-    /// No room was found.
+    /// There was no memory.
     OutOfMemory,
 }
 
@@ -64,7 +64,7 @@ impl From<OutOfMemory> for StepFault {
 ///
 /// The meter rises by the steps of replay, in the third case by those of the new tasks alone where
 /// the events confirm the run. `Source` where the source fails when it is asked, `OutOfMemory`
-/// where no room was found; then the run is dropped and nothing is left to send. A task that ends in
+/// where there was no memory; then the run is dropped and nothing is left to send. A task that ends in
 /// no started task needs no memory, unless the source has to be asked. (Temporal documentation,
 /// "Sticky Execution": a Worker that has no cached run asks for the full history.)
 pub fn replay_task<W: Workflow, S: TaskSource>(

@@ -103,7 +103,7 @@ decimal_plain : (n : ℕ) → is_plain (decimal n) ≡ true
 unfolding digits
 decimal_plain n = digits_plain 64 n [] refl
 
--- a number, and a text behind it
+-- a number, and a text after it
 number_plain : (n : ℕ) (rest : List ℕ) → is_plain rest ≡ true → is_plain (decimal n ++ rest) ≡ true
 number_plain n rest plain = plain_append (decimal n) rest (decimal_plain n) plain
 
@@ -219,7 +219,7 @@ flat_one k null ms name flat = absurd flat
 flat_one k (array js) ms name flat = absurd flat
 flat_one k (object_of others) ms name flat = absurd flat
 
--- a text behind two parts
+-- a text after two parts
 behind : (first others close : List ℕ) → first ++ (others ++ close) ≡ (first ++ others) ++ close
 behind first others close = sym (append_assoc first others close)
 

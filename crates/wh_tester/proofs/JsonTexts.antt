@@ -107,7 +107,7 @@ workflow_name_stays workflows.BadRange = refl
 workflow_name_stays workflows.VersionOutOfRange = refl
 workflow_name_stays workflows.UnknownWorkflow = refl
 
--- a number, and a text behind it
+-- a number, and a text after it
 number_stays : (n : ℕ) (rest : List ℕ) → escaped rest ≡ rest → escaped (decimal n ++ rest) ≡ decimal n ++ rest
 number_stays n rest e = rw (flat_map-append escaped_char (decimal n) rest, decimal_stays n, e) refl
 
@@ -131,9 +131,9 @@ replay_fault_stays (faults.Workflow at fault) =
     (number_stays at _ (ap (λ t. codes ": " ++ t) (workflow_name_stays fault)))
 replay_fault_stays (faults.Mismatch at mismatch) = mismatch_stays at mismatch
 
--- a fault behind other members
-fault_behind : (members : List (List ℕ)) (text : List ℕ) → escaped text ≡ text → following (members ++ text_member (codes "fault") text ∷ []) ≡ following members ++ (codes ",\"fault\":\"" ++ (text ++ codes "\""))
-fault_behind members text e =
+-- a fault after other members
+fault_after_text : (members : List (List ℕ)) (text : List ℕ) → escaped text ≡ text → following (members ++ text_member (codes "fault") text ∷ []) ≡ following members ++ (codes ",\"fault\":\"" ++ (text ++ codes "\""))
+fault_after_text members text e =
     flat_map-append (λ member. codes "," ++ member) members (text_member (codes "fault") text ∷ [])
     ∙ ap (λ t. following members ++ t) last
   where
@@ -147,7 +147,7 @@ pub fault_by_parts : (verdict : Verdict) (fault : Fault) → verdict ≡ verdict
 fault_by_parts verdict fault is =
     ap (λ v. following (verdict_members v)) is
     ∙ ap (λ t. codes ",\"verdict\":\"fault\"" ++ t)
-    (fault_behind (subject_members fault) (replay_fault_text fault) (replay_fault_stays fault))
+    (fault_after_text (subject_members fault) (replay_fault_text fault) (replay_fault_stays fault))
 
 -- a character that is shown is one byte
 shown_is_ascii : (c d : ℕ) → d ∷ [] ≡ shown_char c → d < 128

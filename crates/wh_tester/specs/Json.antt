@@ -11,7 +11,7 @@ use Rattle.wh_tester.specs.declared.line.Verdict.{Verdict}
 use Rattle.wh_tester.specs.declared.line.Verdict.TheVariants as verdicts
 use Rattle.wh_tester.specs.declared.line.Line.{Line}
 
--- a character of a string: `"` and `\` stand behind a `\`
+-- a character of a string: `"` and `\` stand after a `\`
 abbrev pub escaped_char : ℕ → List ℕ
 escaped_char c = if c == 34 || c == 92 then 92 ∷ c ∷ [] else c ∷ []
 
@@ -27,7 +27,7 @@ text_member key text = codes "\"" ++ (key ++ (codes "\":\"" ++ (escaped text ++ 
 abbrev pub plain_member : List ℕ → List ℕ → List ℕ
 plain_member key value = codes "\"" ++ (key ++ (codes "\":" ++ value))
 
--- members behind another one, a comma in front of each
+-- members after another one, a comma in front of each
 abbrev pub following : List (List ℕ) → List ℕ
 following members = flat_map (λ member. codes "," ++ member) members
 

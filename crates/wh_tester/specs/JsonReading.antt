@@ -69,7 +69,7 @@ HasSmallNumbers (verdicts.Unreadable fault) = IfSome (event_of fault) IsSmall
 HasSmallNumbers (verdicts.Faulty fault) = HasSmallSubject fault
 HasSmallNumbers verdicts.OutOfMemory = Unit {0}
 
--- a line is a text with a line feed behind it, and the text reads as the value
+-- a line is a text with a line feed after it, and the text reads as the value
 pub record ReadsAs (line : List ℕ) (value : Json) : Type 0 where
   pub text : List ℕ
   pub ends : line ≡ text ++ codes "\n"

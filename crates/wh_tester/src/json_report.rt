@@ -67,7 +67,7 @@ impl fmt::Display for EscapedFault<'_> {
     }
 }
 
-/// The event that a fault of the reader is about, as a member behind another one.
+/// The event that a fault of the reader is about, as a member after another one.
 #[derive(Drop)]
 struct EventMember(Option<u64>);
 
@@ -82,7 +82,7 @@ impl fmt::Display for EventMember {
     }
 }
 
-/// The event or the task that a fault of replay is about, as a member behind another one.
+/// The event or the task that a fault of replay is about, as a member after another one.
 #[derive(Drop)]
 struct SubjectMember(Fault);
 
@@ -105,7 +105,7 @@ impl fmt::Display for SubjectMember {
     }
 }
 
-/// The members of a verdict, behind another one.
+/// The members of a verdict, after another one.
 #[derive(Drop)]
 struct VerdictMembers<'a>(&'a Verdict);
 

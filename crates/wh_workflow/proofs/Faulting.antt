@@ -21,7 +21,7 @@ use Rattle.wh_workflow.specs.declared.command.Command.{Command}
 use Rattle.wh_workflow.specs.declared.command.Command.TheVariants.{CancelActivity, CancelTimer, CancelChild}
 use Rattle.wh_workflow.specs.declared.fault.WorkflowFault.{WorkflowFault}
 use Rattle.wh_workflow.specs.declared.fault.WorkflowFault.TheVariants.{AfterClosing, TooManyCommands, IdInUse, IdReused, NotOpen, AlreadyCancelling, BadRange, VersionOutOfRange, UnknownWorkflow}
-use Rattle.wh_workflow.specs.Scripts.{Standpoint, Settled, Act, act_of, act_opens, act_cancels, act_closes, some_act, left_open, withdrawn, is_timer, open_at, still_open, has_outside, closer_of, is_late, cancels_open, is_cancelled, choice_of, fault_if, opening_fault, cancel_fault, ask_fault, act_fault, given, most_commands, command_fault}
+use Rattle.wh_workflow.specs.Scripts.{ActivationContext, Settled, Act, act_of, act_opens, act_cancels, act_closes, some_act, left_open, withdrawn, is_timer, open_at, still_open, has_outside, closer_of, is_late, cancels_open, is_cancelled, choice_of, fault_if, opening_fault, cancel_fault, ask_fault, act_fault, given, most_commands, command_fault}
 use Rattle.wh_workflow.specs.Scripts.Act.{Opening, Cancelling, Closing, Asking, Other}
 use Rattle.wh_workflow.specs.CommandFaults.{IsOfCut, Does, IsLeftOpen, IsWithdrawn, IsStillOpen, IsEndedHere, IsLateCancel, IsCancellingAtCut, UsesId, ReusesId, CancelsNothing, CancelsAgain, AsksBadRange, GetsOutOfRange, RowApplies, row_of, IsLeastRow, LeastRowDecides}
 
@@ -107,11 +107,11 @@ timer_decides Child = (λ e. cc, λ e. cc)
 timer_decides CancelRequest = (λ e. cc, λ e. cc)
 timer_decides SignalRequest = (λ e. cc, λ e. cc)
 
-still_decides : (standpoint : Standpoint) (earlier : List Command) (thing : Thing) (id : List ℕ) → Decides (still_open standpoint earlier thing id) (IsStillOpen standpoint earlier thing id)
-still_decides standpoint earlier thing id =
+still_decides : (context : ActivationContext) (earlier : List Command) (thing : Thing) (id : List ℕ) → Decides (still_open context earlier thing id) (IsStillOpen context earlier thing id)
+still_decides context earlier thing id =
     let stopped : Bool = is_timer thing && some_act (act_cancels thing id) earlier in
-    Decides-or (left_open thing id earlier) (open_at standpoint thing id && not stopped) (left_decides thing id earlier)
-    (Decides-and (open_at standpoint thing id) (not stopped) (has_decides standpoint.seen thing id)
+    Decides-or (left_open thing id earlier) (open_at context thing id && not stopped) (left_decides thing id earlier)
+    (Decides-and (open_at context thing id) (not stopped) (has_decides context.seen thing id)
     (Decides-not stopped (Decides-and (is_timer thing) (some_act (act_cancels thing id) earlier) (timer_decides thing) (some_cancels thing id earlier))))
 
 -- places in a list that stands in a longer one
@@ -125,12 +125,12 @@ at_right [] ys k e h = (k, omega arith, h)
 at_right (x ∷ xs) ys k e h = let r = at_right xs ys k e h in (suc r.0, (let same = r.1 in omega arith), r.2)
 
 -- an event between the cuts is one of the history
-in_history : (standpoint : Standpoint) → IsOfCut standpoint → (i : ℕ) (e : Event) → IsAt standpoint.between i e → (j : ℕ) × IsAt standpoint.seen j e
-in_history standpoint of_cut i e h =
+in_history : (context : ActivationContext) → IsOfCut context → (i : ℕ) (e : Event) → IsAt context.between i e → (j : ℕ) × IsAt context.seen j e
+in_history context of_cut i e h =
     let ends = of_cut.ends in
-    let k = index_of standpoint.between i e h in
-    let r = at_right ends.0 (standpoint.between ++ ends.1 ∷ []) k.0 e (at_left standpoint.between (ends.1 ∷ []) k.0 e k.2) in
-    (suc r.0, at_index standpoint.seen r.0 e (ap (λ l. slice_get l r.0) ends.2 ∙ r.2))
+    let k = index_of context.between i e h in
+    let r = at_right ends.0 (context.between ++ ends.1 ∷ []) k.0 e (at_left context.between (ends.1 ∷ []) k.0 e k.2) in
+    (suc r.0, at_index context.seen r.0 e (ap (λ l. slice_get l r.0) ends.2 ∙ r.2))
 
 status_closes : (o : Option ℕ) (cancelling started : Bool) (by : ℕ) → status_by o cancelling started ≡ Closed by → o ≡ Some by
 status_closes (Some other) cancelling started by h = cc
@@ -151,61 +151,61 @@ closer_numbered events placed number j closer at shuts = status_closes _ _ _ j (
 outside_decides : (number : ℕ) (xs : List Event) → Decides (has_outside (Some number) xs) ((i : ℕ) × (e : Event) × IsAt xs i e × ((is_outside e && eqb number e.number) ≡ true))
 outside_decides number xs = some_decides (λ e. is_outside e && eqb number e.number) (has_outside (Some number)) refl (λ _ _. refl) xs
 
-module _ (standpoint : Standpoint) (of_cut : IsOfCut standpoint) (thing : Thing) (id : List ℕ) where
-  ended_found : (last closer : Option ℕ) → last_named standpoint.seen thing id ≡ last → closer_of standpoint.seen last ≡ closer → has_outside closer standpoint.between ≡ true → IsEndedHere standpoint thing id
-  ended_found None closer l c h = let w : has_outside None standpoint.between ≡ true = ap (λ o. has_outside o standpoint.between) c ∙ h in cc
+module _ (context : ActivationContext) (of_cut : IsOfCut context) (thing : Thing) (id : List ℕ) where
+  ended_found : (last closer : Option ℕ) → last_named context.seen thing id ≡ last → closer_of context.seen last ≡ closer → has_outside closer context.between ≡ true → IsEndedHere context thing id
+  ended_found None closer l c h = let w : has_outside None context.between ≡ true = ap (λ o. has_outside o context.between) c ∙ h in cc
   ended_found (Some number) None l c h = cc
   ended_found (Some number) (Some by) l c h =
-      let r = (outside_decides by standpoint.between).0 h in
+      let r = (outside_decides by context.between).0 h in
       let test = (Decides-and (is_outside r.1) (eqb by r.1.number) (λ e. e, λ e. e) (Decides-eqb by r.1.number)).0 r.3 in
-      let there = in_history standpoint of_cut r.0 r.1 r.2 in
+      let there = in_history context of_cut r.0 r.1 r.2 in
       let own = of_cut.in_place.numbered there.0 r.1 there.1 in
-      let closed = (closed_decides standpoint.seen number).0 (ap is_some c) in
-      let found = closer_numbered standpoint.seen of_cut.in_place number closed.0 closed.1 closed.2 closed.3 in
+      let closed = (closed_decides context.seen number).0 (ap is_some c) in
+      let found = closer_numbered context.seen of_cut.in_place number closed.0 closed.1 closed.2 closed.3 in
       let same : closed.0 ≡ there.0 = (let a : Some closed.0 ≡ Some by = sym found ∙ c in let b = test.1 in cc) in
-      let event = same_event standpoint.seen there.0 closed.1 r.1 (subst (λ i. IsAt standpoint.seen i closed.1) same closed.2) there.1 in
-      (number, r.0, r.1, (last_last standpoint.seen of_cut.in_place thing id number).0 l, r.2, test.0, subst (λ e. IsTrue (closes number e)) event closed.3)
+      let event = same_event context.seen there.0 closed.1 r.1 (subst (λ i. IsAt context.seen i closed.1) same closed.2) there.1 in
+      (number, r.0, r.1, (last_last context.seen of_cut.in_place thing id number).0 l, r.2, test.0, subst (λ e. IsTrue (closes number e)) event closed.3)
 
-  ended_decides : Decides (has_outside (closer_of standpoint.seen (last_named standpoint.seen thing id)) standpoint.between) (IsEndedHere standpoint thing id)
+  ended_decides : Decides (has_outside (closer_of context.seen (last_named context.seen thing id)) context.between) (IsEndedHere context thing id)
   ended_decides = (
-    λ h. ended_found (last_named standpoint.seen thing id) _ refl refl h,
+    λ h. ended_found (last_named context.seen thing id) _ refl refl h,
     λ r.
-        let there = in_history standpoint of_cut r.1 r.2 r.4 in
+        let there = in_history context of_cut r.1 r.2 r.4 in
         let own = of_cut.in_place.numbered there.0 r.2 there.1 in
-        let last = (last_last standpoint.seen of_cut.in_place thing id r.0).1 r.3 in
-        let found = closer_numbered standpoint.seen of_cut.in_place r.0 there.0 r.2 there.1 r.6 in
-        let closer : closer_of standpoint.seen (last_named standpoint.seen thing id) ≡ Some r.2.number = ap (closer_of standpoint.seen) last ∙ (found ∙ ap Some (sym own)) in
-        ap (λ o. has_outside o standpoint.between) closer
-        ∙ (outside_decides r.2.number standpoint.between).1 (r.1, r.2, r.4, (Decides-and (is_outside r.2) (eqb r.2.number r.2.number) (λ e. e, λ e. e) (Decides-eqb r.2.number r.2.number)).1 (r.5, refl)),
+        let last = (last_last context.seen of_cut.in_place thing id r.0).1 r.3 in
+        let found = closer_numbered context.seen of_cut.in_place r.0 there.0 r.2 there.1 r.6 in
+        let closer : closer_of context.seen (last_named context.seen thing id) ≡ Some r.2.number = ap (closer_of context.seen) last ∙ (found ∙ ap Some (sym own)) in
+        ap (λ o. has_outside o context.between) closer
+        ∙ (outside_decides r.2.number context.between).1 (r.1, r.2, r.4, (Decides-and (is_outside r.2) (eqb r.2.number r.2.number) (λ e. e, λ e. e) (Decides-eqb r.2.number r.2.number)).1 (r.5, refl)),
   )
 
-  pub late_decides : (earlier : List Command) → Decides (is_late standpoint earlier thing id) (IsLateCancel standpoint earlier thing id)
+  pub late_decides : (earlier : List Command) → Decides (is_late context earlier thing id) (IsLateCancel context earlier thing id)
   late_decides earlier =
       let opened : Bool = some_act (act_opens thing id) earlier in
-      let ended : Bool = has_outside (closer_of standpoint.seen (last_named standpoint.seen thing id)) standpoint.between in
-      Decides-like (is_late standpoint earlier thing id) (λ p. (p.0, p.1.0, p.1.1)) (λ p. (p.0, (p.1, p.2)))
-      (Decides-and (not (open_at standpoint thing id)) (not opened && ended) (Decides-not (open_at standpoint thing id) (has_decides standpoint.seen thing id))
+      let ended : Bool = has_outside (closer_of context.seen (last_named context.seen thing id)) context.between in
+      Decides-like (is_late context earlier thing id) (λ p. (p.0, p.1.0, p.1.1)) (λ p. (p.0, (p.1, p.2)))
+      (Decides-and (not (open_at context thing id)) (not opened && ended) (Decides-not (open_at context thing id) (has_decides context.seen thing id))
       (Decides-and (not opened) ended (Decides-not opened (does_decides (act_opens thing id) (Opening thing id) (opens_decides thing id) earlier)) ended_decides))
 
-  cancelling_found : (o : Option ℕ) → IsTrue (is_named thing) → open_named standpoint.seen thing id ≡ o → cancels_open standpoint o ≡ true → IsCancellingAtCut standpoint thing id
+  cancelling_found : (o : Option ℕ) → IsTrue (is_named thing) → open_named context.seen thing id ≡ o → cancels_open context o ≡ true → IsCancellingAtCut context thing id
   cancelling_found None named e h = cc
   cancelling_found (Some number) named e h =
-      let under = (open_unclosed standpoint.seen of_cut.in_place thing id number named).0 e in
-      let unclosed = elim (some_or_none (closed_by number standpoint.seen)) as (λ _. closed_by number standpoint.seen ≡ None) [ inl some ↦ absurd (under.3 ((closed_decides standpoint.seen number).0 (ap is_some some.1))) | inr none ↦ none ] in
-      (number, under, ap (λ o. status_by o (is_cancelling standpoint.seen number) (is_started standpoint.seen number)) unclosed ∙ ap (λ b. status_by None b (is_started standpoint.seen number)) h)
+      let under = (open_unclosed context.seen of_cut.in_place thing id number named).0 e in
+      let unclosed = elim (some_or_none (closed_by number context.seen)) as (λ _. closed_by number context.seen ≡ None) [ inl some ↦ absurd (under.3 ((closed_decides context.seen number).0 (ap is_some some.1))) | inr none ↦ none ] in
+      (number, under, ap (λ o. status_by o (is_cancelling context.seen number) (is_started context.seen number)) unclosed ∙ ap (λ b. status_by None b (is_started context.seen number)) h)
 
-  cancelling_decides : IsTrue (is_named thing) → Decides (cancels_open standpoint (open_named standpoint.seen thing id)) (IsCancellingAtCut standpoint thing id)
+  cancelling_decides : IsTrue (is_named thing) → Decides (cancels_open context (open_named context.seen thing id)) (IsCancellingAtCut context thing id)
   cancelling_decides named = (
-    λ h. cancelling_found (open_named standpoint.seen thing id) named refl h,
-    λ r. ap (cancels_open standpoint) ((open_unclosed standpoint.seen of_cut.in_place thing id r.0 named).1 r.1) ∙ status_cancels _ _ _ r.2,
+    λ h. cancelling_found (open_named context.seen thing id) named refl h,
+    λ r. ap (cancels_open context) ((open_unclosed context.seen of_cut.in_place thing id r.0 named).1 r.1) ∙ status_cancels _ _ _ r.2,
   )
 
-  again_decides : IsTrue (is_named thing) → (earlier : List Command) → Decides (is_cancelled standpoint earlier thing id) ((¬ (thing ≡ Timer)) × (IsCancellingAtCut standpoint thing id ⊎ (HasOpen standpoint.seen thing id × Does earlier (Cancelling thing id))))
+  again_decides : IsTrue (is_named thing) → (earlier : List Command) → Decides (is_cancelled context earlier thing id) ((¬ (thing ≡ Timer)) × (IsCancellingAtCut context thing id ⊎ (HasOpen context.seen thing id × Does earlier (Cancelling thing id))))
   again_decides named earlier =
-      let asked : Bool = cancels_open standpoint (open_named standpoint.seen thing id) in
-      let stopped : Bool = open_at standpoint thing id && some_act (act_cancels thing id) earlier in
+      let asked : Bool = cancels_open context (open_named context.seen thing id) in
+      let stopped : Bool = open_at context thing id && some_act (act_cancels thing id) earlier in
       Decides-and (not (is_timer thing)) (asked || stopped) (Decides-not (is_timer thing) (timer_decides thing))
-      (Decides-or asked stopped (cancelling_decides named) (Decides-and (open_at standpoint thing id) (some_act (act_cancels thing id) earlier) (has_decides standpoint.seen thing id) (some_cancels thing id earlier)))
+      (Decides-or asked stopped (cancelling_decides named) (Decides-and (open_at context thing id) (some_act (act_cancels thing id) earlier) (has_decides context.seen thing id) (some_cancels thing id earlier)))
 
 -- what commands open and cancel has a name
 abbrev IsNamedAct : Act → Type 0
@@ -219,40 +219,40 @@ named_act (CancelChild workflow_id) = refl
 named_act _ = tt
 
 -- the tests of the rows
-uses : Standpoint → List Command → Act → Bool
-uses standpoint earlier (Opening thing id) = still_open standpoint earlier thing id
-uses standpoint earlier _ = false
+uses : ActivationContext → List Command → Act → Bool
+uses context earlier (Opening thing id) = still_open context earlier thing id
+uses context earlier _ = false
 
 reuses : List Command → Act → Bool
 reuses earlier (Opening thing id) = withdrawn thing id earlier
 reuses earlier _ = false
 
-misses : Standpoint → List Command → Act → Bool
-misses standpoint earlier (Cancelling thing id) = not (still_open standpoint earlier thing id) && not (is_late standpoint earlier thing id)
-misses standpoint earlier _ = false
+misses : ActivationContext → List Command → Act → Bool
+misses context earlier (Cancelling thing id) = not (still_open context earlier thing id) && not (is_late context earlier thing id)
+misses context earlier _ = false
 
-cancels_again : Standpoint → List Command → Act → Bool
-cancels_again standpoint earlier (Cancelling thing id) = is_cancelled standpoint earlier thing id
-cancels_again standpoint earlier _ = false
+cancels_again : ActivationContext → List Command → Act → Bool
+cancels_again context earlier (Cancelling thing id) = is_cancelled context earlier thing id
+cancels_again context earlier _ = false
 
 asks_badly : Act → Bool
 asks_badly (Asking change_id low high) = int_lt high low || (int_lt low (negsuc 0) || int_lt high (pos 0))
 asks_badly _ = false
 
-gets_badly : Standpoint → Settled → Act → Bool
-gets_badly standpoint settled (Asking change_id low high) = let version = (choice_of standpoint settled change_id high).version in int_lt version low || int_lt high version
-gets_badly standpoint settled _ = false
+gets_badly : ActivationContext → Settled → Act → Bool
+gets_badly context settled (Asking change_id low high) = let version = (choice_of context settled change_id high).version in int_lt version low || int_lt high version
+gets_badly context settled _ = false
 
-row_test : Standpoint → Settled → List Command → Command → WorkflowFault → Bool
-row_test standpoint settled earlier command AfterClosing = some_act act_closes earlier
-row_test standpoint settled earlier command TooManyCommands = leb most_commands (length (given earlier))
-row_test standpoint settled earlier command IdInUse = uses standpoint earlier (act_of command)
-row_test standpoint settled earlier command IdReused = reuses earlier (act_of command)
-row_test standpoint settled earlier command NotOpen = misses standpoint earlier (act_of command)
-row_test standpoint settled earlier command AlreadyCancelling = cancels_again standpoint earlier (act_of command)
-row_test standpoint settled earlier command BadRange = asks_badly (act_of command)
-row_test standpoint settled earlier command VersionOutOfRange = gets_badly standpoint settled (act_of command)
-row_test standpoint settled earlier command UnknownWorkflow = false
+row_test : ActivationContext → Settled → List Command → Command → WorkflowFault → Bool
+row_test context settled earlier command AfterClosing = some_act act_closes earlier
+row_test context settled earlier command TooManyCommands = leb most_commands (length (given earlier))
+row_test context settled earlier command IdInUse = uses context earlier (act_of command)
+row_test context settled earlier command IdReused = reuses earlier (act_of command)
+row_test context settled earlier command NotOpen = misses context earlier (act_of command)
+row_test context settled earlier command AlreadyCancelling = cancels_again context earlier (act_of command)
+row_test context settled earlier command BadRange = asks_badly (act_of command)
+row_test context settled earlier command VersionOutOfRange = gets_badly context settled (act_of command)
+row_test context settled earlier command UnknownWorkflow = false
 
 -- the least row that passes
 first_row : (WorkflowFault → Bool) → Option WorkflowFault
@@ -265,22 +265,22 @@ or_none : (o : Option WorkflowFault) → o ≡ or_else o None
 or_none None = refl
 or_none (Some x) = refl
 
-in_rows : (standpoint : Standpoint) (settled : Settled) (earlier : List Command) (act : Act) → act_fault standpoint settled earlier act
-    ≡ or_else (fault_if (uses standpoint earlier act) IdInUse) (or_else (fault_if (reuses earlier act) IdReused) (or_else (fault_if (misses standpoint earlier act) NotOpen)
-    (or_else (fault_if (cancels_again standpoint earlier act) AlreadyCancelling) (or_else (fault_if (asks_badly act) BadRange) (or_else (fault_if (gets_badly standpoint settled act) VersionOutOfRange) None)))))
+in_rows : (context : ActivationContext) (settled : Settled) (earlier : List Command) (act : Act) → act_fault context settled earlier act
+    ≡ or_else (fault_if (uses context earlier act) IdInUse) (or_else (fault_if (reuses earlier act) IdReused) (or_else (fault_if (misses context earlier act) NotOpen)
+    (or_else (fault_if (cancels_again context earlier act) AlreadyCancelling) (or_else (fault_if (asks_badly act) BadRange) (or_else (fault_if (gets_badly context settled act) VersionOutOfRange) None)))))
 unfolding opening_fault cancel_fault ask_fault uses reuses misses cancels_again asks_badly gets_badly
-in_rows standpoint settled earlier (Opening thing id) = ap (or_else (fault_if (still_open standpoint earlier thing id) IdInUse)) (or_none (fault_if (withdrawn thing id earlier) IdReused))
-in_rows standpoint settled earlier (Cancelling thing id) =
-    ap (or_else (fault_if (not (still_open standpoint earlier thing id) && not (is_late standpoint earlier thing id)) NotOpen)) (or_none (fault_if (is_cancelled standpoint earlier thing id) AlreadyCancelling))
-in_rows standpoint settled earlier (Asking change_id low high) =
-    let version : ℤ = (choice_of standpoint settled change_id high).version in
+in_rows context settled earlier (Opening thing id) = ap (or_else (fault_if (still_open context earlier thing id) IdInUse)) (or_none (fault_if (withdrawn thing id earlier) IdReused))
+in_rows context settled earlier (Cancelling thing id) =
+    ap (or_else (fault_if (not (still_open context earlier thing id) && not (is_late context earlier thing id)) NotOpen)) (or_none (fault_if (is_cancelled context earlier thing id) AlreadyCancelling))
+in_rows context settled earlier (Asking change_id low high) =
+    let version : ℤ = (choice_of context settled change_id high).version in
     ap (or_else (fault_if (int_lt high low || (int_lt low (negsuc 0) || int_lt high (pos 0))) BadRange)) (or_none (fault_if (int_lt version low || int_lt high version) VersionOutOfRange))
-in_rows standpoint settled earlier Closing = refl
-in_rows standpoint settled earlier Other = refl
+in_rows context settled earlier Closing = refl
+in_rows context settled earlier Other = refl
 
-fault_row : (standpoint : Standpoint) (settled : Settled) (earlier : List Command) (command : Command) → command_fault standpoint settled earlier command ≡ first_row (row_test standpoint settled earlier command)
+fault_row : (context : ActivationContext) (settled : Settled) (earlier : List Command) (command : Command) → command_fault context settled earlier command ≡ first_row (row_test context settled earlier command)
 unfolding command_fault first_row row_test
-fault_row standpoint settled earlier command = rw (in_rows standpoint settled earlier (act_of command)) refl
+fault_row context settled earlier command = rw (in_rows context settled earlier (act_of command)) refl
 
 -- what the rest of the rows tells, from one row on
 abbrev Tells : (WorkflowFault → Bool) → ℕ → Option WorkflowFault → Type 0
@@ -345,10 +345,10 @@ less_decides a b = (λ h. lt_z_yes (of_true (int_lt a b) h), λ h. true_of (int_
 leb_decides : (a b : ℕ) → Decides (leb a b) (a ≤ b)
 leb_decides a b = (λ e. grind (arith, nat_tests), λ h. grind (arith, nat_tests))
 
-module _ (standpoint : Standpoint) (of_cut : IsOfCut standpoint) (settled : Settled) (earlier : List Command) where
-  uses_decides : (act : Act) → Decides (uses standpoint earlier act) (UsesId standpoint earlier act)
+module _ (context : ActivationContext) (of_cut : IsOfCut context) (settled : Settled) (earlier : List Command) where
+  uses_decides : (act : Act) → Decides (uses context earlier act) (UsesId context earlier act)
   unfolding uses
-  uses_decides (Opening thing id) = still_decides standpoint earlier thing id
+  uses_decides (Opening thing id) = still_decides context earlier thing id
   uses_decides (Cancelling _ _) = (λ e. cc, λ h. absurd h)
   uses_decides Closing = (λ e. cc, λ h. absurd h)
   uses_decides (Asking _ _ _) = (λ e. cc, λ h. absurd h)
@@ -362,19 +362,19 @@ module _ (standpoint : Standpoint) (of_cut : IsOfCut standpoint) (settled : Sett
   reuses_decides (Asking _ _ _) = (λ e. cc, λ h. absurd h)
   reuses_decides Other = (λ e. cc, λ h. absurd h)
 
-  misses_decides : (act : Act) → Decides (misses standpoint earlier act) (CancelsNothing standpoint earlier act)
+  misses_decides : (act : Act) → Decides (misses context earlier act) (CancelsNothing context earlier act)
   unfolding misses
   misses_decides (Cancelling thing id) =
-      Decides-and (not (still_open standpoint earlier thing id)) (not (is_late standpoint earlier thing id)) (Decides-not (still_open standpoint earlier thing id) (still_decides standpoint earlier thing id))
-      (Decides-not (is_late standpoint earlier thing id) (late_decides standpoint of_cut thing id earlier))
+      Decides-and (not (still_open context earlier thing id)) (not (is_late context earlier thing id)) (Decides-not (still_open context earlier thing id) (still_decides context earlier thing id))
+      (Decides-not (is_late context earlier thing id) (late_decides context of_cut thing id earlier))
   misses_decides (Opening _ _) = (λ e. cc, λ h. absurd h)
   misses_decides Closing = (λ e. cc, λ h. absurd h)
   misses_decides (Asking _ _ _) = (λ e. cc, λ h. absurd h)
   misses_decides Other = (λ e. cc, λ h. absurd h)
 
-  cancels_again_decides : (act : Act) → IsNamedAct act → Decides (cancels_again standpoint earlier act) (CancelsAgain standpoint earlier act)
+  cancels_again_decides : (act : Act) → IsNamedAct act → Decides (cancels_again context earlier act) (CancelsAgain context earlier act)
   unfolding cancels_again
-  cancels_again_decides (Cancelling thing id) named = again_decides standpoint of_cut thing id named earlier
+  cancels_again_decides (Cancelling thing id) named = again_decides context of_cut thing id named earlier
   cancels_again_decides (Opening _ _) named = (λ e. cc, λ h. absurd h)
   cancels_again_decides Closing named = (λ e. cc, λ h. absurd h)
   cancels_again_decides (Asking _ _ _) named = (λ e. cc, λ h. absurd h)
@@ -389,17 +389,17 @@ module _ (standpoint : Standpoint) (of_cut : IsOfCut standpoint) (settled : Sett
   asks_badly_decides Closing = (λ e. cc, λ h. absurd h)
   asks_badly_decides Other = (λ e. cc, λ h. absurd h)
 
-  gets_badly_decides : (act : Act) → Decides (gets_badly standpoint settled act) (GetsOutOfRange standpoint settled act)
+  gets_badly_decides : (act : Act) → Decides (gets_badly context settled act) (GetsOutOfRange context settled act)
   unfolding gets_badly
   gets_badly_decides (Asking change_id low high) =
-      let version : ℤ = (choice_of standpoint settled change_id high).version in
+      let version : ℤ = (choice_of context settled change_id high).version in
       Decides-or (int_lt version low) (int_lt high version) (less_decides version low) (less_decides high version)
   gets_badly_decides (Opening _ _) = (λ e. cc, λ h. absurd h)
   gets_badly_decides (Cancelling _ _) = (λ e. cc, λ h. absurd h)
   gets_badly_decides Closing = (λ e. cc, λ h. absurd h)
   gets_badly_decides Other = (λ e. cc, λ h. absurd h)
 
-  row_decides : (command : Command) (row : WorkflowFault) → Decides (row_test standpoint settled earlier command row) (RowApplies standpoint settled earlier command row)
+  row_decides : (command : Command) (row : WorkflowFault) → Decides (row_test context settled earlier command row) (RowApplies context settled earlier command row)
   unfolding row_test
   row_decides command AfterClosing = does_decides act_closes Closing closing_decides earlier
   row_decides command TooManyCommands = leb_decides most_commands (length (given earlier))
@@ -417,29 +417,29 @@ told t None h = inl (refl, λ f. h f (positive f))
 told t (Some f) h = inr (f, refl, h.1, λ g. h.2 g (positive g))
 
 -- either no row applies, or the fault is the least one
-fault_tells : (standpoint : Standpoint) (settled : Settled) (earlier : List Command) (command : Command) → IsOfCut standpoint
-    → ((command_fault standpoint settled earlier command ≡ None) × ((row : WorkflowFault) → ¬ RowApplies standpoint settled earlier command row))
-    ⊎ ((f : WorkflowFault) × (command_fault standpoint settled earlier command ≡ Some f) × IsLeastRow standpoint settled earlier command f)
-fault_tells standpoint settled earlier command of_cut =
-    let t = row_test standpoint settled earlier command in
-    let decides = row_decides standpoint of_cut settled earlier command in
+fault_tells : (context : ActivationContext) (settled : Settled) (earlier : List Command) (command : Command) → IsOfCut context
+    → ((command_fault context settled earlier command ≡ None) × ((row : WorkflowFault) → ¬ RowApplies context settled earlier command row))
+    ⊎ ((f : WorkflowFault) × (command_fault context settled earlier command ≡ Some f) × IsLeastRow context settled earlier command f)
+fault_tells context settled earlier command of_cut =
+    let t = row_test context settled earlier command in
+    let decides = row_decides context of_cut settled earlier command in
     elim (told t (first_row t) (first_tells t)) [
-      | inl none ↦ inl (fault_row standpoint settled earlier command ∙ none.0, λ row h. let passed_here = (decides row).1 h in let failed_here = none.1 row in cc)
-      | inr some ↦ inr (some.0, fault_row standpoint settled earlier command ∙ some.1, record { applies = (decides some.0).0 some.2; least = λ other h. some.3 other ((decides other).1 h) })
+      | inl none ↦ inl (fault_row context settled earlier command ∙ none.0, λ row h. let passed_here = (decides row).1 h in let failed_here = none.1 row in cc)
+      | inr some ↦ inr (some.0, fault_row context settled earlier command ∙ some.1, record { applies = (decides some.0).0 some.2; least = λ other h. some.3 other ((decides other).1 h) })
     ]
 
-same_least : (standpoint : Standpoint) (settled : Settled) (earlier : List Command) (command : Command) (f g : WorkflowFault) → IsLeastRow standpoint settled earlier command f → IsLeastRow standpoint settled earlier command g → f ≡ g
-same_least standpoint settled earlier command f g a b = let p = a.least g b.applies in let q = b.least f a.applies in row_inj f g (omega arith)
+same_least : (context : ActivationContext) (settled : Settled) (earlier : List Command) (command : Command) (f g : WorkflowFault) → IsLeastRow context settled earlier command f → IsLeastRow context settled earlier command g → f ≡ g
+same_least context settled earlier command f g a b = let p = a.least g b.applies in let q = b.least f a.applies in row_inj f g (omega arith)
 
 pub least_row_decides : LeastRowDecides
-least_row_decides standpoint settled earlier command of_cut =
-    elim (fault_tells standpoint settled earlier command of_cut) [
+least_row_decides context settled earlier command of_cut =
+    elim (fault_tells context settled earlier command of_cut) [
       | inl none ↦ ((λ _. none.1, λ _. none.0), λ fault. (λ e. let n = none.0 in cc, λ l. absurd (none.1 fault l.applies)))
       | inr some ↦ (
         (λ e. let n = some.1 in cc, λ h. absurd (h some.0 some.2.applies)),
         λ fault. (
-          λ e. let same : some.0 ≡ fault = (let n = some.1 in cc) in subst (IsLeastRow standpoint settled earlier command) same some.2,
-          λ l. some.1 ∙ ap Some (same_least standpoint settled earlier command some.0 fault some.2 l),
+          λ e. let same : some.0 ≡ fault = (let n = some.1 in cc) in subst (IsLeastRow context settled earlier command) same some.2,
+          λ l. some.1 ∙ ap Some (same_least context settled earlier command some.0 fault some.2 l),
         ),
       )
     ]

@@ -4,7 +4,7 @@ use Rattle.std.specs.Bool.{Decides}
 use Rattle.std.proofs.lemmas.Bool.Decides.{Decides-at, Decides-or}
 use Rattle.std.proofs.lemmas.List.{append-nil}
 use Rattle.wh_workflow.specs.declared.command.Command.{Command}
-use Rattle.wh_workflow.specs.Scripts.{Standpoint, Act, act_of, act_cancels, some_act, left_open, is_late, is_sent_act, sent_after}
+use Rattle.wh_workflow.specs.Scripts.{ActivationContext, Act, act_of, act_cancels, some_act, left_open, is_late, is_sent_act, sent_after}
 use Rattle.wh_workflow.specs.Scripts.Act.{Opening, Cancelling, Closing, Asking, Other}
 use Rattle.wh_workflow.specs.CommandFaults.{IsOfCut}
 use Rattle.wh_workflow.specs.Sent.{IsDropped, marked, SendsAllButDropped, DropsPairs}
@@ -18,57 +18,57 @@ not_neither : (a b : Bool) → not (not a && not b) ≡ (a || b)
 not_neither true b = refl
 not_neither false b = not_twice b
 
-dropped_decides : (standpoint : Standpoint) → IsOfCut standpoint → (earlier later : List Command) (act : Act) → Decides (not (is_sent_act standpoint earlier later act)) (IsDropped standpoint earlier later act)
-dropped_decides standpoint of_cut earlier later (Opening thing id) =
+dropped_decides : (context : ActivationContext) → IsOfCut context → (earlier later : List Command) (act : Act) → Decides (not (is_sent_act context earlier later act)) (IsDropped context earlier later act)
+dropped_decides context of_cut earlier later (Opening thing id) =
     let cancelled : Bool = some_act (act_cancels thing id) later in
     Decides-at (not (not cancelled)) cancelled (not_twice cancelled) (some_cancels thing id later)
-dropped_decides standpoint of_cut earlier later (Cancelling thing id) =
+dropped_decides context of_cut earlier later (Cancelling thing id) =
     let open_here : Bool = left_open thing id earlier in
-    let late : Bool = is_late standpoint earlier thing id in
-    Decides-at (not (not open_here && not late)) (open_here || late) (not_neither open_here late) (Decides-or open_here late (left_decides thing id earlier) (late_decides standpoint of_cut thing id earlier))
-dropped_decides standpoint of_cut earlier later (Asking _ _ _) = (λ h. tt, λ h. refl)
-dropped_decides standpoint of_cut earlier later Closing = (λ h. cc, λ h. absurd h)
-dropped_decides standpoint of_cut earlier later Other = (λ h. cc, λ h. absurd h)
+    let late : Bool = is_late context earlier thing id in
+    Decides-at (not (not open_here && not late)) (open_here || late) (not_neither open_here late) (Decides-or open_here late (left_decides thing id earlier) (late_decides context of_cut thing id earlier))
+dropped_decides context of_cut earlier later (Asking _ _ _) = (λ h. tt, λ h. refl)
+dropped_decides context of_cut earlier later Closing = (λ h. cc, λ h. absurd h)
+dropped_decides context of_cut earlier later Other = (λ h. cc, λ h. absurd h)
 
 -- a mark for each command that is sent
-marks_after : Standpoint → List Command → List Command → List Bool
-marks_after standpoint earlier [] = []
-marks_after standpoint earlier (command ∷ later) = is_sent_act standpoint earlier later (act_of command) ∷ marks_after standpoint (earlier ++ command ∷ []) later
+marks_after : ActivationContext → List Command → List Command → List Bool
+marks_after context earlier [] = []
+marks_after context earlier (command ∷ later) = is_sent_act context earlier later (act_of command) ∷ marks_after context (earlier ++ command ∷ []) later
 
-marks_each : (standpoint : Standpoint) (earlier commands : List Command) → length (marks_after standpoint earlier commands) ≡ length commands
+marks_each : (context : ActivationContext) (earlier commands : List Command) → length (marks_after context earlier commands) ≡ length commands
 unfolding marks_after
-marks_each standpoint earlier [] = refl
-marks_each standpoint earlier (command ∷ later) = ap suc (marks_each standpoint (earlier ++ command ∷ []) later)
+marks_each context earlier [] = refl
+marks_each context earlier (command ∷ later) = ap suc (marks_each context (earlier ++ command ∷ []) later)
 
-marks_tell : (standpoint : Standpoint) (earlier commands : List Command) → sent_after standpoint earlier commands ≡ marked (marks_after standpoint earlier commands) commands
+marks_tell : (context : ActivationContext) (earlier commands : List Command) → sent_after context earlier commands ≡ marked (marks_after context earlier commands) commands
 unfolding marks_after
-marks_tell standpoint earlier [] = refl
-marks_tell standpoint earlier (command ∷ later) = ap (λ l. cond (is_sent_act standpoint earlier later (act_of command)) (command ∷ l) l) (marks_tell standpoint (earlier ++ command ∷ []) later)
+marks_tell context earlier [] = refl
+marks_tell context earlier (command ∷ later) = ap (λ l. cond (is_sent_act context earlier later (act_of command)) (command ∷ l) l) (marks_tell context (earlier ++ command ∷ []) later)
 
-mark_at : (standpoint : Standpoint) (before earlier later : List Command) (command : Command) → slice_get (marks_after standpoint before (earlier ++ command ∷ later)) (length earlier) ≡ Some (is_sent_act standpoint (before ++ earlier) later (act_of command))
+mark_at : (context : ActivationContext) (before earlier later : List Command) (command : Command) → slice_get (marks_after context before (earlier ++ command ∷ later)) (length earlier) ≡ Some (is_sent_act context (before ++ earlier) later (act_of command))
 unfolding marks_after
-mark_at standpoint before [] later command = ap (λ l. Some (is_sent_act standpoint l later (act_of command))) (sym (append-nil before))
-mark_at standpoint before (x ∷ earlier) later command = mark_at standpoint (before ++ x ∷ []) earlier later command ∙ ap (λ l. Some (is_sent_act standpoint l later (act_of command))) (append_assoc before (x ∷ []) earlier)
+mark_at context before [] later command = ap (λ l. Some (is_sent_act context l later (act_of command))) (sym (append-nil before))
+mark_at context before (x ∷ earlier) later command = mark_at context (before ++ x ∷ []) earlier later command ∙ ap (λ l. Some (is_sent_act context l later (act_of command))) (append_assoc before (x ∷ []) earlier)
 
 unset : (b : Bool) → not b ≡ true → b ≡ false
 unset true h = cc
 unset false h = refl
 
 pub sends_all_but_dropped : SendsAllButDropped
-sends_all_but_dropped standpoint issued of_cut = record {
-  marks = marks_after standpoint [] issued;
-  each = marks_each standpoint [] issued;
-  sent = marks_tell standpoint [] issued;
+sends_all_but_dropped context issued of_cut = record {
+  marks = marks_after context [] issued;
+  each = marks_each context [] issued;
+  sent = marks_tell context [] issued;
   dropped = λ earlier later command is.
-      let here : slice_get (marks_after standpoint [] issued) (length earlier) ≡ Some (is_sent_act standpoint earlier later (act_of command)) = ap (λ l. slice_get (marks_after standpoint [] l) (length earlier)) is ∙ mark_at standpoint [] earlier later command in
-      let decides = dropped_decides standpoint of_cut earlier later (act_of command) in (
-        λ h. decides.0 (let none : is_sent_act standpoint earlier later (act_of command) ≡ false = cc in ap not none),
-        λ h. here ∙ ap Some (unset (is_sent_act standpoint earlier later (act_of command)) (decides.1 h)),
+      let here : slice_get (marks_after context [] issued) (length earlier) ≡ Some (is_sent_act context earlier later (act_of command)) = ap (λ l. slice_get (marks_after context [] l) (length earlier)) is ∙ mark_at context [] earlier later command in
+      let decides = dropped_decides context of_cut earlier later (act_of command) in (
+        λ h. decides.0 (let none : is_sent_act context earlier later (act_of command) ≡ false = cc in ap not none),
+        λ h. here ∙ ap Some (unset (is_sent_act context earlier later (act_of command)) (decides.1 h)),
       );
 }
 
 pub drops_pairs : DropsPairs
-drops_pairs standpoint before between after opening cancel thing id opens cancels none = (
-  subst (IsDropped standpoint before (between ++ cancel ∷ after)) (sym opens) (between, cancel, after, refl, cancels),
-  subst (IsDropped standpoint (before ++ opening ∷ between) after) (sym cancels) (inl (before, opening, between, refl, opens, none)),
+drops_pairs context before between after opening cancel thing id opens cancels none = (
+  subst (IsDropped context before (between ++ cancel ∷ after)) (sym opens) (between, cancel, after, refl, cancels),
+  subst (IsDropped context (before ++ opening ∷ between) after) (sym cancels) (inl (before, opening, between, refl, opens, none)),
 )

@@ -12,14 +12,14 @@ use Rattle.wh_events.specs.Names.{IsOpenUnder, IsLastUnder}
 use Rattle.wh_workflow.specs.declared.command.Command.{Command}
 use Rattle.wh_workflow.specs.declared.fault.WorkflowFault.{WorkflowFault}
 use Rattle.wh_workflow.specs.declared.fault.WorkflowFault.TheVariants.{AfterClosing, TooManyCommands, IdInUse, IdReused, NotOpen, AlreadyCancelling, BadRange, VersionOutOfRange, UnknownWorkflow}
-use Rattle.wh_workflow.specs.Scripts.{Standpoint, Settled, Act, act_of, choice_of, given, most_commands, command_fault}
+use Rattle.wh_workflow.specs.Scripts.{ActivationContext, Settled, Act, act_of, choice_of, given, most_commands, command_fault}
 use Rattle.wh_workflow.specs.Scripts.Act.{Opening, Cancelling, Closing, Asking}
 
 -- what an activation knows is of a cut, the last event of a history in place: the events between
 -- are those right before it
-pub record IsOfCut (standpoint : Standpoint) : Type 0 where
-  pub in_place : InPlace standpoint.seen
-  pub ends : (passed : List Event) × (cut : Event) × (standpoint.seen ≡ passed ++ (standpoint.between ++ cut ∷ []))
+pub record IsOfCut (context : ActivationContext) : Type 0 where
+  pub in_place : InPlace context.seen
+  pub ends : (passed : List Event) × (cut : Event) × (context.seen ≡ passed ++ (context.between ++ cut ∷ []))
 
 -- one of the commands does it
 abbrev pub Does : List Command → Act → Type 0
@@ -41,32 +41,32 @@ IsWithdrawn thing id commands =
 
 -- it is open by now: opened in this activation and not cancelled, or open at the cut, and no timer
 -- that was cancelled in this activation
-abbrev pub IsStillOpen : Standpoint → List Command → Thing → List ℕ → Type 0
-IsStillOpen standpoint earlier thing id =
+abbrev pub IsStillOpen : ActivationContext → List Command → Thing → List ℕ → Type 0
+IsStillOpen context earlier thing id =
     IsLeftOpen thing id earlier
-    ⊎ (HasOpen standpoint.seen thing id × ¬ ((thing ≡ Timer) × Does earlier (Cancelling thing id)))
+    ⊎ (HasOpen context.seen thing id × ¬ ((thing ≡ Timer) × Does earlier (Cancelling thing id)))
 
 -- its last opening was closed by an outside event of this activation
-abbrev pub IsEndedHere : Standpoint → Thing → List ℕ → Type 0
-IsEndedHere standpoint thing id =
-    (number : ℕ) × (i : ℕ) × (closer : Event) × IsLastUnder standpoint.seen thing id number
-    × IsAt standpoint.between i closer × IsTrue (is_outside closer) × IsTrue (closes number closer)
+abbrev pub IsEndedHere : ActivationContext → Thing → List ℕ → Type 0
+IsEndedHere context thing id =
+    (number : ℕ) × (i : ℕ) × (closer : Event) × IsLastUnder context.seen thing id number
+    × IsAt context.between i closer × IsTrue (is_outside closer) × IsTrue (closes number closer)
 
 -- a cancel of it is late: it is not open at the cut, was not opened in this activation, and was
 -- ended by an outside event of it
-abbrev pub IsLateCancel : Standpoint → List Command → Thing → List ℕ → Type 0
-IsLateCancel standpoint earlier thing id =
-    (¬ HasOpen standpoint.seen thing id) × (¬ Does earlier (Opening thing id)) × IsEndedHere standpoint thing id
+abbrev pub IsLateCancel : ActivationContext → List Command → Thing → List ℕ → Type 0
+IsLateCancel context earlier thing id =
+    (¬ HasOpen context.seen thing id) × (¬ Does earlier (Opening thing id)) × IsEndedHere context thing id
 
 -- the thing that is open under the id is cancelling at the cut
-abbrev pub IsCancellingAtCut : Standpoint → Thing → List ℕ → Type 0
-IsCancellingAtCut standpoint thing id =
-    (number : ℕ) × IsOpenUnder standpoint.seen thing id number × (status_of standpoint.seen number ≡ CancellingStatus)
+abbrev pub IsCancellingAtCut : ActivationContext → Thing → List ℕ → Type 0
+IsCancellingAtCut context thing id =
+    (number : ℕ) × IsOpenUnder context.seen thing id number × (status_of context.seen number ≡ CancellingStatus)
 
 -- an opening under an id that is in use
-abbrev pub UsesId : Standpoint → List Command → Act → Type 0
-UsesId standpoint earlier (Opening thing id) = IsStillOpen standpoint earlier thing id
-UsesId standpoint earlier _ = ⊥
+abbrev pub UsesId : ActivationContext → List Command → Act → Type 0
+UsesId context earlier (Opening thing id) = IsStillOpen context earlier thing id
+UsesId context earlier _ = ⊥
 
 -- an opening of what this activation opened and then cancelled
 abbrev pub ReusesId : List Command → Act → Type 0
@@ -74,17 +74,17 @@ ReusesId earlier (Opening thing id) = IsWithdrawn thing id earlier
 ReusesId earlier _ = ⊥
 
 -- a cancel of what is not open by now, and not a late one
-abbrev pub CancelsNothing : Standpoint → List Command → Act → Type 0
-CancelsNothing standpoint earlier (Cancelling thing id) =
-    (¬ IsStillOpen standpoint earlier thing id) × ¬ IsLateCancel standpoint earlier thing id
-CancelsNothing standpoint earlier _ = ⊥
+abbrev pub CancelsNothing : ActivationContext → List Command → Act → Type 0
+CancelsNothing context earlier (Cancelling thing id) =
+    (¬ IsStillOpen context earlier thing id) × ¬ IsLateCancel context earlier thing id
+CancelsNothing context earlier _ = ⊥
 
 -- a cancel of an activity or child that is cancelling at the cut, or open at it and cancelled in this activation
-abbrev pub CancelsAgain : Standpoint → List Command → Act → Type 0
-CancelsAgain standpoint earlier (Cancelling thing id) =
-    (¬ (thing ≡ Timer)) × (IsCancellingAtCut standpoint thing id
-    ⊎ (HasOpen standpoint.seen thing id × Does earlier (Cancelling thing id)))
-CancelsAgain standpoint earlier _ = ⊥
+abbrev pub CancelsAgain : ActivationContext → List Command → Act → Type 0
+CancelsAgain context earlier (Cancelling thing id) =
+    (¬ (thing ≡ Timer)) × (IsCancellingAtCut context thing id
+    ⊎ (HasOpen context.seen thing id × Does earlier (Cancelling thing id)))
+CancelsAgain context earlier _ = ⊥
 
 -- an ask whose least version is above the greatest, or below -1, or whose greatest is below 0
 abbrev pub AsksBadRange : Act → Type 0
@@ -92,22 +92,22 @@ AsksBadRange (Asking change_id low high) = (high <ℤ low) ⊎ ((low <ℤ negsuc
 AsksBadRange _ = ⊥
 
 -- an ask whose version is not in its range
-abbrev pub GetsOutOfRange : Standpoint → Settled → Act → Type 0
-GetsOutOfRange standpoint settled (Asking change_id low high) =
-    let version = (choice_of standpoint settled change_id high).version in (version <ℤ low) ⊎ (high <ℤ version)
-GetsOutOfRange standpoint settled _ = ⊥
+abbrev pub GetsOutOfRange : ActivationContext → Settled → Act → Type 0
+GetsOutOfRange context settled (Asking change_id low high) =
+    let version = (choice_of context settled change_id high).version in (version <ℤ low) ⊎ (high <ℤ version)
+GetsOutOfRange context settled _ = ⊥
 
 -- the row of the table applies to a command after those before it
-abbrev pub RowApplies : Standpoint → Settled → List Command → Command → WorkflowFault → Type 0
-RowApplies standpoint settled earlier command AfterClosing = Does earlier Closing
-RowApplies standpoint settled earlier command TooManyCommands = most_commands ≤ length (given earlier)
-RowApplies standpoint settled earlier command IdInUse = UsesId standpoint earlier (act_of command)
-RowApplies standpoint settled earlier command IdReused = ReusesId earlier (act_of command)
-RowApplies standpoint settled earlier command NotOpen = CancelsNothing standpoint earlier (act_of command)
-RowApplies standpoint settled earlier command AlreadyCancelling = CancelsAgain standpoint earlier (act_of command)
-RowApplies standpoint settled earlier command BadRange = AsksBadRange (act_of command)
-RowApplies standpoint settled earlier command VersionOutOfRange = GetsOutOfRange standpoint settled (act_of command)
-RowApplies standpoint settled earlier command UnknownWorkflow = ⊥
+abbrev pub RowApplies : ActivationContext → Settled → List Command → Command → WorkflowFault → Type 0
+RowApplies context settled earlier command AfterClosing = Does earlier Closing
+RowApplies context settled earlier command TooManyCommands = most_commands ≤ length (given earlier)
+RowApplies context settled earlier command IdInUse = UsesId context earlier (act_of command)
+RowApplies context settled earlier command IdReused = ReusesId earlier (act_of command)
+RowApplies context settled earlier command NotOpen = CancelsNothing context earlier (act_of command)
+RowApplies context settled earlier command AlreadyCancelling = CancelsAgain context earlier (act_of command)
+RowApplies context settled earlier command BadRange = AsksBadRange (act_of command)
+RowApplies context settled earlier command VersionOutOfRange = GetsOutOfRange context settled (act_of command)
+RowApplies context settled earlier command UnknownWorkflow = ⊥
 
 -- the number of a row in the table
 abbrev pub row_of : WorkflowFault → ℕ
@@ -122,17 +122,17 @@ row_of VersionOutOfRange = 8
 row_of UnknownWorkflow = 9
 
 -- the least row that applies
-pub record IsLeastRow (standpoint : Standpoint) (settled : Settled) (earlier : List Command) (command : Command)
+pub record IsLeastRow (context : ActivationContext) (settled : Settled) (earlier : List Command) (command : Command)
     (fault : WorkflowFault) : Type 0 where
-  pub applies : RowApplies standpoint settled earlier command fault
-  pub least : (other : WorkflowFault) → RowApplies standpoint settled earlier command other
+  pub applies : RowApplies context settled earlier command fault
+  pub least : (other : WorkflowFault) → RowApplies context settled earlier command other
       → row_of fault ≤ row_of other
 
 -- the fault of a command at a cut is the least row of the table that applies
 abbrev pub LeastRowDecides : Type 0
 LeastRowDecides =
-    (standpoint : Standpoint) (settled : Settled) (earlier : List Command) (command : Command) → IsOfCut standpoint
-    → ((command_fault standpoint settled earlier command ≡ None)
-    ↔ ((row : WorkflowFault) → ¬ RowApplies standpoint settled earlier command row))
-    × ((fault : WorkflowFault) → (command_fault standpoint settled earlier command ≡ Some fault)
-    ↔ IsLeastRow standpoint settled earlier command fault)
+    (context : ActivationContext) (settled : Settled) (earlier : List Command) (command : Command) → IsOfCut context
+    → ((command_fault context settled earlier command ≡ None)
+    ↔ ((row : WorkflowFault) → ¬ RowApplies context settled earlier command row))
+    × ((fault : WorkflowFault) → (command_fault context settled earlier command ≡ Some fault)
+    ↔ IsLeastRow context settled earlier command fault)

@@ -4,14 +4,14 @@ ghost use Rattle.std.specs.Prelude.{◌≡◌, [], IfOk};
 use std::alloc::Global;
 use wh_events::{Items, OutOfMemory, Payload, Text};
 
-/// The text of a literal. `OutOfMemory` where no room was found for it.
+/// The text of a literal. `OutOfMemory` where there was no memory for it.
 pub fn text_of(alloc: Global, literal: &str) -> Result<Text, OutOfMemory>
     ensures { IfOk result (λ text. text ≡ literal.now) }
 {
     Ok(Text::new(String::from_str(alloc, literal)?))
 }
 
-/// The texts of two literals. `OutOfMemory` where no room was found for one of them.
+/// The texts of two literals. `OutOfMemory` where there was no memory for one of them.
 pub fn texts_of(alloc: Global, first: &str, second: &str) -> Result<(Text, Text), OutOfMemory>
     ensures first { IfOk result (λ texts. texts.0 ≡ first.now) }
     ensures second { IfOk result (λ texts. texts.1 ≡ second.now) }

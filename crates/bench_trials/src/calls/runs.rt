@@ -7,7 +7,7 @@ use std::alloc::Global;
 use std::io::Print;
 use wh_cache::{Put, Sticky};
 use wh_events::{Event, RunKey};
-use wh_histories::{events, events_behind, key};
+use wh_histories::{events, events_after, key};
 use wh_poll::{StepFault, Stepped, replay_task};
 use wh_recorded::ScriptSource;
 use wh_replay::{AdvanceFault, Run, RunFault, check};
@@ -114,7 +114,7 @@ pub(crate) fn advance<R: Print>(
     name: &str,
     later: &'static str,
 ) -> Option<()> {
-    let (run, later) = run_of(alloc, ID, "nap/3").zip(events_behind(alloc, later, 0).ok())?;
+    let (run, later) = run_of(alloc, ID, "nap/3").zip(events_after(alloc, later, 0).ok())?;
     say_run(rt, name, "before", &run);
     say_advanced(rt, name, run.advance(alloc, later, &mut Meter::new()));
     Some(())
@@ -237,7 +237,7 @@ pub(crate) fn replay<R: Print>(
     held: &'static str,
     later: &'static str,
 ) -> Option<()> {
-    let later = key(alloc, ID).ok().zip(events_behind(alloc, later, 0).ok());
+    let later = key(alloc, ID).ok().zip(events_after(alloc, later, 0).ok());
     let ((key, later), mut source) = later.zip(source_of(alloc, "nap"))?;
     let replayed = replay_with(rt, alloc, name, &key, held, later, &mut source);
     drop(source);

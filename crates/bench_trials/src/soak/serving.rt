@@ -18,7 +18,7 @@ use std::{io, thread};
 use wh_events::{OutOfMemory, RunKey};
 use wh_host::{Config, Evict, Host, Totals};
 use wh_ledger::Seat;
-use wh_poll::{Left, NoActivities, OpenGate, Post, run_posts};
+use wh_poll::{WorkerEnd, NoActivities, OpenGate, WorkerSetup, run_on_host};
 use wh_recorded::ScriptSource;
 use wh_slots::{ReserveFault, SlotKind};
 use wh_workflow::Workflow;
@@ -64,32 +64,32 @@ pub struct Findings {
 }
 
 /// What a worker begins with.
-type SoakPost = Post<ScriptSource, NoActivities, HitCount>;
+type SoakSetup = WorkerSetup<ScriptSource, NoActivities, HitCount>;
 
 /// What a worker leaves.
-type SoakLeft = Left<ScriptSource, NoActivities, HitCount>;
+type SoakEnd = WorkerEnd<ScriptSource, NoActivities, HitCount>;
 
 /// The seats that come back, and what their workers leave.
-type Ended<T, C, F> = (Vec<Seat<T, C, F>>, Vec<SoakLeft>);
+type Ended<T, C, F> = (Vec<Seat<T, C, F>>, Vec<SoakEnd>);
 
-/// A post for each source, with so many turns at most.
-fn posts_of(
+/// A setup for each source, with so many turns at most.
+fn setups_of(
     alloc: Global,
     sources: Vec<ScriptSource>,
     turns: u64,
-) -> Result<Vec<SoakPost>, AllocError>
-    ensures { IfOk result (λ posts. vec_len posts ≡ vec_len sources) }
+) -> Result<Vec<SoakSetup>, AllocError>
+    ensures { IfOk result (λ setups. vec_len setups ≡ vec_len sources) }
 {
-    let mut posts = Vec::new(alloc);
+    let mut setups = Vec::new(alloc);
     for source in sources {
-        posts.push(Post {
+        setups.push(WorkerSetup {
             source,
             handler: NoActivities { alloc },
             observer: HitCount { hits: 0, misses: 0 },
             turns,
         })?;
     }
-    Ok(posts)
+    Ok(setups)
 }
 
 /// Evicts a run, and says whether it was cached.
@@ -156,7 +156,7 @@ fn evict_all<R: Wait + Clock, W: Workflow, T: Ledger, C: Ledger, F: Ledger>(
     evicted.saturating_add(evict_each(rt, host, keys))
 }
 
-/// What happened while the posts ran.
+/// What happened while the setups ran.
 #[derive(Clone, Copy)]
 struct Run {
     /// How many runs were cached when they were evicted.
@@ -192,7 +192,7 @@ fn timed<E: Drop>(
     }
 }
 
-/// Runs the posts, evicts runs beside them, and measures the time.
+/// Runs the setups, evicts runs beside them, and measures the time.
 fn serve_posts<
     R: Threads + Wait + Clock + Sync,
     W: Workflow + Send,
@@ -204,10 +204,10 @@ fn serve_posts<
     alloc: Global,
     host: &Host<W, T, C, F>,
     seats: Vec<Seat<T, C, F>>,
-    posts: Vec<SoakPost>,
+    setups: Vec<SoakSetup>,
     keys: &[RunKey],
 ) -> io::Result<(Ended<T, C, F>, Run)>
-    requires { seats.items ≡ replicate (vec_len posts) no_shares }
+    requires { seats.items ≡ replicate (vec_len setups) no_shares }
 {
     let begun = Instant::now(rt);
     let have_ended = AtomicBool::new(false);
@@ -216,9 +216,9 @@ fn serve_posts<
         || -> Result<Ended<T, C, F>, OutOfMemory>
             requires workflow { IsSend W.row }
             requires state { IsSend W.State.row }
-            requires seats { seats.items ≡ replicate (vec_len posts) no_shares }
+            requires seats { seats.items ≡ replicate (vec_len setups) no_shares }
         {
-            let ended = run_posts(rt, alloc, host, seats, posts, &OpenGate);
+            let ended = run_on_host(rt, alloc, host, seats, setups, &OpenGate);
             have_ended.store(true, Ordering::SeqCst);
             ended
         },
@@ -247,7 +247,7 @@ fn drain<R: Wait, W: Workflow, T: Ledger, C: Ledger, F: Ledger>(
 }
 
 /// What the workers counted, where their sources had so many tasks.
-fn tally_of(left: &[SoakLeft], tasks: u64) -> Tally {
+fn tally_of(left: &[SoakEnd], tasks: u64) -> Tally {
     let (mut hits, mut misses) = (0u64, 0u64);
     for worker in left {
         hits = hits.saturating_add(worker.observer.hits);
@@ -261,12 +261,12 @@ fn tally_of(left: &[SoakLeft], tasks: u64) -> Tally {
 }
 
 /// Adds the source that a worker leaves.
-fn push_source(sources: &mut Vec<ScriptSource>, worker: SoakLeft) -> Result<(), AllocError> {
+fn push_source(sources: &mut Vec<ScriptSource>, worker: SoakEnd) -> Result<(), AllocError> {
     Ok(sources.push(worker.source)?)
 }
 
 /// The sources that the workers leave.
-fn sources_left(alloc: Global, left: Vec<SoakLeft>) -> Result<Vec<ScriptSource>, AllocError> {
+fn sources_left(alloc: Global, left: Vec<SoakEnd>) -> Result<Vec<ScriptSource>, AllocError> {
     let mut sources = Vec::new(alloc);
     for worker in left {
         push_source(&mut sources, worker)?;
@@ -274,7 +274,7 @@ fn sources_left(alloc: Global, left: Vec<SoakLeft>) -> Result<Vec<ScriptSource>,
     Ok(sources)
 }
 
-/// Closes a host, and gives what its posts left with what the host has counted.
+/// Closes a host, and gives what its setups left with what the host has counted.
 fn end<W: Workflow, T: Ledger, C: Ledger, F: Ledger>(
     alloc: Global,
     host: Host<W, T, C, F>,
@@ -301,7 +301,7 @@ fn end<W: Workflow, T: Ledger, C: Ledger, F: Ledger>(
     })
 }
 
-/// Opens a host, runs the posts, drains the host and closes it.
+/// Opens a host, runs the setups, drains the host and closes it.
 fn soak_with<
     R: Threads + Wait + Clock + Sync,
     W: Workflow + Send,
@@ -311,7 +311,7 @@ fn soak_with<
 >(
     rt: &R,
     alloc: Global,
-    posts: Vec<SoakPost>,
+    setups: Vec<SoakSetup>,
     tasks: u64,
     keys: &[RunKey],
     config: Config,
@@ -319,7 +319,7 @@ fn soak_with<
     completed: Blank,
     failed: Blank,
 ) -> io::Result<Findings>
-    requires seats { config.seats ≡ vec_len posts }
+    requires seats { config.seats ≡ vec_len setups }
     requires taken { (taken.name ≡ T.name) × (taken.parts ≡ T.parts) × (taken.parts ≡ config.seats) }
     requires completed { (completed.name ≡ C.name) × (completed.parts ≡ C.parts) × (completed.parts ≡ config.seats) }
     requires failed { (failed.name ≡ F.name) × (failed.parts ≡ F.parts) × (failed.parts ≡ config.seats) }
@@ -327,7 +327,7 @@ fn soak_with<
     let Ok((host, seats)) = Host::<W, T, C, F>::open(alloc, config, taken, completed, failed) else {
         return Err(ErrorKind::InvalidInput.into());
     };
-    let served = serve_posts(rt, alloc, &host, seats, posts, keys);
+    let served = serve_posts(rt, alloc, &host, seats, setups, keys);
     let is_drained = drain(rt, &host);
     match served {
         Ok((ended, run)) => end(alloc, host, ended, run, is_drained, tasks),
@@ -350,19 +350,19 @@ pub fn serve<W: Workflow + Send, R: Threads + Wait + Clock + Sync>(
     cache: usize,
 ) -> io::Result<Findings> {
     let turns = tasks.saturating_mul(2).saturating_add(2);
-    let posts = posts_of(alloc, sources, turns)?;
+    let setups = setups_of(alloc, sources, turns)?;
     let config = Config {
         workflow_slots: SLOTS,
         activity_slots: SLOTS,
         cache,
         cache_events: 0,
-        seats: posts.len(),
+        seats: setups.len(),
     };
-    let seats = posts.len() as u64;
+    let seats = setups.len() as u64;
     soak_with::<R, W, Brand, Brand, Brand>(
         rt,
         alloc,
-        posts,
+        setups,
         tasks,
         keys,
         config,

@@ -6,7 +6,7 @@ use std::process::Abort;
 use wh_cli::{Plan, Refusal, WorkOptions, parse};
 use wh_events::Text;
 
-/// What a line behind the program's name asks for.
+/// What a line after the program's name asks for.
 const LINES: &str = "\
 replay d => replay d
 replay ./a/b.c => replay ./a/b.c
@@ -62,7 +62,7 @@ replay --help => help
 work --help => help
 ";
 
-/// What a line behind the program's name and `work` asks for: its Task Queue, namespace and identity,
+/// What a line after the program's name and `work` asks for: its Task Queue, namespace and identity,
 /// workers and activity workers, cache, its events and slots, the timeout and attempts of activities,
 /// the sticky timeout, whether it is verbose, and the time between counts.
 const WORK_LINES: &str = "\
@@ -111,7 +111,7 @@ Usage: shop explain <FILE>
 For more information, try '--help'.
 ";
 
-/// What the text of a refused line says behind `error: --` of an option with a bad value.
+/// What the text of a refused line says after `error: --` of an option with a bad value.
 const BAD_VALUES: &str = "\
 serve d --workers 65 => workers must be 1 to 64
 serve d --workers 0 => workers must be 1 to 64
@@ -180,7 +180,7 @@ fn serve_text(
     made(rt, text)
 }
 
-/// A word, and what stands behind it.
+/// A word, and what stands after it.
 fn joined(rt: &impl Abort, alloc: Global, word: &str, rest: &str) -> String {
     let mut text = string(rt, alloc, word);
     add(rt, &mut text, rest);
@@ -258,7 +258,7 @@ fn refusal_text(rt: &impl Abort, alloc: Global, refusal: &Refusal) -> String {
     }
 }
 
-/// The words of a line behind the program's name, and that name before them.
+/// The words of a line after the program's name, and that name before them.
 fn words_of(rt: &impl Abort, alloc: Global, line: &str) -> Vec<String> {
     let mut words = Vec::new(alloc);
     push(rt, &mut words, string(rt, alloc, "wfhost"));
@@ -276,7 +276,7 @@ fn answer_text(rt: &impl Abort, alloc: Global, words: &[String]) -> String {
     }
 }
 
-/// The answer to the words of a line behind the program's name is this.
+/// The answer to the words of a line after the program's name is this.
 fn answers(rt: &impl Abort, alloc: Global, line: &str, wanted: &str) {
     let words = words_of(rt, alloc, line);
     let answer = answer_text(rt, alloc, words.as_slice());

@@ -50,7 +50,7 @@ pub(crate) struct Notebook<'r, 'h, R: Wait + Abort, T: Ledger, C: Ledger, F: Led
     pub(crate) rt: &'r R,
     pub(crate) alloc: Global,
     pub(crate) host: &'h Host<Workflows, T, C, F>,
-    /// What is done when tasks enter, each behind the call that it follows.
+    /// What is done when tasks enter, each after the call that it follows.
     deeds: &'static str,
     calls: Mutex<String>,
 }

@@ -502,7 +502,7 @@ nap/3 | '2024-05-01T10:00:03Z' -> '0001-01-01T00:00:00Z' =>   told Time 0001-01-
 nap/3 | '2024-05-01T10:00:03Z' -> '9999-12-30T00:00:00Z' =>   told Time 9999-12-30T00:00:00Z
 ";
 
-/// What explains a history, as JSON or as text, with the status behind it.
+/// What explains a history, as JSON or as text, with the status after it.
 fn explanation<W: Workflow>(
     rt: &impl Abort,
     alloc: Global,

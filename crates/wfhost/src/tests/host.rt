@@ -79,7 +79,7 @@ counts => taken 3, completed 3, cached 0, cached events 0
 end => 0 events, Totals taken: 4, completed: 4, failed: 0, in_hand: 0";
 
 /// The sizes of a host: its places for workflow tasks and for activity tasks, how many runs and how
-/// many events its cache holds, and its seats. What stands behind them is left.
+/// many events its cache holds, and its seats. What stands after them is left.
 pub(crate) fn sizes(rt: &impl Abort, words: &mut &'static str) -> Config {
     let workflow_slots = next_number(rt, words) as usize;
     let activity_slots = next_number(rt, words) as usize;
@@ -102,7 +102,7 @@ struct Task {
     held: Held,
 }
 
-/// The name of a task in a step. What stands behind it is left.
+/// The name of a task in a step. What stands after it is left.
 pub(crate) fn next_name(rt: &impl Abort, words: &mut &'static str) -> TaskName {
     TaskName(u128::from(next_number(rt, words)))
 }

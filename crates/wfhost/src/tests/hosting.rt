@@ -36,7 +36,7 @@ pub(crate) struct Day {
 }
 
 /// Days of a host. The first line says what a day shows. The second one has its setting: the sizes
-/// of the host and which call fails, how many turns a worker does at the end, and behind `|` the
+/// of the host and which call fails, how many turns a worker does at the end, and after `|` the
 /// script, the words of the polls of both kinds, and what is done when tasks enter. Then come
 /// steps, each with the calls that it makes and its answer. The end tells the calls of the worker,
 /// the first fault of its source, and what is counted.
@@ -159,7 +159,7 @@ workflow => poll, enter 18446744073709551624, answer 18446744073709551624 Comple
 end => None, Counts taken: 4, completed: 4, failed: 0, in_hand: 0, cached: 0, cached_events: 0, workflow: SlotCount free: 2, reserved: 0, held: 0, activity: SlotCount free: 1, reserved: 0, held: 0
 
 After events that are no task the run is given back.
-1 1 1 0 1 0 0 | 0 nap => nap | next; nap nap/6 behind 3
+1 1 1 0 1 0 0 | 0 nap => nap | next; nap nap/6 after 3
 workflow => poll, enter 3, answer 3 Complete([StartTimer id: nap, seconds: 60]), Ok(Workflow name: TaskName(3), hit: false, steps: 2, outcome: Completed)
 workflow => poll, enter 6, answer 6 Fail(NotATask), Ok(Workflow name: TaskName(6), hit: true, steps: 0, outcome: Failed)
 workflow => poll, enter 8, answer 8 Complete([Complete result: []]), Ok(Workflow name: TaskName(8), hit: true, steps: 2, outcome: Completed)
@@ -176,14 +176,14 @@ A run that comes out of the cache refuses events with a gap before them.
 2 1 1 0 1 0 0 | 0 nap => nap/3
 workflow => poll, enter 3, answer 3 Complete([StartTimer id: nap, seconds: 60]), Ok(Workflow name: TaskName(3), hit: false, steps: 2, outcome: Completed)
 workflow => poll, Ok(Closed)
-advance nap/3 behind 2 => Gap, 0 steps, holds 3, [StartTimer id: nap, seconds: 60]
+advance nap/3 after 2 => Gap, 0 steps, holds 3, [StartTimer id: nap, seconds: 60]
 end => None, Counts taken: 2, completed: 2, failed: 0, in_hand: 0, cached: 0, cached_events: 0, workflow: SlotCount free: 2, reserved: 0, held: 0, activity: SlotCount free: 1, reserved: 0, held: 0
 
 A run that comes out of the cache refuses events that end in no task.
 2 1 1 0 1 0 0 | 0 nap => nap/3
 workflow => poll, enter 3, answer 3 Complete([StartTimer id: nap, seconds: 60]), Ok(Workflow name: TaskName(3), hit: false, steps: 2, outcome: Completed)
 workflow => poll, Ok(Closed)
-advance nap/6 behind 3 => NotATask, 0 steps, holds 3, [StartTimer id: nap, seconds: 60]
+advance nap/6 after 3 => NotATask, 0 steps, holds 3, [StartTimer id: nap, seconds: 60]
 end => None, Counts taken: 2, completed: 2, failed: 0, in_hand: 0, cached: 0, cached_events: 0, workflow: SlotCount free: 2, reserved: 0, held: 0, activity: SlotCount free: 1, reserved: 0, held: 0";
 
 /// Closes a host once each seat is there, and gives what it counted last, which its seats have

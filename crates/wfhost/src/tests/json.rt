@@ -204,7 +204,7 @@ const MARKERS: &str = r#"{"markerName":"SideEffect"} => UnsupportedMarker at: 1,
 {"markerName":"Version","details":{"change-id":["chg"],"version":{"payloads":[{"data":"?"}]}}} => BadPayload at: 1
 "#;
 
-/// Types of events in both spellings, what stands behind the type, and what the event says. First
+/// Types of events in both spellings, what stands after the type, and what the event says. First
 /// the start, and what is said of tasks.
 const TASK_KINDS: &str =
     r#"WorkflowExecutionStarted EVENT_TYPE_WORKFLOW_EXECUTION_STARTED ,"workflowExecutionStartedEventAttributes":{"workflowType":{"name":"w"},"input":{"payloads":[{"metadata":{"encoding":"YQ=="},"data":"Yg=="}]}} => WorkflowExecutionStarted workflow: w, input: [Payload encoding: [97], content: [98]]
@@ -316,7 +316,7 @@ fn answers_blanks_and_marks(rt: HostRuntime) {
     answers(&rt, alloc, "[\"a\tb\"]".as_bytes(), "BadJson");
 }
 
-/// Reads an event of the type of a name, with its attributes behind it.
+/// Reads an event of the type of a name, with its attributes after it.
 fn reads_kind(rt: &impl Abort, alloc: Global, name: &str, attributes: &str, body: &str) {
     let text = filled(rt, alloc, ONE, name, attributes);
     let wanted = filled(rt, alloc, ONE_READ, body, "%");

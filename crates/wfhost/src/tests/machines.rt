@@ -111,7 +111,7 @@ fn refuses_a_number_that_no_event_has(rt: HostRuntime) {
 }
 
 /// The timers `nap` of event 3 and each second one after it, up to event 199, each of which the
-/// event behind it fires.
+/// event after it fires.
 fn finds_each_nap(rt: &impl Abort, track: &Track) {
     for pair in 2..100u64 {
         let opened = 2 * pair + 1;

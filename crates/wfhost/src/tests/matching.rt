@@ -106,7 +106,7 @@ fn sent_text(rt: &impl Abort, alloc: Global, script: Script) -> String {
 }
 
 /// The answers of a script to words, and then what is sent. What is recorded of a task stands
-/// behind its completion, which is the event after the task.
+/// after its completion, which is the event after the task.
 fn answers_text(
     rt: &impl Abort,
     alloc: Global,
@@ -115,8 +115,8 @@ fn answers_text(
     task: EventNo,
     words: &str,
 ) -> String {
-    let behind = task.get().saturating_add(1) as usize;
-    let recorded = &track.events()[behind.min(track.len())..];
+    let after = task.get().saturating_add(1) as usize;
+    let recorded = &track.events()[after.min(track.len())..];
     let mut versions = Versions::new(alloc);
     let mut script = Script::new(alloc, previous, task);
     let mut all = String::new(alloc);
@@ -167,7 +167,7 @@ fn takes_as_many_asks_as_commands(rt: HostRuntime) {
     );
 }
 
-/// What comes of two commands, to race and to start a timer, before the record that stands behind
+/// What comes of two commands, to race and to start a timer, before the record that stands after
 /// the fourth event of a history.
 const RECORDS: &str = "\
 start:Racer S T C activity:1:race => Err(CommandExtra index: 2)

@@ -42,7 +42,7 @@ fn advanced<W: Workflow>(
     }
 }
 
-/// How a run goes on behind the first two events of a history.
+/// How a run goes on after the first two events of a history.
 fn steps<W: Workflow>(rt: &impl Abort, alloc: Global, history: &'static str) -> String {
     let mut meter = Meter::new();
     let run = first_task::<W>(rt, alloc, history, &mut meter);

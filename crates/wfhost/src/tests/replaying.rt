@@ -41,13 +41,13 @@ pub(crate) fn push_history(
     push_file(rt, alloc, files, name, bytes.as_slice());
 }
 
-/// A report with its status behind it.
+/// A report with its status after it.
 pub(crate) fn with_status(rt: &impl Abort, mut out: Vec<u8>, status: u8) -> String {
     write!(out, "status {status}").expect(rt, "written");
     written(rt, out)
 }
 
-/// What the command writes of the files, with its status behind it.
+/// What the command writes of the files, with its status after it.
 pub(crate) fn replayed<W: Workflow + Send, R: Threads + Sync + Abort>(
     rt: &R,
     alloc: Global,

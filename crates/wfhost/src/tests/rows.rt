@@ -4,7 +4,7 @@ use std::alloc::{AllocError, Global};
 use std::fmt::Debug;
 use std::process::Abort;
 use wh_events::{Event, EventNo, RunKey, Text};
-use wh_histories::{events, events_behind, key};
+use wh_histories::{events, events_after, key};
 use wh_machines::Track;
 
 /// What is given in a row, and what is wanted of it.
@@ -12,7 +12,7 @@ pub(crate) fn row(rt: &impl Abort, line: &'static str) -> (&'static str, &'stati
     line.split_once(" => ").expect(rt, line)
 }
 
-/// The text in front of a sign, or the whole where the sign is not there. What stands behind the
+/// The text in front of a sign, or the whole where the sign is not there. What stands after the
 /// sign is left.
 pub(crate) fn cut(text: &mut &'static str, sign: &str) -> &'static str {
     let (front, rest) = text.split_once(sign).unwrap_or((text, ""));
@@ -25,7 +25,7 @@ pub(crate) fn number(rt: &impl Abort, word: &'static str) -> u64 {
     word.parse::<u64>().expect(rt, word)
 }
 
-/// The number in front of a blank. What stands behind the blank is left.
+/// The number in front of a blank. What stands after the blank is left.
 pub(crate) fn next_number(rt: &impl Abort, text: &mut &'static str) -> u64 {
     number(rt, cut(text, " "))
 }
@@ -102,7 +102,7 @@ pub(crate) fn add(rt: &impl Abort, text: &mut String, words: &str) {
     text.push_str(words).expect(rt, "memory");
 }
 
-/// These words as often as this, and others behind them.
+/// These words as often as this, and others after them.
 pub(crate) fn repeated(
     rt: &impl Abort,
     alloc: Global,
@@ -120,14 +120,14 @@ pub(crate) fn written(rt: &impl Abort, bytes: Vec<u8>) -> String {
     String::from_utf8(bytes).expect(rt, "a text")
 }
 
-/// The events of a history behind as many as it says itself, else behind so many.
+/// The events of a history after as many as it says itself, else after so many.
 pub(crate) fn recorded(
     rt: &impl Abort,
     alloc: Global,
     history: &'static str,
-    behind: usize,
+    after: usize,
 ) -> Vec<Event> {
-    events_behind(alloc, history, behind).expect(rt, history)
+    events_after(alloc, history, after).expect(rt, history)
 }
 
 /// The track of a history whose events are in place.

@@ -43,8 +43,8 @@ racer/6 activity_failed:5 S T => 4 steps, holds 9, [CancelTimer id: t, Fail mess
 start:Racer activity:1:race activity_completed:2 activity:1:race activity_completed:4 S T => 4 steps, holds 7, [StartActivity id: 1, activity: race, input: [], Complete result: []]
 ";
 
-/// Runs of the events before `then`, advanced by those that the longer history has behind them, or
-/// behind another place. The steps are those of the advance.
+/// Runs of the events before `then`, advanced by those that the longer history has after them, or
+/// after another place. The steps are those of the advance.
 const ADVANCED: &str = "\
 nap/3 then nap/8 => 2 steps, holds 8, [Complete result: []]
 nap/3 then nap/3 attributes_upserted C timer:nap timer_fired:6 S T => 2 steps, holds 9, [Complete result: []]
@@ -69,8 +69,8 @@ nap/8 then nap/8 task_timed_out S T => 4 steps, holds 11, [Complete result: []]
 branch/3 then branch/3 C activity:1:new S T => Fault(Mismatch at: 3, mismatch: Different event: 5)
 nap/3 then nap/4 S T => Fault(Mismatch at: 3, mismatch: CommandExtra index: 1)
 nap/3 then nap/5 timer:x S T => Fault(Mismatch at: 3, mismatch: CommandMissing event: 6)
-nap/3 then nap/3 behind 2 => Gap, 0 steps, holds 3, [StartTimer id: nap, seconds: 60]
-nap/3 then nap/8 behind 4 => Gap, 0 steps, holds 3, [StartTimer id: nap, seconds: 60]
+nap/3 then nap/3 after 2 => Gap, 0 steps, holds 3, [StartTimer id: nap, seconds: 60]
+nap/3 then nap/8 after 4 => Gap, 0 steps, holds 3, [StartTimer id: nap, seconds: 60]
 ";
 
 /// Where something stands that an event of a run opened.
@@ -101,7 +101,7 @@ fn version_text(rt: &impl Abort, alloc: Global, version: Option<i32>) -> String 
     }
 }
 
-/// A run behind a word and so many steps: how many events it holds, its unsent commands, and the
+/// A run after a word and so many steps: how many events it holds, its unsent commands, and the
 /// version of the change `chg`.
 fn run_text<W: Workflow>(
     rt: &impl Abort,
@@ -173,8 +173,8 @@ fn advanced_text<W: Workflow>(
     }
 }
 
-/// What comes of a run that is advanced by the events of a history behind those that it holds, or
-/// behind the place that the history names: the steps of the advance, and the run, where it is not
+/// What comes of a run that is advanced by the events of a history after those that it holds, or
+/// after the place that the history names: the steps of the advance, and the run, where it is not
 /// gone.
 pub(crate) fn advance<W: Workflow>(
     rt: &impl Abort,
@@ -214,8 +214,8 @@ fn goes_on<W: Workflow>(
     advance(rt, alloc, run, after)
 }
 
-/// What comes of what a row gives: the run of a history, a run that goes on behind ` then `, or
-/// what the event of the number behind ` at ` opened.
+/// What comes of what a row gives: the run of a history, a run that goes on after ` then `, or
+/// what the event of the number after ` at ` opened.
 fn given_text<W: Workflow>(rt: &impl Abort, alloc: Global, given: &'static str) -> String {
     if let Some((before, after)) = given.split_once(" then ") {
         return goes_on::<W>(rt, alloc, before, after);

@@ -46,10 +46,10 @@ const SIZES: &str = "\
 4 100 3
 ";
 
-/// How many workers serve files, and below it the report with what else is told behind it: the
+/// How many workers serve files, and below it the report with what else is told after it: the
 /// failed tasks, whether a last record was not compared, and the status.
 ///
-/// There are no files, five samples, histories that end behind their last task in an event that is
+/// There are no files, five samples, histories that end after their last task in an event that is
 /// passed over or not in place, a file that is no JSON, an activity that the workflow does not ask
 /// for, a workflow that the program does not know, a command that can't stand in a task before the
 /// last, and histories that end in their last task, alone and between others.
@@ -178,7 +178,7 @@ fn sizes_of(rt: &impl Abort, line: &'static str) -> Sizes {
     }
 }
 
-/// The report of all samples, with its status behind it.
+/// The report of all samples, with its status after it.
 fn samples_served<R: Threads + Wait + Abort + Sync>(rt: &R, alloc: Global, sizes: Sizes) -> String {
     let mut out = Vec::new(alloc);
     let files = named_files(rt, alloc, SAMPLES);
@@ -210,7 +210,7 @@ fn service<R: Threads + Wait + Abort + Sync>(
     }
 }
 
-/// The report of a service with what else is told of it behind it.
+/// The report of a service with what else is told of it after it.
 fn told(rt: &impl Abort, end: &ServiceEnd, mut out: Vec<u8>) -> String {
     for failure in &end.failures {
         write!(out, "{failure}\n").expect(rt, "written");

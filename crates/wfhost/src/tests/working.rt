@@ -14,7 +14,7 @@ use std::sync::ledger::{Blank, Ledger};
 use std::thread::Threads;
 use wh_host::{Config, Counts};
 use wh_ledger::Seat;
-use wh_poll::{ActivityHandler, NoActivities, NoObserver, Post, Worker, run_posts, run_workers};
+use wh_poll::{ActivityHandler, NoActivities, NoObserver, WorkerSetup, Worker, run_on_host, run_workers};
 use wh_samples::ScriptSource;
 
 /// Days of a worker, written as those of a host, without steps.
@@ -149,7 +149,7 @@ fn no_activity_is_known(rt: HostRuntime) {
 }
 
 /// Workers side by side: the sizes of their host, their turns, what they leave, which is the fewest
-/// and the most tasks and the cached events, and behind `|` the scripts of their sources and what
+/// and the most tasks and the cached events, and after `|` the scripts of their sources and what
 /// is done when tasks enter. Each task is completed.
 ///
 /// The first task of each run waits until that of the other has entered: two tasks are in hand and
@@ -296,41 +296,41 @@ fn crews_work_side_by_side(rt: HostRuntime) {
     }
 }
 
-/// Posts over the sources of these scripts.
-fn posts_of(
+/// Setups over the sources of these scripts.
+fn setups_of(
     rt: &impl Abort,
     alloc: Global,
     scripts: &'static str,
-) -> Vec<Post<ScriptSource, NoActivities, NoObserver>> {
-    let mut posts = Vec::new(alloc);
+) -> Vec<WorkerSetup<ScriptSource, NoActivities, NoObserver>> {
+    let mut setups = Vec::new(alloc);
     for source in sources_of(rt, alloc, scripts) {
-        let post = Post {
+        let setup = WorkerSetup {
             source,
             handler: NoActivities { alloc },
             observer: NoObserver,
             turns: 20,
         };
-        push(rt, &mut posts, post);
+        push(rt, &mut setups, setup);
     }
-    posts
+    setups
 }
 
-/// Runs the posts of these scripts, and gives the seats that come back.
+/// Runs the setups of these scripts, and gives the seats that come back.
 fn posted<R: Threads + Wait + Abort + Sync, T: Ledger + Send, C: Ledger + Send, F: Ledger + Send>(
     book: &Notebook<'_, '_, R, T, C, F>,
     seats: Vec<Seat<T, C, F>>,
     scripts: &'static str,
 ) -> Vec<Seat<T, C, F>> {
     let (rt, alloc) = (book.rt, book.alloc);
-    let posts = posts_of(rt, alloc, scripts);
-    assert!(rt; posts.len() == seats.len());
-    let ended = run_posts(rt, alloc, book.host, seats, posts, book);
+    let setups = setups_of(rt, alloc, scripts);
+    assert!(rt; setups.len() == seats.len());
+    let ended = run_on_host(rt, alloc, book.host, seats, setups, book);
     let (seats, left) = ended.expect(rt, "memory");
     drop(left);
     seats
 }
 
-/// What a host has counted on which posts were run twice.
+/// What a host has counted on which setups were run twice.
 fn counts_of_both<
     R: Threads + Wait + Abort + Sync,
     T: Ledger + Send,
@@ -350,9 +350,9 @@ fn counts_of_both<
     close(rt, host, seats, seat)
 }
 
-/// Posts are run a second time on one host: what was cached and counted stays.
+/// Setups are run a second time on one host: what was cached and counted stays.
 #[test]
-fn posts_are_run_again(rt: HostRuntime) {
+fn setups_are_run_again(rt: HostRuntime) {
     let config = Config {
         workflow_slots: 2,
         activity_slots: 1,
@@ -368,5 +368,5 @@ fn posts_are_run_again(rt: HostRuntime) {
     let text =
         "Counts taken: 5, completed: 5, failed: 0, in_hand: 0, cached: 4, cached_events: 17, \
         workflow: SlotCount free: 2, reserved: 0, held: 0, activity: SlotCount free: 1, reserved: 0, held: 0";
-    wants(&rt, alloc, "posts run twice", counts, text);
+    wants(&rt, alloc, "setups run twice", counts, text);
 }

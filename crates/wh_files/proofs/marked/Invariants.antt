@@ -4,7 +4,7 @@ use Rattle.std.specs.Str.Chunks.{utf8_chunks_rest}
 use Rattle.wh_files.specs.Names.{IsMarked}
 use Rattle.wh_files.proofs.marked.Given as goal
 
--- the text so far, and behind it that of the bytes that are left, is the text of all bytes
+-- the text so far, and after it that of the bytes that are left, is the text of all bytes
 abbrev pub invariant-loop-chunk : goal.invariant-loop-chunk
 invariant-loop-chunk l =
     (text : List ℕ) → IsMarked (utf8_chunks_rest l.chunk-iterator) text → IsMarked l.fn.bytes (string_bytes l.shown ++ text)

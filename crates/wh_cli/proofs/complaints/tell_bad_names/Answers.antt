@@ -7,7 +7,7 @@ use Rattle.std.specs.declared.alloc.Global.{Global}
 use Rattle.wh_cli.specs.Complaints.{bad_name_line}
 use Rattle.wh_cli.proofs.complaints.tell_bad_names.Goals as goal
 
--- the line of one more stands behind those before it
+-- the line of one more stands after those before it
 pub loop-entry-preserved : goal.loop-entry-preserved
 loop-entry-preserved g c =
     let line : String Global → List ℕ = λ entry. bad_name_line c.args.dir.now entry c.args.name.now in

@@ -6,7 +6,7 @@ use Rattle.wh_cli.specs.declared.service_report.FileFailure.{FileFailure}
 use Rattle.wh_cli.specs.Complaints.{failure_line}
 use Rattle.wh_cli.proofs.complaints.tell_failures.Goals as goal
 
--- the line of one more stands behind those before it
+-- the line of one more stands after those before it
 pub loop-failure-preserved : goal.loop-failure-preserved
 loop-failure-preserved g c =
     let line : FileFailure → List ℕ = λ failure. failure_line failure c.args.name.now in

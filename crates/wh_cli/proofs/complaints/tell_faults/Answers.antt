@@ -6,7 +6,7 @@ use Rattle.wh_cli.specs.declared.file_faults.FileFault.{FileFault}
 use Rattle.wh_cli.specs.Complaints.{fault_line}
 use Rattle.wh_cli.proofs.complaints.tell_faults.Goals as goal
 
--- the line of one more stands behind those before it
+-- the line of one more stands after those before it
 pub loop-fault-preserved : goal.loop-fault-preserved
 loop-fault-preserved g c =
     let line : FileFault → List ℕ = λ fault. fault_line fault c.args.name.now in

@@ -2,7 +2,7 @@ use Rattle.wh_cli.specs.Complaints.{failure_lines, fault_lines, uncompared_told,
 use Rattle.wh_cli.proofs.Endings.{four_told}
 use Rattle.wh_cli.proofs.complaints.tell_service.Goals as goal
 
--- the four parts stand one behind the other
+-- the four parts stand one after the other
 pub returns : goal.returns
 returns g c =
     let contents = g.E.Write.contents in

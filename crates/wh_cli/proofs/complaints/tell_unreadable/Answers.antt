@@ -4,7 +4,7 @@ use Rattle.wh_cli.specs.Complaints.{entry_line, path_line, reason_line, told_lin
 use Rattle.wh_cli.proofs.Steps.{something_more}
 use Rattle.wh_cli.proofs.complaints.tell_unreadable.Goals as goal
 
--- why the entry can't be read stands behind the line of the folder
+-- why the entry can't be read stands after the line of the folder
 pub returns-in-Some : goal.returns-in-Some
 returns-in-Some g c =
     let dir = c.args.dir.now in

@@ -1,7 +1,7 @@
 use Rattle.wh_cli.proofs.Collected.{firsts_push, told_push}
 use Rattle.wh_cli.proofs.file_faults.parted.Goals as goal
 
--- what was made of one file more, and what is told of it, stands behind that of those before it
+-- what was made of one file more, and what is told of it, stands after that of those before it
 pub loop-both-preserved : goal.loop-both-preserved
 loop-both-preserved g c =
     let before = c.loop-both.yielded in

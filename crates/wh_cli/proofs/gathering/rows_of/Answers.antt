@@ -2,7 +2,7 @@ use Rattle.std.proofs.Common.{rules}
 use Rattle.wh_cli.proofs.Rows.{rows_push, failures_push}
 use Rattle.wh_cli.proofs.gathering.rows_of.Goals as goal
 
--- what is told of a file comes behind what is told of those before it
+-- what is told of a file comes after what is told of those before it
 pub loop-file-preserved : goal.loop-file-preserved
 loop-file-preserved c =
     let workers = c.args.workers.now in

@@ -11,7 +11,7 @@ pub loop-path-init : goal.loop-path-init
 loop-path-init g c =
     listed_one g.E.Write.contents (not c.is_empty-by_path.result) c.args.first c.in_ok-own.own.inputs.items c.in_ok-own.own.left_out c.args.errors.now c.inputs_of.new.errors c.in_ok-own.ensures
 
--- the inputs of one path more stand behind those before it
+-- the inputs of one path more stand after those before it
 pub loop-path-preserved : goal.loop-path-preserved
 loop-path-preserved g c =
     let contents = g.E.Write.contents in

@@ -5,7 +5,7 @@ use Rattle.std.specs.List.{flat_map}
 use Rattle.wh_cli.specs.Services.{row_text}
 use Rattle.wh_cli.proofs.service_report.write_rows.Goals as goal
 
--- the line of a row comes behind those before it
+-- the line of a row comes after those before it
 pub loop-row-preserved : goal.loop-row-preserved
 loop-row-preserved g c =
     rw (flat_map-append row_text c.loop-row.yielded (c.in-Some.row ∷ []), append-nil (row_text c.in-Some.row))

@@ -15,7 +15,7 @@ first_among (Some r) first others all =
     let same : r.values ≡ first ∷ others = cc in
     ap (λ (values : List Text). slice_get values 0) same
 
--- the values are the first, and those behind it
+-- the values are the first, and those after it
 all_values : (values : List (Bor Text)) (default : Bor Text) (first : Text) (more : List Text) → 1 ≤ length values
     → first ≡ (get_or values 0 default).now → more ≡ map (λ v. v.now) (drop 1 values) → map (λ v. v.now) values ≡ first ∷ more
 all_values [] default first more long is_first are_more = absurd (omega arith)

@@ -6,14 +6,14 @@ use Rattle.wh_replay.specs.Views.{script}
 use Rattle.wh_replay.specs.Activating.{IsPlain}
 use Rattle.wh_replay.proofs.Responding.{issued_one}
 use Rattle.wh_explain.specs.Tracing.{stood}
-use Rattle.wh_explain.specs.Walking.{standpoint_of}
+use Rattle.wh_explain.specs.Walking.{context_of}
 use Rattle.wh_explain.proofs.Issuing.{stood_more}
 use Rattle.wh_explain.proofs.activation.issue_all.Goals as goal
 
 pub loop-command-preserved : goal.loop-command-preserved
 loop-command-preserved c =
     let at = c.loop-command in
-    let place = standpoint_of c.args.cut.now in
+    let place = context_of c.args.cut.now in
     let command = c.in-Some.command in
     let rest = into_iter_items c.next.new.self in
     let more = c.issue_shown.new.script.issued in

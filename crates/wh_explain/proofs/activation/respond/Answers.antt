@@ -7,7 +7,7 @@ use Rattle.wh_workflow.specs.Activations.{and_then, issue_all, respond, Reply}
 use Rattle.wh_replay.specs.Views.{script, script_of, reply_of}
 use Rattle.wh_replay.proofs.Responding.{plain_front, respond-push}
 use Rattle.wh_explain.specs.Tracing.{stood}
-use Rattle.wh_explain.specs.Walking.{standpoint_of, comes_to}
+use Rattle.wh_explain.specs.Walking.{context_of, comes_to}
 use Rattle.wh_explain.proofs.Issuing.{stood_last, stood_cut}
 use Rattle.wh_explain.proofs.activation.respond.Goals as goal
 
@@ -25,7 +25,7 @@ respond_last-requires-clause-not_marker c =
 
 pub returns-in-Ok-Some-clause-issued : goal.returns-in-Ok-Some-clause-issued
 returns-in-Ok-Some-clause-issued c =
-    let place = standpoint_of c.args.cut.now in
+    let place = context_of c.args.cut.now in
     let s = script c.args.versions.now c.args.script.now.issued in
     let front = c.pop.new.self.items in
     let last = c.in-Some.last in
@@ -35,7 +35,7 @@ returns-in-Ok-Some-clause-issued c =
 
 pub returns-in-Ok-Some-clause-given : goal.returns-in-Ok-Some-clause-given
 returns-in-Ok-Some-clause-given c =
-    let place = standpoint_of c.args.cut.now in
+    let place = context_of c.args.cut.now in
     let settled = c.args.versions.now in
     let issued = c.args.script.now.issued in
     let front = c.pop.new.self.items in
@@ -47,7 +47,7 @@ returns-in-Ok-Some-clause-given c =
 
 pub returns-in-Ok-None-clause-issued : goal.returns-in-Ok-None-clause-issued
 returns-in-Ok-None-clause-issued c =
-    let place = standpoint_of c.args.cut.now in
+    let place = context_of c.args.cut.now in
     let s = script c.args.versions.now c.args.script.now.issued in
     let front = c.pop.new.self.items in
     let last = c.in-Some.last in
@@ -60,7 +60,7 @@ returns-in-Ok-None-clause-issued c =
 
 pub returns-in-Ok-None-clause-given : goal.returns-in-Ok-None-clause-given
 returns-in-Ok-None-clause-given c =
-    let place = standpoint_of c.args.cut.now in
+    let place = context_of c.args.cut.now in
     let settled = c.args.versions.now in
     let issued = c.args.script.now.issued in
     let front = c.pop.new.self.items in

@@ -3,7 +3,7 @@ use Rattle.std.proofs.lemmas.Result.{on_ok_weaker}
 use Rattle.wh_explain.specs.Json.{json_explanation}
 use Rattle.wh_explain.proofs.json_lines.write_json_explanation.Goals as goal
 
--- the three parts are written one behind another
+-- the three parts are written one after another
 pub returns : goal.returns
 unfolding json_explanation
 returns g c =

@@ -2,7 +2,7 @@ use Rattle.std.proofs.KnownBytes.{Appends-trans}
 use Rattle.std.proofs.lemmas.Result.{on_ok_weaker}
 use Rattle.wh_explain.proofs.json_lines.write_task.Goals as goal
 
--- the three parts are written one behind another
+-- the three parts are written one after another
 pub returns : goal.returns
 returns g c =
     let at = g.O.Write.contents in

@@ -3,7 +3,7 @@ use Rattle.std.proofs.lemmas.Result.{on_ok_weaker}
 use Rattle.wh_explain.specs.Texts.{explanation_text}
 use Rattle.wh_explain.proofs.showing.write_explanation.Goals as goal
 
--- the three parts are written one behind another
+-- the three parts are written one after another
 pub returns : goal.returns
 unfolding explanation_text
 returns g c =

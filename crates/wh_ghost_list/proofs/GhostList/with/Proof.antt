@@ -60,7 +60,7 @@ module _ (T : RattleType) (laws : Laws T) {M : Type 1} {𝓤 : Ura M} (𝓛 : Lo
     abbrev lives : SProp 𝓤
     lives = alive 𝓛 (ended T).signature z.0.0 z.0.1
 
-    -- the value that is returned is shown with the items of the list and the value behind them
+    -- the value that is returned is shown with the items of the list and the value after them
     walks : ent 𝓤 ((walk_of 𝓛 (ended T) (kept T) held).pre z) (WpFn 𝓤 H C Λ (body T) ((walk_of 𝓛 (ended T) (kept T) held).args z) Post)
     walks =
         let args = z.0.3 in

@@ -11,18 +11,18 @@ none = refl
 -- what the host over its ledgers leaves
 pub returns-clause-bad : goal.returns-clause-bad
 returns-clause-bad g c =
-    let seats : c.args.config.seats ≡ vec_len c.args.posts = search rules in
+    let seats : c.args.config.seats ≡ vec_len c.args.setups = search rules in
     let own = c.run_with.ensures.bad in
     (λ is both. own.0 is both.0, λ unfit. own.1 (λ config. unfit (config, seats)))
 
 pub returns-clause-count : goal.returns-clause-count
-returns-clause-count g c = IfOk-weaker c.run_with.result _ _ (λ end left. end.workers.ok.0 ∙ left.count ∙ sym c.args.posts.ok.0) c.run_with.ensures.left
+returns-clause-count g c = IfOk-weaker c.run_with.result _ _ (λ end left. end.workers.ok.0 ∙ left.count ∙ sym c.args.setups.ok.0) c.run_with.ensures.left
 
 pub returns-clause-turns : goal.returns-clause-turns
 returns-clause-turns g c = IfOk-weaker c.run_with.result _ _ (λ end left.
-    zip_weaker (λ post left. left.counted.taken ≤ no_shares.taken + post.turns) _ c.args.posts.items end.workers.items
-    (of_fresh (λ counted post left. left.counted.taken ≤ counted.taken + post.turns) no_shares (vec_len c.args.posts) c.args.posts.items end.workers.items (sym c.args.posts.ok.0) left.turns)
-    (λ post left below. omega (arith, below, none))) c.run_with.ensures.left
+    zip_weaker (λ setup left. left.counted.taken ≤ no_shares.taken + setup.turns) _ c.args.setups.items end.workers.items
+    (of_fresh (λ counted setup left. left.counted.taken ≤ counted.taken + setup.turns) no_shares (vec_len c.args.setups) c.args.setups.items end.workers.items (sym c.args.setups.ok.0) left.turns)
+    (λ setup left below. omega (arith, below, none))) c.run_with.ensures.left
 
 pub returns-clause-faults : goal.returns-clause-faults
 returns-clause-faults g c = IfOk-weaker c.run_with.result _ _ (λ end left. left.faults) c.run_with.ensures.left
@@ -38,13 +38,13 @@ returns-clause-handlers g c = IfOk-weaker c.run_with.result _ _ (λ end left. le
 
 pub returns-clause-answered : goal.returns-clause-answered
 returns-clause-answered g c = IfOk-weaker c.run_with.result _ _ (λ end left.
-    zip_weaker (λ post left. length (g.S.TaskSource.answers left.source) + no_shares.taken ≤ length (g.S.TaskSource.answers post.source) + left.counted.taken) _ c.args.posts.items end.workers.items
-    (of_fresh (λ counted post left. length (g.S.TaskSource.answers left.source) + counted.taken ≤ length (g.S.TaskSource.answers post.source) + left.counted.taken) no_shares (vec_len c.args.posts) c.args.posts.items end.workers.items (sym c.args.posts.ok.0) left.answered)
-    (λ post left below. omega (arith, below, none))) c.run_with.ensures.left
+    zip_weaker (λ setup left. length (g.S.TaskSource.answers left.source) + no_shares.taken ≤ length (g.S.TaskSource.answers setup.source) + left.counted.taken) _ c.args.setups.items end.workers.items
+    (of_fresh (λ counted setup left. length (g.S.TaskSource.answers left.source) + counted.taken ≤ length (g.S.TaskSource.answers setup.source) + left.counted.taken) no_shares (vec_len c.args.setups) c.args.setups.items end.workers.items (sym c.args.setups.ok.0) left.answered)
+    (λ setup left below. omega (arith, below, none))) c.run_with.ensures.left
 
 pub returns-clause-told : goal.returns-clause-told
 returns-clause-told g c = IfOk-weaker c.run_with.result _ _ (λ end left.
-    of_fresh (IsLedBy g.W.Workflow.program g.S.TaskSource.tells g.S.TaskSource.delivers g.S.TaskSource.answers g.S.TaskSource.failures g.S.TaskSource.comes_from g.A.ActivityHandler.may g.O.Observer.hears) no_shares (vec_len c.args.posts) c.args.posts.items end.workers.items (sym c.args.posts.ok.0) left.told) c.run_with.ensures.left
+    of_fresh (IsLedBy g.W.Workflow.program g.S.TaskSource.tells g.S.TaskSource.delivers g.S.TaskSource.answers g.S.TaskSource.failures g.S.TaskSource.comes_from g.A.ActivityHandler.may g.O.Observer.hears) no_shares (vec_len c.args.setups) c.args.setups.items end.workers.items (sym c.args.setups.ok.0) left.told) c.run_with.ensures.left
 
 pub returns-clause-gathered : goal.returns-clause-gathered
 returns-clause-gathered g c = c.run_with.ensures.gathered

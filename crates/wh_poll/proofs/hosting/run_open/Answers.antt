@@ -1,6 +1,6 @@
 use Rattle.std.proofs.Common.{List, ◌∙◌, rules, subst, sym}
 use Rattle.wh_ledger.specs.declared.Shares.{Shares}
-use Rattle.wh_poll.specs.Turns.{AreLeft}
+use Rattle.wh_poll.specs.Turns.{AreEnds}
 use Rattle.wh_poll.proofs.hosting.run_open.Goals as goal
 
 pub returns-clause-gathered : goal.returns-clause-gathered
@@ -11,10 +11,10 @@ pub returns-clause-left : goal.returns-clause-left
 returns-clause-left g c =
     let S = g.S.TaskSource in
     let are : List Shares → Type 0 = λ seats.
-    AreLeft g.W.Workflow.program S.tells S.delivers S.answers S.failures S.comes_from g.A.ActivityHandler.may g.O.Observer.hears seats c.args.posts.items c.in_ok-seats.workers.items in
+    AreEnds g.W.Workflow.program S.tells S.delivers S.answers S.failures S.comes_from g.A.ActivityHandler.may g.O.Observer.hears seats c.args.setups.items c.in_ok-seats.workers.items in
     let own = c.in_ok-seats.ensures in
     let left : are c.args.seats.items = record {
-      count = sym c.in_ok-seats.workers.ok.0 ∙ own.count ∙ c.args.posts.ok.0;
+      count = sym c.in_ok-seats.workers.ok.0 ∙ own.count ∙ c.args.setups.ok.0;
       turns = own.turns;
       faults = own.faults;
       same = own.same;

@@ -1,5 +1,5 @@
 use Rattle.std.proofs.Common.{◌≡◌, rules, ◌<◌, false, true, inl, inr, [], ◌∷◌, ◌++◌, length, refl, sym, subst}
-use Rattle.wh_poll.specs.Stations.{left_at}
+use Rattle.wh_poll.specs.Stations.{end_at}
 use Rattle.wh_poll.specs.Workers.{first_rota, is_last, next_rota}
 use Rattle.wh_poll.specs.Turns.{IsTurn, GoesOn, at_first}
 use Rattle.wh_poll.proofs.Turns.{goes_on_more, turn_more, rose_kept}
@@ -13,12 +13,12 @@ loop-turn-preserved g c =
     let more : is_last rota.other_closed served ≡ false = search rules in
     let next : c.goes_on.new.self ≡ next_rota rota served = search rules in
     let step = IsTurn g.W.Workflow.program g.S.TaskSource.tells g.S.TaskSource.delivers g.S.TaskSource.answers g.S.TaskSource.failures g.S.TaskSource.comes_from g.A.ActivityHandler.may g.O.Observer.hears in
-    let first = at_first c.args.seat c.args.post in
-    let new = left_at c.serve-served.new.self in
-    let led = goes_on_more step first_rota rota first (left_at c.loop-turn.station) new before.0 served before.2 c.serve-served.ensures.turn more in
+    let first = at_first c.args.seat c.args.setup in
+    let new = end_at c.serve-served.new.self in
+    let led = goes_on_more step first_rota rota first (end_at c.loop-turn.worker_loop) new before.0 served before.2 c.serve-served.ensures.turn more in
     record {
       taken = search rules;
-      fault = search (rules, rose_kept c.loop-turn.station.fault served _ _ _ c.loop-turn.invariant.fault c.serve-served.ensures.failures);
+      fault = search (rules, rose_kept c.loop-turn.worker_loop.fault served _ _ _ c.loop-turn.invariant.fault c.serve-served.ensures.failures);
       same = search rules;
       origin = search rules;
       answered = search rules;
@@ -30,12 +30,12 @@ pub returns-then-not-goes_on-clause-turns : goal.returns-then-not-goes_on-clause
 returns-then-not-goes_on-clause-turns g c =
     let before = c.loop-turn.invariant.turns in
     let served = c.serve-served.result in
-    let below : length before.0 < c.args.post.turns = search (rules, before.1) in
+    let below : length before.0 < c.args.setup.turns = search (rules, before.1) in
     let last : is_last c.loop-turn.rota.other_closed served ≡ true = search rules in
     record {
       turns = before.0;
       rota = c.loop-turn.rota;
-      before = left_at c.loop-turn.station;
+      before = end_at c.loop-turn.worker_loop;
       led = before.2;
       ended = inr (served, c.serve-served.ensures.turn, last, below);
     }
@@ -57,7 +57,7 @@ returns-after-loop-turn-clause-turns g c =
     record {
       turns = before.0;
       rota = c.loop-turn.rota;
-      before = left_at c.loop-turn.station;
+      before = end_at c.loop-turn.worker_loop;
       led = before.2;
       ended = inl (search (rules, before.1), refl);
     }

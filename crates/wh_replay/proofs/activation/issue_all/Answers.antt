@@ -2,7 +2,7 @@ use Rattle.std.proofs.Common.{◌≡◌, ◌∷◌, ◌∙◌, length, sym, ap, 
 use Rattle.std.proofs.lemmas.Result.{err_from_is_err_and}
 use Rattle.std.specs.Vec.Iter.{into_iter_items}
 use Rattle.wh_workflow.specs.Activations.{issue_all}
-use Rattle.wh_replay.specs.Views.{standpoint_of, script}
+use Rattle.wh_replay.specs.Views.{context_of, script}
 use Rattle.wh_replay.specs.Activating.{IsPlain}
 use Rattle.wh_replay.proofs.Responding.{refused_one, issued_one}
 use Rattle.wh_replay.proofs.activation.issue_all.Goals as goal
@@ -10,7 +10,7 @@ use Rattle.wh_replay.proofs.activation.issue_all.Goals as goal
 pub loop-command-preserved : goal.loop-command-preserved
 loop-command-preserved c =
     let at = c.loop-command in
-    let place = standpoint_of c.args.cut.now in
+    let place = context_of c.args.cut.now in
     let command = c.in-Some.command in
     let rest = into_iter_items c.next.new.self in
     let steps : into_iter_items at.command-iterator ≡ command ∷ rest = c.in-Some.ensures.steps.0 in
@@ -27,7 +27,7 @@ loop-command-preserved c =
 pub returns-in_err-issue_one-clause-issued : goal.returns-in_err-issue_one-clause-issued
 returns-in_err-issue_one-clause-issued c settled =
     let at = c.loop-command in
-    let place = standpoint_of c.args.cut.now in
+    let place = context_of c.args.cut.now in
     let command = c.in-Some.command in
     let rest = into_iter_items c.next.new.self in
     let fault = c.in_err-issue_one.field-0.0 in

@@ -2,7 +2,7 @@ use Rattle.std.proofs.Common.{◌≡◌, length}
 use Rattle.std.specs.Vec.Iter.{into_iter_items, into_iter_len}
 use Rattle.wh_workflow.specs.Scripts.{Settled}
 use Rattle.wh_workflow.specs.Activations.{issue_all}
-use Rattle.wh_replay.specs.Views.{standpoint_of, script}
+use Rattle.wh_replay.specs.Views.{context_of, script}
 use Rattle.wh_replay.specs.Activating.{IsPlain, IsOf}
 use Rattle.wh_replay.proofs.activation.issue_all.Given as goal
 
@@ -12,5 +12,5 @@ invariant-loop-command l = record {
   count : into_iter_len l.command-iterator ≡ length (into_iter_items l.command-iterator);
   plain : IsPlain (into_iter_items l.command-iterator);
   of : IsOf l.cut l.script;
-  left : (settled : Settled) → issue_all (standpoint_of l.cut) (script settled l.script.issued) (into_iter_items l.command-iterator) ≡ issue_all (standpoint_of l.cut) (script settled l.fn.script.issued) l.fn.commands.items;
+  left : (settled : Settled) → issue_all (context_of l.cut) (script settled l.script.issued) (into_iter_items l.command-iterator) ≡ issue_all (context_of l.cut) (script settled l.fn.script.issued) l.fn.commands.items;
 }

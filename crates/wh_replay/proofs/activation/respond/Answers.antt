@@ -2,7 +2,7 @@ use Rattle.std.proofs.Common.{◌≡◌, ◌++◌, ◌∷◌, ◌∙◌, [], sym
 use Rattle.std.specs.Prelude.{option_to_list}
 use Rattle.wh_workflow.specs.Law.{asks_last, records_none}
 use Rattle.wh_workflow.specs.Activations.{and_then, issue_all, respond}
-use Rattle.wh_replay.specs.Views.{standpoint_of, script}
+use Rattle.wh_replay.specs.Views.{context_of, script}
 use Rattle.wh_replay.proofs.Settling.{gives_err}
 use Rattle.wh_replay.proofs.Responding.{plain_front, respond-push, gives_along}
 use Rattle.wh_replay.proofs.activation.respond.Goals as goal
@@ -21,7 +21,7 @@ issue_last-requires-clause-not_marker c =
 
 pub returns-in-Err-clause-issued : goal.returns-in-Err-clause-issued
 returns-in-Err-clause-issued c =
-    let place = standpoint_of c.args.cut.now in
+    let place = context_of c.args.cut.now in
     let s = script c.args.versions.now c.args.script.now.issued in
     let front = c.pop.new.self.items in
     let last = c.in-Some.last in
@@ -32,7 +32,7 @@ returns-in-Err-clause-issued c =
 
 pub returns-in-Ok-clause-issued : goal.returns-in-Ok-clause-issued
 returns-in-Ok-clause-issued c =
-    let place = standpoint_of c.args.cut.now in
+    let place = context_of c.args.cut.now in
     let s = script c.args.versions.now c.args.script.now.issued in
     let front = c.pop.new.self.items in
     let last = c.in-Some.last in

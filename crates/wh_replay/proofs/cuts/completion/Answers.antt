@@ -13,8 +13,8 @@ returns-then-is_task_completed-clause-completed c =
     let done : is_task_completed event ≡ true = sym c.is_task_completed.ensures ∙ c.if-is_task_completed.true in
     sym (sym c.loop-place.invariant.0 ∙ (ap is_recorded here ∙ (recorded_here event (drop (place + 1) events) done).0))
 
-pub returns-then-is_task_completed-clause-behind : goal.returns-then-is_task_completed-clause-behind
-returns-then-is_task_completed-clause-behind c =
+pub returns-then-is_task_completed-clause-after : goal.returns-then-is_task_completed-clause-after
+returns-then-is_task_completed-clause-after c =
     let events = c.args.events.now in
     let place : ℕ = c.loop-place.place in
     let event = c.index-events-place.result in

@@ -10,7 +10,7 @@ returns-then-from-events c =
     let events = c.args.events.now in
     let from = c.args.from in
     let none : None ≡ first_of (cuts (drop from events)) = sym (ap (λ list. first_of (cuts list)) (drop_all from events (omega arith))) in
-    record { behind = none; after = λ numbered. none ∙ sym (next_cut-drop from events numbered) }
+    record { next = none; after = λ numbered. none ∙ sym (next_cut-drop from events numbered) }
 
 pub returns : goal.returns
 returns c =
@@ -18,4 +18,4 @@ returns c =
     let from = c.args.from in
     let size = length-drop from events in
     let first = c.first_cut.ensures ∙ ap (λ list. first_of (cuts list)) (take_all (length events - from) (drop from events) (omega arith)) in
-    record { behind = first; after = λ numbered. first ∙ sym (next_cut-drop from events numbered) }
+    record { next = first; after = λ numbered. first ∙ sym (next_cut-drop from events numbered) }

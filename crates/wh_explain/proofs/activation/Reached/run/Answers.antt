@@ -3,14 +3,14 @@ use Rattle.std.specs.Prelude.{option_to_list}
 use Rattle.std.specs.Vec.Iter.{into_iter_items, into_iter_len}
 use Rattle.wh_workflow.specs.Activations.{turn}
 use Rattle.wh_explain.specs.Tracing.{step_of}
-use Rattle.wh_explain.specs.Walking.{standpoint_of, progress_of, turn_of}
+use Rattle.wh_explain.specs.Walking.{context_of, progress_of, turn_of}
 use Rattle.wh_explain.proofs.Tracing.{ends_refused, goes_on, ends_well, turned_next, turned_refused, less_room, none_left}
 use Rattle.wh_explain.proofs.activation.Reached.run.Goals as goal
 
 pub returns-in-Refused-clause-traced : goal.returns-in-Refused-clause-traced
 returns-in-Refused-clause-traced g c =
     let program = g.W.Workflow.program in
-    let place = standpoint_of c.args.cut.now in
+    let place = context_of c.args.cut.now in
     let at = c.loop-next in
     let now = progress_of at.self at.script in
     let e = turned_refused c.in_ok-turned.turned c.in-Refused.fault (turn_of c.turn.new.self c.turn.new.script) (turn program place c.in-Some.job now) c.in-Refused.is c.in_ok-turned.ensures.turned in
@@ -20,7 +20,7 @@ returns-in-Refused-clause-traced g c =
 pub loop-next-smaller-in-Next-Some : goal.loop-next-smaller-in-Next-Some
 loop-next-smaller-in-Next-Some g c =
     let program = g.W.Workflow.program in
-    let place = standpoint_of c.args.cut.now in
+    let place = context_of c.args.cut.now in
     let at = c.loop-next in
     let now = progress_of at.self at.script in
     let e = turned_next c.in_ok-turned.turned c.in-Next-Some.field-0 (Some c.in-Next-Some.version) (turn_of c.turn.new.self c.turn.new.script) (turn program place c.in-Some.job now) c.in-Next-Some.is c.in-Next-Some.field-0-is c.in_ok-turned.ensures.turned in
@@ -29,7 +29,7 @@ loop-next-smaller-in-Next-Some g c =
 pub loop-next-preserved : goal.loop-next-preserved
 loop-next-preserved g c =
     let program = g.W.Workflow.program in
-    let place = standpoint_of c.args.cut.now in
+    let place = context_of c.args.cut.now in
     let at = c.loop-next in
     let now = progress_of at.self at.script in
     let rest = into_iter_items c.next.new.self in
@@ -47,7 +47,7 @@ loop-next-preserved g c =
 pub loop-next-preserved-in-Next-Some : goal.loop-next-preserved-in-Next-Some
 loop-next-preserved-in-Next-Some g c =
     let program = g.W.Workflow.program in
-    let place = standpoint_of c.args.cut.now in
+    let place = context_of c.args.cut.now in
     let at = c.loop-next in
     let now = progress_of at.self at.script in
     let e = turned_next c.in_ok-turned.turned c.in-Next-Some.field-0 (Some c.in-Next-Some.version) (turn_of c.turn.new.self c.turn.new.script) (turn program place c.in-Some.job now) c.in-Next-Some.is c.in-Next-Some.field-0-is c.in_ok-turned.ensures.turned in
@@ -63,6 +63,6 @@ loop-next-preserved-in-Next-Some g c =
 pub returns-clause-traced : goal.returns-clause-traced
 returns-clause-traced g c =
     let program = g.W.Workflow.program in
-    let place = standpoint_of c.args.cut.now in
+    let place = context_of c.args.cut.now in
     let at = c.loop-next in
     ends_well program place c.args.jobs.items (progress_of c.args.self.now c.args.script.now) at.steps.items at.next (into_iter_items at.jobs) (progress_of at.self at.script) c.in_default.is (at.invariant.done c.in_default.is) at.invariant.left

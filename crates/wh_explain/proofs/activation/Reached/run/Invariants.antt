@@ -5,14 +5,14 @@ use Rattle.wh_workflow.specs.declared.fault.WorkflowFault.{WorkflowFault}
 use Rattle.wh_workflow.specs.ActivationScripts.{Step}
 use Rattle.wh_workflow.specs.Activations.{Progress, follow, room}
 use Rattle.wh_explain.specs.Tracing.{IsTraced}
-use Rattle.wh_explain.specs.Walking.{standpoint_of, progress_of, IsOf}
+use Rattle.wh_explain.specs.Walking.{context_of, progress_of, IsOf}
 use Rattle.wh_explain.proofs.activation.Reached.run.Given as goal
 
 -- what is left to do continues the steps so far
 abbrev pub invariant-loop-next : goal.invariant-loop-next
 invariant-loop-next g l =
     let program = g.W.Workflow.program in
-    let place = standpoint_of l.cut in
+    let place = context_of l.cut in
     record {
       of : IsOf l.cut l.script;
       count : into_iter_len l.jobs ≡ length (into_iter_items l.jobs);

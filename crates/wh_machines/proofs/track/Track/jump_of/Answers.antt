@@ -17,10 +17,10 @@ returns-in-Some c =
     let thing = c.in-Opens.thing in
     let id = c.in-Opens.id.now in
     let previous = c.in-Some.previous in
-    let to = c.jump_behind.result.to in
+    let to = c.jump_to.result.to in
     let role : Opens thing id ≡ role_seen c.args.role = ap role_seen (sym c.in-Opens.is) in
     let named : named_of events thing id ≡ Some previous = sym (c.self.invariant.named thing id) ∙ sym c.last.ensures ∙ c.in-Some.is in
     let start = last_alike events thing id previous c.self.invariant.placed named in
-    let short = subst (λ (list : List Jump). IfSome to (IsShort list previous)) c.deref.ensures.value c.jump_behind.ensures.short in
+    let short = subst (λ (list : List Jump). IfSome to (IsShort list previous)) c.deref.ensures.value c.jump_to.ensures.short in
     let alike = each_short events jumps (Opens thing id) previous to c.self.invariant.jumping start short in
     subst (λ (list : List Event). IfSome to (IsAlike list (role_seen c.args.role))) c.self.view_is (subst (λ (done : Role). IfSome to (IsAlike events done)) role alike)

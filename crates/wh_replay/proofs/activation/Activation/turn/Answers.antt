@@ -2,7 +2,7 @@ use Rattle.std.proofs.Common.{◌≡◌, ◌++◌, ◌∙◌, ℕ, length, drop,
 use Rattle.wh_workflow.specs.Counting.{ticked}
 use Rattle.wh_workflow.specs.Law.{IsAnswer}
 use Rattle.wh_workflow.specs.Activations.{and_then, Reply, respond, Turn, turn}
-use Rattle.wh_replay.specs.Views.{standpoint_of, script, progress_of}
+use Rattle.wh_replay.specs.Views.{context_of, script, progress_of}
 use Rattle.wh_replay.proofs.Responding.{gives_along, gives_then}
 use Rattle.wh_replay.proofs.activation.Activation.turn.Goals as goal
 
@@ -12,7 +12,7 @@ respond-requires-clause-answer g c = subst (λ l. IsAnswer (drop (length l) c.st
 pub returns-clause-turned : goal.returns-clause-turned
 returns-clause-turned g c =
     let program = g.W.Workflow.program in
-    let place = standpoint_of c.args.cut.now in
+    let place = context_of c.args.cut.now in
     let job = c.args.job.now in
     let state = c.args.self.now.state in
     let meter : ℕ = c.args.meter.now in
