@@ -8,3 +8,4 @@ pub mod Tasks
 pub mod Statuses
 pub mod Names
 pub mod Keys
+pub mod Rows

@@ -12,9 +12,9 @@ use Rattle.wh_slots.specs.declared.Place.{Place}
 use Rattle.wh_slots.specs.declared.Place.TheVariants.{Free, Reserved, InHand}
 use Rattle.wh_slots.specs.declared.ReserveFault.{ReserveFault}
 use Rattle.wh_slots.specs.declared.NotReserved.{NotReserved}
-use Rattle.wh_slots.specs.Table.{Table, table, IsTable, Reserves, Uses, Frees, Releases, IsReserved, IsPlaceOf, IsHeld, IsNamed, number_of, name_of, is_any_held, is_any_reserved, IsReserveFault}
-use Rattle.wh_slots.proofs.Places.{IsTable-free, IsTable-reserve, IsTable-use}
-use Rattle.wh_slots.proofs.Steps.{count_by-set_at}
+use Rattle.wh_slots.specs.Table.{Table, table, IsTable, Reserves, Uses, Frees, Releases, IsReserved, IsPlaceOf, IsHeld, IsNamed, number_of, name_of, is_any_held, is_any_reserved, held_count, reserved_count, IsReserveFault}
+use Rattle.wh_slots.proofs.Places.{IsTable-free, IsTable-use}
+use Rattle.wh_slots.proofs.Steps.{count_by-set_at, Reserves-keeps, Releases-keeps}
 use Rattle.wh_events.specs.declared.key.RunKey.{RunKey}
 use Rattle.wh_events.specs.Keys.{same_key}
 use Rattle.wh_workflow.specs.Law.{Program}
@@ -58,44 +58,80 @@ outcome_ended : (outcome : Outcome) (books : Shares) → (with_outcome outcome b
 outcome_ended Completed books = omega arith
 outcome_ended Failed books = omega arith
 
+-- as many places are held, as the marks say, and each place that is reserved since has a number that was given out since
+record KeepsHeld (old new : Table) : Type 0 where
+  kind : new.kind ≡ old.kind
+  draining : new.draining ≡ old.draining
+  held : held_count new ≡ held_count old
+  reserved : reserved_count new + old.next ≤ reserved_count old + new.next
+  marked : (marks : List (Option Mark)) → AllMarked old.places marks → AllMarked new.places marks
+
+Reserves-held : (old new : Table) (permit : Claim) → Reserves old new permit → KeepsHeld old new
+Reserves-held old new permit r =
+    let held = count_by-set_at is_any_held old.places r.place Free (Reserved old.next) r.was_free in
+    let reserved = count_by-set_at is_any_reserved old.places r.place Free (Reserved old.next) r.was_free in
+    subst (KeepsHeld old) (sym r.changed)
+    (record {
+      kind = refl;
+      draining = refl;
+      held = omega (arith, held);
+      reserved = omega (arith, reserved);
+      marked = λ marks. AllMarked-set_place old.places marks r.place Free (Reserved old.next) r.was_free refl;
+    })
+
+Releases-held : (old new : Table) (permit : Claim) → Releases old new permit → KeepsHeld old new
+Releases-held old new permit r =
+    let held = count_by-set_at is_any_held old.places r.place (Reserved permit.1) Free r.was_reserved in
+    let reserved = count_by-set_at is_any_reserved old.places r.place (Reserved permit.1) Free r.was_reserved in
+    subst (KeepsHeld old) (sym r.changed)
+    (record {
+      kind = refl;
+      draining = refl;
+      held = omega (arith, held);
+      reserved = omega (arith, reserved);
+      marked = λ marks. AllMarked-set_place old.places marks r.place (Reserved permit.1) Free r.was_reserved refl;
+    })
+
 module _ {S : Type 0} (program : Program S) (old : HostView) (h : IsHost program old) where
-  pub reserve_workflow : (t : Table) (permit : Claim) → Reserves old.workflow t permit → IsHost program (record old { workflow = t })
-  reserve_workflow t permit r =
-      let i = r.place in
-      let held = count_by-set_at is_any_held old.workflow.places i Free (Reserved old.workflow.next) r.was_free in
-      let reserved = count_by-set_at is_any_reserved old.workflow.places i Free (Reserved old.workflow.next) r.was_free in
+  change_workflow : (t : Table) → IsTable t → KeepsHeld old.workflow t → IsHost program (record old { workflow = t })
+  change_workflow t table keeps =
+      let held = keeps.held in
+      let reserved = keeps.reserved in
       let counted = h.counted in
       let numbered = h.numbered in
-      subst (λ (x : Table). IsHost program (record old { workflow = x })) (sym r.changed)
-      (record {
-        workflow = IsTable-reserve old.workflow.kind old.workflow.places old.workflow.next old.workflow.draining i r.in_range h.workflow;
+      record {
+        workflow = table;
         activity = h.activity;
-        kinds = h.kinds;
-        draining = h.draining;
-        marked = AllMarked-set_place old.workflow.places old.marks i Free (Reserved old.workflow.next) r.was_free refl h.marked;
+        kinds = (keeps.kind ∙ h.kinds.0, h.kinds.1);
+        draining = keeps.draining ∙ h.draining;
+        marked = keeps.marked old.marks h.marked;
         counted = omega (arith, held, counted);
         numbered = omega (arith, reserved, numbered);
         cached = h.cached;
-      })
+      }
 
-  pub reserve_activity : (t : Table) (permit : Claim) → Reserves old.activity t permit → IsHost program (record old { activity = t })
-  reserve_activity t permit r =
-      let i = r.place in
-      let held = count_by-set_at is_any_held old.activity.places i Free (Reserved old.activity.next) r.was_free in
-      let reserved = count_by-set_at is_any_reserved old.activity.places i Free (Reserved old.activity.next) r.was_free in
+  change_activity : (t : Table) → IsTable t → KeepsHeld old.activity t → IsHost program (record old { activity = t })
+  change_activity t table keeps =
+      let held = keeps.held in
+      let reserved = keeps.reserved in
       let counted = h.counted in
       let numbered = h.numbered in
-      subst (λ (x : Table). IsHost program (record old { activity = x })) (sym r.changed)
-      (record {
+      record {
         workflow = h.workflow;
-        activity = IsTable-reserve old.activity.kind old.activity.places old.activity.next old.activity.draining i r.in_range h.activity;
-        kinds = h.kinds;
-        draining = h.draining;
+        activity = table;
+        kinds = (h.kinds.0, keeps.kind ∙ h.kinds.1);
+        draining = h.draining ∙ sym keeps.draining;
         marked = h.marked;
         counted = omega (arith, held, counted);
         numbered = omega (arith, reserved, numbered);
         cached = h.cached;
-      })
+      }
+
+  pub reserve_workflow : (t : Table) (permit : Claim) → Reserves old.workflow t permit → IsHost program (record old { workflow = t })
+  reserve_workflow t permit r = change_workflow t (Reserves-keeps old.workflow t permit h.workflow r) (Reserves-held old.workflow t permit r)
+
+  pub reserve_activity : (t : Table) (permit : Claim) → Reserves old.activity t permit → IsHost program (record old { activity = t })
+  reserve_activity t permit r = change_activity t (Reserves-keeps old.activity t permit h.activity r) (Reserves-held old.activity t permit r)
 
   pub reserve_either : (t : Table) (r : Result Claim ReserveFault) → IfOk r (Reserves old.workflow t) → OnErr r (t ≡ old.workflow) → IsHost program (record old { workflow = t })
   reserve_either t (Ok permit) s same = reserve_workflow t permit s
@@ -164,42 +200,10 @@ module _ {S : Type 0} (program : Program S) (old : HostView) (h : IsHost program
       }
 
   pub release_workflow : (t : Table) (permit : Claim) → Releases old.workflow t permit → IsHost program (record old { workflow = t })
-  release_workflow t permit r =
-      let i = r.place in
-      let held = count_by-set_at is_any_held old.workflow.places i (Reserved permit.1) Free r.was_reserved in
-      let reserved = count_by-set_at is_any_reserved old.workflow.places i (Reserved permit.1) Free r.was_reserved in
-      let counted = h.counted in
-      let numbered = h.numbered in
-      subst (λ (x : Table). IsHost program (record old { workflow = x })) (sym r.changed)
-      (record {
-        workflow = IsTable-free old.workflow.kind old.workflow.places old.workflow.next old.workflow.draining i h.workflow;
-        activity = h.activity;
-        kinds = h.kinds;
-        draining = h.draining;
-        marked = AllMarked-set_place old.workflow.places old.marks i (Reserved permit.1) Free r.was_reserved refl h.marked;
-        counted = omega (arith, held, counted);
-        numbered = omega (arith, reserved, numbered);
-        cached = h.cached;
-      })
+  release_workflow t permit r = change_workflow t (Releases-keeps old.workflow t permit h.workflow r) (Releases-held old.workflow t permit r)
 
   pub release_activity : (t : Table) (permit : Claim) → Releases old.activity t permit → IsHost program (record old { activity = t })
-  release_activity t permit r =
-      let i = r.place in
-      let held = count_by-set_at is_any_held old.activity.places i (Reserved permit.1) Free r.was_reserved in
-      let reserved = count_by-set_at is_any_reserved old.activity.places i (Reserved permit.1) Free r.was_reserved in
-      let counted = h.counted in
-      let numbered = h.numbered in
-      subst (λ (x : Table). IsHost program (record old { activity = x })) (sym r.changed)
-      (record {
-        workflow = h.workflow;
-        activity = IsTable-free old.activity.kind old.activity.places old.activity.next old.activity.draining i h.activity;
-        kinds = h.kinds;
-        draining = h.draining;
-        marked = h.marked;
-        counted = omega (arith, held, counted);
-        numbered = omega (arith, reserved, numbered);
-        cached = h.cached;
-      })
+  release_activity t permit r = change_activity t (Releases-keeps old.activity t permit h.activity r) (Releases-held old.activity t permit r)
 
   -- a table after a release that was done or refused
   pub release_either : (t : Table) (permit : Claim) (r : Result (Unit {0}) (Claim × NotReserved)) → OnOk r (Releases old.workflow t permit) → OnErr r (t ≡ old.workflow) → IsHost program (record old { workflow = t })

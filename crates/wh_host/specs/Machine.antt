@@ -1,5 +1,6 @@
 -- The host as a machine: its state, its calls with their replies, and the step that each call is.
 use Rattle.std.specs.Prelude.{◌||◌, cond, map, ◌≡◌, ℕ, ◌+◌, ◌-◌, ◌<◌, ◌≤◌, Bool, true, false, List, [], ◌∷◌, length, replicate, Option, Some, None, is_some, Result, Ok, MatchResult, slice_get, slice_set, option_map}
+use Rattle.std.specs.declared.sync.ledger.Blank.{Blank}
 use Rattle.std.specs.Map.{lookup, lookup_entry, remove_entry}
 use Rattle.wh_slots.specs.declared.SlotKind.{SlotKind}
 use Rattle.wh_slots.specs.declared.SlotKind.TheVariants.{Workflow, Activity}
@@ -64,6 +65,11 @@ pub record IsConfig (config : Config) : Type 0 where
   pub cache : config.cache ≤ 10000
   pub cache_events : config.cache_events ≤ 512000000
   pub seats : (0 < config.seats) × (config.seats ≤ 64)
+
+-- a new ledger of this name with as many parts, one for each seat of a host of these sizes
+abbrev pub IsBlankOf : Config → Blank → ℕ → ℕ → Type 0
+IsBlankOf config blank name parts =
+    (blank.name ≡ name) × (blank.parts ≡ parts) × (IsConfig config → blank.parts ≡ config.seats)
 
 -- the state that a host of these sizes opens with
 abbrev pub opening_of : Config → HostView

@@ -3,7 +3,7 @@ ghost use Rattle.std.specs.Prelude.{◌≡◌, ◌<◌, ◌+◌, ◌↔◌, IfOk
 ghost use Rattle.std.specs.Prelude.{replicate};
 ghost use Rattle.std.specs.Sync.Mutex.{mutex_guard_value};
 ghost use Rattle.wh_ledger.specs.Shares.{no_shares, sums_of};
-ghost use Rattle.wh_host.specs.Machine.{IsConfig, IsHost, totals_of};
+ghost use Rattle.wh_host.specs.Machine.{IsConfig, IsBlankOf, IsHost, totals_of};
 
 use crate::config::{Config, OpenFault};
 use crate::reply::Totals;
@@ -32,15 +32,9 @@ impl<W: Workflow, T: Ledger, C: Ledger, F: Ledger> Host<W, T, C, F> {
         completed: Blank,
         failed: Blank,
     ) -> Result<(Self, Vec<Seat<T, C, F>>), OpenFault>
-        requires taken { (taken.name ≡ T.name)
-            × (taken.parts ≡ T.parts)
-            × (IsConfig config → taken.parts ≡ config.seats) }
-        requires completed { (completed.name ≡ C.name)
-            × (completed.parts ≡ C.parts)
-            × (IsConfig config → completed.parts ≡ config.seats) }
-        requires failed { (failed.name ≡ F.name)
-            × (failed.parts ≡ F.parts)
-            × (IsConfig config → failed.parts ≡ config.seats) }
+        requires taken { IsBlankOf config taken T.name T.parts }
+        requires completed { IsBlankOf config completed C.name C.parts }
+        requires failed { IsBlankOf config failed F.name F.parts }
         ensures seats { IfOk result (λ opened. opened.1.items ≡ replicate config.seats no_shares) }
         ensures bad { (result ≡ Err OpenFault.BadConfig) ↔ (¬ IsConfig config) }
     {

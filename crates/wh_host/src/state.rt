@@ -10,7 +10,7 @@ ghost use Rattle.wh_ledger.specs.Shares.{no_shares, sums_of, IsWithin};
 ghost use Rattle.wh_slots.specs.Table.{table};
 ghost use Rattle.wh_slots.specs.declared.Place.TheVariants.{Free};
 ghost use Rattle.wh_slots.specs.declared.SlotKind.{SlotKind};
-ghost use Rattle.wh_host.specs.Machine.{IsConfig, IsHost, in_hand, totals_of, opening_of, step};
+ghost use Rattle.wh_host.specs.Machine.{IsConfig, IsBlankOf, IsHost, in_hand, totals_of, opening_of, step};
 ghost use Rattle.wh_host.specs.Machine.{with_taken, with_outcome, books_of, give_reply_of, evicted_for};
 ghost use Rattle.wh_host.specs.Machine.{has_key, has_mark, is_marked_at, Reserve, Release};
 ghost use Rattle.wh_host.specs.Machine.{UseWorkflow, UseActivity, GiveRun, EvictRun, Finish, Drain};
@@ -64,9 +64,9 @@ impl<W: Workflow, T: Ledger, C: Ledger, F: Ledger> Model for HostState<W, T, C, 
 }
 
 impl<W: Workflow, T: Ledger, C: Ledger, F: Ledger> HostState<W, T, C, F> {
-    /// A state with all places free, an empty cache and empty books, and its seats, each of which
-    /// has counted nothing. The three blanks have as many parts as there are seats. `BadConfig`
-    /// where a size is not within its range, `OutOfMemory` where there was no memory.
+    /// A state with all places free, an empty cache and empty books, and seats that have counted
+    /// nothing. Each blank has as many parts as there are seats. `BadConfig` where a size is not
+    /// within its range, `OutOfMemory` where there was no memory.
     pub fn open(
         alloc: Global,
         config: Config,
@@ -74,15 +74,9 @@ impl<W: Workflow, T: Ledger, C: Ledger, F: Ledger> HostState<W, T, C, F> {
         completed: Blank,
         failed: Blank,
     ) -> Result<(Self, Vec<Seat<T, C, F>>), OpenFault>
-        requires taken { (taken.name ≡ T.name)
-            × (taken.parts ≡ T.parts)
-            × (IsConfig config → taken.parts ≡ config.seats) }
-        requires completed { (completed.name ≡ C.name)
-            × (completed.parts ≡ C.parts)
-            × (IsConfig config → completed.parts ≡ config.seats) }
-        requires failed { (failed.name ≡ F.name)
-            × (failed.parts ≡ F.parts)
-            × (IsConfig config → failed.parts ≡ config.seats) }
+        requires taken { IsBlankOf config taken T.name T.parts }
+        requires completed { IsBlankOf config completed C.name C.parts }
+        requires failed { IsBlankOf config failed F.name F.parts }
         ensures opened { IfOk result (λ opened. opened.0 ≡ opening_of config) }
         ensures seats { IfOk result (λ opened. opened.1.items ≡ replicate config.seats no_shares) }
         ensures bad { (result ≡ Err OpenFault.BadConfig) ↔ (¬ IsConfig config) }

@@ -147,13 +147,6 @@ impl<T: Ledger, C: Ledger, F: Ledger> Books<T, C, F> {
         ))
     }
 
-    /// How many seats were opened.
-    pub fn seats(&self) -> usize
-        ensures { result ≡ T.parts }
-    {
-        self.seats
-    }
-
     /// What all seats have counted.
     pub fn totals(&self) -> Shares
         ensures { result ≡ self.now }

@@ -7,15 +7,15 @@ use wh_events::EventNo;
 
 /// A short way back from a thing to an earlier one of its kind and id.
 #[derive(Clone, Copy, Debug)]
-pub struct Jump {
+pub(crate) struct Jump {
     /// The number of that earlier thing.
-    pub to: Option<EventNo>,
+    pub(crate) to: Option<EventNo>,
     /// How many things of the kind and id are before this one.
-    pub depth: u64,
+    pub(crate) depth: u64,
 }
 
 /// The jump of what opens nothing, or nothing that was opened before.
-pub const NO_JUMP: Jump = Jump { to: None, depth: 0 };
+pub(crate) const NO_JUMP: Jump = Jump { to: None, depth: 0 };
 
 /// Where the jump of the event of the number goes.
 fn target(jumps: &[Jump], number: EventNo) -> Option<EventNo>
@@ -38,7 +38,7 @@ fn depth(jumps: &[Jump], number: EventNo) -> u64 {
 /// The jump of a thing that comes next after the one of the number. It goes there, or, where two
 /// jumps from there are equally long, past both: so a walk back takes steps in proportion to the
 /// logarithm of what it passes (E. W. Myers, "An applicative random-access stack", 1983).
-pub fn jump_to(jumps: &[Jump], previous: EventNo) -> Jump
+pub(crate) fn jump_to(jumps: &[Jump], previous: EventNo) -> Jump
     ensures some { IsSome result.to }
     ensures short { IfSome result.to (IsShort jumps.now previous) }
 {
@@ -63,7 +63,7 @@ pub fn jump_to(jumps: &[Jump], previous: EventNo) -> Jump
 
 /// The next thing of a walk back from one past the place: where its jump goes, if that is past the
 /// place too, else the one before it.
-pub fn step_back(
+pub(crate) fn step_back(
     jumps: &[Jump],
     number: EventNo,
     previous: Option<EventNo>,

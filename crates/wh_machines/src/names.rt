@@ -13,10 +13,10 @@ use wh_events::{EventNo, OutOfMemory, Thing};
 /// The last thing that was opened under each id, for the kinds whose open things have different
 /// ids.
 #[derive(Debug, Drop)]
-pub struct Names {
-    pub activities: BTreeMap<String, EventNo>,
-    pub timers: BTreeMap<String, EventNo>,
-    pub children: BTreeMap<String, EventNo>,
+pub(crate) struct Names {
+    pub(crate) activities: BTreeMap<String, EventNo>,
+    pub(crate) timers: BTreeMap<String, EventNo>,
+    pub(crate) children: BTreeMap<String, EventNo>,
 }
 
 /// Sets the last thing of an id.
@@ -37,7 +37,7 @@ impl Names {
     ghost use Rattle.wh_machines.specs.Tables.{named_in};
 
     /// No thing has an id yet. It takes no memory.
-    pub fn new(alloc: Global) -> Self
+    pub(crate) fn new(alloc: Global) -> Self
         ensures { (thing : Thing) (id : List ℕ) → named_in result thing id ≡ None }
     {
         Names {
@@ -48,7 +48,7 @@ impl Names {
     }
 
     /// The last thing of a kind under an id.
-    pub fn last(&self, thing: Thing, id: &str) -> Option<EventNo>
+    pub(crate) fn last(&self, thing: Thing, id: &str) -> Option<EventNo>
         ensures { result ≡ named_in self.now thing id.now }
     {
         match thing {
@@ -60,7 +60,7 @@ impl Names {
     }
 
     /// Sets the last thing of a kind under an id, if the ids of the kind are kept.
-    pub fn set(
+    pub(crate) fn set(
         &mut self,
         alloc: Global,
         thing: Thing,

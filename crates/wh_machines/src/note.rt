@@ -12,7 +12,7 @@ use std::alloc::Global;
 use wh_events::{Effect, EventNo, OutOfMemory, Role, Thing};
 
 /// Notes an event of that number and role in the tables. Without memory they stay as they were.
-pub fn note(
+pub(crate) fn note(
     alloc: Global,
     openings: &mut Openings,
     names: &mut Names,

@@ -8,19 +8,19 @@ use wh_events::{Effect, EventNo, Status};
 
 /// A thing that an event opened, and the numbers of the first events that changed it.
 #[derive(Clone, Copy, Debug)]
-pub struct Opening {
-    pub number: EventNo,
-    pub started: Option<EventNo>,
-    pub cancelling: Option<EventNo>,
-    pub closed: Option<EventNo>,
+pub(crate) struct Opening {
+    pub(crate) number: EventNo,
+    pub(crate) started: Option<EventNo>,
+    pub(crate) cancelling: Option<EventNo>,
+    pub(crate) closed: Option<EventNo>,
     /// The thing of the same kind that was opened under the same id before.
-    pub previous: Option<EventNo>,
+    pub(crate) previous: Option<EventNo>,
 }
 
 impl Opening {
     /// What the event of the number opened, of which nothing more is known; `previous` is the
     /// opening of its kind and id before it.
-    pub fn new(number: EventNo, previous: Option<EventNo>) -> Self
+    pub(crate) fn new(number: EventNo, previous: Option<EventNo>) -> Self
         ensures { result ≡ new_opening number previous }
     {
         Opening {
@@ -33,7 +33,7 @@ impl Opening {
     }
 
     /// Keeps the event of the number, if it is the first with this effect.
-    pub fn mark(&mut self, effect: Effect, by: EventNo)
+    pub(crate) fn mark(&mut self, effect: Effect, by: EventNo)
         ensures { self.new ≡ with_effect effect by self.old }
     {
         match effect {
@@ -44,7 +44,7 @@ impl Opening {
     }
 
     /// Where the thing stood after the event at the place.
-    pub fn status_up_to(&self, place: u64) -> Status
+    pub(crate) fn status_up_to(&self, place: u64) -> Status
         ensures { result ≡ status_up_to place self.now }
     {
         if let Some(by) = kept_up_to(place, self.closed) {

@@ -11,16 +11,16 @@ use wh_events::{Effect, EventNo, OutOfMemory};
 
 /// The things that the events opened, each found by the number of its event.
 #[derive(Debug, Drop)]
-pub struct Openings {
-    pub entries: Slab<Opening>,
-    pub keys: BTreeMap<u64, usize>,
+pub(crate) struct Openings {
+    pub(crate) entries: Slab<Opening>,
+    pub(crate) keys: BTreeMap<u64, usize>,
 }
 
 impl Openings {
     ghost use Rattle.wh_machines.specs.Tables.{IsSound, opening_in};
 
     /// Nothing is opened yet. It takes no memory.
-    pub fn new(alloc: Global) -> Self
+    pub(crate) fn new(alloc: Global) -> Self
         ensures sound { IsSound result }
         ensures empty { (number : ℕ) → opening_in result number ≡ None }
     {
@@ -31,7 +31,7 @@ impl Openings {
     }
 
     /// The thing that the event of the number opened.
-    pub fn find(&self, number: u64) -> Option<Opening>
+    pub(crate) fn find(&self, number: u64) -> Option<Opening>
         ensures { result ≡ opening_in self.now number }
     {
         let key = *self.keys.get(&number)?;
@@ -39,7 +39,7 @@ impl Openings {
     }
 
     /// Enters an opening whose number is not there. After `OutOfMemory` the table is as it was.
-    pub fn insert(&mut self, opening: Opening) -> Result<(), OutOfMemory>
+    pub(crate) fn insert(&mut self, opening: Opening) -> Result<(), OutOfMemory>
         requires sound { IsSound self.old }
         requires unknown { opening_in self.old opening.number ≡ None }
         ensures sound { IsSound self.new }
@@ -55,7 +55,7 @@ impl Openings {
     }
 
     /// Takes back the thing that the event of the number opened.
-    pub fn remove(&mut self, number: u64)
+    pub(crate) fn remove(&mut self, number: u64)
         requires { IsSound self.old }
         ensures sound { IsSound self.new }
         ensures removed { (other : ℕ) → opening_in self.new other
@@ -67,7 +67,7 @@ impl Openings {
     }
 
     /// Marks the thing that the event of the number opened, if there is one.
-    pub fn mark(&mut self, number: u64, effect: Effect, by: EventNo)
+    pub(crate) fn mark(&mut self, number: u64, effect: Effect, by: EventNo)
         requires { IsSound self.old }
         ensures sound { IsSound self.new }
         ensures marked { (other : ℕ) → opening_in self.new other

@@ -8,14 +8,14 @@ ghost use Rattle.wh_events.specs.Places as places;
 use wh_events::{Class, Event, Role, Thing};
 
 /// Whether the event starts the run.
-pub fn is_start(event: &Event) -> bool
+pub(crate) fn is_start(event: &Event) -> bool
     ensures { result ≡ places.is_start event.now }
 {
     matches!(event.class(), Class::Start)
 }
 
 /// Whether open things of this kind have different ids.
-pub fn is_named(thing: Thing) -> bool
+pub(crate) fn is_named(thing: Thing) -> bool
     ensures { result ≡ places.is_named thing }
 {
     matches!(thing, Thing::Activity | Thing::Timer | Thing::Child)
@@ -33,7 +33,7 @@ fn opens_thing(thing: Thing, role: Role<'_>) -> bool
 }
 
 /// Whether the event of the number opens such a thing.
-pub fn opens_at(events: &[Event], thing: Thing, number: u64) -> bool
+pub(crate) fn opens_at(events: &[Event], thing: Thing, number: u64) -> bool
     ensures { result ≡ places.is_thing thing (opened_thing (role_at events.now number)) }
 {
     match events.get(number.saturating_sub(1) as usize) {

@@ -1,5 +1,6 @@
 -- What a line of the bridge says.
-use Rattle.std.specs.Prelude.{◌≡◌, ◌≢◌, ℕ, ℤ, ◌&&◌, List, Bool, codes, Option, Some, None, Result, Ok, Err, ⊤, nat_lt, length, is_some, option_and_then, string_bytes, if◌then◌else◌}
+use Rattle.std.specs.Prelude.{◌≡◌, ◌≢◌, ℕ, ℤ, ◌&&◌, List, Bool, codes, Option, Some, None, Result, Ok, Err, nat_lt, length, is_some, option_and_then, string_bytes, if◌then◌else◌}
+use Rattle.std.specs.Option.{ok_or}
 use Rattle.std.specs.Str.{bytes_eq, is_utf8}
 use Rattle.serde_json.specs.Data.{Data}
 use Rattle.serde_json.specs.Find.{get, as_number, as_u64, as_i64, as_str, as_object}
@@ -44,15 +45,6 @@ abbrev pub ◌>>=◌ : {A B : Type 0} → Result A BadLine → (A → Result B B
 (Ok x) >>= f = f x
 (Err e) >>= f = Err e
 
--- the value, or this fault where there is none
-abbrev pub or_fault : {A : Type 0} → BadLine → Option A → Result A BadLine
-or_fault fault None = Err fault
-or_fault fault (Some x) = Ok x
-
--- this fault, unless the test holds
-abbrev pub passes : BadLine → Bool → Result ⊤ BadLine
-passes fault test = if test then Ok tt else Err fault
-
 -- what a call returned, seen by view, is what reading gives, unless memory ran out
 abbrev pub Gives : {X Y : Type 0} → (X → Y) → Result X BadLine → Result Y BadLine → Type 0
 Gives view (Ok x) read = read ≡ Ok (view x)
@@ -68,8 +60,8 @@ message_of error = option_and_then as_str (get (codes "message") error)
 -- an error has a code and a message
 unfoldable pub refusal_of : Data → Result Answer BadLine
 refusal_of error = do
-  code ← or_fault bad.BadError (code_of error)
-  message ← or_fault bad.BadError (message_of error)
+  code ← ok_or (code_of error) bad.BadError
+  message ← ok_or (message_of error) bad.BadError
   Ok (refused code message)
 
 abbrev pub id_of : Data → Option ℕ
@@ -92,7 +84,7 @@ has_two d = is_some (get (codes "result") d) && is_some (get (codes "error") d)
 unfoldable pub response_of : Data → Result Meaning BadLine
 response_of d =
     if has_two d then Err bad.TwoOutcomes
-    else (or_fault bad.BadId (id_of d) >>= (λ id. outcome_of d >>= (λ answer. Ok (answers id answer))))
+    else (ok_or (id_of d) bad.BadId >>= (λ id. outcome_of d >>= (λ answer. Ok (answers id answer))))
 
 -- the only method is that of a shutdown
 abbrev pub notice_by : Option (List ℕ) → Result Meaning BadLine
@@ -119,4 +111,4 @@ longest = 134217728
 unfoldable pub meaning : List ℕ → Result Meaning BadLine
 meaning bytes =
     if nat_lt longest (length bytes) then Err bad.TooLong
-    else (text_of bytes >>= (λ text. or_fault bad.NotJson (read text) >>= said_by))
+    else (text_of bytes >>= (λ text. ok_or (read text) bad.NotJson >>= said_by))

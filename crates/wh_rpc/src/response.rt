@@ -1,10 +1,11 @@
 //! What a line of the bridge says.
 
 ghost use Rattle.std.specs.Prelude.{◌≡◌, ◌≢◌, codes, option_map, IfOk, IfErr, Some, None, is_some};
+ghost use Rattle.std.specs.Option.{ok_or};
 ghost use Rattle.serde_json.specs.Find.{get};
 ghost use Rattle.serde_json.specs.Read.{read};
 ghost use Rattle.serde_json.specs.View.{view};
-ghost use Rattle.wh_rpc.specs.Responses.{Gives, answer_seen, response_seen, line_seen, or_fault};
+ghost use Rattle.wh_rpc.specs.Responses.{Gives, answer_seen, response_seen, line_seen};
 ghost use Rattle.wh_rpc.specs.Responses.{refusal_of, outcome_of, has_two, response_of, notice_by};
 ghost use Rattle.wh_rpc.specs.Responses.{said_by, meaning, id_of, text_of};
 
@@ -96,7 +97,7 @@ fn has_two(value: &Value) -> bool
 
 /// The id of an object.
 fn id_in(value: &Value) -> Result<u64, BadLine>
-    ensures { Gives (λ id. id) result (or_fault BadLine.BadId (id_of (view value.now))) }
+    ensures { Gives (λ id. id) result (ok_or (id_of (view value.now)) BadLine.BadId) }
 {
     match value.get("id").and_then(Value::as_u64) {
         Some(id) => Ok(id),
@@ -154,7 +155,7 @@ fn text_in(bytes: &[u8]) -> Result<&str, BadLine>
 
 /// The value of a text.
 fn value_in(alloc: Global, text: &str) -> Result<Value, BadLine>
-    ensures { Gives view result (or_fault BadLine.NotJson (read text.now)) }
+    ensures { Gives view result (ok_or (read text.now) BadLine.NotJson) }
 {
     match Value::from_str(alloc, text) {
         Ok(value) => Ok(value),

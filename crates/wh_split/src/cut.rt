@@ -5,7 +5,7 @@ ghost use Rattle.wh_events.specs.Cuts.{next_core, is_task_started, is_cut};
 use wh_events::{Class, Event, EventKind};
 
 /// The first event that is not inert. It looks at the inert ones before it alone.
-pub fn next_core(events: &[Event]) -> Option<&Event>
+pub(crate) fn next_core(events: &[Event]) -> Option<&Event>
     ensures { option_copied result ≡ next_core events.now }
 {
     for event in events {
@@ -17,14 +17,14 @@ pub fn next_core(events: &[Event]) -> Option<&Event>
 }
 
 /// Whether the event starts a workflow task.
-pub fn is_task_started(event: &Event) -> bool
+pub(crate) fn is_task_started(event: &Event) -> bool
     ensures { result ≡ is_task_started event.now }
 {
     matches!(event.body, EventKind::WorkflowTaskStarted)
 }
 
 /// Whether the event is a cut of a history that goes on with the rest.
-pub fn is_cut(event: &Event, rest: &[Event]) -> bool
+pub(crate) fn is_cut(event: &Event, rest: &[Event]) -> bool
     ensures { result ≡ is_cut event.now rest.now }
 {
     if !is_task_started(event) {

@@ -1,9 +1,9 @@
 -- The fault of a command is the least row of the table that applies to it.
-use Rattle.std.proofs.Common.{slice_get, ◌≡◌, ℕ, zero, suc, ◌+◌, ◌≤◌, ◌⊎◌, Bool, true, false, not, ◌&&◌, ◌||◌, List, [], ◌∷◌, ◌++◌, length, Option, Some, None, refl, sym, ap, subst, ◌∙◌, inl, inr, arith, eqb, leb, is_some, bytes_eq, IsTrue, T, ℤ, pos, negsuc}
+use Rattle.std.proofs.Common.{slice_get, ◌≡◌, ℕ, zero, suc, ◌+◌, ◌⊎◌, Bool, true, false, not, ◌&&◌, ◌||◌, List, [], ◌∷◌, ◌++◌, length, Option, Some, None, refl, sym, ap, subst, ◌∙◌, inl, inr, arith, eqb, leb, is_some, bytes_eq, IsTrue, T, ℤ, pos, negsuc}
 use Rattle.std.specs.Prelude.{int_lt, ◌<ℤ◌}
 use Rattle.std.specs.Int.Signed.{lt_z_yes}
 use Rattle.std.specs.Bool.{Decides}
-use Rattle.std.proofs.lemmas.Bool.Decides.{Decides-eqb, Decides-not, Decides-and, Decides-or, Decides-like, nat_tests}
+use Rattle.std.proofs.lemmas.Bool.Decides.{Decides-eqb, Decides-not, Decides-and, Decides-or, Decides-like}
 use Rattle.std.proofs.lemmas.Slice.Eq.{bytes_eq-Decides}
 use Rattle.wh_events.specs.declared.event.Event.{Event}
 use Rattle.wh_events.specs.declared.place.Status.TheVariants.{Cancelling as CancellingStatus, Closed}
@@ -13,7 +13,7 @@ use Rattle.wh_events.specs.Cuts.{is_outside}
 use Rattle.wh_events.specs.Machines.{same_thing, open_named, last_named, closes, closed_by, is_cancelling, is_started, status_by, or_else}
 use Rattle.wh_events.specs.InPlace.{InPlace, IsAt, HasOpen}
 use Rattle.wh_events.specs.Places.{is_named}
-use Rattle.wh_events.proofs.Placing.{or_cases, or_left, or_right, leb_cases, same_decides, has_decides, closed_decides, some_decides, at_index, index_of}
+use Rattle.wh_events.proofs.Placing.{or_cases, or_left, or_right, leb_decides, same_decides, has_decides, closed_decides, some_decides, at_index, index_of}
 use Rattle.wh_events.proofs.Standing.{same_event}
 use Rattle.wh_events.proofs.Saying.{some_or_none, status_is_said}
 use Rattle.wh_events.proofs.Naming.{open_unclosed, last_last}
@@ -23,7 +23,9 @@ use Rattle.wh_workflow.specs.declared.fault.WorkflowFault.{WorkflowFault}
 use Rattle.wh_workflow.specs.declared.fault.WorkflowFault.TheVariants.{AfterClosing, TooManyCommands, IdInUse, IdReused, NotOpen, AlreadyCancelling, BadRange, VersionOutOfRange, UnknownWorkflow}
 use Rattle.wh_workflow.specs.Scripts.{ActivationContext, Settled, Act, act_of, act_opens, act_cancels, act_closes, some_act, left_open, withdrawn, is_timer, open_at, still_open, has_outside, closer_of, is_late, cancels_open, is_cancelled, choice_of, fault_if, opening_fault, cancel_fault, ask_fault, act_fault, given, most_commands, command_fault}
 use Rattle.wh_workflow.specs.Scripts.Act.{Opening, Cancelling, Closing, Asking, Other}
-use Rattle.wh_workflow.specs.CommandFaults.{IsOfCut, Does, IsLeftOpen, IsWithdrawn, IsStillOpen, IsEndedHere, IsLateCancel, IsCancellingAtCut, UsesId, ReusesId, CancelsNothing, CancelsAgain, AsksBadRange, GetsOutOfRange, RowApplies, row_of, IsLeastRow, LeastRowDecides}
+use Rattle.wh_workflow.specs.CommandFaults.{IsOfCut, Does, IsLeftOpen, IsWithdrawn, IsStillOpen, IsEndedHere, IsLateCancel, IsCancellingAtCut, UsesId, ReusesId, CancelsNothing, CancelsAgain, AsksBadRange, GetsOutOfRange, RowApplies, row_of, LeastRowDecides}
+use Rattle.wh_events.specs.Rows.{IsLeastOrNone}
+use Rattle.wh_events.proofs.Rows.{first_row, first_row_is_least}
 
 -- a test whether one of the commands, with those after it, passes another
 module _ (p : Command → List Command → Bool) (f : List Command → Bool) (none : f [] ≡ false) (one : (x : Command) (rest : List Command) → f (x ∷ rest) ≡ (p x rest || f rest)) where
@@ -254,12 +256,20 @@ row_test context settled earlier command BadRange = asks_badly (act_of command)
 row_test context settled earlier command VersionOutOfRange = gets_badly context settled (act_of command)
 row_test context settled earlier command UnknownWorkflow = false
 
--- the least row that passes
-first_row : (WorkflowFault → Bool) → Option WorkflowFault
-first_row t =
-    or_else (fault_if (t AfterClosing) AfterClosing) (or_else (fault_if (t TooManyCommands) TooManyCommands) (or_else (fault_if (t IdInUse) IdInUse)
-    (or_else (fault_if (t IdReused) IdReused) (or_else (fault_if (t NotOpen) NotOpen) (or_else (fault_if (t AlreadyCancelling) AlreadyCancelling)
-    (or_else (fault_if (t BadRange) BadRange) (or_else (fault_if (t VersionOutOfRange) VersionOutOfRange) (or_else (fault_if (t UnknownWorkflow) UnknownWorkflow) None))))))))
+-- the rows of the table, in their order
+abbrev rows : List WorkflowFault
+rows = AfterClosing ∷ TooManyCommands ∷ IdInUse ∷ IdReused ∷ NotOpen ∷ AlreadyCancelling ∷ BadRange ∷ VersionOutOfRange ∷ UnknownWorkflow ∷ []
+
+stands : (f : WorkflowFault) → (k : ℕ) × (row_of f ≡ suc k) × (slice_get rows k ≡ Some f)
+stands AfterClosing = (0, refl, refl)
+stands TooManyCommands = (1, refl, refl)
+stands IdInUse = (2, refl, refl)
+stands IdReused = (3, refl, refl)
+stands NotOpen = (4, refl, refl)
+stands AlreadyCancelling = (5, refl, refl)
+stands BadRange = (6, refl, refl)
+stands VersionOutOfRange = (7, refl, refl)
+stands UnknownWorkflow = (8, refl, refl)
 
 or_none : (o : Option WorkflowFault) → o ≡ or_else o None
 or_none None = refl
@@ -278,57 +288,9 @@ in_rows context settled earlier (Asking change_id low high) =
 in_rows context settled earlier Closing = refl
 in_rows context settled earlier Other = refl
 
-fault_row : (context : ActivationContext) (settled : Settled) (earlier : List Command) (command : Command) → command_fault context settled earlier command ≡ first_row (row_test context settled earlier command)
-unfolding command_fault first_row row_test
+fault_row : (context : ActivationContext) (settled : Settled) (earlier : List Command) (command : Command) → command_fault context settled earlier command ≡ first_row rows (row_test context settled earlier command)
+unfolding command_fault row_test
 fault_row context settled earlier command = rw (in_rows context settled earlier (act_of command)) refl
-
--- what the rest of the rows tells, from one row on
-abbrev Tells : (WorkflowFault → Bool) → ℕ → Option WorkflowFault → Type 0
-Tells t n None = (f : WorkflowFault) → n ≤ row_of f → t f ≡ false
-Tells t n (Some f) = (n ≤ row_of f) × (t f ≡ true) × ((g : WorkflowFault) → n ≤ row_of g → t g ≡ true → row_of f ≤ row_of g)
-
-row_inj : (f g : WorkflowFault) → row_of f ≡ row_of g → f ≡ g
-row_inj AfterClosing AfterClosing e = refl
-row_inj TooManyCommands TooManyCommands e = refl
-row_inj IdInUse IdInUse e = refl
-row_inj IdReused IdReused e = refl
-row_inj NotOpen NotOpen e = refl
-row_inj AlreadyCancelling AlreadyCancelling e = refl
-row_inj BadRange BadRange e = refl
-row_inj VersionOutOfRange VersionOutOfRange e = refl
-row_inj UnknownWorkflow UnknownWorkflow e = refl
-row_inj _ _ e = absurd (omega arith)
-
-at_or_above : (f g : WorkflowFault) → row_of f ≤ row_of g → (f ≡ g) ⊎ (suc (row_of f) ≤ row_of g)
-at_or_above f g h = elim (leb_cases (suc (row_of f)) (row_of g)) [ inl more ↦ inr more | inr less ↦ inl (row_inj f g (omega arith)) ]
-
-tell : (t : WorkflowFault → Bool) (f : WorkflowFault) (rest : Option WorkflowFault) (here : Bool) → t f ≡ here → Tells t (suc (row_of f)) rest → Tells t (row_of f) (or_else (fault_if here f) rest)
-tell t f rest true e h = (omega arith, e, λ g above passes. above)
-tell t f None false e h = λ g above. elim (at_or_above f g above) [ inl same ↦ ap t (sym same) ∙ e | inr more ↦ h g more ]
-tell t f (Some other) false e h =
-    (let a = h.0 in omega arith, h.1, λ g above passes. elim (at_or_above f g above) [ inl same ↦ (let q : true ≡ false = sym passes ∙ (ap t (sym same) ∙ e) in cc) | inr more ↦ h.2 g more passes ])
-
-no_more : (t : WorkflowFault → Bool) → Tells t 10 None
-no_more t AfterClosing h = absurd (omega arith)
-no_more t TooManyCommands h = absurd (omega arith)
-no_more t IdInUse h = absurd (omega arith)
-no_more t IdReused h = absurd (omega arith)
-no_more t NotOpen h = absurd (omega arith)
-no_more t AlreadyCancelling h = absurd (omega arith)
-no_more t BadRange h = absurd (omega arith)
-no_more t VersionOutOfRange h = absurd (omega arith)
-no_more t UnknownWorkflow h = absurd (omega arith)
-
-first_tells : (t : WorkflowFault → Bool) → Tells t 1 (first_row t)
-unfolding first_row
-first_tells t =
-    tell t AfterClosing _ (t AfterClosing) refl (tell t TooManyCommands _ (t TooManyCommands) refl (tell t IdInUse _ (t IdInUse) refl (tell t IdReused _ (t IdReused) refl
-    (tell t NotOpen _ (t NotOpen) refl (tell t AlreadyCancelling _ (t AlreadyCancelling) refl (tell t BadRange _ (t BadRange) refl
-    (tell t VersionOutOfRange _ (t VersionOutOfRange) refl (tell t UnknownWorkflow None (t UnknownWorkflow) refl (no_more t)))))))))
-
-positive : (f : WorkflowFault) → 1 ≤ row_of f
-positive AfterClosing = omega arith
-positive _ = omega arith
 
 -- each test decides its row
 true_of : (b : Bool) → T b → b ≡ true
@@ -341,9 +303,6 @@ of_true false h = cc
 
 less_decides : (a b : ℤ) → Decides (int_lt a b) (a <ℤ b)
 less_decides a b = (λ h. lt_z_yes (of_true (int_lt a b) h), λ h. true_of (int_lt a b) h.lt)
-
-leb_decides : (a b : ℕ) → Decides (leb a b) (a ≤ b)
-leb_decides a b = (λ e. grind (arith, nat_tests), λ h. grind (arith, nat_tests))
 
 module _ (context : ActivationContext) (of_cut : IsOfCut context) (settled : Settled) (earlier : List Command) where
   uses_decides : (act : Act) → Decides (uses context earlier act) (UsesId context earlier act)
@@ -411,35 +370,8 @@ module _ (context : ActivationContext) (of_cut : IsOfCut context) (settled : Set
   row_decides command VersionOutOfRange = gets_badly_decides (act_of command)
   row_decides command UnknownWorkflow = (λ e. cc, λ h. absurd h)
 
--- the fault, and the rows that apply
-told : (t : WorkflowFault → Bool) (o : Option WorkflowFault) → Tells t 1 o → ((o ≡ None) × ((f : WorkflowFault) → t f ≡ false)) ⊎ ((f : WorkflowFault) × (o ≡ Some f) × (t f ≡ true) × ((g : WorkflowFault) → t g ≡ true → row_of f ≤ row_of g))
-told t None h = inl (refl, λ f. h f (positive f))
-told t (Some f) h = inr (f, refl, h.1, λ g. h.2 g (positive g))
-
--- either no row applies, or the fault is the least one
-fault_tells : (context : ActivationContext) (settled : Settled) (earlier : List Command) (command : Command) → IsOfCut context
-    → ((command_fault context settled earlier command ≡ None) × ((row : WorkflowFault) → ¬ RowApplies context settled earlier command row))
-    ⊎ ((f : WorkflowFault) × (command_fault context settled earlier command ≡ Some f) × IsLeastRow context settled earlier command f)
-fault_tells context settled earlier command of_cut =
-    let t = row_test context settled earlier command in
-    let decides = row_decides context of_cut settled earlier command in
-    elim (told t (first_row t) (first_tells t)) [
-      | inl none ↦ inl (fault_row context settled earlier command ∙ none.0, λ row h. let passed_here = (decides row).1 h in let failed_here = none.1 row in cc)
-      | inr some ↦ inr (some.0, fault_row context settled earlier command ∙ some.1, record { applies = (decides some.0).0 some.2; least = λ other h. some.3 other ((decides other).1 h) })
-    ]
-
-same_least : (context : ActivationContext) (settled : Settled) (earlier : List Command) (command : Command) (f g : WorkflowFault) → IsLeastRow context settled earlier command f → IsLeastRow context settled earlier command g → f ≡ g
-same_least context settled earlier command f g a b = let p = a.least g b.applies in let q = b.least f a.applies in row_inj f g (omega arith)
-
 pub least_row_decides : LeastRowDecides
 least_row_decides context settled earlier command of_cut =
-    elim (fault_tells context settled earlier command of_cut) [
-      | inl none ↦ ((λ _. none.1, λ _. none.0), λ fault. (λ e. let n = none.0 in cc, λ l. absurd (none.1 fault l.applies)))
-      | inr some ↦ (
-        (λ e. let n = some.1 in cc, λ h. absurd (h some.0 some.2.applies)),
-        λ fault. (
-          λ e. let same : some.0 ≡ fault = (let n = some.1 in cc) in subst (IsLeastRow context settled earlier command) same some.2,
-          λ l. some.1 ∙ ap Some (same_least context settled earlier command some.0 fault some.2 l),
-        ),
-      )
-    ]
+    let t = row_test context settled earlier command in
+    subst (IsLeastOrNone row_of (RowApplies context settled earlier command)) (sym (fault_row context settled earlier command))
+    (first_row_is_least row_of t rows refl stands (RowApplies context settled earlier command) (row_decides context of_cut settled earlier command))

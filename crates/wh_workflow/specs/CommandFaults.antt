@@ -1,6 +1,6 @@
 -- Which rows of the table of workflow faults apply to a command, said of the commands before it and
 -- of the history up to the cut.
-use Rattle.std.specs.Prelude.{◌≡◌, ℕ, ◌≤◌, ◌↔◌, ◌⊎◌, List, [], ◌∷◌, ◌++◌, length, Some, None, IsTrue, pos, negsuc, ◌<ℤ◌}
+use Rattle.std.specs.Prelude.{◌≡◌, ℕ, ◌≤◌, ◌⊎◌, List, [], ◌∷◌, ◌++◌, length, IsTrue, pos, negsuc, ◌<ℤ◌}
 use Rattle.wh_events.specs.declared.event.Event.{Event}
 use Rattle.wh_events.specs.declared.place.Status.TheVariants.{Cancelling as CancellingStatus}
 use Rattle.wh_events.specs.declared.place.Thing.{Thing}
@@ -8,6 +8,7 @@ use Rattle.wh_events.specs.declared.place.Thing.TheVariants.{Timer}
 use Rattle.wh_events.specs.Cuts.{is_outside}
 use Rattle.wh_events.specs.Machines.{closes, status_of}
 use Rattle.wh_events.specs.InPlace.{InPlace, IsAt, HasOpen}
+use Rattle.wh_events.specs.Rows.{IsLeastOrNone}
 use Rattle.wh_events.specs.Names.{IsOpenUnder, IsLastUnder}
 use Rattle.wh_workflow.specs.declared.command.Command.{Command}
 use Rattle.wh_workflow.specs.declared.fault.WorkflowFault.{WorkflowFault}
@@ -121,18 +122,8 @@ row_of BadRange = 7
 row_of VersionOutOfRange = 8
 row_of UnknownWorkflow = 9
 
--- the least row that applies
-pub record IsLeastRow (context : ActivationContext) (settled : Settled) (earlier : List Command) (command : Command)
-    (fault : WorkflowFault) : Type 0 where
-  pub applies : RowApplies context settled earlier command fault
-  pub least : (other : WorkflowFault) → RowApplies context settled earlier command other
-      → row_of fault ≤ row_of other
-
 -- the fault of a command at a cut is the least row of the table that applies
 abbrev pub LeastRowDecides : Type 0
 LeastRowDecides =
     (context : ActivationContext) (settled : Settled) (earlier : List Command) (command : Command) → IsOfCut context
-    → ((command_fault context settled earlier command ≡ None)
-    ↔ ((row : WorkflowFault) → ¬ RowApplies context settled earlier command row))
-    × ((fault : WorkflowFault) → (command_fault context settled earlier command ≡ Some fault)
-    ↔ IsLeastRow context settled earlier command fault)
+    → IsLeastOrNone row_of (RowApplies context settled earlier command) (command_fault context settled earlier command)
