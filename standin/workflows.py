@@ -13,15 +13,20 @@ OUTSIDE = ("Ship", "ShipTracked")
 # What nobody serves, and what a worker has to say of it.
 STRANGE, SAID_OF_STRANGE = "Nobody", "task at 1: UnknownWorkflow"
 OPENINGS = ("activityTaskScheduledEventAttributes", "startChildWorkflowExecutionInitiatedEventAttributes")
+CHILD = "startChildWorkflowExecutionCommandAttributes"
 # How long the timers of the tables are.
 TIMERS = {"nap": "60s", "t": "30s", "u": "5s", "hold": "86400s"}
 SECOND, DAY = 1_000, 86_400_000
 
 
-def payloads(value):
-    """A JSON value as payloads."""
-    encoding, data = (base64.b64encode(text.encode()).decode() for text in ("json/plain", json.dumps(value)))
-    return {"payloads": [{"metadata": {"encoding": encoding}, "data": data}]}
+def base64_of(text):
+    return base64.b64encode(text.encode()).decode()
+
+
+def payloads(*values):
+    """JSON values as payloads."""
+    metadata = {"encoding": base64_of("json/plain")}
+    return {"payloads": [{"metadata": metadata, "data": base64_of(json.dumps(value))} for value in values]}
 
 
 class Once:
@@ -45,7 +50,7 @@ class World:
         self.has_activity_workers = has_activity_workers
         self.server, self.started, self.coming, self.stuck, self.open = None, 0, 0, 0, set()
         self.spread = DAY if "Order" in kinds else 60 * SECOND
-        self.planned, self.failures = {}, []
+        self.planned, self.failures, self.parcels = {}, [], {}
 
     # Runs.
 
@@ -72,8 +77,20 @@ class World:
         self.coming -= 1
         if kind == "Caller" and self.dice.random() < 0.7:
             self.watch(self.server.start_run("Nap", "other"))
-        input = payloads(f"person {number}") if self.dice.random() < 0.8 else None
-        self.watch(self.server.start_run(kind, f"{kind.lower()}-{number}", input))
+        workflow_id = f"{kind.lower()}-{number}"
+        self.watch(self.server.start_run(kind, workflow_id, self.input(kind, number, workflow_id)))
+
+    def input(self, kind, number, workflow_id):
+        """The input of a run. Most orders have a name, after which their child has an id of its own: the children of the
+        others have one id, so that of two at a time the second is refused."""
+        if kind != "Order":
+            return payloads(f"person {number}") if self.dice.random() < 0.8 else None
+        is_named, price = self.dice.random() < 0.7, {"cents": number}
+        self.parcels[workflow_id] = f"parcel-{workflow_id}" if is_named else "parcel"
+        if is_named:
+            return payloads(price, workflow_id)
+        # A number is no name, nor is a text whose JSON has an escape.
+        return self.dice.choice([None, payloads(price), payloads(price, number), payloads(price, f"{workflow_id}\n")])
 
     def watch(self, run):
         """Plans what comes to a run from outside."""
@@ -142,7 +159,11 @@ class World:
             return "it is of a type that there is no code for"
         timers = [one["startTimerCommandAttributes"] for one in commands if "startTimerCommandAttributes" in one]
         strange = [one for one in timers if TIMERS.get(one["timerId"]) != one["startToFireTimeout"]]
-        return f"a timer is {strange[0]}" if strange else ""
+        if strange:
+            return f"a timer is {strange[0]}"
+        children = [one[CHILD]["workflowId"] for one in commands if CHILD in one]
+        is_right = run.kind != "Order" or all(child == self.parcels[run.workflow_id] for child in children)
+        return "" if is_right else f"the children are {children}"
 
     def is_answered(self, run, attempt):
         """Whether a worker answers a task of a run at an attempt: it fails a task at the first one alone."""

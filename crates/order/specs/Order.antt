@@ -9,6 +9,7 @@ use Rattle.wh_workflow.specs.declared.job.Job.{Job}
 use Rattle.wh_workflow.specs.declared.job.Job.TheVariants.{Start, Signal, Activity, TimerFired, Child, Version}
 use Rattle.wh_workflow.specs.Law.{Program, IsAnswer, IsLawful}
 use Rattle.wh_workflow.specs.Answering.{none_is_answer, one_is_answer, two_are_answer, either_is_answer}
+use Rattle.order.specs.Naming.{parcel_id}
 use Rattle.order.specs.declared.OrderState.{OrderState}
 use Rattle.order.specs.declared.OrderState.TheVariants.{Charging, Held, Shipping, Closed}
 
@@ -20,11 +21,13 @@ charging_gives (Activity id (Completed _)) =
 charging_gives (Activity id _) = if bytes_eq id (codes "charge") then Fail (codes "charge") ∷ [] else []
 charging_gives _ = []
 
--- and what the job leaves
-abbrev pub charging_after : Job → OrderState
-charging_after (Activity id (Completed _)) = if bytes_eq id (codes "charge") then Held else Charging
-charging_after (Activity id _) = if bytes_eq id (codes "charge") then Closed else Charging
-charging_after _ = Charging
+-- and what the job leaves, where its child is to have the id `parcel`
+abbrev pub charging_after : List ℕ → Job → OrderState
+charging_after parcel (Start _ input) = Charging (parcel_id input)
+charging_after parcel (Activity id (Completed _)) =
+    if bytes_eq id (codes "charge") then Held parcel else Charging parcel
+charging_after parcel (Activity id _) = if bytes_eq id (codes "charge") then Closed else Charging parcel
+charging_after parcel _ = Charging parcel
 
 -- the order is called off
 abbrev pub calling_off : List Command
@@ -37,48 +40,49 @@ held_gives (TimerFired id) = if bytes_eq id (codes "hold") then Ask (codes "trac
 held_gives _ = []
 
 -- and what the job leaves
-abbrev pub held_after : Job → OrderState
-held_after (Signal name _) = if bytes_eq name (codes "cancel") then Closed else Held
-held_after (TimerFired id) = if bytes_eq id (codes "hold") then Shipping else Held
-held_after _ = Held
+abbrev pub held_after : List ℕ → Job → OrderState
+held_after parcel (Signal name _) = if bytes_eq name (codes "cancel") then Closed else Held parcel
+held_after parcel (TimerFired id) = if bytes_eq id (codes "hold") then Shipping parcel else Held parcel
+held_after parcel _ = Held parcel
 
 -- the workflow that ships a parcel: -1 is the one before the change
 abbrev pub parcel_type : ℤ → List ℕ
 parcel_type version = if int_eq version (negsuc 0) then codes "Ship" else codes "ShipTracked"
 
--- what an order that is shipped gives to a job
-abbrev pub shipping_gives : Job → List Command
-shipping_gives (Version change_id version) =
-    if bytes_eq change_id (codes "tracked") then StartChild (codes "parcel") (parcel_type version) [] ∷ [] else []
-shipping_gives (Child workflow_id (ChildCompleted result)) =
-    if bytes_eq workflow_id (codes "parcel") then Complete result ∷ [] else []
-shipping_gives (Child workflow_id _) = if bytes_eq workflow_id (codes "parcel") then Fail (codes "parcel") ∷ [] else []
-shipping_gives _ = []
+-- what an order that is shipped gives to a job, where its child has the id `parcel`
+abbrev pub shipping_gives : List ℕ → Job → List Command
+shipping_gives parcel (Version change_id version) =
+    if bytes_eq change_id (codes "tracked") then StartChild parcel (parcel_type version) [] ∷ [] else []
+shipping_gives parcel (Child workflow_id (ChildCompleted result)) =
+    if bytes_eq workflow_id parcel then Complete result ∷ [] else []
+shipping_gives parcel (Child workflow_id _) =
+    if bytes_eq workflow_id parcel then Fail (codes "parcel") ∷ [] else []
+shipping_gives parcel _ = []
 
 -- and what the job leaves
-abbrev pub shipping_after : Job → OrderState
-shipping_after (Child workflow_id _) = if bytes_eq workflow_id (codes "parcel") then Closed else Shipping
-shipping_after _ = Shipping
+abbrev pub shipping_after : List ℕ → Job → OrderState
+shipping_after parcel (Child workflow_id _) = if bytes_eq workflow_id parcel then Closed else Shipping parcel
+shipping_after parcel _ = Shipping parcel
 
 -- what an order gives to a job
 abbrev pub order_gives : OrderState → Job → List Command
-order_gives Charging job = charging_gives job
-order_gives Held job = held_gives job
-order_gives Shipping job = shipping_gives job
+order_gives (Charging parcel) job = charging_gives job
+order_gives (Held parcel) job = held_gives job
+order_gives (Shipping parcel) job = shipping_gives parcel job
 order_gives Closed job = []
 
 -- what a job leaves
 abbrev pub order_after : OrderState → Job → OrderState
-order_after Charging job = charging_after job
-order_after Held job = held_after job
-order_after Shipping job = shipping_after job
+order_after (Charging parcel) job = charging_after parcel job
+order_after (Held parcel) job = held_after parcel job
+order_after (Shipping parcel) job = shipping_after parcel job
 order_after Closed job = Closed
 
 -- what it computes
 abbrev pub order : Program OrderState
 order = record {
   knows = λ kind. bytes_eq kind (codes "Order");
-  initial = λ _. Charging;
+  initial = λ _. Charging (codes "parcel");
   after = order_after;
   gives = order_gives;
 }
@@ -97,18 +101,18 @@ held_answers (Signal name _) =
 held_answers (TimerFired id) = either_is_answer (bytes_eq id (codes "hold")) _ _ (one_is_answer _ refl) none_is_answer
 held_answers _ = none_is_answer
 
-shipping_answers : (job : Job) → IsAnswer (shipping_gives job)
-shipping_answers (Version change_id version) =
+shipping_answers : (parcel : List ℕ) (job : Job) → IsAnswer (shipping_gives parcel job)
+shipping_answers parcel (Version change_id version) =
     either_is_answer (bytes_eq change_id (codes "tracked")) _ _ (one_is_answer _ refl) none_is_answer
-shipping_answers (Child workflow_id (ChildCompleted result)) =
-    either_is_answer (bytes_eq workflow_id (codes "parcel")) _ _ (one_is_answer _ refl) none_is_answer
-shipping_answers (Child workflow_id _) =
-    either_is_answer (bytes_eq workflow_id (codes "parcel")) _ _ (one_is_answer _ refl) none_is_answer
-shipping_answers _ = none_is_answer
+shipping_answers parcel (Child workflow_id (ChildCompleted result)) =
+    either_is_answer (bytes_eq workflow_id parcel) _ _ (one_is_answer _ refl) none_is_answer
+shipping_answers parcel (Child workflow_id _) =
+    either_is_answer (bytes_eq workflow_id parcel) _ _ (one_is_answer _ refl) none_is_answer
+shipping_answers parcel _ = none_is_answer
 
 -- each step gives few commands, no marker, and an ask only as the last one
 pub order_lawful : IsLawful order
-order_lawful Charging job = charging_answers job
-order_lawful Held job = held_answers job
-order_lawful Shipping job = shipping_answers job
+order_lawful (Charging parcel) job = charging_answers job
+order_lawful (Held parcel) job = held_answers job
+order_lawful (Shipping parcel) job = shipping_answers parcel job
 order_lawful Closed job = none_is_answer

@@ -4,16 +4,20 @@
 ghost use Rattle.std.specs.Prelude.{◌≡◌, [], ◌∷◌, pos, negsuc, codes, IfOk};
 ghost use Rattle.order.specs.Order.{calling_off, order, order_after, order_gives, order_lawful, parcel_type};
 ghost use Rattle.order.specs.Order.{charging_gives, held_gives, shipping_gives};
+ghost use Rattle.order.specs.Order.{charging_after, held_after, shipping_after};
 ghost use Rattle.wh_workflow.specs.declared.command.Command.TheVariants.{StartActivity, StartTimer, StartChild};
 ghost use Rattle.wh_workflow.specs.declared.command.Command.TheVariants.{Ask, Complete, Fail};
 
 mod charging;
+mod naming;
 #[cfg(test)]
 mod tests;
 
+use crate::naming::parcel_id;
 pub use charging::receipt;
 use std::alloc::Global;
-use wh_events::{Items, OutOfMemory, Payload};
+use std::mem;
+use wh_events::{Items, OutOfMemory, Payload, Text};
 use wh_workflow::{
     ActivityEnd, ChildEnd, Command, Job, Meter, Workflow, give_all, no_payloads, text_of, texts_of,
 };
@@ -22,28 +26,43 @@ use wh_workflow::{
 ///
 /// | State | Job | Gives | Then |
 /// |---|---|---|---|
-/// | charging | `Start` with an input | `StartActivity{charge, ChargeCard}` with it | charging |
+/// | charging | `Start` with an input | `StartActivity{charge, ChargeCard}` with it | charging, with the id ID of its child |
 /// | charging | `Activity` `charge`, `Completed` | `StartTimer{hold, 86400}` | held |
 /// | charging | `Activity` `charge`, another end | `Fail{charge}` | closed |
 /// | held | `Signal` `cancel` | `CancelTimer{hold}`, `Complete` without a result | closed |
 /// | held | `TimerFired` of `hold` | `Ask{tracked, -1, 1}` | shipping |
-/// | shipping | `Version` of `tracked`, -1 | `StartChild{parcel, Ship}` | shipping |
-/// | shipping | `Version` of `tracked`, another | `StartChild{parcel, ShipTracked}` | shipping |
-/// | shipping | `Child` `parcel`, `Completed` with a result | `Complete` with it | closed |
-/// | shipping | `Child` `parcel`, another end | `Fail{parcel}` | closed |
+/// | shipping | `Version` of `tracked`, -1 | `StartChild{ID, Ship}` | shipping |
+/// | shipping | `Version` of `tracked`, another | `StartChild{ID, ShipTracked}` | shipping |
+/// | shipping | `Child` ID, `Completed` with a result | `Complete` with it | closed |
+/// | shipping | `Child` ID, another end | `Fail{parcel}` | closed |
 ///
 /// Other jobs change nothing and give nothing. The child is started without an input.
+///
+/// The first payload of the input is the price. The second one names the order: with `"order-1"`,
+/// in JSON, ID is `parcel-order-1`. Without a second payload that is such a text ID is `parcel`, and
+/// only one such child can be open at a time, over all runs. A text with an escape (a backslash) is
+/// no name.
 pub struct Order;
 
-/// How far an order has come.
-#[derive(Clone, Copy, Debug, PartialEq, Eq)]
+/// How far an order has come, with the workflow id of its child: of the one that it has, or is to
+/// have.
+#[derive(Debug, Drop)]
 pub enum OrderState {
     /// It is charged for.
-    Charging,
+    Charging {
+        /// The id of its child.
+        parcel: Text,
+    },
     /// It may be called off until the timer fires.
-    Held,
+    Held {
+        /// The id of its child.
+        parcel: Text,
+    },
     /// Its parcel is on its way.
-    Shipping,
+    Shipping {
+        /// The id of its child.
+        parcel: Text,
+    },
     /// The run is closed.
     Closed,
 }
@@ -111,11 +130,11 @@ fn ask(alloc: Global) -> Result<Vec<Command>, OutOfMemory>
 }
 
 /// Ships the order, by the version of the change.
-fn ship(alloc: Global, version: i32) -> Result<Vec<Command>, OutOfMemory>
-    ensures { IfOk result (λ given. given.items ≡ StartChild (codes "parcel") (parcel_type version) [] ∷ []) }
+fn ship(alloc: Global, parcel: &Text, version: i32) -> Result<Vec<Command>, OutOfMemory>
+    ensures { IfOk result (λ given. given.items ≡ StartChild parcel.now (parcel_type version) [] ∷ []) }
 {
     let workflow = if version == -1 { "Ship" } else { "ShipTracked" };
-    let (workflow_id, workflow) = texts_of(alloc, "parcel", workflow)?;
+    let (workflow_id, workflow) = texts_of(alloc, parcel.get(), workflow)?;
     one(
         alloc,
         Command::StartChild {
@@ -168,14 +187,14 @@ fn given_held(alloc: Global, job: &Job) -> Result<Vec<Command>, OutOfMemory>
 }
 
 /// What an order that is shipped gives to a job.
-fn given_shipping(alloc: Global, job: &Job) -> Result<Vec<Command>, OutOfMemory>
-    ensures { IfOk result (λ given. given.items ≡ shipping_gives job.now) }
+fn given_shipping(alloc: Global, parcel: &Text, job: &Job) -> Result<Vec<Command>, OutOfMemory>
+    ensures { IfOk result (λ given. given.items ≡ shipping_gives parcel.now job.now) }
 {
     match job {
         Job::Version { change_id, version } if change_id.get() == "tracked" => {
-            ship(alloc, *version)
+            ship(alloc, parcel, *version)
         }
-        Job::Child { workflow_id, end } if workflow_id.get() == "parcel" => match end {
+        Job::Child { workflow_id, end } if workflow_id.get() == parcel.get() => match end {
             ChildEnd::Completed(given) => complete(alloc, given),
             _ => fail(alloc, "parcel"),
         },
@@ -184,34 +203,63 @@ fn given_shipping(alloc: Global, job: &Job) -> Result<Vec<Command>, OutOfMemory>
 }
 
 /// What an order gives to a job.
-fn given(alloc: Global, state: OrderState, job: &Job) -> Result<Vec<Command>, OutOfMemory>
-    ensures { IfOk result (λ given. given.items ≡ order_gives state job.now) }
+fn given(alloc: Global, state: &OrderState, job: &Job) -> Result<Vec<Command>, OutOfMemory>
+    ensures { IfOk result (λ given. given.items ≡ order_gives state.now job.now) }
 {
     match state {
-        OrderState::Charging => given_charging(alloc, job),
-        OrderState::Held => given_held(alloc, job),
-        OrderState::Shipping => given_shipping(alloc, job),
+        OrderState::Charging { .. } => given_charging(alloc, job),
+        OrderState::Held { .. } => given_held(alloc, job),
+        OrderState::Shipping { parcel } => given_shipping(alloc, parcel, job),
         OrderState::Closed => Ok(Vec::new(alloc)),
     }
 }
 
-/// What a job leaves.
-fn after(state: OrderState, job: &Job) -> OrderState
-    ensures { result ≡ order_after state job.now }
+/// What a job leaves of an order that is charged for.
+fn after_charging(alloc: Global, parcel: Text, job: &Job) -> Result<OrderState, OutOfMemory>
+    ensures { IfOk result (λ after. after ≡ charging_after parcel job.now) }
 {
-    match (state, job) {
-        (OrderState::Charging, Job::Activity { id, end }) if id.get() == "charge" => match end {
-            ActivityEnd::Completed(_) => OrderState::Held,
+    Ok(match job {
+        Job::Start { input, .. } => OrderState::Charging {
+            parcel: parcel_id(alloc, input)?,
+        },
+        Job::Activity { id, end } if id.get() == "charge" => match end {
+            ActivityEnd::Completed(_) => OrderState::Held { parcel },
             _ => OrderState::Closed,
         },
-        (OrderState::Held, Job::Signal { name, .. }) if name.get() == "cancel" => {
-            OrderState::Closed
-        }
-        (OrderState::Held, Job::TimerFired { id }) if id.get() == "hold" => OrderState::Shipping,
-        (OrderState::Shipping, Job::Child { workflow_id, .. }) if workflow_id.get() == "parcel" => {
-            OrderState::Closed
-        }
-        _ => state,
+        _ => OrderState::Charging { parcel },
+    })
+}
+
+/// What a job leaves of an order that is held.
+fn after_held(parcel: Text, job: &Job) -> OrderState
+    ensures { result ≡ held_after parcel job.now }
+{
+    match job {
+        Job::Signal { name, .. } if name.get() == "cancel" => OrderState::Closed,
+        Job::TimerFired { id } if id.get() == "hold" => OrderState::Shipping { parcel },
+        _ => OrderState::Held { parcel },
+    }
+}
+
+/// What a job leaves of an order that is shipped.
+fn after_shipping(parcel: Text, job: &Job) -> OrderState
+    ensures { result ≡ shipping_after parcel job.now }
+{
+    match job {
+        Job::Child { workflow_id, .. } if workflow_id.get() == parcel.get() => OrderState::Closed,
+        _ => OrderState::Shipping { parcel },
+    }
+}
+
+/// What a job leaves. The id moves from state to state, and is never copied.
+fn after(alloc: Global, state: OrderState, job: &Job) -> Result<OrderState, OutOfMemory>
+    ensures { IfOk result (λ after. after ≡ order_after state job.now) }
+{
+    match state {
+        OrderState::Charging { parcel } => after_charging(alloc, parcel, job),
+        OrderState::Held { parcel } => Ok(after_held(parcel, job)),
+        OrderState::Shipping { parcel } => Ok(after_shipping(parcel, job)),
+        OrderState::Closed => Ok(OrderState::Closed),
     }
 }
 
@@ -226,8 +274,10 @@ impl Workflow for Order {
         kind == "Order"
     }
 
-    fn begin(_alloc: Global, _kind: &str) -> Result<OrderState, OutOfMemory> {
-        Ok(OrderState::Charging)
+    fn begin(alloc: Global, _kind: &str) -> Result<OrderState, OutOfMemory> {
+        Ok(OrderState::Charging {
+            parcel: text_of(alloc, "parcel")?,
+        })
     }
 
     fn step(
@@ -238,8 +288,10 @@ impl Workflow for Order {
         meter: &mut Meter,
     ) -> Result<(), OutOfMemory> {
         meter.tick();
-        let given = given(alloc, *state, job)?;
-        *state = after(*state, job);
-        give_all(out, given)
+        let given = given(alloc, state, job)?;
+        give_all(out, given)?;
+        let before = mem::replace(state, OrderState::Closed);
+        *state = after(alloc, before, job)?;
+        Ok(())
     }
 }

@@ -1,5 +1,6 @@
 //! Orders, step by step.
 
+use crate::naming::parcel_id;
 use crate::{Order, OrderState, receipt};
 use std::alloc::Global;
 use std::process::Abort;
@@ -10,11 +11,30 @@ fn text(rt: &impl Abort, alloc: Global, content: &str) -> Text {
     text_of(alloc, content).expect(rt, "memory")
 }
 
+/// A value without an encoding.
+fn payload(rt: &impl Abort, alloc: Global, content: &[u8]) -> Payload {
+    let mut bytes = Vec::new(alloc);
+    for byte in content {
+        bytes.push(*byte).expect(rt, "memory");
+    }
+    Payload {
+        encoding: Items::new(Vec::new(alloc)),
+        content: Items::new(bytes),
+    }
+}
+
+/// An input of a price and one value more.
+fn priced(rt: &impl Abort, alloc: Global, content: &[u8]) -> Items<Payload> {
+    let price = payload(rt, alloc, b"1999");
+    let second = payload(rt, alloc, content);
+    Items::new(vec![in alloc; price, second].expect(rt, "memory"))
+}
+
 /// The job that starts an order.
-fn start(rt: &impl Abort, alloc: Global) -> Job {
+fn start(rt: &impl Abort, alloc: Global, input: Items<Payload>) -> Job {
     Job::Start {
         workflow: text(rt, alloc, "Order"),
-        input: no_payloads(alloc),
+        input,
     }
 }
 
@@ -49,10 +69,10 @@ fn tracked(rt: &impl Abort, alloc: Global) -> Job {
     }
 }
 
-/// The job that tells that the parcel has arrived.
-fn arrived(rt: &impl Abort, alloc: Global) -> Job {
+/// The job that tells that the parcel of an id has arrived.
+fn arrived(rt: &impl Abort, alloc: Global, parcel: &str) -> Job {
     Job::Child {
-        workflow_id: text(rt, alloc, "parcel"),
+        workflow_id: text(rt, alloc, parcel),
         end: ChildEnd::Completed(no_payloads(alloc)),
     }
 }
@@ -67,9 +87,9 @@ fn step(rt: &impl Abort, alloc: Global, state: &mut OrderState, job: Job) -> Vec
 }
 
 /// An order begins, and charges the card.
-fn charges(rt: &impl Abort, alloc: Global) -> OrderState {
+fn charges(rt: &impl Abort, alloc: Global, input: Items<Payload>) -> OrderState {
     let mut state = Order::begin(alloc, "Order").expect(rt, "memory");
-    let given = step(rt, alloc, &mut state, start(rt, alloc));
+    let given = step(rt, alloc, &mut state, start(rt, alloc, input));
     assert!(rt;
         matches!(given.as_slice(), [Command::StartActivity { id, .. }] if id.get() == "charge")
     );
@@ -77,8 +97,8 @@ fn charges(rt: &impl Abort, alloc: Global) -> OrderState {
 }
 
 /// An order whose card was charged is held for a day.
-fn holds(rt: &impl Abort, alloc: Global) -> OrderState {
-    let mut state = charges(rt, alloc);
+fn holds(rt: &impl Abort, alloc: Global, input: Items<Payload>) -> OrderState {
+    let mut state = charges(rt, alloc, input);
     let given = step(rt, alloc, &mut state, charged(rt, alloc));
     assert!(rt;
         matches!(given.as_slice(), [Command::StartTimer { id, seconds: 86_400 }] if id.get() == "hold")
@@ -87,8 +107,8 @@ fn holds(rt: &impl Abort, alloc: Global) -> OrderState {
 }
 
 /// After the day it asks whether parcels are tracked.
-fn asks(rt: &impl Abort, alloc: Global) -> OrderState {
-    let mut state = holds(rt, alloc);
+fn asks(rt: &impl Abort, alloc: Global, input: Items<Payload>) -> OrderState {
+    let mut state = holds(rt, alloc, input);
     let given = step(rt, alloc, &mut state, fired(rt, alloc));
     assert!(rt;
         matches!(
@@ -103,27 +123,71 @@ fn asks(rt: &impl Abort, alloc: Global) -> OrderState {
     state
 }
 
-/// Then it is shipped by a child.
-fn ships(rt: &impl Abort, alloc: Global) -> OrderState {
-    let mut state = asks(rt, alloc);
+/// Then it is shipped by a child of the id.
+fn ships(rt: &impl Abort, alloc: Global, input: Items<Payload>, parcel: &str) -> OrderState {
+    let mut state = asks(rt, alloc, input);
     let given = step(rt, alloc, &mut state, tracked(rt, alloc));
     assert!(rt;
-        matches!(given.as_slice(), [Command::StartChild { workflow, .. }] if workflow.get() == "ShipTracked")
+        matches!(given.as_slice(), [Command::StartChild { workflow_id, workflow, .. }]
+            if workflow_id.get() == parcel && workflow.get() == "ShipTracked")
     );
     state
 }
 
 #[test]
 fn an_order_is_shipped_after_a_day(rt: HostRuntime) {
-    let mut state = ships(&rt, rt.alloc());
-    let given = step(&rt, rt.alloc(), &mut state, arrived(&rt, rt.alloc()));
+    let alloc = rt.alloc();
+    let mut state = ships(&rt, alloc, no_payloads(alloc), "parcel");
+    let given = step(&rt, alloc, &mut state, arrived(&rt, alloc, "parcel"));
     assert!(&rt; matches!(given.as_slice(), [Command::Complete { .. }]));
-    assert_eq!(&rt; state, OrderState::Closed);
+    assert!(&rt; matches!(state, OrderState::Closed));
+}
+
+#[test]
+fn an_order_with_a_name_waits_for_its_own_parcel(rt: HostRuntime) {
+    let alloc = rt.alloc();
+    let input = priced(&rt, alloc, b"\"order-1\"");
+    let mut state = ships(&rt, alloc, input, "parcel-order-1");
+    let given = step(&rt, alloc, &mut state, arrived(&rt, alloc, "parcel"));
+    assert!(&rt; given.is_empty());
+    let given = step(
+        &rt,
+        alloc,
+        &mut state,
+        arrived(&rt, alloc, "parcel-order-1"),
+    );
+    assert!(&rt; matches!(given.as_slice(), [Command::Complete { .. }]));
+}
+
+/// The id of the child of an order whose second payload has the content is the wanted one.
+fn is_named(rt: &impl Abort, alloc: Global, content: &[u8], wanted: &str) {
+    let input = priced(rt, alloc, content);
+    let id = parcel_id(alloc, &input).expect(rt, "memory");
+    assert_eq!(rt; id.get(), wanted);
+}
+
+#[test]
+fn the_name_of_an_order_is_a_plain_json_text(rt: HostRuntime) {
+    let alloc = rt.alloc();
+    is_named(&rt, alloc, b"\"7\"", "parcel-7");
+    is_named(&rt, alloc, b"\"\xc3\xa4 ~\x7f\"", "parcel-\u{e4} ~\u{7f}");
+    is_named(&rt, alloc, b"\"\"", "parcel");
+    is_named(&rt, alloc, b"\"", "parcel");
+    is_named(&rt, alloc, b"", "parcel");
+    is_named(&rt, alloc, b"7", "parcel");
+    is_named(&rt, alloc, b"7\"", "parcel");
+    is_named(&rt, alloc, b"\"7", "parcel");
+    is_named(&rt, alloc, b" \"7\"", "parcel");
+    is_named(&rt, alloc, b"\"7\" ", "parcel");
+    is_named(&rt, alloc, b"\"a\"b\"", "parcel");
+    is_named(&rt, alloc, b"\"a\\nb\"", "parcel");
+    is_named(&rt, alloc, b"\"a\nb\"", "parcel");
+    is_named(&rt, alloc, b"\"\xff\"", "parcel");
 }
 
 /// An order that is called off cancels the timer and ends.
 fn calls_off(rt: &impl Abort, alloc: Global) -> OrderState {
-    let mut state = holds(rt, alloc);
+    let mut state = holds(rt, alloc, no_payloads(alloc));
     let given = step(rt, alloc, &mut state, cancel(rt, alloc));
     assert!(rt;
         matches!(
@@ -143,10 +207,7 @@ fn an_order_is_called_off(rt: HostRuntime) {
 
 /// What a charged card gives back of a price.
 fn price_back(rt: &impl Abort, alloc: Global, kind: &str) -> Option<Items<Payload>> {
-    let price = Payload {
-        encoding: Items::new(Vec::new(alloc)),
-        content: Items::new(vec![in alloc; 57].expect(rt, "memory")),
-    };
+    let price = payload(rt, alloc, b"9");
     let input = Items::new(vec![in alloc; price].expect(rt, "memory"));
     let given = receipt(kind, &input);
     drop(input);
@@ -156,6 +217,6 @@ fn price_back(rt: &impl Abort, alloc: Global, kind: &str) -> Option<Items<Payloa
 #[test]
 fn a_charged_card_gives_back_what_it_was_charged_with(rt: HostRuntime) {
     let charged = price_back(&rt, rt.alloc(), "ChargeCard").expect(&rt, "a receipt");
-    assert!(&rt; matches!(charged.get(), [payload] if payload.content.get() == [57].as_slice()));
+    assert!(&rt; matches!(charged.get(), [payload] if payload.content.get() == [b'9'].as_slice()));
     assert!(&rt; price_back(&rt, rt.alloc(), "RefundCard").is_none());
 }

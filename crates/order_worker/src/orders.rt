@@ -2,7 +2,7 @@
 
 use crate::inbox::Inbox;
 use std::alloc::Global;
-use wh_events::{Event, EventKind, EventNo, Items, OutOfMemory, RunKey, Text};
+use wh_events::{Event, EventKind, EventNo, Items, OutOfMemory, Payload, RunKey, Text};
 use wh_poll::{ActivityTask, WorkflowTask};
 use wh_slots::TaskName;
 use wh_workflow::{no_payloads, text_of};
@@ -16,6 +16,23 @@ fn run_of(alloc: Global, order: u64) -> Result<RunKey, OutOfMemory> {
         workflow_id: Text::new(format!(in alloc; "order-{order}")?),
         run_id: text_of(alloc, "first")?,
     })
+}
+
+/// A payload of JSON.
+fn json(alloc: Global, text: String) -> Result<Payload, OutOfMemory> {
+    let encoding = String::from_str(alloc, "json/plain")?;
+    Ok(Payload {
+        encoding: Items::new(encoding.into_bytes()),
+        content: Items::new(text.into_bytes()),
+    })
+}
+
+/// What an order is started with, and charged with: a price in cents, and the name that the id of its
+/// child has.
+fn input_of(alloc: Global, order: u64) -> Result<Items<Payload>, OutOfMemory> {
+    let price = json(alloc, String::from_str(alloc, "{\"cents\":1999}")?)?;
+    let name = json(alloc, format!(in alloc; "\"order-{order}\"")?)?;
+    Ok(Items::new(vec![in alloc; price, name]?))
 }
 
 /// The name of a task of an order, by the number of an event.
@@ -36,11 +53,11 @@ fn add(events: &mut Vec<Event>, number: u64, body: EventKind) -> Result<(), OutO
 }
 
 /// The order comes in.
-fn begun(alloc: Global) -> Result<Vec<Event>, OutOfMemory> {
+fn begun(alloc: Global, order: u64) -> Result<Vec<Event>, OutOfMemory> {
     let mut events = Vec::new(alloc);
     let start = EventKind::WorkflowExecutionStarted {
         workflow: text_of(alloc, "Order")?,
-        input: no_payloads(alloc),
+        input: input_of(alloc, order)?,
     };
     add(&mut events, 1, start)?;
     add(&mut events, 2, EventKind::WorkflowTaskScheduled)?;
@@ -48,8 +65,8 @@ fn begun(alloc: Global) -> Result<Vec<Event>, OutOfMemory> {
     Ok(events)
 }
 
-/// The card was charged.
-fn charged(alloc: Global) -> Result<Vec<Event>, OutOfMemory> {
+/// The card was charged, and the receipt is what it was charged with.
+fn charged(alloc: Global, order: u64) -> Result<Vec<Event>, OutOfMemory> {
     let mut events = Vec::new(alloc);
     add(&mut events, 4, EventKind::WorkflowTaskCompleted)?;
     add(
@@ -70,7 +87,7 @@ fn charged(alloc: Global) -> Result<Vec<Event>, OutOfMemory> {
         7,
         EventKind::ActivityTaskCompleted {
             scheduled: 5,
-            result: no_payloads(alloc),
+            result: input_of(alloc, order)?,
         },
     )?;
     add(&mut events, 8, EventKind::WorkflowTaskScheduled)?;
@@ -128,16 +145,16 @@ fn charge_task(alloc: Global, order: u64) -> Result<ActivityTask, OutOfMemory> {
         run: run_of(alloc, order)?,
         id: text_of(alloc, "charge")?,
         activity: text_of(alloc, "ChargeCard")?,
-        input: no_payloads(alloc),
+        input: input_of(alloc, order)?,
     })
 }
 
 /// Adds the tasks of an order: three workflow tasks, and one to charge for it. Every third order
 /// is called off, and the others are shipped.
 pub fn add_order(inbox: &mut Inbox, alloc: Global, order: u64) -> Result<(), OutOfMemory> {
-    inbox.add_workflow(workflow_task(alloc, order, 1, begun(alloc)?)?)?;
+    inbox.add_workflow(workflow_task(alloc, order, 1, begun(alloc, order)?)?)?;
     inbox.add_activity(charge_task(alloc, order)?)?;
-    inbox.add_workflow(workflow_task(alloc, order, 4, charged(alloc)?)?)?;
+    inbox.add_workflow(workflow_task(alloc, order, 4, charged(alloc, order)?)?)?;
     inbox.add_workflow(workflow_task(alloc, order, 10, held(alloc, order)?)?)?;
     Ok(())
 }
