@@ -9,8 +9,8 @@ line for each failed task, then at most one that a worker has a fault, and the h
 first two kinds is there.
 
 Of the calls that bench_trials makes, only the requests of the call itself are refused: those between the line on what stands before it
-and the line with its answer. Each run has to print what it prints with ample memory, or want of memory and what may stand after it,
-which the table CALLS says. A call of the table without want of memory has to answer the same however many requests are refused.
+and the line with its answer. Each run has to print what it prints with ample memory, or that memory is out and what may stand after it,
+which the table CALLS says. A call of the table that is never out of memory has to answer the same however many requests are refused.
 
 It is no part of the gate. It ends with status 1 where a run ends in another way."""
 
@@ -186,7 +186,7 @@ def parts_of(name, out):
 
 
 def wants_memory(name, ran, ample):
-    """Whether a call ended by want of memory in one of its ways, with what may stand after it."""
+    """Whether a call ended out of memory in one of its ways, with what may stand after it."""
     parts, wanted = parts_of(name, ran[1]), parts_of(name, ample[1])
     if ran[0] != 0 or ran[2] or not parts or parts[0] != wanted[0]:
         return False
@@ -208,7 +208,7 @@ def try_call(refusals, name):
         wrong.append((0, "no run wanted memory"))
     if name == "serve_one":
         wrong += after_use(runs)
-    return tell(f"{name}, {asked} requests", len(runs), wrong, f", {wants} by want of memory")
+    return tell(f"{name}, {asked} requests", len(runs), wrong, f", {wants} out of memory")
 
 
 def after_use(runs):

@@ -188,7 +188,7 @@ fn started(rt: &impl Abort, alloc: Global) -> Track {
     track
 }
 
-/// After want of memory the track is as it was before this number, and the same push can be made
+/// Where memory is out the track is as it was before this number, and the same push can be made
 /// again.
 fn pushes_again(rt: &impl Abort, alloc: Global, track: &mut Track, number: u64, fault: PushFault) {
     assert!(rt; fault == PushFault::OutOfMemory);

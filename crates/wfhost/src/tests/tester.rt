@@ -303,7 +303,7 @@ fn reports_many_files(rt: HostRuntime) {
     reports(&rt, alloc, lines.as_slice(), wanted.as_str());
 }
 
-/// Files of each verdict but want of memory, and names with what JSON escapes.
+/// Files of each verdict but `OutOfMemory`, and names with what JSON escapes.
 fn add_each(rt: &impl Abort, alloc: Global, lines: &mut Vec<Line>) {
     add_good(rt, alloc, lines, "a\"b\\c\n.json", 3, false);
     add_good(rt, alloc, lines, "", 0, true);
