@@ -1,5 +1,5 @@
 pub mod Serve
 pub mod Workers
 pub mod Turns
-pub mod Stations
+pub mod Lists
 pub mod Steady

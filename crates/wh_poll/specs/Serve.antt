@@ -1,5 +1,5 @@
 -- What one turn of a worker does.
-use Rattle.std.specs.Prelude.{◌≡◌, ◌⊎◌, ℕ, ◌+◌, ◌≤◌, Bool, List, [], ◌∷◌, ◌++◌, Option, Some, None, Result, Ok, Err, IfSome}
+use Rattle.std.specs.Prelude.{◌≡◌, ◌⊎◌, ℕ, Bool, List, [], ◌∷◌, ◌++◌, Option, Some, None, Result, Ok, Err, IfSome}
 use Rattle.wh_slots.specs.declared.SlotKind.{SlotKind}
 use Rattle.wh_slots.specs.declared.SlotKind.TheVariants.{Workflow as WorkflowKind, Activity as ActivityKind}
 use Rattle.wh_slots.specs.declared.TaskName.{TaskName}
@@ -27,7 +27,7 @@ use Rattle.wh_poll.specs.declared.answer.Reply.{Reply}
 use Rattle.wh_poll.specs.declared.serve.Served.{Served}
 use Rattle.wh_poll.specs.declared.serve.Served.TheVariants.{Workflow, Activity, NoMemory, Repeated, Idle, Closed, NoSlot, Draining, NumbersSpent}
 use Rattle.wh_tasks.specs.declared.source.Sent.TheVariants.{Workflow as OfWorkflow, Activity as OfActivity}
-use Rattle.wh_tasks.specs.Source.{Delivers, Tells, Answerable, Answers, Workflow as WorkflowDelivery, Activity as ActivityDelivery, RoseIfFailed}
+use Rattle.wh_tasks.specs.Source.{Delivers, Tells, Answerable, Answers, Workflow as WorkflowDelivery, Activity as ActivityDelivery}
 use Rattle.wh_tasks.specs.Tasks.{Steps, IsAnswer}
 
 -- the events that a run holds, and none where there is no run
@@ -200,25 +200,3 @@ served_workflow name (Err fault) = unanswered name fault
 abbrev pub served_activity : TaskName → Result Outcome StepFault → Result Served SourceFault
 served_activity name (Ok outcome) = Ok (Activity name outcome)
 served_activity name (Err fault) = unanswered name fault
-
--- each seat took at most as many tasks as its worker had turns
-abbrev pub WithinTurns : List Shares → List ℕ → List Shares → Type 0
-WithinTurns [] [] [] = Unit {0}
-WithinTurns (old ∷ olds) (turns ∷ rest) (new ∷ news) = (new.taken ≤ old.taken + turns) × WithinTurns olds rest news
-WithinTurns _ _ _ = ⊥
-
--- where a worker kept a fault, the failures of its source rose: those of each source at first, the faults,
--- and those of the sources in the end
-abbrev pub AllRoseIfFailed : List ℕ → List (Option SourceFault) → List ℕ → Type 0
-AllRoseIfFailed [] [] [] = Unit {0}
-AllRoseIfFailed (old ∷ olds) (fault ∷ faults) (new ∷ news) =
-    RoseIfFailed fault old new × AllRoseIfFailed olds faults news
-AllRoseIfFailed _ _ _ = ⊥
-
--- each source was sent at most as many answers as its seat took tasks: how many answers the sources had at first and
--- what the seats had counted, and both in the end
-abbrev pub AllAnsweredWithin : List ℕ → List Shares → List ℕ → List Shares → Type 0
-AllAnsweredWithin [] [] [] [] = Unit {0}
-AllAnsweredWithin (sent ∷ sents) (old ∷ olds) (more ∷ mores) (new ∷ news) =
-    (more + old.taken ≤ sent + new.taken) × AllAnsweredWithin sents olds mores news
-AllAnsweredWithin _ _ _ _ = ⊥

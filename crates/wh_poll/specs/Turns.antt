@@ -6,14 +6,12 @@ use Rattle.wh_slots.specs.declared.SlotKind.{SlotKind}
 use Rattle.wh_ledger.specs.declared.Shares.{Shares}
 use Rattle.wh_tasks.specs.declared.source.SourceFault.{SourceFault}
 use Rattle.wh_tasks.specs.Source.{Answers, Answerable, Delivers, Tells, FailsOnly, KeepsOrigin, RoseIfFailed, SameMay, SameTasks}
-use Rattle.wh_poll.specs.declared.observer.NoObserver.{NoObserver}
 use Rattle.wh_poll.specs.declared.serve.Served.{Served}
 use Rattle.wh_poll.specs.declared.setup.WorkerSetup.{WorkerSetup}
 use Rattle.wh_poll.specs.declared.setup.WorkerEnd.{WorkerEnd}
 use Rattle.wh_poll.specs.declared.workers.Rota.{Rota}
-use Rattle.wh_poll.specs.declared.workers.Worker.{Worker}
+use Rattle.wh_poll.specs.declared.workers.WorkerLoop.{WorkerLoop}
 use Rattle.wh_poll.specs.Serve.{Serves, Counts}
-use Rattle.wh_poll.specs.Stations.{worker_of}
 use Rattle.wh_poll.specs.Workers.{first_fault, first_rota, is_last, next_rota}
 
 -- what a turn did
@@ -53,70 +51,58 @@ Ends step count turns rota old new =
     ((length turns ≡ count) × (new ≡ old))
     ⊎ ((turn : Turn) × step rota.kind old turn new × (is_last rota.other_closed turn ≡ true) × (length turns < count))
 
--- what a worker has at its setup before its first turn
+-- what a worker would leave now
+abbrev pub end_at : {T C F S A O : Type 0} → WorkerLoop T C F S A O → WorkerEnd S A O
+end_at worker_loop = record {
+  counted = worker_loop.seat;
+  source = worker_loop.source;
+  handler = worker_loop.handler;
+  observer = worker_loop.observer;
+  fault = worker_loop.fault;
+}
+
+-- what it would leave before its first turn
 abbrev pub at_first : {S A O : Type 0} → Shares → WorkerSetup S A O → WorkerEnd S A O
 at_first counted setup =
     record { counted = counted; source = setup.source; handler = setup.handler; observer = setup.observer; fault = None }
 
--- the turns of a setup led to what is left: workflow and activity tasks by turns, workflow tasks first, a closed kind
+-- the turns of a setup led to what its worker leaves: workflow and activity tasks by turns, workflow tasks first, a closed kind
 -- not again, until both are closed, the host drains or all turns are done; its observer was told of each turn
 pub record IsLedBy {P S A O : Type 0} (program : Program P) (tells : S → Tells) (delivers : S → Delivers)
     (answers : S → Answers) (failures : S → ℕ) (comes_from : S → S → Type 0) (may : A → Answerable) (hears : Hears O)
-    (counted : Shares) (setup : WorkerSetup S A O) (left : WorkerEnd S A O) : Type 0 where
+    (counted : Shares) (setup : WorkerSetup S A O) (end : WorkerEnd S A O) : Type 0 where
   pub turns : List Turn
   pub rota : Rota
   pub before : WorkerEnd S A O
   pub led : GoesOn (IsTurn program tells delivers answers failures comes_from may hears)
       first_rota (at_first counted setup) turns rota before
-  pub ended : Ends (IsTurn program tells delivers answers failures comes_from may hears) setup.turns turns rota before left
+  pub ended : Ends (IsTurn program tells delivers answers failures comes_from may hears) setup.turns turns rota before end
 
--- what a worker's job, a seat with a setup, has become: the seat, and what is left of the setup
+-- what a worker, a seat with a setup, has become: the seat, and what it leaves
 pub record IsWorked {P S A O : Type 0} (program : Program P) (tells : S → Tells) (delivers : S → Delivers)
     (answers : S → Answers) (failures : S → ℕ) (comes_from : S → S → Type 0) (may : A → Answerable) (hears : Hears O)
-    (job : Shares × WorkerSetup S A O) (ended : Shares × WorkerEnd S A O) : Type 0 where
+    (seated : Shares × WorkerSetup S A O) (ended : Shares × WorkerEnd S A O) : Type 0 where
   pub seat : ended.0 ≡ ended.1.counted
-  pub taken : ended.0.taken ≤ job.0.taken + job.1.turns
-  pub fault : RoseIfFailed ended.1.fault (failures job.1.source) (failures ended.1.source)
-  pub same : SameTasks (delivers job.1.source) (tells job.1.source) (delivers ended.1.source) (tells ended.1.source)
-  pub origin : KeepsOrigin comes_from job.1.source ended.1.source
-  pub allows : SameMay (may job.1.handler) (may ended.1.handler)
-  pub answered : length (answers ended.1.source) + job.0.taken ≤ length (answers job.1.source) + ended.0.taken
-  pub told : IsLedBy program tells delivers answers failures comes_from may hears job.0 job.1 ended.1
+  pub taken : ended.0.taken ≤ seated.0.taken + seated.1.turns
+  pub fault : RoseIfFailed ended.1.fault (failures seated.1.source) (failures ended.1.source)
+  pub same : SameTasks (delivers seated.1.source) (tells seated.1.source) (delivers ended.1.source) (tells ended.1.source)
+  pub origin : KeepsOrigin comes_from seated.1.source ended.1.source
+  pub allows : SameMay (may seated.1.handler) (may ended.1.handler)
+  pub answered : length (answers ended.1.source) + seated.0.taken ≤ length (answers seated.1.source) + ended.0.taken
+  pub told : IsLedBy program tells delivers answers failures comes_from may hears seated.0 seated.1 ended.1
 
 -- what workers leave of their setups, by what each seat had counted before
 pub record AreEnds {P S A O : Type 0} (program : Program P) (tells : S → Tells) (delivers : S → Delivers)
     (answers : S → Answers) (failures : S → ℕ) (comes_from : S → S → Type 0) (may : A → Answerable) (hears : Hears O)
     (seats : List Shares) (setups : List (WorkerSetup S A O)) (ends : List (WorkerEnd S A O)) : Type 0 where
   pub count : length ends ≡ length setups
-  pub turns : AllZip (λ job left. left.counted.taken ≤ job.0.taken + job.1.turns) (zip seats setups) ends
-  pub faults : AllZip (λ setup left. RoseIfFailed left.fault (failures setup.source) (failures left.source)) setups ends
-  pub same : AllZip (λ setup left. SameTasks (delivers setup.source) (tells setup.source)
-      (delivers left.source) (tells left.source)) setups ends
-  pub origins : AllZip (λ setup left. KeepsOrigin comes_from setup.source left.source) setups ends
-  pub handlers : AllZip (λ setup left. SameMay (may setup.handler) (may left.handler)) setups ends
-  pub answered : AllZip (λ job left. length (answers left.source) + job.0.taken
-      ≤ length (answers job.1.source) + left.counted.taken) (zip seats setups) ends
-  pub told : AllZip (λ job left. IsLedBy program tells delivers answers failures comes_from may hears job.0 job.1 left)
+  pub turns : AllZip (λ seated end. end.counted.taken ≤ seated.0.taken + seated.1.turns) (zip seats setups) ends
+  pub faults : AllZip (λ setup end. RoseIfFailed end.fault (failures setup.source) (failures end.source)) setups ends
+  pub same : AllZip (λ setup end. SameTasks (delivers setup.source) (tells setup.source)
+      (delivers end.source) (tells end.source)) setups ends
+  pub origins : AllZip (λ setup end. KeepsOrigin comes_from setup.source end.source) setups ends
+  pub handlers : AllZip (λ setup end. SameMay (may setup.handler) (may end.handler)) setups ends
+  pub answered : AllZip (λ seated end. length (answers end.source) + seated.0.taken
+      ≤ length (answers seated.1.source) + end.counted.taken) (zip seats setups) ends
+  pub told : AllZip (λ seated end. IsLedBy program tells delivers answers failures comes_from may hears seated.0 seated.1 end)
       (zip seats setups) ends
-
--- what a worker without an observer hands back: what its turns led to
-pub record IsWorkOf {T C F P S A : Type 0} (program : Program P) (tells : S → Tells) (delivers : S → Delivers)
-    (answers : S → Answers) (failures : S → ℕ) (comes_from : S → S → Type 0) (may : A → Answerable)
-    (seat : Shares) (source : S) (handler : A) (turns : ℕ) (worker : Worker T C F S) : Type 0 where
-  pub setup : WorkerSetup S A NoObserver
-  pub source_is : setup.source ≡ source
-  pub handler_is : setup.handler ≡ handler
-  pub turns_are : setup.turns ≡ turns
-  pub left : WorkerEnd S A NoObserver
-  pub led : IsLedBy program tells delivers answers failures comes_from may (λ old turn new. new ≡ old) seat setup left
-  pub worker_is : worker ≡ worker_of (left.counted, left)
-
--- so do workers, each of the seat, the source, the handler and the turns of its place
-abbrev pub AreWorkOf : {T C F P S A : Type 0} → Program P → (S → Tells) → (S → Delivers) → (S → Answers) → (S → ℕ)
-    → (S → S → Type 0) → (A → Answerable) → List Shares → List S → List A → List ℕ → List (Worker T C F S) → Type 0
-AreWorkOf program tells delivers answers failures comes_from may [] [] [] [] [] = Unit {0}
-AreWorkOf program tells delivers answers failures comes_from may
-    (seat ∷ seats) (source ∷ sources) (handler ∷ handlers) (turn ∷ turns) (worker ∷ workers) =
-    IsWorkOf program tells delivers answers failures comes_from may seat source handler turn worker
-    × AreWorkOf program tells delivers answers failures comes_from may seats sources handlers turns workers
-AreWorkOf program tells delivers answers failures comes_from may _ _ _ _ _ = ⊥

@@ -9,7 +9,7 @@ ghost use Rattle.wh_poll.specs.Turns.{AreEnds, IsLedBy};
 use crate::observer::Observer;
 use crate::pairs::{room_for, unzipped, zipped};
 use crate::setup::{WorkerEnd, WorkerSetup};
-use crate::workers::run_jobs;
+use crate::workers::run_in_threads;
 use std::alloc::Global;
 use std::marker::Brand;
 use std::sync::Wait;
@@ -52,29 +52,29 @@ pub fn run_on_host<
     requires seats { vec_len seats ≡ vec_len setups }
     ensures seats { IfOk result (λ ended. vec_len ended.0 ≡ vec_len setups) }
     ensures count { IfOk result (λ ended. vec_len ended.1 ≡ vec_len setups) }
-    ensures counted { IfOk result (λ ended. ended.0.items ≡ map (λ left. left.counted) ended.1.items) }
+    ensures counted { IfOk result (λ ended. ended.0.items ≡ map (λ end. end.counted) ended.1.items) }
     ensures turns { IfOk result (λ ended. AllZip
-        (λ job left. left.counted.taken ≤ job.0.taken + job.1.turns) (zip seats.items setups.items) ended.1.items) }
+        (λ seated end. end.counted.taken ≤ seated.0.taken + seated.1.turns) (zip seats.items setups.items) ended.1.items) }
     ensures faults { IfOk result (λ ended.
-        AllZip (λ setup left. RoseIfFailed left.fault (S.failures setup.source) (S.failures left.source))
+        AllZip (λ setup end. RoseIfFailed end.fault (S.failures setup.source) (S.failures end.source))
         setups.items ended.1.items) }
     ensures same { IfOk result (λ ended.
-        AllZip (λ setup left. SameTasks (S.delivers setup.source) (S.tells setup.source)
-        (S.delivers left.source) (S.tells left.source)) setups.items ended.1.items) }
+        AllZip (λ setup end. SameTasks (S.delivers setup.source) (S.tells setup.source)
+        (S.delivers end.source) (S.tells end.source)) setups.items ended.1.items) }
     ensures origins { IfOk result (λ ended.
-        AllZip (λ setup left. KeepsOrigin S.comes_from setup.source left.source) setups.items ended.1.items) }
+        AllZip (λ setup end. KeepsOrigin S.comes_from setup.source end.source) setups.items ended.1.items) }
     ensures handlers { IfOk result (λ ended.
-        AllZip (λ setup left. SameMay (A.may setup.handler) (A.may left.handler)) setups.items ended.1.items) }
+        AllZip (λ setup end. SameMay (A.may setup.handler) (A.may end.handler)) setups.items ended.1.items) }
     ensures answered { IfOk result (λ ended. AllZip
-        (λ job left. length (S.answers left.source) + job.0.taken
-        ≤ length (S.answers job.1.source) + left.counted.taken) (zip seats.items setups.items) ended.1.items) }
+        (λ seated end. length (S.answers end.source) + seated.0.taken
+        ≤ length (S.answers seated.1.source) + end.counted.taken) (zip seats.items setups.items) ended.1.items) }
     ensures told { IfOk result (λ ended. AllZip
-        (λ job left. IsLedBy W.program S.tells S.delivers S.answers S.failures S.comes_from A.may O.hears
-        job.0 job.1 left) (zip seats.items setups.items) ended.1.items) }
+        (λ seated end. IsLedBy W.program S.tells S.delivers S.answers S.failures S.comes_from A.may O.hears
+        seated.0 seated.1 end) (zip seats.items setups.items) ended.1.items) }
 {
-    let jobs = zipped(alloc, seats, setups)?;
-    let room = room_for(alloc, jobs.len())?;
-    let ended = run_jobs(rt, alloc, host, gate, jobs)?;
+    let pairs = zipped(alloc, seats, setups)?;
+    let room = room_for(alloc, pairs.len())?;
+    let ended = run_in_threads(rt, alloc, host, gate, pairs)?;
     Ok(unzipped(ended, room))
 }
 
@@ -113,30 +113,30 @@ pub fn run_host<
     gate: &G,
 ) -> Result<HostEnd<S, A, O>, OpenFault>
     ensures bad { (result ≡ Err OpenFault.BadConfig) ↔ (¬ (IsConfig config × (config.seats ≡ vec_len setups))) }
-    ensures sizes { IfOk result (λ end. end.config ≡ config) }
-    ensures count { IfOk result (λ end. vec_len end.workers ≡ vec_len setups) }
-    ensures turns { IfOk result (λ end.
-        AllZip (λ setup left. left.counted.taken ≤ setup.turns) setups.items end.workers.items) }
-    ensures faults { IfOk result (λ end.
-        AllZip (λ setup left. RoseIfFailed left.fault (S.failures setup.source) (S.failures left.source))
-        setups.items end.workers.items) }
-    ensures same { IfOk result (λ end.
-        AllZip (λ setup left. SameTasks (S.delivers setup.source) (S.tells setup.source)
-        (S.delivers left.source) (S.tells left.source)) setups.items end.workers.items) }
-    ensures origins { IfOk result (λ end.
-        AllZip (λ setup left. KeepsOrigin S.comes_from setup.source left.source) setups.items end.workers.items) }
-    ensures handlers { IfOk result (λ end.
-        AllZip (λ setup left. SameMay (A.may setup.handler) (A.may left.handler)) setups.items end.workers.items) }
-    ensures answered { IfOk result (λ end.
-        AllZip (λ setup left. length (S.answers left.source) ≤ length (S.answers setup.source) + left.counted.taken)
-        setups.items end.workers.items) }
-    ensures told { IfOk result (λ end. AllZip
+    ensures sizes { IfOk result (λ host_end. host_end.config ≡ config) }
+    ensures count { IfOk result (λ host_end. vec_len host_end.workers ≡ vec_len setups) }
+    ensures turns { IfOk result (λ host_end.
+        AllZip (λ setup end. end.counted.taken ≤ setup.turns) setups.items host_end.workers.items) }
+    ensures faults { IfOk result (λ host_end.
+        AllZip (λ setup end. RoseIfFailed end.fault (S.failures setup.source) (S.failures end.source))
+        setups.items host_end.workers.items) }
+    ensures same { IfOk result (λ host_end.
+        AllZip (λ setup end. SameTasks (S.delivers setup.source) (S.tells setup.source)
+        (S.delivers end.source) (S.tells end.source)) setups.items host_end.workers.items) }
+    ensures origins { IfOk result (λ host_end.
+        AllZip (λ setup end. KeepsOrigin S.comes_from setup.source end.source) setups.items host_end.workers.items) }
+    ensures handlers { IfOk result (λ host_end.
+        AllZip (λ setup end. SameMay (A.may setup.handler) (A.may end.handler)) setups.items host_end.workers.items) }
+    ensures answered { IfOk result (λ host_end.
+        AllZip (λ setup end. length (S.answers end.source) ≤ length (S.answers setup.source) + end.counted.taken)
+        setups.items host_end.workers.items) }
+    ensures told { IfOk result (λ host_end. AllZip
         (IsLedBy W.program S.tells S.delivers S.answers S.failures S.comes_from A.may O.hears no_shares)
-        setups.items end.workers.items) }
-    ensures gathered { IfOk result (λ end.
-        end.totals ≡ totals_of (sums_of (map (λ left. left.counted) end.workers.items))) }
-    ensures balanced { IfOk result (λ end.
-        end.totals.taken ≡ end.totals.completed + end.totals.failed + end.totals.in_hand) }
+        setups.items host_end.workers.items) }
+    ensures gathered { IfOk result (λ host_end.
+        host_end.totals ≡ totals_of (sums_of (map (λ end. end.counted) host_end.workers.items))) }
+    ensures balanced { IfOk result (λ host_end.
+        host_end.totals.taken ≡ host_end.totals.completed + host_end.totals.failed + host_end.totals.in_hand) }
 {
     let seats = config.seats;
     if seats != setups.len() {
@@ -181,13 +181,13 @@ fn run_with<
         × (completed.parts ≡ config.seats) }
     requires failed { (failed.name ≡ F.name) × (failed.parts ≡ F.parts) × (failed.parts ≡ config.seats) }
     ensures bad { (result ≡ Err OpenFault.BadConfig) ↔ (¬ IsConfig config) }
-    ensures sizes { IfOk result (λ end. end.config ≡ config) }
-    ensures left { IfOk result (λ end. AreEnds W.program S.tells S.delivers S.answers S.failures S.comes_from
-        A.may O.hears (replicate (vec_len setups) no_shares) setups.items end.workers.items) }
-    ensures gathered { IfOk result (λ end.
-        end.totals ≡ totals_of (sums_of (map (λ left. left.counted) end.workers.items))) }
-    ensures balanced { IfOk result (λ end.
-        end.totals.taken ≡ end.totals.completed + end.totals.failed + end.totals.in_hand) }
+    ensures sizes { IfOk result (λ host_end. host_end.config ≡ config) }
+    ensures ends { IfOk result (λ host_end. AreEnds W.program S.tells S.delivers S.answers S.failures S.comes_from
+        A.may O.hears (replicate (vec_len setups) no_shares) setups.items host_end.workers.items) }
+    ensures gathered { IfOk result (λ host_end.
+        host_end.totals ≡ totals_of (sums_of (map (λ end. end.counted) host_end.workers.items))) }
+    ensures balanced { IfOk result (λ host_end.
+        host_end.totals.taken ≡ host_end.totals.completed + host_end.totals.failed + host_end.totals.in_hand) }
 {
     let (host, seats) = Host::<W, T, C, F>::open(alloc, config, taken, completed, failed)?;
     run_open(rt, alloc, config, host, seats, setups, gate)
@@ -216,13 +216,13 @@ fn run_open<
     requires seats { seats.items ≡ replicate (vec_len setups) no_shares }
     requires parts { T.parts ≡ vec_len setups }
     ensures fault { OnErr result (result ≡ Err OpenFault.OutOfMemory) }
-    ensures sizes { IfOk result (λ end. end.config ≡ config) }
-    ensures left { IfOk result (λ end. AreEnds W.program S.tells S.delivers S.answers S.failures S.comes_from
-        A.may O.hears (replicate (vec_len setups) no_shares) setups.items end.workers.items) }
-    ensures gathered { IfOk result (λ end.
-        end.totals ≡ totals_of (sums_of (map (λ left. left.counted) end.workers.items))) }
-    ensures balanced { IfOk result (λ end.
-        end.totals.taken ≡ end.totals.completed + end.totals.failed + end.totals.in_hand) }
+    ensures sizes { IfOk result (λ host_end. host_end.config ≡ config) }
+    ensures ends { IfOk result (λ host_end. AreEnds W.program S.tells S.delivers S.answers S.failures S.comes_from
+        A.may O.hears (replicate (vec_len setups) no_shares) setups.items host_end.workers.items) }
+    ensures gathered { IfOk result (λ host_end.
+        host_end.totals ≡ totals_of (sums_of (map (λ end. end.counted) host_end.workers.items))) }
+    ensures balanced { IfOk result (λ host_end.
+        host_end.totals.taken ≡ host_end.totals.completed + host_end.totals.failed + host_end.totals.in_hand) }
 {
     let (seats, workers) = run_on_host(rt, alloc, &host, seats, setups, gate)?;
     let totals = close(host, seats);

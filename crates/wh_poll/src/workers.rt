@@ -1,42 +1,26 @@
-//! Workers, one thread for each seat.
-ghost use Rattle.std.specs.Prelude.{◌≡◌, ◌≤◌, ◌<◌, ◌+◌, ℕ, [], None, IfOk, not, length, map, vec_capacity, vec_len, slice_index_or};
+//! A worker's turns, one after the other, and workers in threads of their own.
+ghost use Rattle.std.specs.Prelude.{◌≡◌, ◌≤◌, ◌<◌, ◌+◌, ℕ, IfOk, not, length, vec_len, slice_index_or};
 ghost use Rattle.std.specs.Bool.{OnTrue};
 ghost use denote.Param.Send.{IsSend};
 ghost use Rattle.wh_tasks.specs.Source.{KeepsOrigin, SameMay, SameTasks, FailsOnly, RoseIfFailed};
 ghost use Rattle.wh_poll.specs.Workers.{first_fault, first_rota, other, is_last, next_rota};
-ghost use Rattle.wh_poll.specs.Serve.{WithinTurns, AllRoseIfFailed, AllAnsweredWithin};
-ghost use Rattle.wh_poll.specs.Turns.{IsTurn, IsLedBy, IsWorked, IsWorkOf, AreWorkOf};
-ghost use Rattle.wh_poll.specs.Stations.{end_at, worker_of};
-ghost use Rattle.std.specs.List.{AllZip};
+ghost use Rattle.wh_poll.specs.Turns.{end_at, IsTurn, IsLedBy, IsWorked};
 
-use crate::observer::{NoObserver, Observer};
-use crate::pairs::zipped;
-use crate::setup::{WorkerEnd, WorkerSetup};
+use crate::observer::Observer;
 use crate::serve::{Served, serve_one};
+use crate::setup::{WorkerEnd, WorkerSetup};
 use std::alloc::{AllocError, Global};
 use std::sync::Wait;
 use std::sync::ledger::Ledger;
 use std::thread;
 use std::thread::Threads;
-use wh_events::OutOfMemory;
 use wh_host::Host;
 use wh_ledger::Seat;
 use wh_slots::SlotKind;
 use wh_tasks::{ActivityHandler, Gate, SourceFault, TaskSource};
 use wh_workflow::Workflow;
 
-/// What a worker hands back when it ends.
-#[derive(Drop)]
-pub struct Worker<T: Ledger, C: Ledger, F: Ledger, S> {
-    /// Its seat, with what it has counted.
-    pub seat: Seat<T, C, F>,
-    /// Its source, with the answers that it was sent.
-    pub source: S,
-    /// The first fault of its source, if there was one.
-    pub fault: Option<SourceFault>,
-}
-
-/// A worker at its setup: its seat, and what it leaves but for the count.
+/// A worker between its turns: its seat, and what it would leave now but for the count.
 struct WorkerLoop<T: Ledger, C: Ledger, F: Ledger, S, A, O> {
     seat: Seat<T, C, F>,
     source: S,
@@ -101,7 +85,7 @@ fn first_fault(
 pub(crate) type SeatedWorker<T, C, F, S, A, O> = (Seat<T, C, F>, WorkerSetup<S, A, O>);
 
 /// A seat with what its worker leaves.
-pub(crate) type Ended<T, C, F, S, A, O> = (Seat<T, C, F>, WorkerEnd<S, A, O>);
+pub(crate) type EndedWorker<T, C, F, S, A, O> = (Seat<T, C, F>, WorkerEnd<S, A, O>);
 
 /// Which kind a worker serves next, and whether the other one is closed.
 #[derive(Clone, Copy)]
@@ -149,7 +133,7 @@ fn other(kind: SlotKind) -> SlotKind
     }
 }
 
-/// Serves tasks at a setup, at most one a turn.
+/// Serves tasks from a setup, at most one a turn.
 #[tactic(auto, using(crate::proofs::Turns::rose_kept))]
 fn work_at<
     R: Wait,
@@ -203,8 +187,8 @@ fn work_at<
     worker_loop
 }
 
-/// Does a job.
-fn work_job<
+/// Runs a worker from its setup to its end.
+pub(crate) fn run_worker<
     R: Wait,
     W: Workflow,
     T: Ledger,
@@ -219,18 +203,18 @@ fn work_job<
     alloc: Global,
     host: &Host<W, T, C, F>,
     gate: &G,
-    job: SeatedWorker<T, C, F, S, A, O>,
-) -> Ended<T, C, F, S, A, O>
-    ensures { IsWorked W.program S.tells S.delivers S.answers S.failures S.comes_from A.may O.hears job result }
+    seated: SeatedWorker<T, C, F, S, A, O>,
+) -> EndedWorker<T, C, F, S, A, O>
+    ensures { IsWorked W.program S.tells S.delivers S.answers S.failures S.comes_from A.may O.hears seated result }
 {
-    let (seat, setup) = job;
+    let (seat, setup) = seated;
     leave(work_at(rt, alloc, host, gate, seat, setup))
 }
 
 /// The seat of a worker, and what it leaves.
 fn leave<T: Ledger, C: Ledger, F: Ledger, S, A, O>(
     worker_loop: WorkerLoop<T, C, F, S, A, O>,
-) -> Ended<T, C, F, S, A, O>
+) -> EndedWorker<T, C, F, S, A, O>
     ensures { result ≡ (worker_loop.seat, end_at worker_loop) }
 {
     let counted = worker_loop.seat.share();
@@ -241,141 +225,18 @@ fn leave<T: Ledger, C: Ledger, F: Ledger, S, A, O>(
         observer,
         fault,
     } = worker_loop;
-    let left = WorkerEnd {
+    let end = WorkerEnd {
         counted,
         source,
         handler,
         observer,
         fault,
     };
-    (seat, left)
+    (seat, end)
 }
 
-/// Serves tasks, at most one a turn: workflow and activity tasks by turns, workflow tasks first. A
-/// kind that is closed is not served again, and each later turn goes to the other. It ends when
-/// both are closed, when the host drains, or after so many turns. The first fault of the source is
-/// kept, and the work goes on. What comes back is what the turns led to, each of which is one of
-/// `serve_one`. The source comes from the one that was handed in, delivers and tells the same, and
-/// was sent at most as many answers as the seat took tasks.
-pub fn work<
-    R: Wait,
-    W: Workflow,
-    T: Ledger,
-    C: Ledger,
-    F: Ledger,
-    S: TaskSource,
-    A: ActivityHandler + Drop,
-    G: Gate,
->(
-    rt: &R,
-    alloc: Global,
-    host: &Host<W, T, C, F>,
-    seat: Seat<T, C, F>,
-    source: S,
-    handler: A,
-    gate: &G,
-    turns: u64,
-) -> Worker<T, C, F, S>
-    ensures taken { result.seat.taken ≤ seat.taken + turns }
-    ensures fault { RoseIfFailed result.fault (S.failures source) (S.failures result.source) }
-    ensures same { SameTasks (S.delivers source) (S.tells source) (S.delivers result.source) (S.tells result.source) }
-    ensures origin { KeepsOrigin S.comes_from source result.source }
-    ensures answered { length (S.answers result.source) + seat.taken ≤ length (S.answers source) + result.seat.taken }
-    ensures work { IsWorkOf W.program S.tells S.delivers S.answers S.failures S.comes_from A.may
-        seat source handler turns result }
-{
-    let setup = WorkerSetup {
-        source,
-        handler,
-        observer: NoObserver,
-        turns,
-    };
-    worker_of(work_job(rt, alloc, host, gate, (seat, setup)))
-}
-
-/// The worker that comes back from its setup.
-fn worker_of<T: Ledger, C: Ledger, F: Ledger, S, A: Drop>(
-    ended: Ended<T, C, F, S, A, NoObserver>,
-) -> Worker<T, C, F, S>
-    ensures { result ≡ worker_of ended }
-{
-    let (seat, left) = ended;
-    let WorkerEnd { source, fault, .. } = left;
-    Worker {
-        seat,
-        source,
-        fault,
-    }
-}
-
-/// Runs a worker in a thread of its own for each seat, with the source, the handler and the turns
-/// of the same place. The four lists are equally long. The workers come back in the order of the
-/// seats, the taken share of each has risen by at most its turns, and where one kept a fault, its
-/// own source has failed. Each is what its turns led to, as in `work`: its source comes from the
-/// one of its place, and was sent at most as many answers as its seat took tasks. `OutOfMemory`
-/// where there was no memory; then the seats are given up. (Temporal documentation, "Workers": a
-/// Worker Process runs many task executors.)
-pub fn run_workers<
-    R: Threads + Wait + Sync,
-    W: Workflow + Send,
-    T: Ledger + Send,
-    C: Ledger + Send,
-    F: Ledger + Send,
-    S: TaskSource + Send + Drop,
-    A: ActivityHandler + Send + Drop,
-    G: Gate + Sync,
->(
-    rt: &R,
-    alloc: Global,
-    host: &Host<W, T, C, F>,
-    seats: Vec<Seat<T, C, F>>,
-    sources: Vec<S>,
-    handlers: Vec<A>,
-    gate: &G,
-    turns: Vec<u64>,
-) -> Result<Vec<Worker<T, C, F, S>>, OutOfMemory>
-    requires sources { vec_len sources ≡ vec_len seats }
-    requires handlers { vec_len handlers ≡ vec_len seats }
-    requires turns { vec_len turns ≡ vec_len seats }
-    ensures turns { IfOk result (λ workers.
-        WithinTurns seats.items turns.items (map (λ worker. worker.seat) workers.items)) }
-    ensures faults { IfOk result (λ workers. AllRoseIfFailed (map (λ source. S.failures source) sources.items)
-        (map (λ worker. worker.fault) workers.items) (map (λ worker. S.failures worker.source) workers.items)) }
-    ensures origins { IfOk result (λ workers.
-        AllZip (KeepsOrigin S.comes_from) sources.items (map (λ worker. worker.source) workers.items)) }
-    ensures answered { IfOk result (λ workers.
-        AllAnsweredWithin (map (λ source. length (S.answers source)) sources.items) seats.items
-        (map (λ worker. length (S.answers worker.source)) workers.items) (map (λ worker. worker.seat) workers.items)) }
-    ensures work { IfOk result (λ workers.
-        AreWorkOf W.program S.tells S.delivers S.answers S.failures S.comes_from A.may
-        seats.items sources.items handlers.items turns.items workers.items) }
-{
-    let setups = setups_of(alloc, sources, handlers, turns)?;
-    let jobs = zipped(alloc, seats, setups)?;
-    let mut room = Vec::new(alloc);
-    room.reserve(jobs.len())?;
-    let ended = run_jobs(rt, alloc, host, gate, jobs)?;
-    Ok(workers_of(ended, room))
-}
-
-/// The workers that come back from their setups, in an empty list with room for them.
-fn workers_of<T: Ledger, C: Ledger, F: Ledger, S: Drop, A: Drop>(
-    mut ended: Vec<Ended<T, C, F, S, A, NoObserver>>,
-    mut workers: Vec<Worker<T, C, F, S>>,
-) -> Vec<Worker<T, C, F, S>>
-    requires empty { workers.items ≡ [] }
-    requires room { vec_len ended ≤ vec_capacity workers }
-    ensures { result.items ≡ map worker_of ended.items }
-{
-    while let Some(end) = ended.pop() {
-        workers.push_reserved(worker_of(end));
-    }
-    workers.reverse();
-    workers
-}
-
-/// Runs a worker in a thread of its own for each job.
-pub(crate) fn run_jobs<
+/// Runs a worker in a thread of its own for each seat with its setup.
+pub(crate) fn run_in_threads<
     R: Threads + Wait + Sync,
     W: Workflow + Send,
     T: Ledger + Send,
@@ -390,54 +251,20 @@ pub(crate) fn run_jobs<
     alloc: Global,
     host: &Host<W, T, C, F>,
     gate: &G,
-    jobs: Vec<SeatedWorker<T, C, F, S, A, O>>,
-) -> Result<Vec<Ended<T, C, F, S, A, O>>, AllocError>
-    ensures count { IfOk result (λ ended. vec_len ended ≡ vec_len jobs) }
-    ensures each { IfOk result (λ ended. (i : ℕ) (job : _) (end : _) → i < vec_len jobs →
+    pairs: Vec<SeatedWorker<T, C, F, S, A, O>>,
+) -> Result<Vec<EndedWorker<T, C, F, S, A, O>>, AllocError>
+    ensures count { IfOk result (λ ended. vec_len ended ≡ vec_len pairs) }
+    ensures each { IfOk result (λ ended. (i : ℕ) (seated : _) (end : _) → i < vec_len pairs →
         IsWorked W.program S.tells S.delivers S.answers S.failures S.comes_from A.may O.hears
-        (slice_index_or jobs.items i job) (slice_index_or ended.items i end)) }
+        (slice_index_or pairs.items i seated) (slice_index_or ended.items i end)) }
 {
     thread::map_vec(
         rt,
-        jobs,
-        &|job: SeatedWorker<T, C, F, S, A, O>| -> Ended<T, C, F, S, A, O>
+        pairs,
+        &|seated: SeatedWorker<T, C, F, S, A, O>| -> EndedWorker<T, C, F, S, A, O>
             requires { IsSend W.row × IsSend W.State.row }
             ensures { IsWorked W.program S.tells S.delivers S.answers S.failures S.comes_from A.may O.hears
-                job result }
-        { work_job(rt, alloc, host, gate, job) },
+                seated result }
+        { run_worker(rt, alloc, host, gate, seated) },
     )
-}
-
-/// A setup for each source, with the handler and the turns of its place, and no observer.
-fn setups_of<S: Drop, A: Drop>(
-    alloc: Global,
-    mut sources: Vec<S>,
-    mut handlers: Vec<A>,
-    mut turns: Vec<u64>,
-) -> Result<Vec<WorkerSetup<S, A, NoObserver>>, OutOfMemory>
-    requires handlers { vec_len handlers ≡ vec_len sources }
-    requires turns { vec_len turns ≡ vec_len sources }
-    ensures count { IfOk result (λ setups. vec_len setups ≡ vec_len sources) }
-    ensures sources { IfOk result (λ setups. map (λ setup. setup.source) setups.items ≡ sources.items) }
-    ensures handlers { IfOk result (λ setups. map (λ setup. setup.handler) setups.items ≡ handlers.items) }
-    ensures turns { IfOk result (λ setups. map (λ setup. setup.turns) setups.items ≡ turns.items) }
-{
-    let mut setups = Vec::new(alloc);
-    setups.reserve(sources.len())?;
-    while let Some(source) = sources.pop() {
-        let Some(handler) = handlers.pop() else {
-            unreachable!()
-        };
-        let Some(turns) = turns.pop() else {
-            unreachable!()
-        };
-        setups.push_reserved(WorkerSetup {
-            source,
-            handler,
-            observer: NoObserver,
-            turns,
-        });
-    }
-    setups.reverse();
-    Ok(setups)
 }

@@ -7,13 +7,13 @@ pub returns-clause-gathered : goal.returns-clause-gathered
 returns-clause-gathered g c = search rules
 
 -- no seat of a host that has just opened has counted anything
-pub returns-clause-left : goal.returns-clause-left
-returns-clause-left g c =
+pub returns-clause-ends : goal.returns-clause-ends
+returns-clause-ends g c =
     let S = g.S.TaskSource in
     let are : List Shares → Type 0 = λ seats.
     AreEnds g.W.Workflow.program S.tells S.delivers S.answers S.failures S.comes_from g.A.ActivityHandler.may g.O.Observer.hears seats c.args.setups.items c.in_ok-seats.workers.items in
     let own = c.in_ok-seats.ensures in
-    let left : are c.args.seats.items = record {
+    let ends : are c.args.seats.items = record {
       count = sym c.in_ok-seats.workers.ok.0 ∙ own.count ∙ c.args.setups.ok.0;
       turns = own.turns;
       faults = own.faults;
@@ -23,4 +23,4 @@ returns-clause-left g c =
       answered = own.answered;
       told = own.told;
     } in
-    subst are c.requires.seats left
+    subst are c.requires.seats ends

@@ -1,6 +1,6 @@
 use Rattle.std.proofs.Common.{◌≡◌, arith, length}
 use Rattle.std.proofs.lemmas.Grind.{common_steps}
-use Rattle.wh_poll.proofs.Jobs.{in_order}
+use Rattle.wh_poll.proofs.Zips.{in_order}
 use Rattle.wh_poll.proofs.pairs.zipped.Goals as goal
 
 pub returns-clause-firsts : goal.returns-clause-firsts

@@ -1,7 +1,6 @@
 use Rattle.std.proofs.Common.{◌≡◌, rules, ◌<◌, false, true, inl, inr, [], ◌∷◌, ◌++◌, length, refl, sym, subst}
-use Rattle.wh_poll.specs.Stations.{end_at}
 use Rattle.wh_poll.specs.Workers.{first_rota, is_last, next_rota}
-use Rattle.wh_poll.specs.Turns.{IsTurn, GoesOn, at_first}
+use Rattle.wh_poll.specs.Turns.{end_at, IsTurn, GoesOn, at_first}
 use Rattle.wh_poll.proofs.Turns.{goes_on_more, turn_more, rose_kept}
 use Rattle.wh_poll.proofs.workers.work_at.Goals as goal
 

@@ -1,8 +1,7 @@
 use Rattle.std.proofs.Common.{◌≡◌, ◌+◌, ◌≤◌, List, length}
 use Rattle.wh_tasks.specs.Source.{KeepsOrigin, RoseIfFailed, SameMay, SameTasks}
-use Rattle.wh_poll.specs.Turns.{Turn, IsTurn, GoesOn, at_first}
+use Rattle.wh_poll.specs.Turns.{Turn, end_at, IsTurn, GoesOn, at_first}
 use Rattle.wh_poll.specs.Workers.{first_rota}
-use Rattle.wh_poll.specs.Stations.{end_at}
 use Rattle.wh_poll.proofs.workers.work_at.Given as goal
 
 abbrev pub invariant-loop-turn : goal.invariant-loop-turn

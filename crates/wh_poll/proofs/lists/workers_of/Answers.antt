@@ -1,9 +1,9 @@
 use Rattle.std.proofs.Common.{◌≡◌, ◌∙◌, arith, length, map, sym}
 use Rattle.std.proofs.lemmas.Grind.{common_steps}
 use Rattle.std.proofs.lemmas.List.{length-map}
-use Rattle.wh_poll.specs.Stations.{worker_of}
-use Rattle.wh_poll.proofs.Jobs.{in_order, map-self, one_taken}
-use Rattle.wh_poll.proofs.workers.workers_of.Goals as goal
+use Rattle.wh_poll.specs.Lists.{worker_of}
+use Rattle.wh_poll.proofs.Zips.{in_order, map-self, one_taken}
+use Rattle.wh_poll.proofs.lists.workers_of.Goals as goal
 
 pub loop-end-preserved : goal.loop-end-preserved
 loop-end-preserved g c = record {

@@ -1,7 +1,7 @@
 use Rattle.std.proofs.Common.{◌≡◌, arith, length}
 use Rattle.std.proofs.lemmas.Grind.{common_steps}
-use Rattle.wh_poll.proofs.Jobs.{in_order}
-use Rattle.wh_poll.proofs.workers.setups_of.Goals as goal
+use Rattle.wh_poll.proofs.Zips.{in_order}
+use Rattle.wh_poll.proofs.lists.setups_of.Goals as goal
 
 pub returns-clause-sources : goal.returns-clause-sources
 returns-clause-sources g c =

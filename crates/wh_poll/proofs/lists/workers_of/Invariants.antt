@@ -1,6 +1,6 @@
 use Rattle.std.proofs.Common.{◌≡◌, ◌+◌, ◌≤◌, ◌++◌, map, reverse, vec_len, vec_capacity}
-use Rattle.wh_poll.specs.Stations.{worker_of}
-use Rattle.wh_poll.proofs.workers.workers_of.Given as goal
+use Rattle.wh_poll.specs.Lists.{worker_of}
+use Rattle.wh_poll.proofs.lists.workers_of.Given as goal
 
 -- the ends that are left, and the workers so far, from the last to the first
 abbrev pub invariant-loop-end : goal.invariant-loop-end

@@ -1,0 +1,188 @@
+//! Calls by lists: a worker without an observer, and one in a thread of its own for each place of
+//! a list of seats, of sources, of handlers and of turns.
+ghost use Rattle.std.specs.Prelude.{◌≡◌, ◌≤◌, ◌+◌, [], IfOk, length, map, vec_capacity, vec_len};
+ghost use Rattle.std.specs.List.{AllZip};
+ghost use Rattle.wh_tasks.specs.Source.{KeepsOrigin, RoseIfFailed, SameTasks};
+ghost use Rattle.wh_poll.specs.Lists.{worker_of, IsWorkOf, AreWorkOf, WithinTurns, AllRoseIfFailed, AllAnsweredWithin};
+
+use crate::observer::NoObserver;
+use crate::pairs::zipped;
+use crate::setup::{WorkerEnd, WorkerSetup};
+use crate::workers::{EndedWorker, run_in_threads, run_worker};
+use std::alloc::Global;
+use std::sync::Wait;
+use std::sync::ledger::Ledger;
+use std::thread::Threads;
+use wh_events::OutOfMemory;
+use wh_host::Host;
+use wh_ledger::Seat;
+use wh_tasks::{ActivityHandler, Gate, SourceFault, TaskSource};
+use wh_workflow::Workflow;
+
+/// What a worker hands back when it ends.
+#[derive(Drop)]
+pub struct Worker<T: Ledger, C: Ledger, F: Ledger, S> {
+    /// Its seat, with what it has counted.
+    pub seat: Seat<T, C, F>,
+    /// Its source, with the answers that it was sent.
+    pub source: S,
+    /// The first fault of its source, if there was one.
+    pub fault: Option<SourceFault>,
+}
+
+/// Serves tasks, at most one a turn: workflow and activity tasks by turns, workflow tasks first. A
+/// kind that is closed is not served again, and each later turn goes to the other. It ends when
+/// both are closed, when the host drains, or after so many turns. The first fault of the source is
+/// kept, and the work goes on. What comes back is what the turns led to, each of which is one of
+/// `serve_one`. The source comes from the one that was handed in, delivers and tells the same, and
+/// was sent at most as many answers as the seat took tasks.
+pub fn work<
+    R: Wait,
+    W: Workflow,
+    T: Ledger,
+    C: Ledger,
+    F: Ledger,
+    S: TaskSource,
+    A: ActivityHandler + Drop,
+    G: Gate,
+>(
+    rt: &R,
+    alloc: Global,
+    host: &Host<W, T, C, F>,
+    seat: Seat<T, C, F>,
+    source: S,
+    handler: A,
+    gate: &G,
+    turns: u64,
+) -> Worker<T, C, F, S>
+    ensures taken { result.seat.taken ≤ seat.taken + turns }
+    ensures fault { RoseIfFailed result.fault (S.failures source) (S.failures result.source) }
+    ensures same { SameTasks (S.delivers source) (S.tells source) (S.delivers result.source) (S.tells result.source) }
+    ensures origin { KeepsOrigin S.comes_from source result.source }
+    ensures answered { length (S.answers result.source) + seat.taken ≤ length (S.answers source) + result.seat.taken }
+    ensures work { IsWorkOf W.program S.tells S.delivers S.answers S.failures S.comes_from A.may
+        seat source handler turns result }
+{
+    let setup = WorkerSetup {
+        source,
+        handler,
+        observer: NoObserver,
+        turns,
+    };
+    worker_of(run_worker(rt, alloc, host, gate, (seat, setup)))
+}
+
+/// What a worker hands back, by what it leaves.
+fn worker_of<T: Ledger, C: Ledger, F: Ledger, S, A: Drop>(
+    ended: EndedWorker<T, C, F, S, A, NoObserver>,
+) -> Worker<T, C, F, S>
+    ensures { result ≡ worker_of ended }
+{
+    let (seat, end) = ended;
+    let WorkerEnd { source, fault, .. } = end;
+    Worker {
+        seat,
+        source,
+        fault,
+    }
+}
+
+/// Runs a worker in a thread of its own for each seat, with the source, the handler and the turns
+/// of the same place. The four lists are equally long. The workers come back in the order of the
+/// seats, the taken share of each has risen by at most its turns, and where one kept a fault, its
+/// own source has failed. Each is what its turns led to, as in `work`: its source comes from the
+/// one of its place, and was sent at most as many answers as its seat took tasks. `OutOfMemory`
+/// where there was no memory; then the seats are given up. (Temporal documentation, "Workers": a
+/// Worker Process runs many task executors.)
+pub fn run_workers<
+    R: Threads + Wait + Sync,
+    W: Workflow + Send,
+    T: Ledger + Send,
+    C: Ledger + Send,
+    F: Ledger + Send,
+    S: TaskSource + Send + Drop,
+    A: ActivityHandler + Send + Drop,
+    G: Gate + Sync,
+>(
+    rt: &R,
+    alloc: Global,
+    host: &Host<W, T, C, F>,
+    seats: Vec<Seat<T, C, F>>,
+    sources: Vec<S>,
+    handlers: Vec<A>,
+    gate: &G,
+    turns: Vec<u64>,
+) -> Result<Vec<Worker<T, C, F, S>>, OutOfMemory>
+    requires sources { vec_len sources ≡ vec_len seats }
+    requires handlers { vec_len handlers ≡ vec_len seats }
+    requires turns { vec_len turns ≡ vec_len seats }
+    ensures turns { IfOk result (λ workers.
+        WithinTurns seats.items turns.items (map (λ worker. worker.seat) workers.items)) }
+    ensures faults { IfOk result (λ workers. AllRoseIfFailed (map (λ source. S.failures source) sources.items)
+        (map (λ worker. worker.fault) workers.items) (map (λ worker. S.failures worker.source) workers.items)) }
+    ensures origins { IfOk result (λ workers.
+        AllZip (KeepsOrigin S.comes_from) sources.items (map (λ worker. worker.source) workers.items)) }
+    ensures answered { IfOk result (λ workers.
+        AllAnsweredWithin (map (λ source. length (S.answers source)) sources.items) seats.items
+        (map (λ worker. length (S.answers worker.source)) workers.items) (map (λ worker. worker.seat) workers.items)) }
+    ensures work { IfOk result (λ workers.
+        AreWorkOf W.program S.tells S.delivers S.answers S.failures S.comes_from A.may
+        seats.items sources.items handlers.items turns.items workers.items) }
+{
+    let setups = setups_of(alloc, sources, handlers, turns)?;
+    let pairs = zipped(alloc, seats, setups)?;
+    let mut room = Vec::new(alloc);
+    room.reserve(pairs.len())?;
+    let ended = run_in_threads(rt, alloc, host, gate, pairs)?;
+    Ok(workers_of(ended, room))
+}
+
+/// What the workers hand back, by what they leave, in an empty list with room for it.
+fn workers_of<T: Ledger, C: Ledger, F: Ledger, S: Drop, A: Drop>(
+    mut ended: Vec<EndedWorker<T, C, F, S, A, NoObserver>>,
+    mut workers: Vec<Worker<T, C, F, S>>,
+) -> Vec<Worker<T, C, F, S>>
+    requires empty { workers.items ≡ [] }
+    requires room { vec_len ended ≤ vec_capacity workers }
+    ensures { result.items ≡ map worker_of ended.items }
+{
+    while let Some(end) = ended.pop() {
+        workers.push_reserved(worker_of(end));
+    }
+    workers.reverse();
+    workers
+}
+
+/// A setup for each source, with the handler and the turns of its place, and no observer.
+fn setups_of<S: Drop, A: Drop>(
+    alloc: Global,
+    mut sources: Vec<S>,
+    mut handlers: Vec<A>,
+    mut turns: Vec<u64>,
+) -> Result<Vec<WorkerSetup<S, A, NoObserver>>, OutOfMemory>
+    requires handlers { vec_len handlers ≡ vec_len sources }
+    requires turns { vec_len turns ≡ vec_len sources }
+    ensures count { IfOk result (λ setups. vec_len setups ≡ vec_len sources) }
+    ensures sources { IfOk result (λ setups. map (λ setup. setup.source) setups.items ≡ sources.items) }
+    ensures handlers { IfOk result (λ setups. map (λ setup. setup.handler) setups.items ≡ handlers.items) }
+    ensures turns { IfOk result (λ setups. map (λ setup. setup.turns) setups.items ≡ turns.items) }
+{
+    let mut setups = Vec::new(alloc);
+    setups.reserve(sources.len())?;
+    while let Some(source) = sources.pop() {
+        let Some(handler) = handlers.pop() else {
+            unreachable!()
+        };
+        let Some(turns) = turns.pop() else {
+            unreachable!()
+        };
+        setups.push_reserved(WorkerSetup {
+            source,
+            handler,
+            observer: NoObserver,
+            turns,
+        });
+    }
+    setups.reverse();
+    Ok(setups)
+}
