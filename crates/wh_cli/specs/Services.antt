@@ -8,7 +8,7 @@ use Rattle.wh_ledger.specs.Shares.{no_shares, sums_of}
 use Rattle.wh_host.specs.declared.config.Config.{Config}
 use Rattle.wh_host.specs.declared.reply.Totals.{Totals}
 use Rattle.wh_host.specs.Machine.{IsConfig, totals_of}
-use Rattle.wh_tasks.specs.Source.{KeepsOrigin, RoseIfFailed}
+use Rattle.wh_tasks.specs.Source.{KeepsSource, RoseIfFailed}
 use Rattle.wh_tasks.specs.declared.handler.NoActivities.{NoActivities}
 use Rattle.wh_tasks.specs.declared.source.ActivityAnswer.TheVariants.{Failed}
 use Rattle.wh_poll.specs.declared.hosting.HostEnd.{HostEnd}
@@ -159,7 +159,8 @@ pub record IsHosted {P : Type 0} (program : Program P) (config : Config) (setups
       (λ source. source.answers) (λ source. 0) ComesFrom
       (λ handler task answer. answer ≡ Failed (codes "no activities")) (λ old turn new. new ≡ old) no_shares)
       setups.items end.workers.items
-  pub origins : AllZip (λ setup left. KeepsOrigin ComesFrom setup.source left.source) setups.items end.workers.items
+  pub keeps : AllZip (λ setup end. KeepsSource (λ source. Gives source.histories) (λ source. Recounts source.histories)
+      ComesFrom setup.source end.source) setups.items end.workers.items
   pub answered : AllZip (λ setup left. length left.source.answers ≤ length setup.source.answers + left.counted.taken)
       setups.items end.workers.items
   pub faults : AllZip (λ setup left. RoseIfFailed left.fault 0 0) setups.items end.workers.items

@@ -1,6 +1,6 @@
 //! A source of which one call fails.
 ghost use Rattle.std.specs.Prelude.{◌≡◌, ◌+◌, ◌-◌, ◌++◌, ◌∷◌, [], cond, eqb, IfOk, OnOk, OnErr};
-ghost use Rattle.wh_tasks.specs.Source.{Delivery, FailsOnly, IfTask, KeepsOrigin, SameTasks};
+ghost use Rattle.wh_tasks.specs.Source.{Delivery, FailsOnly, IfTask, KeepsSource};
 ghost use Rattle.wh_tasks.specs.declared.source.Sent.{Sent};
 ghost use Rattle.wh_faulty.specs.Failing.{Counts, spent, failures_of};
 
@@ -75,9 +75,7 @@ impl<S: TaskSource> TaskSource for FaultySource<S> {
         ensures task { IfOk result (IfTask (λ task. S.delivers self.old.0 (Delivery.Workflow task))) }
         ensures answers { S.answers self.new.0 ≡ S.answers self.old.0 }
         ensures failures { FailsOnly result (failures_of S.failures self.old) (failures_of S.failures self.new) }
-        ensures same { SameTasks (S.delivers self.old.0) (S.tells self.old.0)
-            (S.delivers self.new.0) (S.tells self.new.0) }
-        ensures origin { KeepsOrigin S.comes_from self.old.0 self.new.0 }
+        ensures keeps { KeepsSource S.delivers S.tells S.comes_from self.old.0 self.new.0 }
     {
         if is_due(&mut self.left) {
             return Err(SourceFault::Source);
@@ -92,9 +90,7 @@ impl<S: TaskSource> TaskSource for FaultySource<S> {
         ensures task { IfOk result (IfTask (λ task. S.delivers self.old.0 (Delivery.Activity task))) }
         ensures answers { S.answers self.new.0 ≡ S.answers self.old.0 }
         ensures failures { FailsOnly result (failures_of S.failures self.old) (failures_of S.failures self.new) }
-        ensures same { SameTasks (S.delivers self.old.0) (S.tells self.old.0)
-            (S.delivers self.new.0) (S.tells self.new.0) }
-        ensures origin { KeepsOrigin S.comes_from self.old.0 self.new.0 }
+        ensures keeps { KeepsSource S.delivers S.tells S.comes_from self.old.0 self.new.0 }
     {
         if is_due(&mut self.left) {
             return Err(SourceFault::Source);
@@ -109,9 +105,7 @@ impl<S: TaskSource> TaskSource for FaultySource<S> {
         ensures told { IfOk result (λ history. S.tells self.old.0 key.now up_to history.items) }
         ensures answers { S.answers self.new.0 ≡ S.answers self.old.0 }
         ensures failures { FailsOnly result (failures_of S.failures self.old) (failures_of S.failures self.new) }
-        ensures same { SameTasks (S.delivers self.old.0) (S.tells self.old.0)
-            (S.delivers self.new.0) (S.tells self.new.0) }
-        ensures origin { KeepsOrigin S.comes_from self.old.0 self.new.0 }
+        ensures keeps { KeepsSource S.delivers S.tells S.comes_from self.old.0 self.new.0 }
     {
         if is_due(&mut self.left) {
             return Err(SourceFault::Source);
@@ -127,9 +121,7 @@ impl<S: TaskSource> TaskSource for FaultySource<S> {
             (S.answers self.new.0 ≡ S.answers self.old.0 ++ (name, Sent.Workflow answer.now) ∷ []) }
         ensures unsent { OnErr result (S.answers self.new.0 ≡ S.answers self.old.0) }
         ensures failures { FailsOnly result (failures_of S.failures self.old) (failures_of S.failures self.new) }
-        ensures same { SameTasks (S.delivers self.old.0) (S.tells self.old.0)
-            (S.delivers self.new.0) (S.tells self.new.0) }
-        ensures origin { KeepsOrigin S.comes_from self.old.0 self.new.0 }
+        ensures keeps { KeepsSource S.delivers S.tells S.comes_from self.old.0 self.new.0 }
     {
         if is_due(&mut self.left) {
             return Err(SourceFault::Source);
@@ -149,9 +141,7 @@ impl<S: TaskSource> TaskSource for FaultySource<S> {
             (S.answers self.new.0 ≡ S.answers self.old.0 ++ (name, Sent.Activity answer.now) ∷ []) }
         ensures unsent { OnErr result (S.answers self.new.0 ≡ S.answers self.old.0) }
         ensures failures { FailsOnly result (failures_of S.failures self.old) (failures_of S.failures self.new) }
-        ensures same { SameTasks (S.delivers self.old.0) (S.tells self.old.0)
-            (S.delivers self.new.0) (S.tells self.new.0) }
-        ensures origin { KeepsOrigin S.comes_from self.old.0 self.new.0 }
+        ensures keeps { KeepsSource S.delivers S.tells S.comes_from self.old.0 self.new.0 }
     {
         if is_due(&mut self.left) {
             return Err(SourceFault::Source);

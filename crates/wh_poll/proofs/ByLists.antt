@@ -86,7 +86,7 @@ module _ {T C F P S A : Type 0} (program : Program P) (tells : S → Tells) (del
   pub workers_come : AllZip (KeepsOrigin comes_from) sources (map (λ worker. worker.source) workers)
   workers_come =
       moved_two (AllZip (KeepsOrigin comes_from)) _ _ _ _ (of_setups (λ setup. setup.source) sources sources_are) (of_workers (λ worker. worker.source))
-      (zip_into (Worked program tells delivers answers failures comes_from may) (KeepsOrigin comes_from) (λ seated. seated.1.source) (λ end. end.1.source) pairs ended all (λ seated end worked. worked.origin))
+      (zip_into (Worked program tells delivers answers failures comes_from may) (KeepsOrigin comes_from) (λ seated. seated.1.source) (λ end. end.1.source) pairs ended all (λ seated end worked. worked.keeps.origin))
 
   pub workers_answered : AllAnsweredWithin (map (λ source. length (answers source)) sources) seats (map (λ worker. length (answers worker.source)) workers) (map (λ worker. worker.seat) workers)
   workers_answered =

@@ -4,7 +4,7 @@ use Rattle.std.specs.List.{AllZip, zip}
 use Rattle.std.proofs.lemmas.List.{length-map}
 use Rattle.wh_ledger.specs.declared.Shares.{Shares}
 use Rattle.wh_workflow.specs.Law.{Program}
-use Rattle.wh_tasks.specs.Source.{Answers, Answerable, Delivers, Tells, KeepsOrigin, RoseIfFailed, SameMay, SameTasks}
+use Rattle.wh_tasks.specs.Source.{Answers, Answerable, Delivers, Tells, KeepsSource, RoseIfFailed, SameMay}
 use Rattle.wh_poll.specs.declared.setup.WorkerSetup.{WorkerSetup}
 use Rattle.wh_poll.specs.declared.setup.WorkerEnd.{WorkerEnd}
 use Rattle.wh_poll.specs.Turns.{AreEnds, Hears, IsLedBy, IsWorked}
@@ -37,8 +37,7 @@ module _ {P S A O : Type 0} (program : Program P) (tells : S → Tells) (deliver
         turns = beside (λ seated end. end.counted.taken ≤ seated.0.taken + seated.1.turns)
             (λ seated end worked. omega (arith, worked.taken, ap (λ shares. shares.taken) worked.seat));
         faults = under (λ setup end. RoseIfFailed end.fault (failures setup.source) (failures end.source)) (λ seated end worked. worked.fault);
-        same = under (λ setup end. SameTasks (delivers setup.source) (tells setup.source) (delivers end.source) (tells end.source)) (λ seated end worked. worked.same);
-        origins = under (λ setup end. KeepsOrigin comes_from setup.source end.source) (λ seated end worked. worked.origin);
+        keeps = under (λ setup end. KeepsSource delivers tells comes_from setup.source end.source) (λ seated end worked. worked.keeps);
         handlers = under (λ setup end. SameMay (may setup.handler) (may end.handler)) (λ seated end worked. worked.allows);
         answered = beside (λ seated end. length (answers end.source) + seated.0.taken ≤ length (answers seated.1.source) + end.counted.taken)
             (λ seated end worked. omega (arith, worked.answered, ap (λ shares. shares.taken) worked.seat));

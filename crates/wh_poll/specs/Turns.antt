@@ -5,7 +5,7 @@ use Rattle.wh_workflow.specs.Law.{Program}
 use Rattle.wh_slots.specs.declared.SlotKind.{SlotKind}
 use Rattle.wh_ledger.specs.declared.Shares.{Shares}
 use Rattle.wh_tasks.specs.declared.source.SourceFault.{SourceFault}
-use Rattle.wh_tasks.specs.Source.{Answers, Answerable, Delivers, Tells, FailsOnly, KeepsOrigin, RoseIfFailed, SameMay, SameTasks}
+use Rattle.wh_tasks.specs.Source.{Answers, Answerable, Delivers, Tells, FailsOnly, KeepsSource, RoseIfFailed, SameMay}
 use Rattle.wh_poll.specs.declared.serve.Served.{Served}
 use Rattle.wh_poll.specs.declared.setup.WorkerSetup.{WorkerSetup}
 use Rattle.wh_poll.specs.declared.setup.WorkerEnd.{WorkerEnd}
@@ -31,8 +31,7 @@ pub record IsTurn {P S A O : Type 0} (program : Program P) (tells : S → Tells)
       (answers old.source) (answers new.source) turn
   pub counts : Counts old.counted new.counted turn
   pub failed : FailsOnly turn (failures old.source) (failures new.source)
-  pub same : SameTasks (delivers old.source) (tells old.source) (delivers new.source) (tells new.source)
-  pub origin : KeepsOrigin comes_from old.source new.source
+  pub keeps : KeepsSource delivers tells comes_from old.source new.source
   pub allows : SameMay (may old.handler) (may new.handler)
   pub kept : new.fault ≡ first_fault old.fault turn
   pub told : hears old.observer turn new.observer
@@ -85,8 +84,7 @@ pub record IsWorked {P S A O : Type 0} (program : Program P) (tells : S → Tell
   pub seat : ended.0 ≡ ended.1.counted
   pub taken : ended.0.taken ≤ seated.0.taken + seated.1.turns
   pub fault : RoseIfFailed ended.1.fault (failures seated.1.source) (failures ended.1.source)
-  pub same : SameTasks (delivers seated.1.source) (tells seated.1.source) (delivers ended.1.source) (tells ended.1.source)
-  pub origin : KeepsOrigin comes_from seated.1.source ended.1.source
+  pub keeps : KeepsSource delivers tells comes_from seated.1.source ended.1.source
   pub allows : SameMay (may seated.1.handler) (may ended.1.handler)
   pub answered : length (answers ended.1.source) + seated.0.taken ≤ length (answers seated.1.source) + ended.0.taken
   pub told : IsLedBy program tells delivers answers failures comes_from may hears seated.0 seated.1 ended.1
@@ -98,9 +96,7 @@ pub record AreEnds {P S A O : Type 0} (program : Program P) (tells : S → Tells
   pub count : length ends ≡ length setups
   pub turns : AllZip (λ seated end. end.counted.taken ≤ seated.0.taken + seated.1.turns) (zip seats setups) ends
   pub faults : AllZip (λ setup end. RoseIfFailed end.fault (failures setup.source) (failures end.source)) setups ends
-  pub same : AllZip (λ setup end. SameTasks (delivers setup.source) (tells setup.source)
-      (delivers end.source) (tells end.source)) setups ends
-  pub origins : AllZip (λ setup end. KeepsOrigin comes_from setup.source end.source) setups ends
+  pub keeps : AllZip (λ setup end. KeepsSource delivers tells comes_from setup.source end.source) setups ends
   pub handlers : AllZip (λ setup end. SameMay (may setup.handler) (may end.handler)) setups ends
   pub answered : AllZip (λ seated end. length (answers end.source) + seated.0.taken
       ≤ length (answers seated.1.source) + end.counted.taken) (zip seats setups) ends

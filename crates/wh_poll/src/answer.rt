@@ -1,6 +1,6 @@
 //! Answers to tasks: a task is replayed or run, and its answer is sent.
 ghost use Rattle.std.specs.Prelude.{◌≡◌, Err, IfOk, IfSome};
-ghost use Rattle.wh_tasks.specs.Source.{KeepsOrigin, SameTasks, SameMay};
+ghost use Rattle.wh_tasks.specs.Source.{KeepsSource, SameMay};
 ghost use Rattle.wh_tasks.specs.Tasks.{IsAnswer, HasAnswer, FailsOnlySource};
 ghost use Rattle.wh_poll.specs.Serve.{outcome_of, activity_outcome, held_by, Sends, SendsAnswer, SendsActivity};
 
@@ -42,8 +42,7 @@ pub fn answer_by_replay<W: Workflow, S: TaskSource>(
     ensures sends { Sends W.program (S.tells source.old) run task
         (S.answers source.old) (S.answers source.new) result.sent }
     ensures failures { FailsOnlySource result.sent (S.failures source.old) (S.failures source.new) }
-    ensures same { SameTasks (S.delivers source.old) (S.tells source.old) (S.delivers source.new) (S.tells source.new) }
-    ensures origin { KeepsOrigin S.comes_from source.old source.new }
+    ensures keeps { KeepsSource S.delivers S.tells S.comes_from source.old source.new }
 {
     if let Some(run) = &run {
         // Made for the proof: its contract says that the run is replayed.
@@ -95,8 +94,7 @@ fn send_answer<W: Workflow, S: TaskSource>(
     requires { HasAnswer run.now fault }
     ensures sends { SendsAnswer run.now fault name (S.answers source.old) (S.answers source.new) result }
     ensures failures { FailsOnlySource result (S.failures source.old) (S.failures source.new) }
-    ensures same { SameTasks (S.delivers source.old) (S.tells source.old) (S.delivers source.new) (S.tells source.new) }
-    ensures origin { KeepsOrigin S.comes_from source.old source.new }
+    ensures keeps { KeepsSource S.delivers S.tells S.comes_from source.old source.new }
 {
     let answer = answer_of(alloc, run, fault)?;
     let outcome = outcome_of(&answer);
@@ -152,8 +150,7 @@ pub fn answer_by_handler<S: TaskSource, A: ActivityHandler>(
 ) -> Result<Outcome, StepFault>
     ensures sends { SendsActivity (A.may handler.old) task.now (S.answers source.old) (S.answers source.new) result }
     ensures failures { FailsOnlySource result (S.failures source.old) (S.failures source.new) }
-    ensures same { SameTasks (S.delivers source.old) (S.tells source.old) (S.delivers source.new) (S.tells source.new) }
-    ensures origin { KeepsOrigin S.comes_from source.old source.new }
+    ensures keeps { KeepsSource S.delivers S.tells S.comes_from source.old source.new }
     ensures may { SameMay (A.may handler.old) (A.may handler.new) }
 {
     let answer = match handler.run(task) {

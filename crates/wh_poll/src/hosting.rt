@@ -3,7 +3,7 @@ ghost use Rattle.std.specs.Prelude.{◌≡◌, ◌≤◌, ◌+◌, ◌↔◌, If
 ghost use Rattle.std.specs.List.{AllZip, zip};
 ghost use Rattle.wh_ledger.specs.Shares.{no_shares, sums_of};
 ghost use Rattle.wh_host.specs.Machine.{IsConfig, totals_of};
-ghost use Rattle.wh_tasks.specs.Source.{KeepsOrigin, RoseIfFailed, SameMay, SameTasks};
+ghost use Rattle.wh_tasks.specs.Source.{KeepsSource, RoseIfFailed, SameMay};
 ghost use Rattle.wh_poll.specs.Turns.{AreEnds, IsLedBy};
 
 use crate::observer::Observer;
@@ -58,11 +58,9 @@ pub fn run_on_host<
     ensures faults { IfOk result (λ ended.
         AllZip (λ setup end. RoseIfFailed end.fault (S.failures setup.source) (S.failures end.source))
         setups.items ended.1.items) }
-    ensures same { IfOk result (λ ended.
-        AllZip (λ setup end. SameTasks (S.delivers setup.source) (S.tells setup.source)
-        (S.delivers end.source) (S.tells end.source)) setups.items ended.1.items) }
-    ensures origins { IfOk result (λ ended.
-        AllZip (λ setup end. KeepsOrigin S.comes_from setup.source end.source) setups.items ended.1.items) }
+    ensures keeps { IfOk result (λ ended.
+        AllZip (λ setup end. KeepsSource S.delivers S.tells S.comes_from setup.source end.source)
+        setups.items ended.1.items) }
     ensures handlers { IfOk result (λ ended.
         AllZip (λ setup end. SameMay (A.may setup.handler) (A.may end.handler)) setups.items ended.1.items) }
     ensures answered { IfOk result (λ ended. AllZip
@@ -120,11 +118,9 @@ pub fn run_host<
     ensures faults { IfOk result (λ host_end.
         AllZip (λ setup end. RoseIfFailed end.fault (S.failures setup.source) (S.failures end.source))
         setups.items host_end.workers.items) }
-    ensures same { IfOk result (λ host_end.
-        AllZip (λ setup end. SameTasks (S.delivers setup.source) (S.tells setup.source)
-        (S.delivers end.source) (S.tells end.source)) setups.items host_end.workers.items) }
-    ensures origins { IfOk result (λ host_end.
-        AllZip (λ setup end. KeepsOrigin S.comes_from setup.source end.source) setups.items host_end.workers.items) }
+    ensures keeps { IfOk result (λ host_end.
+        AllZip (λ setup end. KeepsSource S.delivers S.tells S.comes_from setup.source end.source)
+        setups.items host_end.workers.items) }
     ensures handlers { IfOk result (λ host_end.
         AllZip (λ setup end. SameMay (A.may setup.handler) (A.may end.handler)) setups.items host_end.workers.items) }
     ensures answered { IfOk result (λ host_end.

@@ -1,6 +1,6 @@
 //! One turn of a worker.
 ghost use Rattle.std.specs.Prelude.{◌≡◌, ◌≤◌, IfErr, IfOk, IfSome, MatchOption, MatchResult};
-ghost use Rattle.wh_tasks.specs.Source.{KeepsOrigin, SameTasks, SameMay, FailsOnly};
+ghost use Rattle.wh_tasks.specs.Source.{KeepsSource, SameMay, FailsOnly};
 ghost use Rattle.wh_tasks.specs.Source.{Workflow as WorkflowDelivery, Activity as ActivityDelivery};
 ghost use Rattle.wh_tasks.specs.Tasks.{FailsOnlySource};
 ghost use Rattle.wh_poll.specs.Serve.{Serves, ServesWorkflow, ServesActivity, Sends};
@@ -99,8 +99,7 @@ pub fn serve_one<
         (S.answers source.old) (S.answers source.new) result }
     ensures counts { Counts seat.old seat.new result }
     ensures failures { FailsOnly result (S.failures source.old) (S.failures source.new) }
-    ensures same { SameTasks (S.delivers source.old) (S.tells source.old) (S.delivers source.new) (S.tells source.new) }
-    ensures origin { KeepsOrigin S.comes_from source.old source.new }
+    ensures keeps { KeepsSource S.delivers S.tells S.comes_from source.old source.new }
     ensures may { SameMay (A.may handler.old) (A.may handler.new) }
 {
     let reserved = host.lock(rt).reserve(kind);
@@ -140,8 +139,7 @@ fn serve_workflow<R: Wait, W: Workflow, T: Ledger, C: Ledger, F: Ledger, S: Task
         (S.answers source.old) (S.answers source.new) result }
     ensures counts { Counts seat.old seat.new result }
     ensures failures { FailsOnly result (S.failures source.old) (S.failures source.new) }
-    ensures same { SameTasks (S.delivers source.old) (S.tells source.old) (S.delivers source.new) (S.tells source.new) }
-    ensures origin { KeepsOrigin S.comes_from source.old source.new }
+    ensures keeps { KeepsSource S.delivers S.tells S.comes_from source.old source.new }
 {
     let task = match polled_workflow(source) {
         Ok(task) => task,
@@ -170,8 +168,7 @@ fn polled_workflow<S: TaskSource>(
     ensures answers { S.answers source.new ≡ S.answers source.old }
     ensures failures { MatchResult result (λ _. S.failures source.old ≤ S.failures source.new)
         (λ served. FailsOnly served (S.failures source.old) (S.failures source.new)) }
-    ensures same { SameTasks (S.delivers source.old) (S.tells source.old) (S.delivers source.new) (S.tells source.new) }
-    ensures origin { KeepsOrigin S.comes_from source.old source.new }
+    ensures keeps { KeepsSource S.delivers S.tells S.comes_from source.old source.new }
 {
     match source.poll_workflow() {
         Ok(Polled::Task(task)) => Ok(task),
@@ -196,8 +193,7 @@ fn answer_held<R: Wait, W: Workflow, T: Ledger, C: Ledger, F: Ledger, S: TaskSou
     ensures sends { Sends W.program (S.tells source.old) cached task
         (S.answers source.old) (S.answers source.new) result }
     ensures failures { FailsOnlySource result (S.failures source.old) (S.failures source.new) }
-    ensures same { SameTasks (S.delivers source.old) (S.tells source.old) (S.delivers source.new) (S.tells source.new) }
-    ensures origin { KeepsOrigin S.comes_from source.old source.new }
+    ensures keeps { KeepsSource S.delivers S.tells S.comes_from source.old source.new }
 {
     let Answered { run, sent } = answer_by_replay(alloc, cached, task, source);
     give_back(rt, host, held, kept(source, run));
@@ -234,8 +230,7 @@ fn serve_activity<
         (S.answers source.old) (S.answers source.new) result }
     ensures counts { Counts seat.old seat.new result }
     ensures failures { FailsOnly result (S.failures source.old) (S.failures source.new) }
-    ensures same { SameTasks (S.delivers source.old) (S.tells source.old) (S.delivers source.new) (S.tells source.new) }
-    ensures origin { KeepsOrigin S.comes_from source.old source.new }
+    ensures keeps { KeepsSource S.delivers S.tells S.comes_from source.old source.new }
     ensures may { SameMay (A.may handler.old) (A.may handler.new) }
 {
     let task = match polled_activity(source) {
@@ -261,8 +256,7 @@ fn polled_activity<S: TaskSource>(
     ensures none { IfErr result HasNoTask }
     ensures failures { MatchResult result (λ _. S.failures source.old ≤ S.failures source.new)
         (λ served. FailsOnly served (S.failures source.old) (S.failures source.new)) }
-    ensures same { SameTasks (S.delivers source.old) (S.tells source.old) (S.delivers source.new) (S.tells source.new) }
-    ensures origin { KeepsOrigin S.comes_from source.old source.new }
+    ensures keeps { KeepsSource S.delivers S.tells S.comes_from source.old source.new }
     ensures answers { S.answers source.new ≡ S.answers source.old }
 {
     match source.poll_activity() {

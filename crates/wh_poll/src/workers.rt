@@ -2,7 +2,7 @@
 ghost use Rattle.std.specs.Prelude.{◌≡◌, ◌≤◌, ◌<◌, ◌+◌, ℕ, IfOk, not, length, vec_len, slice_index_or};
 ghost use Rattle.std.specs.Bool.{OnTrue};
 ghost use denote.Param.Send.{IsSend};
-ghost use Rattle.wh_tasks.specs.Source.{KeepsOrigin, SameMay, SameTasks, FailsOnly, RoseIfFailed};
+ghost use Rattle.wh_tasks.specs.Source.{KeepsSource, SameMay, FailsOnly, RoseIfFailed};
 ghost use Rattle.wh_poll.specs.Workers.{first_fault, first_rota, other, is_last, next_rota};
 ghost use Rattle.wh_poll.specs.Turns.{end_at, IsTurn, IsLedBy, IsWorked};
 
@@ -50,9 +50,7 @@ impl<T: Ledger, C: Ledger, F: Ledger, S: TaskSource, A: ActivityHandler, O: Obse
         ensures taken { self.new.seat.taken ≤ self.old.seat.taken + 1 }
         ensures fault { self.new.fault ≡ first_fault self.old.fault result }
         ensures failures { FailsOnly result (S.failures self.old.source) (S.failures self.new.source) }
-        ensures same { SameTasks (S.delivers self.old.source) (S.tells self.old.source)
-            (S.delivers self.new.source) (S.tells self.new.source) }
-        ensures origin { KeepsOrigin S.comes_from self.old.source self.new.source }
+        ensures keeps { KeepsSource S.delivers S.tells S.comes_from self.old.source self.new.source }
         ensures allows { SameMay (A.may self.old.handler) (A.may self.new.handler) }
         ensures answered { length (S.answers self.new.source) + self.old.seat.taken
             ≤ length (S.answers self.old.source) + self.new.seat.taken }
@@ -155,9 +153,7 @@ fn work_at<
 ) -> WorkerLoop<T, C, F, S, A, O>
     ensures taken { result.seat.taken ≤ seat.taken + setup.turns }
     ensures fault { RoseIfFailed result.fault (S.failures setup.source) (S.failures result.source) }
-    ensures same { SameTasks (S.delivers setup.source) (S.tells setup.source)
-        (S.delivers result.source) (S.tells result.source) }
-    ensures origin { KeepsOrigin S.comes_from setup.source result.source }
+    ensures keeps { KeepsSource S.delivers S.tells S.comes_from setup.source result.source }
     ensures allows { SameMay (A.may setup.handler) (A.may result.handler) }
     ensures answered { length (S.answers result.source) + seat.taken
         ≤ length (S.answers setup.source) + result.seat.taken }

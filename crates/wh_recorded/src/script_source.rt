@@ -8,7 +8,7 @@ ghost use Rattle.wh_recorded.specs.Rounds.{polled_at, failed_of, failed_in, is_l
 ghost use Rattle.wh_recorded.specs.Rounds.{upcoming, told, Gives, Recounts, Polls};
 ghost use Rattle.wh_recorded.specs.Calls.{ComesFrom};
 ghost use Rattle.wh_tasks.specs.Numbers.{last_number};
-ghost use Rattle.wh_tasks.specs.Source.{Delivery, FailsOnly, IfTask, KeepsOrigin, SameTasks};
+ghost use Rattle.wh_tasks.specs.Source.{Delivery, FailsOnly, IfTask, KeepsOrigin, KeepsSource};
 ghost use Rattle.wh_tasks.specs.declared.source.Polled.{Polled};
 ghost use Rattle.wh_tasks.specs.declared.source.Sent.{Sent};
 ghost use Rattle.wh_tasks.specs.declared.source.SourceFault.{SourceFault};
@@ -453,9 +453,8 @@ impl TaskSource for ScriptSource {
         ensures task { IfOk result (IfTask (λ task. Gives self.old.histories (Delivery.Workflow task))) }
         ensures answers { self.new.answers ≡ self.old.answers }
         ensures failures { FailsOnly result 0 0 }
-        ensures same { SameTasks (Gives self.old.histories) (Recounts self.old.histories)
-            (Gives self.new.histories) (Recounts self.new.histories) }
-        ensures origin { KeepsOrigin ComesFrom self.old self.new }
+        ensures keeps { KeepsSource (λ source. Gives source.histories) (λ source. Recounts source.histories)
+            ComesFrom self.old self.new }
     {
         let Some((round, place)) = self.upcoming() else {
             return Ok(Polled::Closed);

@@ -94,8 +94,7 @@ pub trait TaskSource {
     ghost use Rattle.wh_events.specs.declared.key.RunKey.{RunKey};
     ghost use Rattle.wh_tasks.specs.declared.source.Sent.{Sent};
     ghost use Rattle.wh_tasks.specs.declared.source.Sent.TheVariants.{Workflow as OfWorkflow, Activity as OfActivity};
-    ghost use Rattle.wh_tasks.specs.Source.{Delivery, Workflow, Activity, SameTasks, IfTask, FailsOnly};
-    ghost use Rattle.wh_tasks.specs.Source.{KeepsOrigin};
+    ghost use Rattle.wh_tasks.specs.Source.{Delivery, Workflow, Activity, IfTask, FailsOnly, KeepsSource};
 
     /// The answers that were taken, with their tasks' names.
     ghost answers: { Self → List (TaskName × Sent) };
@@ -118,16 +117,14 @@ pub trait TaskSource {
         ensures task { IfOk result (IfTask (λ task. delivers self.old (Workflow task))) }
         ensures answers { answers self.new ≡ answers self.old }
         ensures failures { FailsOnly result (failures self.old) (failures self.new) }
-        ensures same { SameTasks (delivers self.old) (tells self.old) (delivers self.new) (tells self.new) }
-        ensures origin { KeepsOrigin comes_from self.old self.new };
+        ensures keeps { KeepsSource delivers tells comes_from self.old self.new };
 
     /// The next activity task, if there is one. A fault gives none, and sends nothing.
     fn poll_activity(&mut self) -> Result<Polled<ActivityTask>, SourceFault>
         ensures task { IfOk result (IfTask (λ task. delivers self.old (Activity task))) }
         ensures answers { answers self.new ≡ answers self.old }
         ensures failures { FailsOnly result (failures self.old) (failures self.new) }
-        ensures same { SameTasks (delivers self.old) (tells self.old) (delivers self.new) (tells self.new) }
-        ensures origin { KeepsOrigin comes_from self.old self.new };
+        ensures keeps { KeepsSource delivers tells comes_from self.old self.new };
 
     /// The history of a run from its first event up to the one of a number. A fault gives none, and
     /// sends nothing.
@@ -135,16 +132,14 @@ pub trait TaskSource {
         ensures told { IfOk result (λ history. tells self.old key.now up_to history.items) }
         ensures answers { answers self.new ≡ answers self.old }
         ensures failures { FailsOnly result (failures self.old) (failures self.new) }
-        ensures same { SameTasks (delivers self.old) (tells self.old) (delivers self.new) (tells self.new) }
-        ensures origin { KeepsOrigin comes_from self.old self.new };
+        ensures keeps { KeepsSource delivers tells comes_from self.old self.new };
 
     /// Sends the answer to the workflow task of a name. After a fault nothing was taken.
     fn answer_workflow(&mut self, name: TaskName, answer: &Answer) -> Result<(), SourceFault>
         ensures sent { OnOk result (answers self.new ≡ answers self.old ++ (name, OfWorkflow answer.now) ∷ []) }
         ensures unsent { OnErr result (answers self.new ≡ answers self.old) }
         ensures failures { FailsOnly result (failures self.old) (failures self.new) }
-        ensures same { SameTasks (delivers self.old) (tells self.old) (delivers self.new) (tells self.new) }
-        ensures origin { KeepsOrigin comes_from self.old self.new };
+        ensures keeps { KeepsSource delivers tells comes_from self.old self.new };
 
     /// Sends the answer to the workflow task of a name, and shows the events that it was replayed
     /// from, those of the run that replay gave and none where it gave no run, and how many steps
@@ -161,8 +156,7 @@ pub trait TaskSource {
         ensures sent { OnOk result (answers self.new ≡ answers self.old ++ (name, OfWorkflow answer.now) ∷ []) }
         ensures unsent { OnErr result (answers self.new ≡ answers self.old) }
         ensures failures { FailsOnly result (failures self.old) (failures self.new) }
-        ensures same { SameTasks (delivers self.old) (tells self.old) (delivers self.new) (tells self.new) }
-        ensures origin { KeepsOrigin comes_from self.old self.new }
+        ensures keeps { KeepsSource delivers tells comes_from self.old self.new }
     {
         self.answer_workflow(name, answer)
     }
@@ -182,6 +176,5 @@ pub trait TaskSource {
         ensures sent { OnOk result (answers self.new ≡ answers self.old ++ (name, OfActivity answer.now) ∷ []) }
         ensures unsent { OnErr result (answers self.new ≡ answers self.old) }
         ensures failures { FailsOnly result (failures self.old) (failures self.new) }
-        ensures same { SameTasks (delivers self.old) (tells self.old) (delivers self.new) (tells self.new) }
-        ensures origin { KeepsOrigin comes_from self.old self.new };
+        ensures keeps { KeepsSource delivers tells comes_from self.old self.new };
 }

@@ -2,7 +2,7 @@
 ghost use Rattle.std.specs.Prelude.{◌≡◌, ◌≤◌, false, true, Some, None, Err, IfOk, IfErr, IfSome};
 ghost use Rattle.std.specs.Prelude.{OnErr};
 ghost use Rattle.wh_replay.specs.Replays.{ends_in_task};
-ghost use Rattle.wh_tasks.specs.Source.{KeepsOrigin, SameTasks};
+ghost use Rattle.wh_tasks.specs.Source.{KeepsSource};
 ghost use Rattle.wh_replay.specs.Runs.{follows, steps};
 ghost use Rattle.wh_tasks.specs.Numbers.{last_number};
 ghost use Rattle.wh_tasks.specs.Tasks.{basis_of, later_basis, NeedsMemory, AsksSource, StepsFrom, Steps};
@@ -86,8 +86,7 @@ pub fn replay_task<W: Workflow, S: TaskSource>(
     ensures memory { result ≡ Err StepFault.OutOfMemory → NeedsMemory (basis_of run events.items) events.items }
     ensures asked { (fault : SourceFault) → result ≡ Err (StepFault.Source fault) →
         AsksSource (basis_of run events.items) }
-    ensures same { SameTasks (S.delivers source.old) (S.tells source.old) (S.delivers source.new) (S.tells source.new) }
-    ensures origin { KeepsOrigin S.comes_from source.old source.new }
+    ensures keeps { KeepsSource S.delivers S.tells S.comes_from source.old source.new }
 {
     if is_whole(events.as_slice()) {
         drop(run);
@@ -117,8 +116,7 @@ fn replay_held<W: Workflow, S: TaskSource>(
     ensures never_lowered { meter.old ≤ meter.new }
     ensures answers { S.answers source.new ≡ S.answers source.old }
     ensures failures { FailsOnlySource result (S.failures source.old) (S.failures source.new) }
-    ensures same { SameTasks (S.delivers source.old) (S.tells source.old) (S.delivers source.new) (S.tells source.new) }
-    ensures origin { KeepsOrigin S.comes_from source.old source.new }
+    ensures keeps { KeepsSource S.delivers S.tells S.comes_from source.old source.new }
     ensures memory { result ≡ Err StepFault.OutOfMemory →
         NeedsMemory (later_basis (Some run) events.items) events.items }
     ensures asked { (fault : SourceFault) → result ≡ Err (StepFault.Source fault) →
@@ -162,8 +160,7 @@ fn replay_unheld<W: Workflow, S: TaskSource>(
     ensures never_lowered { meter.old ≤ meter.new }
     ensures answers { S.answers source.new ≡ S.answers source.old }
     ensures failures { FailsOnlySource result (S.failures source.old) (S.failures source.new) }
-    ensures same { SameTasks (S.delivers source.old) (S.tells source.old) (S.delivers source.new) (S.tells source.new) }
-    ensures origin { KeepsOrigin S.comes_from source.old source.new }
+    ensures keeps { KeepsSource S.delivers S.tells S.comes_from source.old source.new }
     ensures memory { result ≡ Err StepFault.OutOfMemory → NeedsMemory (later_basis None events.now) events.now }
     ensures asked { (fault : SourceFault) → result ≡ Err (StepFault.Source fault) →
         AsksSource (later_basis None events.now) }
@@ -229,8 +226,7 @@ fn replay_told<W: Workflow, S: TaskSource>(
     ensures never_lowered { meter.old ≤ meter.new }
     ensures answers { S.answers source.new ≡ S.answers source.old }
     ensures failures { FailsOnlySource result (S.failures source.old) (S.failures source.new) }
-    ensures same { SameTasks (S.delivers source.old) (S.tells source.old) (S.delivers source.new) (S.tells source.new) }
-    ensures origin { KeepsOrigin S.comes_from source.old source.new }
+    ensures keeps { KeepsSource S.delivers S.tells S.comes_from source.old source.new }
 {
     let history = match source.whole(key, up_to) {
         Ok(history) => history,

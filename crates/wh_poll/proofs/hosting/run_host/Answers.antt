@@ -27,11 +27,8 @@ returns-clause-turns g c = IfOk-weaker c.run_with.result _ _ (λ host_end ends.
 pub returns-clause-faults : goal.returns-clause-faults
 returns-clause-faults g c = IfOk-weaker c.run_with.result _ _ (λ host_end ends. ends.faults) c.run_with.ensures.ends
 
-pub returns-clause-same : goal.returns-clause-same
-returns-clause-same g c = IfOk-weaker c.run_with.result _ _ (λ host_end ends. ends.same) c.run_with.ensures.ends
-
-pub returns-clause-origins : goal.returns-clause-origins
-returns-clause-origins g c = IfOk-weaker c.run_with.result _ _ (λ host_end ends. ends.origins) c.run_with.ensures.ends
+pub returns-clause-keeps : goal.returns-clause-keeps
+returns-clause-keeps g c = IfOk-weaker c.run_with.result _ _ (λ host_end ends. ends.keeps) c.run_with.ensures.ends
 
 pub returns-clause-handlers : goal.returns-clause-handlers
 returns-clause-handlers g c = IfOk-weaker c.run_with.result _ _ (λ host_end ends. ends.handlers) c.run_with.ensures.ends

@@ -10,5 +10,5 @@ returns-clause-serves g c =
     let polled = c.polled_workflow.new.source in
     let served = serves_sent g.W.Workflow.program (tells c.args.source.now) (tells polled) (g.S.TaskSource.delivers c.args.source.now)
     (answers c.args.source.now) (answers polled) (answers c.answer_held-sent.new.source) c.in-Ok.task c.in-Ok-take_workflow.taken.1 c.answer_held-sent.result
-    c.in-Ok.ensures.task c.polled_workflow.ensures.answers c.polled_workflow.ensures.same.tells c.answer_held-sent.ensures.sends in
+    c.in-Ok.ensures.task c.polled_workflow.ensures.answers c.polled_workflow.ensures.keeps.same.tells c.answer_held-sent.ensures.sends in
     search (rules, served)

@@ -18,8 +18,7 @@ loop-turn-preserved g c =
     record {
       taken = search rules;
       fault = search (rules, rose_kept c.loop-turn.worker_loop.fault served _ _ _ c.loop-turn.invariant.fault c.serve-served.ensures.failures);
-      same = search rules;
-      origin = search rules;
+      keeps = search rules;
       answered = search rules;
       allows = search rules;
       turns = (before.0 ++ served ∷ [], turn_more before.0 served c.loop-turn._turn before.1, subst (λ r. GoesOn step first_rota first (before.0 ++ served ∷ []) r new) (sym next) led);
@@ -43,8 +42,7 @@ pub loop-turn-init : goal.loop-turn-init
 loop-turn-init g c = record {
   taken = search rules;
   fault = search rules;
-  same = search rules;
-  origin = search rules;
+  keeps = search rules;
   answered = search rules;
   allows = search rules;
   turns = ([], refl, (c.first-rota.ensures, refl));

@@ -20,5 +20,5 @@ returns-clause-task c =
     let at = slice_get-get_or c.args.self.now.histories place history in
     (place, c.in-Some.round, history, search (rules, at), search rules, search rules)
 
-pub returns-clause-origin : goal.returns-clause-origin
-returns-clause-origin c = comes_on c.args.self.now _ (poll (Task c.in-Ok.task)) (returns-clause-next c)
+pub returns-clause-keeps : goal.returns-clause-keeps
+returns-clause-keeps c = record { same = search rules; origin = comes_on c.args.self.now _ (poll (Task c.in-Ok.task)) (returns-clause-next c) }
