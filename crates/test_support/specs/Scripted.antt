@@ -10,7 +10,7 @@ use Rattle.wh_workflow.specs.declared.job.Job.{Job}
 use Rattle.wh_workflow.specs.declared.job.Job.TheVariants.{Signal}
 use Rattle.wh_workflow.specs.Law.{Program, IsAnswer, IsLawful}
 use Rattle.wh_workflow.specs.Answering.{none_is_answer as none, one_is_answer as one}
-use Rattle.wh_samples.specs.declared.parts.NoState.{NoState}
+use Rattle.wh_sample_workflows.specs.declared.stateless.NoState.{NoState}
 
 -- the value where the test holds, else what another test gives
 abbrev pub given_if : Bool → Command → Option Command → Option Command

@@ -1,35 +1,24 @@
 //! A workflow that gives the command that a signal names.
 
-ghost use Rattle.std.specs.Prelude.{◌≡◌, [], Some, IfOk, codes};
-ghost use Rattle.wfhost.specs.Scripted.{scripted, scripted_lawful, ask_named, closing_named, command_named};
+ghost use Rattle.std.specs.Prelude.{◌≡◌, Some, IfOk, codes};
+ghost use Rattle.test_support.specs.Scripted.{scripted, scripted_lawful, ask_named, closing_named, command_named};
 ghost use Rattle.wh_workflow.specs.declared.command.Command.TheVariants.{Ask};
 
 use std::alloc::Global;
-use wh_events::{Items, OutOfMemory, Payload, Text};
-use wh_samples::NoState;
-use wh_workflow::{Command, Job, Meter, Workflow};
+use wh_events::OutOfMemory;
+use wh_sample_workflows::NoState;
+use wh_workflow::{Command, Job, Meter, Workflow, no_payloads, text_of};
 
 /// Gives the command that a signal names. A name that is none of a command gives nothing, and nor
 /// do other jobs. It has code for every workflow type.
-pub(crate) struct Scripted;
+pub struct Scripted;
 
-fn text(alloc: Global, text: &str) -> Result<Text, OutOfMemory>
-    ensures { IfOk result (λ copy. copy ≡ text.now) }
-{
-    Ok(Text::new(String::from_str(alloc, text)?))
-}
-
-fn nothing(alloc: Global) -> Items<Payload>
-    ensures { result ≡ [] }
-{
-    Items::new(Vec::new(alloc))
-}
-
+/// The question about the change `chg` with this range.
 fn ask(alloc: Global, min: i32, max: i32) -> Result<Option<Command>, OutOfMemory>
     ensures { IfOk result (λ given. given ≡ Some (Ask (codes "chg") min max)) }
 {
     Ok(Some(Command::Ask {
-        change_id: text(alloc, "chg")?,
+        change_id: text_of(alloc, "chg")?,
         min,
         max,
     }))
@@ -64,24 +53,24 @@ fn closing_named(alloc: Global, name: &str) -> Result<Option<Command>, OutOfMemo
 {
     if name == "complete" {
         Ok(Some(Command::Complete {
-            result: nothing(alloc),
+            result: no_payloads(alloc),
         }))
     } else if name == "fail" {
         Ok(Some(Command::Fail {
-            message: text(alloc, "failure")?,
+            message: text_of(alloc, "failure")?,
         }))
     } else if name == "cancel" {
         Ok(Some(Command::Cancel))
     } else if name == "continue" {
         Ok(Some(Command::ContinueAsNew {
-            workflow: text(alloc, "Nap")?,
-            input: nothing(alloc),
+            workflow: text_of(alloc, "Nap")?,
+            input: no_payloads(alloc),
         }))
     } else if name == "signal_other" {
         Ok(Some(Command::SignalExternal {
-            workflow_id: text(alloc, "other")?,
-            signal: text(alloc, "go")?,
-            input: nothing(alloc),
+            workflow_id: text_of(alloc, "other")?,
+            signal: text_of(alloc, "go")?,
+            input: no_payloads(alloc),
         }))
     } else {
         ask_named(alloc, name)
@@ -94,32 +83,32 @@ fn command_named(alloc: Global, name: &str) -> Result<Option<Command>, OutOfMemo
 {
     if name == "start_timer" {
         Ok(Some(Command::StartTimer {
-            id: text(alloc, "t")?,
+            id: text_of(alloc, "t")?,
             seconds: 1,
         }))
     } else if name == "cancel_timer" {
         Ok(Some(Command::CancelTimer {
-            id: text(alloc, "t")?,
+            id: text_of(alloc, "t")?,
         }))
     } else if name == "start_activity" {
         Ok(Some(Command::StartActivity {
-            id: text(alloc, "1")?,
-            activity: text(alloc, "work")?,
-            input: nothing(alloc),
+            id: text_of(alloc, "1")?,
+            activity: text_of(alloc, "work")?,
+            input: no_payloads(alloc),
         }))
     } else if name == "cancel_activity" {
         Ok(Some(Command::CancelActivity {
-            id: text(alloc, "1")?,
+            id: text_of(alloc, "1")?,
         }))
     } else if name == "start_child" {
         Ok(Some(Command::StartChild {
-            workflow_id: text(alloc, "kid")?,
-            workflow: text(alloc, "Nap")?,
-            input: nothing(alloc),
+            workflow_id: text_of(alloc, "kid")?,
+            workflow: text_of(alloc, "Nap")?,
+            input: no_payloads(alloc),
         }))
     } else if name == "cancel_child" {
         Ok(Some(Command::CancelChild {
-            workflow_id: text(alloc, "kid")?,
+            workflow_id: text_of(alloc, "kid")?,
         }))
     } else {
         closing_named(alloc, name)

@@ -5,7 +5,7 @@ use wh_events::OutOfMemory;
 use wh_workflow::{Command, Job, Meter, Workflow};
 
 /// Closes the run at each job.
-pub(crate) struct Brief;
+pub struct Brief;
 
 impl Workflow for Brief {
     ghost use Rattle.std.specs.Prelude.{true, [], ◌∷◌, refl, bytes_eq, codes};
@@ -45,7 +45,7 @@ impl Workflow for Brief {
 }
 
 /// Answers nothing.
-pub(crate) struct Still;
+pub struct Still;
 
 impl Workflow for Still {
     ghost use Rattle.std.specs.Prelude.{[], refl, bytes_eq, codes};

@@ -1,12 +1,10 @@
 //! What the cache keeps, and what has to go.
 
-use crate::tests::rows::{
-    add, cut, made, next_number, number, recorded, row, run_key, same, shown, string,
-};
-use crate::tests::workflows::Still;
 use std::alloc::Global;
 use std::process::Abort;
+use test_support::{Still, cut, next_number, row, same, shown};
 use wh_cache::{MOST_CACHED_EVENTS, MOST_RUNS, Put, Sticky};
+use wh_histories::{events_after, key};
 use wh_replay::Run;
 use wh_workflow::Meter;
 
@@ -45,17 +43,19 @@ put a start:Still S T => off, holds 0";
 /// A run by its name and its history.
 pub(crate) fn run_of(rt: &impl Abort, alloc: Global, run: &'static str) -> Run<Still> {
     let mut history = run;
-    let key = run_key(rt, alloc, cut(&mut history, " "));
-    let events = recorded(rt, alloc, history, 0);
+    let key = key(alloc, cut(&mut history, " ")).expect(rt, "memory");
+    let events = events_after(alloc, history, 0).expect(rt, history);
     Run::from_first(alloc, key, events, &mut Meter::new()).expect(rt, run)
 }
 
 /// The names of the runs that had to go.
 fn gone(rt: &impl Abort, alloc: Global, runs: &[Run<Still>]) -> String {
-    let mut names = string(rt, alloc, "gone");
+    let mut names = String::from_str(alloc, "gone").expect(rt, "memory");
     for run in runs {
-        add(rt, &mut names, " ");
-        add(rt, &mut names, run.key().workflow_id.get());
+        names.push_str(" ").expect(rt, "memory");
+        names
+            .push_str(run.key().workflow_id.get())
+            .expect(rt, "memory");
     }
     names
 }
@@ -70,7 +70,7 @@ pub(crate) fn put_word(rt: &impl Abort, alloc: Global, put: &Put<Still>) -> Stri
         Put::TooLarge(_) => "too large",
         Put::NoMemory(_) => "no memory",
     };
-    string(rt, alloc, word)
+    String::from_str(alloc, word).expect(rt, "memory")
 }
 
 /// Puts a run by its name and its history into a cache, and says what became of it.
@@ -102,12 +102,12 @@ fn answered(
     if word == "put" {
         return put(rt, alloc, cache, run);
     }
-    let key = run_key(rt, alloc, run);
+    let key = key(alloc, run).expect(rt, "memory");
     match word {
-        "peek" => shown(rt, alloc, &cache.peek_len(&key)),
-        "take" => shown(rt, alloc, &held_len(cache.take(&key))),
-        "evict" => shown(rt, alloc, &cache.evict(&key)),
-        _ => shown(rt, alloc, &cache.len()),
+        "peek" => shown(alloc, &cache.peek_len(&key)).expect(rt, "memory"),
+        "take" => shown(alloc, &held_len(cache.take(&key))).expect(rt, "memory"),
+        "evict" => shown(alloc, &cache.evict(&key)).expect(rt, "memory"),
+        _ => shown(alloc, &cache.len()).expect(rt, "memory"),
     }
 }
 
@@ -120,23 +120,23 @@ fn step_text(
 ) -> String {
     let answer = answered(rt, alloc, cache, step);
     let held = cache.held();
-    made(rt, format!(in alloc; "{answer}, holds {held}"))
+    format!(in alloc; "{answer}, holds {held}").expect(rt, "memory")
 }
 
 /// Takes the steps, and compares what a cache answers.
 fn follows(rt: &impl Abort, alloc: Global, mut cache: Sticky<Still>, steps: &'static str) {
     for line in steps.lines() {
-        let (step, wanted) = row(rt, line);
+        let (step, wanted) = row(line).expect(rt, line);
         let text = step_text(rt, alloc, &mut cache, step);
-        same(rt, step, text.as_str(), wanted);
+        same(alloc, text.as_str(), wanted).expect(rt, step);
     }
 }
 
 /// Opens a cache, and compares what it answers.
 fn answers(rt: &impl Abort, alloc: Global, given: &'static str) {
     let mut steps = given;
-    let runs = next_number(rt, &mut steps) as usize;
-    let events = number(rt, cut(&mut steps, "\n"));
+    let runs = next_number(&mut steps).expect(rt, "a number") as usize;
+    let events = cut(&mut steps, "\n").parse::<u64>().expect(rt, "a number");
     assert!(rt; runs <= MOST_RUNS && events <= MOST_CACHED_EVENTS);
     let cache = Sticky::<Still>::open(alloc, runs, events).expect(rt, "memory");
     follows(rt, alloc, cache, steps);

@@ -1,33 +1,34 @@
 //! What a host is tried with: a gate, a source and a handler of activities that note each call that
 //! a worker makes of them.
 
-use crate::tests::rows::{cut, made, number, push, recorded, row, run_key, shown, string, text};
-use crate::tests::scripted::Scripted;
 use std::alloc::Global;
 use std::fmt::Debug;
 use std::process::Abort;
 use std::sync::ledger::Ledger;
 use std::sync::{Mutex, Wait};
 use std::{mem, thread};
+use test_support::{Scripted, cut, push, row, shown};
 use wh_events::{Event, Items, OutOfMemory, Payload, RunKey};
+use wh_histories::{events_after, key};
 use wh_host::Host;
 use wh_poll::{
     ActivityAnswer, ActivityHandler, ActivityTask, Gate, Polled, SourceFault, TaskSource,
     WorkflowTask, last_number,
 };
+use wh_recorded::ScriptSource;
 use wh_replay::Answer;
-use wh_samples::{All, ScriptSource};
+use wh_sample_workflows::All;
 use wh_slots::TaskName;
-use wh_workflow::Pair;
+use wh_workflow::{Pair, text_of};
 
 /// A history of a script: the index of its file, its name and its events.
 fn file_of(rt: &impl Abort, alloc: Global, line: &'static str) -> (u64, String, Vec<Event>) {
-    let (file, history) = row(rt, line);
+    let (file, history) = row(line).expect(rt, line);
     let (index, name) = file.split_once(' ').expect(rt, line);
     (
-        number(rt, index),
-        string(rt, alloc, name),
-        recorded(rt, alloc, history, 0),
+        index.parse::<u64>().expect(rt, index),
+        String::from_str(alloc, name).expect(rt, "memory"),
+        events_after(alloc, history, 0).expect(rt, history),
     )
 }
 
@@ -35,7 +36,7 @@ fn file_of(rt: &impl Abort, alloc: Global, line: &'static str) -> (u64, String, 
 pub(crate) fn script(rt: &impl Abort, alloc: Global, table: &'static str) -> ScriptSource {
     let mut histories = Vec::new(alloc);
     for line in table.split(", ") {
-        push(rt, &mut histories, file_of(rt, alloc, line));
+        push(&mut histories, file_of(rt, alloc, line)).expect(rt, "memory");
     }
     ScriptSource::new(alloc, histories).expect(rt, "memory")
 }
@@ -81,9 +82,9 @@ impl<'r, 'h, R: Wait + Abort, T: Ledger, C: Ledger, F: Ledger> Notebook<'r, 'h, 
 
     /// Notes what a task is answered.
     fn note_answer<A: Debug>(&self, name: TaskName, answer: &A) {
-        let answer = shown(self.rt, self.alloc, answer);
+        let answer = shown(self.alloc, answer).expect(self.rt, "memory");
         let call = format!(in self.alloc; "answer {} {answer}, ", name.0);
-        self.note(made(self.rt, call).as_str());
+        self.note(call.expect(self.rt, "memory").as_str());
     }
 
     /// The calls since this was asked last.
@@ -100,7 +101,7 @@ impl<'r, 'h, R: Wait + Abort, T: Ledger, C: Ledger, F: Ledger> Notebook<'r, 'h, 
     /// Waits until a call is noted, for ten million looks at most. Each look takes the lock of the
     /// notes.
     fn await_call(&self, call: &str) {
-        let call = made(self.rt, format!(in self.alloc; "{call}, "));
+        let call = format!(in self.alloc; "{call}, ").expect(self.rt, "memory");
         for _look in 0..10_000_000 {
             if self.is_noted(call.as_str()) {
                 return;
@@ -112,9 +113,9 @@ impl<'r, 'h, R: Wait + Abort, T: Ledger, C: Ledger, F: Ledger> Notebook<'r, 'h, 
 
     /// Evicts the run of a name.
     fn evict(&self, run: &str) {
-        let key = run_key(self.rt, self.alloc, run);
+        let key = key(self.alloc, run).expect(self.rt, "memory");
         let answer = self.host.lock(self.rt).evict(&key);
-        let call = made(self.rt, format!(in self.alloc; "evict {run} {answer:?}, "));
+        let call = format!(in self.alloc; "evict {run} {answer:?}, ").expect(self.rt, "memory");
         self.note(call.as_str());
     }
 
@@ -131,7 +132,7 @@ impl<'r, 'h, R: Wait + Abort, T: Ledger, C: Ledger, F: Ledger> Notebook<'r, 'h, 
 impl<'r, 'h, R: Wait + Abort, T: Ledger, C: Ledger, F: Ledger> Gate
     for Notebook<'r, 'h, R, T, C, F> {
     fn enter<Q: Wait>(&self, _rt: &Q, name: TaskName) {
-        let call = made(self.rt, format!(in self.alloc; "enter {}, ", name.0));
+        let call = format!(in self.alloc; "enter {}, ", name.0).expect(self.rt, "memory");
         self.note(call.as_str());
         for deed in self.deeds.split("; ") {
             if let Some(deed) = deed.strip_prefix(call.as_str()) {
@@ -146,7 +147,7 @@ impl<'r, 'h, R: Wait + Abort, T: Ledger, C: Ledger, F: Ledger> Gate
 /// events are of, or an activity task by its name. Without a word, or where it is `next`, a poll
 /// gives what that of the script gives, and so does `whole`.
 #[derive(Drop)]
-pub(crate) struct Desk<'b, 'r, 'h, R: Wait + Abort, T: Ledger, C: Ledger, F: Ledger> {
+pub(crate) struct NotedSource<'b, 'r, 'h, R: Wait + Abort, T: Ledger, C: Ledger, F: Ledger> {
     pub(crate) book: &'b Notebook<'r, 'h, R, T, C, F>,
     pub(crate) script: ScriptSource,
     /// The words of the polls of workflow tasks.
@@ -158,10 +159,10 @@ pub(crate) struct Desk<'b, 'r, 'h, R: Wait + Abort, T: Ledger, C: Ledger, F: Led
 /// The workflow task of a word. Its name is the number of its last event.
 fn workflow_task(rt: &impl Abort, alloc: Global, word: &'static str) -> WorkflowTask {
     let (run, history) = word.split_once(' ').expect(rt, word);
-    let events = recorded(rt, alloc, history, 0);
+    let events = events_after(alloc, history, 0).expect(rt, history);
     WorkflowTask {
         name: TaskName(u128::from(last_number(events.as_slice()))),
-        run: run_key(rt, alloc, run),
+        run: key(alloc, run).expect(rt, "memory"),
         events: Items::new(events),
     }
 }
@@ -178,23 +179,23 @@ fn one_payload(rt: &impl Abort, alloc: Global) -> Items<Payload> {
 /// The activity task of a word: to greet, with one payload.
 pub(crate) fn activity_task(rt: &impl Abort, alloc: Global, word: &'static str) -> ActivityTask {
     ActivityTask {
-        name: TaskName(u128::from(number(rt, word))),
-        run: run_key(rt, alloc, "w"),
-        id: text(rt, alloc, "1"),
-        activity: text(rt, alloc, "greet"),
+        name: TaskName(u128::from(word.parse::<u64>().expect(rt, word))),
+        run: key(alloc, "w").expect(rt, "memory"),
+        id: text_of(alloc, "1").expect(rt, "memory"),
+        activity: text_of(alloc, "greet").expect(rt, "memory"),
         input: one_payload(rt, alloc),
     }
 }
 
 impl<'b, 'r, 'h, R: Wait + Abort, T: Ledger, C: Ledger, F: Ledger> TaskSource
-    for Desk<'b, 'r, 'h, R, T, C, F> {
-    ghost answers = { λ desk. desk.script.answers };
+    for NotedSource<'b, 'r, 'h, R, T, C, F> {
+    ghost answers = { λ source. source.script.answers };
 
-    ghost failures = { λ desk. 0 };
+    ghost failures = { λ source. 0 };
 
-    ghost delivers = { λ desk task. Unit {0} };
+    ghost delivers = { λ source task. Unit {0} };
 
-    ghost tells = { λ desk key up_to history. Unit {0} };
+    ghost tells = { λ source key up_to history. Unit {0} };
 
     ghost comes_from = { λ later first. Unit {0} };
 
@@ -221,7 +222,7 @@ impl<'b, 'r, 'h, R: Wait + Abort, T: Ledger, C: Ledger, F: Ledger> TaskSource
     fn whole(&mut self, key: &RunKey, up_to: u64) -> Result<Vec<Event>, SourceFault> {
         let run = key.workflow_id.get();
         let call = format!(in self.book.alloc; "whole {run} {up_to}, ");
-        self.book.note(made(self.book.rt, call).as_str());
+        self.book.note(call.expect(self.book.rt, "memory").as_str());
         self.script.whole(key, up_to)
     }
 

@@ -3,13 +3,13 @@
 ghost use Rattle.std.specs.Prelude.{◌≡◌};
 
 use crate::tests::cache::{held_len, put_word, run_of};
-use crate::tests::rows::{made, next_number, push, row, run_key, same, shown, string, wants};
-use crate::tests::workflows::Still;
 use std::alloc::Global;
 use std::marker::Brand;
 use std::process::Abort;
 use std::sync::Wait;
 use std::sync::ledger::{Blank, Ledger};
+use test_support::{Still, next_number, push, row, same, shown, wants};
+use wh_histories::key;
 use wh_host::{Config, Counts, Given, Host, HostState, OpenFault, Outcome, Totals};
 use wh_ledger::Seat;
 use wh_slots::{Held, Permit, SlotKind, TaskName, UseFault};
@@ -81,11 +81,11 @@ end => 0 events, Totals taken: 4, completed: 4, failed: 0, in_hand: 0";
 /// The sizes of a host: its places for workflow tasks and for activity tasks, how many runs and how
 /// many events its cache holds, and its seats. What stands after them is left.
 pub(crate) fn sizes(rt: &impl Abort, words: &mut &'static str) -> Config {
-    let workflow_slots = next_number(rt, words) as usize;
-    let activity_slots = next_number(rt, words) as usize;
-    let cache = next_number(rt, words) as usize;
-    let cache_events = next_number(rt, words);
-    let seats = next_number(rt, words) as usize;
+    let workflow_slots = next_number(words).expect(rt, "a number") as usize;
+    let activity_slots = next_number(words).expect(rt, "a number") as usize;
+    let cache = next_number(words).expect(rt, "a number") as usize;
+    let cache_events = next_number(words).expect(rt, "a number");
+    let seats = next_number(words).expect(rt, "a number") as usize;
     Config {
         workflow_slots,
         activity_slots,
@@ -104,7 +104,7 @@ struct Task {
 
 /// The name of a task in a step. What stands after it is left.
 pub(crate) fn next_name(rt: &impl Abort, words: &mut &'static str) -> TaskName {
-    TaskName(u128::from(next_number(rt, words)))
+    TaskName(u128::from(next_number(words).expect(rt, "a number")))
 }
 
 /// The place of the task of a name among those in hand.
@@ -124,7 +124,7 @@ fn given_word(rt: &impl Abort, alloc: Global, given: &Given<Still>) -> String {
         Given::Marked(_) => "marked",
         Given::NotHeld(_) => "not held",
     };
-    string(rt, alloc, word)
+    String::from_str(alloc, word).expect(rt, "memory")
 }
 
 /// Reserves a place.
@@ -156,7 +156,7 @@ fn use_place<T: Ledger, C: Ledger, F: Ledger>(
     name: TaskName,
     run: &str,
 ) -> Result<(Held, usize), (Permit, UseFault)> {
-    let key = run_key(rt, alloc, run);
+    let key = key(alloc, run).expect(rt, "memory");
     match state.use_workflow(permit, name, key, seat) {
         Ok((held, run)) => Ok((held, held_len(run).unwrap_or(0))),
         Err((permit, _key, fault)) => Err((permit, fault)),
@@ -177,7 +177,7 @@ fn hold<T: Ledger, C: Ledger, F: Ledger>(
     let Ok((held, length)) = use_place(rt, alloc, state, seat, permit, name, run) else {
         panic!(rt; "use")
     };
-    push(rt, tasks, Task { name, held });
+    push(tasks, Task { name, held }).expect(rt, "memory");
     length
 }
 
@@ -241,7 +241,7 @@ fn counts_text(rt: &impl Abort, alloc: Global, counts: &Counts) -> String {
         "taken {}, completed {}, cached {}, cached events {}",
         counts.taken, counts.completed, counts.cached, counts.cached_events
     );
-    made(rt, text)
+    text.expect(rt, "memory")
 }
 
 /// Takes the task of a run in hand at the next place, and tells how many events its run holds.
@@ -274,18 +274,18 @@ fn task_step<T: Ledger, C: Ledger, F: Ledger>(
         return give(rt, alloc, state, held_of(rt, tasks.as_slice(), name), run);
     }
     if word == "repeat" {
-        return shown(rt, alloc, &repeat(rt, alloc, state, seat, name, run));
+        return shown(alloc, &repeat(rt, alloc, state, seat, name, run)).expect(rt, "memory");
     }
     if word == "hold" {
         let found = hold_next(rt, alloc, state, seat, tasks, name, run);
-        return shown(rt, alloc, &found);
+        return shown(alloc, &found).expect(rt, "memory");
     }
     let outcome = if word == "finish" {
         Outcome::Completed
     } else {
         Outcome::Failed
     };
-    shown(rt, alloc, &finish(rt, state, seat, tasks, name, outcome))
+    shown(alloc, &finish(rt, state, seat, tasks, name, outcome)).expect(rt, "memory")
 }
 
 /// What a host answers to a step.
@@ -299,7 +299,10 @@ fn answered<T: Ledger, C: Ledger, F: Ledger>(
 ) -> String {
     match step.split_once(' ') {
         None => counts_text(rt, alloc, &state.counts(seat)),
-        Some(("evict", run)) => shown(rt, alloc, &state.evict(&run_key(rt, alloc, run))),
+        Some(("evict", run)) => shown(
+            alloc,
+            &state.evict(&key(alloc, run).expect(rt, "memory")),
+        ).expect(rt, "memory"),
         Some((word, rest)) => task_step(rt, alloc, state, seat, tasks, word, rest),
     }
 }
@@ -314,9 +317,9 @@ fn follows<T: Ledger, C: Ledger, F: Ledger>(
     steps: &'static str,
 ) {
     for line in steps.lines() {
-        let (step, wanted) = row(rt, line);
+        let (step, wanted) = row(line).expect(rt, line);
         let answer = answered(rt, alloc, state, seat, tasks, step);
-        same(rt, step, answer.as_str(), wanted);
+        same(alloc, answer.as_str(), wanted).expect(rt, step);
     }
 }
 
@@ -329,19 +332,13 @@ fn places_are_numbered<T: Ledger, C: Ledger, F: Ledger>(
     let kind = SlotKind::Activity;
     let first = reserve(rt, state, kind);
     assert!(rt; first.number() == 1);
-    wants(rt, alloc, "full", state.reserve(kind).err(), "Some(NoSlot)");
+    wants(alloc, state.reserve(kind).err(), "Some(NoSlot)").expect(rt, "full");
     release(rt, state, first);
     let second = reserve(rt, state, kind);
     assert!(rt; second.number() == 2);
     state.drain();
     release(rt, state, second);
-    wants(
-        rt,
-        alloc,
-        "drained",
-        state.reserve(kind).err(),
-        "Some(Draining)",
-    );
+    wants(alloc, state.reserve(kind).err(), "Some(Draining)").expect(rt, "drained");
 }
 
 /// How many events the run of the last task holds, of run `c`, at a place that was reserved before
@@ -398,7 +395,7 @@ pub(crate) fn closed<W: Workflow, T: Ledger, C: Ledger, F: Ledger>(
     mut seats: Vec<Seat<T, C, F>>,
     seat: Seat<T, C, F>,
 ) -> Totals {
-    push(rt, &mut seats, seat);
+    push(&mut seats, seat).expect(rt, "memory");
     match host.close(seats) {
         Ok(totals) => totals,
         Err(_) => panic!(rt; "not closed"),
@@ -452,8 +449,8 @@ fn day_text<R: Wait + Abort, T: Ledger, C: Ledger, F: Ledger>(
     let permit = works(rt, alloc, &host, &mut seat, &mut tasks, day.steps);
     let (host, seats) = not_closed(rt, host, seats);
     let found = last_task(rt, alloc, &host, &mut seat, &mut tasks, permit);
-    let totals = shown(rt, alloc, &closed(rt, host, seats, seat));
-    made(rt, format!(in alloc; "{found} events, {totals}"))
+    let totals = shown(alloc, &closed(rt, host, seats, seat)).expect(rt, "memory");
+    format!(in alloc; "{found} events, {totals}").expect(rt, "memory")
 }
 
 #[test]
@@ -472,7 +469,7 @@ fn days_of_a_host(rt: HostRuntime) {
             Blank::new(seats),
             Blank::new(seats),
         );
-        same(&rt, given, text.as_str(), wanted);
+        same(rt.alloc(), text.as_str(), wanted).expect(&rt, given);
     }
 }
 
@@ -502,7 +499,7 @@ const SIZES: &str = "\
 #[test]
 fn sizes_are_judged(rt: HostRuntime) {
     for line in SIZES.lines() {
-        let (mut words, wanted) = row(&rt, line);
+        let (mut words, wanted) = row(line).expect(&rt, line);
         let config = sizes(&rt, &mut words);
         let seats = config.seats as u64;
         let fault = fault_of::<Brand, Brand, Brand>(
@@ -512,6 +509,6 @@ fn sizes_are_judged(rt: HostRuntime) {
             Blank::new(seats),
             Blank::new(seats),
         );
-        wants(&rt, rt.alloc(), "sizes", fault, wanted);
+        wants(rt.alloc(), fault, wanted).expect(&rt, "sizes");
     }
 }

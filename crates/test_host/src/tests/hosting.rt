@@ -2,22 +2,20 @@
 
 ghost use Rattle.std.specs.Prelude.{◌≡◌};
 
-use crate::tests::desk::{Desk, Echo, Notebook, Workflows, script};
+use crate::tests::fixtures::{Echo, Notebook, NotedSource, Workflows, script};
 use crate::tests::host::{closed, next_name, open, sizes};
-use crate::tests::rows::{
-    add, cut, made, next_number, number, push, row, run_key, same, shown, string,
-};
-use crate::tests::runs;
 use std::alloc::Global;
 use std::marker::Brand;
 use std::process::Abort;
 use std::sync::Wait;
 use std::sync::ledger::{Blank, Ledger};
+use test_support::{cut, next_number, push, row, same, shown};
+use wh_faulty::FaultySource;
+use wh_histories::key;
 use wh_host::{Config, Counts, Host, Outcome, Totals};
 use wh_ledger::Seat;
 use wh_poll::{SourceFault, Worker, serve_one, work};
 use wh_replay::Run;
-use wh_samples::FaultySource;
 use wh_slots::{Held, Permit, SlotKind, TaskName};
 
 /// What a host and its source are: the sizes, which of the source's calls fails, its script and the
@@ -214,36 +212,37 @@ fn end_text(
     fault: Option<SourceFault>,
     counts: &Counts,
 ) -> String {
-    let counts = shown(rt, alloc, counts);
-    made(rt, format!(in alloc; "{calls}{fault:?}, {counts}"))
+    let counts = shown(alloc, counts).expect(rt, "memory");
+    format!(in alloc; "{calls}{fault:?}, {counts}").expect(rt, "memory")
 }
 
 /// The source of a day.
-fn desk<'b, 'r, 'h, R: Wait + Abort, T: Ledger, C: Ledger, F: Ledger>(
+fn noted_source<'b, 'r, 'h, R: Wait + Abort, T: Ledger, C: Ledger, F: Ledger>(
     book: &'b Notebook<'r, 'h, R, T, C, F>,
     day: &Day,
-) -> FaultySource<Desk<'b, 'r, 'h, R, T, C, F>> {
-    let desk = Desk {
+) -> FaultySource<NotedSource<'b, 'r, 'h, R, T, C, F>> {
+    let noted = NotedSource {
         book,
         script: script(book.rt, book.alloc, day.script),
         workflow_polls: day.workflow_polls,
         activity_polls: day.activity_polls,
     };
-    FaultySource::new(desk, day.fail_at)
+    FaultySource::new(noted, day.fail_at)
 }
 
 /// The calls of one turn, and its answer.
 fn turn<R: Wait + Abort, T: Ledger, C: Ledger, F: Ledger>(
     book: &Notebook<'_, '_, R, T, C, F>,
     seat: &mut Seat<T, C, F>,
-    source: &mut FaultySource<Desk<'_, '_, '_, R, T, C, F>>,
+    source: &mut FaultySource<NotedSource<'_, '_, '_, R, T, C, F>>,
     kind: SlotKind,
 ) -> String {
     let (rt, alloc) = (book.rt, book.alloc);
     let mut handler = Echo { book };
     let served = serve_one(rt, alloc, book.host, seat, source, &mut handler, book, kind);
     let mut text = book.calls();
-    add(rt, &mut text, shown(rt, alloc, &served).as_str());
+    text.push_str(shown(alloc, &served).expect(rt, "memory").as_str())
+        .expect(rt, "memory");
     text
 }
 
@@ -265,11 +264,11 @@ fn hold<R: Wait + Abort, T: Ledger, C: Ledger, F: Ledger>(
     run: &str,
 ) -> Option<Run<Workflows>> {
     let rt = book.rt;
-    let key = run_key(rt, book.alloc, run);
+    let key = key(book.alloc, run).expect(rt, "memory");
     let permit = reserved(book, SlotKind::Workflow);
     let used = book.host.lock(rt).use_workflow(permit, name, key, seat);
     let (held, run) = used.expect(rt, "use");
-    push(rt, tasks, held);
+    push(tasks, held).expect(rt, "memory");
     run
 }
 
@@ -297,7 +296,8 @@ fn advance<R: Wait + Abort, T: Ledger, C: Ledger, F: Ledger>(
     let (rt, alloc) = (book.rt, book.alloc);
     let run = hold(book, seat, tasks, TaskName(2), "nap");
     assert!(rt; finish(book, seat, tasks));
-    runs::advance(rt, alloc, run.expect(rt, "the run is cached"), history)
+    let run = run.expect(rt, "the run is cached");
+    test_support::advance(alloc, run, history).expect(rt, history)
 }
 
 /// What is counted, in words.
@@ -306,7 +306,7 @@ fn counts_text<R: Wait + Abort, T: Ledger, C: Ledger, F: Ledger>(
     seat: &mut Seat<T, C, F>,
 ) -> String {
     let counts = book.host.lock(book.rt).counts(seat);
-    shown(book.rt, book.alloc, &counts)
+    shown(book.alloc, &counts).expect(book.rt, "memory")
 }
 
 /// Takes a workflow task in hand, by its name and its run, and says whether the run was cached.
@@ -321,7 +321,7 @@ fn hold_text<R: Wait + Abort, T: Ledger, C: Ledger, F: Ledger>(
     let run = hold(book, seat, tasks, name, run);
     let is_cached = run.is_some();
     drop(run);
-    shown(book.rt, book.alloc, &is_cached)
+    shown(book.alloc, &is_cached).expect(book.rt, "memory")
 }
 
 /// Takes an activity task in hand, by its name, and says that it could be.
@@ -336,8 +336,8 @@ fn hold_activity<R: Wait + Abort, T: Ledger, C: Ledger, F: Ledger>(
     let permit = reserved(book, SlotKind::Activity);
     let name = next_name(rt, &mut rest);
     let used = book.host.lock(rt).use_activity(permit, name, seat);
-    push(rt, tasks, used.expect(rt, "use"));
-    string(rt, book.alloc, "true")
+    push(tasks, used.expect(rt, "use")).expect(rt, "memory");
+    String::from_str(book.alloc, "true").expect(rt, "memory")
 }
 
 /// Drains the host.
@@ -345,14 +345,14 @@ fn drain<R: Wait + Abort, T: Ledger, C: Ledger, F: Ledger>(
     book: &Notebook<'_, '_, R, T, C, F>,
 ) -> String {
     book.host.lock(book.rt).drain();
-    string(book.rt, book.alloc, "()")
+    String::from_str(book.alloc, "()").expect(book.rt, "memory")
 }
 
 /// What a step answers: a word, and most often what it is about.
 fn answered<R: Wait + Abort, T: Ledger, C: Ledger, F: Ledger>(
     book: &Notebook<'_, '_, R, T, C, F>,
     seat: &mut Seat<T, C, F>,
-    source: &mut FaultySource<Desk<'_, '_, '_, R, T, C, F>>,
+    source: &mut FaultySource<NotedSource<'_, '_, '_, R, T, C, F>>,
     tasks: &mut Vec<Held>,
     step: &'static str,
 ) -> String {
@@ -364,7 +364,7 @@ fn answered<R: Wait + Abort, T: Ledger, C: Ledger, F: Ledger>(
         "advance" => advance(book, seat, tasks, rest),
         "hold" => hold_text(book, seat, tasks, rest),
         "hold_activity" => hold_activity(book, seat, tasks, rest),
-        "finish" => shown(book.rt, book.alloc, &finish(book, seat, tasks)),
+        "finish" => shown(book.alloc, &finish(book, seat, tasks)).expect(book.rt, "memory"),
         "drain" => drain(book),
         _ => book.rt.panic(step),
     }
@@ -376,12 +376,12 @@ fn take_steps<R: Wait + Abort, T: Ledger, C: Ledger, F: Ledger>(
     seat: &mut Seat<T, C, F>,
     day: &Day,
 ) {
-    let mut source = desk(book, day);
+    let mut source = noted_source(book, day);
     let mut tasks = Vec::new(book.alloc);
     for line in day.steps.lines() {
-        let (step, wanted) = row(book.rt, line);
+        let (step, wanted) = row(line).expect(book.rt, line);
         let text = answered(book, seat, &mut source, &mut tasks, step);
-        same(book.rt, step, text.as_str(), wanted);
+        same(book.alloc, text.as_str(), wanted).expect(book.rt, step);
     }
 }
 
@@ -400,7 +400,7 @@ fn worked<R: Wait + Abort, T: Ledger, C: Ledger, F: Ledger>(
     day: &Day,
 ) -> (Seat<T, C, F>, Option<SourceFault>, String) {
     take_steps(book, &mut seat, day);
-    let source = desk(book, day);
+    let source = noted_source(book, day);
     let handler = Echo { book };
     let (rt, alloc) = (book.rt, book.alloc);
     let worker = work(rt, alloc, book.host, seat, source, handler, book, day.turns);
@@ -446,8 +446,8 @@ fn passes<R: Wait + Abort>(rt: &R, alloc: Global, given: &'static str) {
     let title = cut(&mut steps, "\n");
     let mut words = cut(&mut steps, "\n");
     let config = sizes(rt, &mut words);
-    let fail_at = next_number(rt, &mut words);
-    let turns = number(rt, cut(&mut words, " | "));
+    let fail_at = next_number(&mut words).expect(rt, "a number");
+    let turns = cut(&mut words, " | ").parse::<u64>().expect(rt, "a number");
     let day = Day {
         config,
         fail_at,
@@ -460,7 +460,7 @@ fn passes<R: Wait + Abort>(rt: &R, alloc: Global, given: &'static str) {
     };
     assert!(rt; day.config.seats == 1);
     let text = spent(rt, alloc, &day);
-    same(rt, title, text.as_str(), end);
+    same(alloc, text.as_str(), end).expect(rt, title);
 }
 
 /// Spends days, and compares how each of them ends.

@@ -2,11 +2,11 @@
 
 ghost use Rattle.std.specs.Prelude.{◌≡◌};
 
-use crate::tests::rows::push;
 use std::alloc::Global;
 use std::marker::Brand;
 use std::process::Abort;
 use std::sync::ledger::{Blank, Ledger};
+use test_support::push;
 use wh_ledger::{Books, Seat, SeatsMissing, Shares};
 
 /// With a seat missing the books come back, with the seats that are there.
@@ -55,9 +55,9 @@ fn day<T: Ledger, C: Ledger, F: Ledger>(
     books.add_completed(&mut first);
     books.add_failed(&mut second);
     let totals = books.totals();
-    push(rt, &mut seats, second);
+    push(&mut seats, second).expect(rt, "memory");
     let (books, mut seats) = not_gathered(rt, books, seats);
-    push(rt, &mut seats, first);
+    push(&mut seats, first).expect(rt, "memory");
     (totals, gathered(rt, books, seats))
 }
 

@@ -1,21 +1,21 @@
 //! Task slots: rows of reserving, using and freeing.
 
-use crate::tests::rows::{same, shown, wants};
 use std::alloc::Global;
 use std::process::Abort;
+use test_support::{same, shown, wants};
 use wh_slots::{Held, Permit, SlotKind, Slots, TaskName};
 
 /// Reserves a place, which this says in words.
 fn reserve(rt: &impl Abort, alloc: Global, slots: &mut Slots, wanted: &str) -> Permit {
     let permit = slots.reserve().expect(rt, "reserve");
-    let words = shown(rt, alloc, &permit);
-    same(rt, "reserve", words.as_str(), wanted);
+    let words = shown(alloc, &permit).expect(rt, "memory");
+    same(alloc, words.as_str(), wanted).expect(rt, "reserve");
     permit
 }
 
 /// Nothing can be reserved, for this reason.
 fn reserve_fails(rt: &impl Abort, alloc: Global, slots: &mut Slots, wanted: &str) {
-    wants(rt, alloc, "reserve", slots.reserve().err(), wanted);
+    wants(alloc, slots.reserve().err(), wanted).expect(rt, "reserve");
 }
 
 /// Gives a reserved place back.
@@ -26,10 +26,10 @@ fn release(rt: &impl Abort, slots: &mut Slots, permit: Permit) {
 /// The one place is held, for task 7.
 fn holds(rt: &impl Abort, alloc: Global, slots: &mut Slots, permit: Permit) -> Held {
     let held = slots.use_slot(permit, TaskName(7)).expect(rt, "use");
-    let words = shown(rt, alloc, &held);
-    same(rt, "use", words.as_str(), "Held kind: Workflow, number: 2");
+    let words = shown(alloc, &held).expect(rt, "memory");
+    same(alloc, words.as_str(), "Held kind: Workflow, number: 2").expect(rt, "use");
     let wanted = "SlotCount free: 0, reserved: 0, held: 1";
-    wants(rt, alloc, "count", slots.count(), wanted);
+    wants(alloc, slots.count(), wanted).expect(rt, "count");
     held
 }
 
@@ -52,7 +52,7 @@ fn use_fails(rt: &impl Abort, alloc: Global, slots: &mut Slots, permit: Permit) 
     let Err((permit, fault)) = slots.use_slot(permit, TaskName(7)) else {
         panic!(rt; "used twice")
     };
-    wants(rt, alloc, "use", fault, "TaskInHand");
+    wants(alloc, fault, "TaskInHand").expect(rt, "use");
     release(rt, slots, permit);
 }
 

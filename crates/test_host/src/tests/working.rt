@@ -2,20 +2,22 @@
 
 ghost use Rattle.std.specs.Prelude.{◌≡◌};
 
-use crate::tests::desk::{Notebook, Workflows, activity_task, script};
+use crate::tests::fixtures::{Notebook, Workflows, activity_task, script};
 use crate::tests::host::{open, sizes};
 use crate::tests::hosting::{Day, close, left, pass, spent};
-use crate::tests::rows::{cut, next_number, push, wants};
 use std::alloc::Global;
 use std::marker::Brand;
 use std::process::Abort;
 use std::sync::Wait;
 use std::sync::ledger::{Blank, Ledger};
 use std::thread::Threads;
+use test_support::{cut, next_number, push, wants};
 use wh_host::{Config, Counts};
 use wh_ledger::Seat;
-use wh_poll::{ActivityHandler, NoActivities, NoObserver, WorkerSetup, Worker, run_on_host, run_workers};
-use wh_samples::ScriptSource;
+use wh_poll::{
+    ActivityHandler, NoActivities, NoObserver, Worker, WorkerSetup, run_on_host, run_workers,
+};
+use wh_recorded::ScriptSource;
 
 /// Days of a worker, written as those of a host, without steps.
 const SHIFTS: &str = "\
@@ -145,7 +147,7 @@ fn no_activity_is_known(rt: HostRuntime) {
     let alloc = rt.alloc();
     let task = activity_task(&rt, alloc, "8");
     let answer = NoActivities { alloc }.run(&task).expect(&rt, "memory");
-    wants(&rt, alloc, "no activities", answer, "Failed(no activities)");
+    wants(alloc, answer, "Failed(no activities)").expect(&rt, "no activities");
 }
 
 /// Workers side by side: the sizes of their host, their turns, what they leave, which is the fewest
@@ -166,7 +168,7 @@ const CREWS: &str = "\
 fn sources_of(rt: &impl Abort, alloc: Global, scripts: &'static str) -> Vec<ScriptSource> {
     let mut sources = Vec::new(alloc);
     for table in scripts.split("; ") {
-        push(rt, &mut sources, script(rt, alloc, table));
+        push(&mut sources, script(rt, alloc, table)).expect(rt, "memory");
     }
     sources
 }
@@ -175,7 +177,7 @@ fn sources_of(rt: &impl Abort, alloc: Global, scripts: &'static str) -> Vec<Scri
 fn handlers_of(rt: &impl Abort, alloc: Global, count: usize) -> Vec<NoActivities> {
     let mut handlers = Vec::new(alloc);
     for _ in 0..count {
-        push(rt, &mut handlers, NoActivities { alloc });
+        push(&mut handlers, NoActivities { alloc }).expect(rt, "memory");
     }
     handlers
 }
@@ -207,7 +209,7 @@ fn seats_of<T: Ledger, C: Ledger, F: Ledger>(
     for worker in workers {
         let (seat, fault) = left(worker);
         assert!(rt; fault.is_none());
-        push(rt, &mut seats, seat);
+        push(&mut seats, seat).expect(rt, "memory");
     }
     seats
 }
@@ -268,7 +270,7 @@ fn crew_works<R: Threads + Wait + Abort + Sync>(rt: &R, alloc: Global, line: &'s
     let mut rest = line;
     let mut words = cut(&mut rest, " | ");
     let config = sizes(rt, &mut words);
-    let turns = next_number(rt, &mut words);
+    let turns = next_number(&mut words).expect(rt, "a number");
     let crew = Crew {
         config,
         turns,
@@ -284,9 +286,10 @@ fn crew_works<R: Threads + Wait + Abort + Sync>(rt: &R, alloc: Global, line: &'s
         Blank::new(seats),
         Blank::new(seats),
     );
-    let fewest = next_number(rt, &mut words);
-    let most = next_number(rt, &mut words);
-    crew_left(rt, &counts, fewest, most, next_number(rt, &mut words));
+    let fewest = next_number(&mut words).expect(rt, "a number");
+    let most = next_number(&mut words).expect(rt, "a number");
+    let cached_events = next_number(&mut words).expect(rt, "a number");
+    crew_left(rt, &counts, fewest, most, cached_events);
 }
 
 #[test]
@@ -310,7 +313,7 @@ fn setups_of(
             observer: NoObserver,
             turns: 20,
         };
-        push(rt, &mut setups, setup);
+        push(&mut setups, setup).expect(rt, "memory");
     }
     setups
 }
@@ -368,5 +371,5 @@ fn setups_are_run_again(rt: HostRuntime) {
     let text =
         "Counts taken: 5, completed: 5, failed: 0, in_hand: 0, cached: 4, cached_events: 17, \
         workflow: SlotCount free: 2, reserved: 0, held: 0, activity: SlotCount free: 1, reserved: 0, held: 0";
-    wants(&rt, alloc, "setups run twice", counts, text);
+    wants(alloc, counts, text).expect(&rt, "setups run twice");
 }

@@ -1,8 +1,8 @@
 //! Command lines.
 
-use crate::tests::rows::{add, made, push, row, same, shown, string};
 use std::alloc::Global;
 use std::process::Abort;
+use test_support::{push, row, same, shown};
 use wh_cli::{Plan, Refusal, WorkOptions, parse};
 use wh_events::Text;
 
@@ -140,25 +140,23 @@ work --task-queue= => task-queue must not be empty
 
 /// What follows a plan's words where a flag is set.
 fn add_flags(rt: &impl Abort, text: &mut String, json: bool, require_files: bool) {
-    add(rt, text, if json { " as JSON" } else { "" });
-    add(
-        rt,
-        text,
-        if require_files {
-            ", which needs a history"
-        } else {
-            ""
-        },
-    );
+    text.push_str(if json { " as JSON" } else { "" })
+        .expect(rt, "memory");
+    let need = if require_files {
+        ", which needs a history"
+    } else {
+        ""
+    };
+    text.push_str(need).expect(rt, "memory");
 }
 
 /// A plan to replay, in words.
 fn replay_text(rt: &impl Abort, alloc: Global, dir: &Text, more: &[Text]) -> String {
-    let mut text = string(rt, alloc, "replay ");
-    add(rt, &mut text, dir.get());
+    let mut text = String::from_str(alloc, "replay ").expect(rt, "memory");
+    text.push_str(dir.get()).expect(rt, "memory");
     for path in more {
-        add(rt, &mut text, " ");
-        add(rt, &mut text, path.get());
+        text.push_str(" ").expect(rt, "memory");
+        text.push_str(path.get()).expect(rt, "memory");
     }
     text
 }
@@ -177,13 +175,13 @@ fn serve_text(
     let text = format!(in alloc;
         "serve {dir}, workers {workers}, cache {cache}, cache events {cache_events}, slots {slots}"
     );
-    made(rt, text)
+    text.expect(rt, "memory")
 }
 
 /// A word, and what stands after it.
 fn joined(rt: &impl Abort, alloc: Global, word: &str, rest: &str) -> String {
-    let mut text = string(rt, alloc, word);
-    add(rt, &mut text, rest);
+    let mut text = String::from_str(alloc, word).expect(rt, "memory");
+    text.push_str(rest).expect(rt, "memory");
     text
 }
 
@@ -207,9 +205,9 @@ const NAMES: [&str; 14] = [
 
 /// A plan to work, in words: its options in their order.
 fn work_text(rt: &impl Abort, alloc: Global, options: &WorkOptions) -> String {
-    let mut text = shown(rt, alloc, options);
+    let mut text = shown(alloc, options).expect(rt, "memory");
     for name in NAMES {
-        text = made(rt, text.as_str().replace(alloc, name, ""));
+        text = text.as_str().replace(alloc, name, "").expect(rt, "memory");
     }
     joined(rt, alloc, "work ", text.as_str())
 }
@@ -245,7 +243,7 @@ fn plan_text(rt: &impl Abort, alloc: Global, plan: &Plan) -> String {
             text
         }
         Plan::Work { options } => work_text(rt, alloc, options),
-        Plan::Help { .. } => string(rt, alloc, "help"),
+        Plan::Help { .. } => String::from_str(alloc, "help").expect(rt, "memory"),
     }
 }
 
@@ -253,17 +251,25 @@ fn plan_text(rt: &impl Abort, alloc: Global, plan: &Plan) -> String {
 fn refusal_text(rt: &impl Abort, alloc: Global, refusal: &Refusal) -> String {
     match refusal {
         Refusal::BadLine { text } => joined(rt, alloc, "bad line\n", text.get()),
-        Refusal::FewSlots => string(rt, alloc, "too few slots"),
-        Refusal::OutOfMemory => string(rt, alloc, "out of memory"),
+        Refusal::FewSlots => String::from_str(alloc, "too few slots").expect(rt, "memory"),
+        Refusal::OutOfMemory => String::from_str(alloc, "out of memory").expect(rt, "memory"),
     }
 }
 
 /// The words of a line after the program's name, and that name before them.
 fn words_of(rt: &impl Abort, alloc: Global, line: &str) -> Vec<String> {
     let mut words = Vec::new(alloc);
-    push(rt, &mut words, string(rt, alloc, "wfhost"));
+    push(
+        &mut words,
+        String::from_str(alloc, "wfhost").expect(rt, "memory"),
+    )
+    .expect(rt, "memory");
     for word in line.split_whitespace() {
-        push(rt, &mut words, string(rt, alloc, word));
+        push(
+            &mut words,
+            String::from_str(alloc, word).expect(rt, "memory"),
+        )
+        .expect(rt, "memory");
     }
     words
 }
@@ -284,7 +290,7 @@ fn answers(rt: &impl Abort, alloc: Global, line: &str, wanted: &str) {
         .as_str()
         .split_once('\n')
         .unwrap_or((answer.as_str(), ""));
-    same(rt, line, first, wanted);
+    same(alloc, first, wanted).expect(rt, line);
 }
 
 /// A line of a program under a name is answered by a text.
@@ -292,7 +298,7 @@ fn says(rt: &impl Abort, alloc: Global, name: &str, line: &str, wanted: &str) {
     let words = words_of(rt, alloc, line);
     match parse(alloc, name, words.as_slice()) {
         Ok(Plan::Help { text }) | Err(Refusal::BadLine { text }) => {
-            same(rt, line, text.get(), wanted);
+            same(alloc, text.get(), wanted).expect(rt, line);
         }
         _ => assert!(rt; false, "{line}"),
     }
@@ -301,7 +307,7 @@ fn says(rt: &impl Abort, alloc: Global, name: &str, line: &str, wanted: &str) {
 #[test]
 fn reads_command_lines(rt: HostRuntime) {
     for line in LINES.lines() {
-        let (words, wanted) = row(&rt, line);
+        let (words, wanted) = row(line).expect(&rt, line);
         answers(&rt, rt.alloc(), words, wanted);
     }
 }
@@ -309,7 +315,7 @@ fn reads_command_lines(rt: HostRuntime) {
 #[test]
 fn reads_lines_of_work(rt: HostRuntime) {
     for line in WORK_LINES.lines() {
-        let (words, wanted) = row(&rt, line);
+        let (words, wanted) = row(line).expect(&rt, line);
         let words = joined(&rt, rt.alloc(), "work ", words);
         answers(&rt, rt.alloc(), words.as_str(), wanted);
     }
@@ -318,9 +324,15 @@ fn reads_lines_of_work(rt: HostRuntime) {
 #[test]
 fn names_bad_values(rt: HostRuntime) {
     for line in BAD_VALUES.lines() {
-        let (words, wanted) = row(&rt, line);
+        let (words, wanted) = row(line).expect(&rt, line);
         let text = format!(in rt.alloc(); "error: --{wanted}\n");
-        says(&rt, rt.alloc(), "wfhost", words, made(&rt, text).as_str());
+        says(
+            &rt,
+            rt.alloc(),
+            "wfhost",
+            words,
+            text.expect(&rt, "memory").as_str(),
+        );
     }
 }
 

@@ -1,12 +1,11 @@
 //! Reports of several files.
 
-use crate::tests::replaying::{push_history, replayed};
-use crate::tests::rows::{made, repeated, row, same};
 use std::alloc::Global;
 use std::process::Abort;
 use std::thread::Threads;
+use test_support::{bytes_of, push, repeated, row, same, with_status};
 use wh_cli::{CommandFault, replay_command};
-use wh_samples::All;
+use wh_sample_workflows::All;
 
 /// Files, each by its name and its history, with the lines of their report and the status.
 const REPORTS: &str = "\
@@ -20,7 +19,20 @@ b.json: nap; a.json: greet/2 C; c: S => b.json: ok, 2 tasks, a.json: ok, 0 tasks
  => 0 files, 0 ok, status 0
 ";
 
-/// Files by their names and histories. That of an empty history is empty.
+/// Adds a file with a history. That of an empty history is empty.
+fn push_history(
+    rt: &impl Abort,
+    alloc: Global,
+    files: &mut Vec<(String, Vec<u8>)>,
+    name: &str,
+    history: &'static str,
+) {
+    let name = String::from_str(alloc, name).expect(rt, "memory");
+    let bytes = bytes_of(alloc, history).expect(rt, history);
+    push(files, (name, bytes)).expect(rt, "memory");
+}
+
+/// Files by their names and histories.
 pub(crate) fn named_files(
     rt: &impl Abort,
     alloc: Global,
@@ -35,18 +47,32 @@ pub(crate) fn named_files(
     files
 }
 
+/// What the command writes of the files, with its status after it.
+fn replayed<R: Threads + Sync + Abort>(
+    rt: &R,
+    alloc: Global,
+    files: Vec<(String, Vec<u8>)>,
+) -> String {
+    let mut out = Vec::new(alloc);
+    let status = replay_command::<All, _, _>(rt, alloc, files, &mut out);
+    with_status(out, status.expect(rt, "refused")).expect(rt, "a text")
+}
+
 /// The report of files, as one line.
 fn report_line<R: Threads + Sync + Abort>(rt: &R, alloc: Global, list: &'static str) -> String {
-    let report = replayed::<All, _>(rt, alloc, named_files(rt, alloc, list));
-    made(rt, report.as_str().replace(alloc, "\n", ", "))
+    let report = replayed(rt, alloc, named_files(rt, alloc, list));
+    report
+        .as_str()
+        .replace(alloc, "\n", ", ")
+        .expect(rt, "memory")
 }
 
 #[test]
 fn files_are_reported(rt: HostRuntime) {
     for line in REPORTS.lines() {
-        let (list, wanted) = row(&rt, line);
+        let (list, wanted) = row(line).expect(&rt, line);
         let report = report_line(&rt, rt.alloc(), list);
-        same(&rt, list, report.as_str(), wanted);
+        same(rt.alloc(), report.as_str(), wanted).expect(&rt, list);
     }
 }
 
@@ -62,11 +88,11 @@ fn naps(rt: &impl Abort, alloc: Global, count: usize) -> Vec<(String, Vec<u8>)> 
 #[test]
 fn many_files_are_replayed(rt: HostRuntime) {
     let alloc = rt.alloc();
-    let report = replayed::<All, _>(&rt, alloc, naps(&rt, alloc, 3_000));
+    let report = replayed(&rt, alloc, naps(&rt, alloc, 3_000));
     let line = "nap.json: ok, 2 tasks\n";
     let end = "3000 files, 3000 ok\nstatus 0";
-    let wanted = repeated(&rt, alloc, line, 3_000, end);
-    same(&rt, "many files", report.as_str(), wanted.as_str());
+    let wanted = repeated(alloc, line, 3_000, end).expect(&rt, "memory");
+    same(rt.alloc(), report.as_str(), wanted.as_str()).expect(&rt, "many files");
 }
 
 /// A writer without room for the line of the totals.

@@ -1,15 +1,14 @@
 //! Folders of recorded histories, served.
 
-use crate::tests::replaying::with_status;
 use crate::tests::reports::named_files;
-use crate::tests::rows::{next_number, same};
 use std::alloc::Global;
 use std::io::Write;
 use std::process::Abort;
 use std::sync::Wait;
 use std::thread::Threads;
+use test_support::{next_number, same, with_status};
 use wh_cli::{CommandFault, ServiceEnd, serve_command, serve_with_failures};
-use wh_samples::All;
+use wh_sample_workflows::All;
 
 /// Files of all samples, each by its name and its history.
 const SAMPLES: &str =
@@ -172,9 +171,9 @@ fn serve<R: Threads + Wait + Abort + Sync, O: Write>(
 fn sizes_of(rt: &impl Abort, line: &'static str) -> Sizes {
     let mut words = line;
     Sizes {
-        workers: next_number(rt, &mut words),
-        cache: next_number(rt, &mut words),
-        cache_events: next_number(rt, &mut words),
+        workers: next_number(&mut words).expect(rt, "a number"),
+        cache: next_number(&mut words).expect(rt, "a number"),
+        cache_events: next_number(&mut words).expect(rt, "a number"),
     }
 }
 
@@ -183,14 +182,14 @@ fn samples_served<R: Threads + Wait + Abort + Sync>(rt: &R, alloc: Global, sizes
     let mut out = Vec::new(alloc);
     let files = named_files(rt, alloc, SAMPLES);
     let status = serve(rt, alloc, files, sizes, &mut out);
-    with_status(rt, out, status.expect(rt, "refused"))
+    with_status(out, status.expect(rt, "refused")).expect(rt, "a text")
 }
 
 #[test]
 fn samples_are_served_whatever_the_sizes(rt: HostRuntime) {
     for line in SIZES.lines() {
         let report = samples_served(&rt, rt.alloc(), sizes_of(&rt, line));
-        same(&rt, line, report.as_str(), SAMPLES_SERVED);
+        same(rt.alloc(), report.as_str(), SAMPLES_SERVED).expect(&rt, line);
     }
 }
 
@@ -217,17 +216,17 @@ fn told(rt: &impl Abort, end: &ServiceEnd, mut out: Vec<u8>) -> String {
     }
     let uncompared = end.uncompared;
     write!(out, "not compared: {uncompared}\n").expect(rt, "written");
-    with_status(rt, out, end.status)
+    with_status(out, end.status).expect(rt, "a text")
 }
 
 /// What is told of a service is the text below its first line.
 fn is_served<R: Threads + Wait + Abort + Sync>(rt: &R, alloc: Global, block: &'static str) {
     let (mut files, wanted) = block.split_once("\n").expect(rt, block);
-    let workers = next_number(rt, &mut files);
+    let workers = next_number(&mut files).expect(rt, "a number");
     let mut out = Vec::new(alloc);
     let end = service(rt, alloc, files, workers, &mut out);
     let told = told(rt, &end, out);
-    same(rt, files, told.as_str(), wanted);
+    same(alloc, told.as_str(), wanted).expect(rt, files);
 }
 
 #[test]

@@ -1,9 +1,11 @@
 //! Which jobs a task has.
 
-use crate::tests::rows::{cut, next_number, number, numbered, row, track_of, wants};
+use crate::tests::machines::track_of;
 use std::alloc::Global;
 use std::process::Abort;
+use test_support::{cut, next_number, row, wants};
 use wh_activation::jobs;
+use wh_events::EventNo;
 
 /// A history, two numbers of tasks, and what the second one is told.
 const ROWS: &str = "\
@@ -24,16 +26,16 @@ nap/8 from 3 to 9 => []
 fn tells(rt: &impl Abort, alloc: Global, given: &'static str, wanted: &str) {
     let mut rest = given;
     let track = track_of(rt, alloc, cut(&mut rest, " from "));
-    let from = number(rt, cut(&mut rest, " to "));
-    let to = numbered(rt, next_number(rt, &mut rest));
+    let from = cut(&mut rest, " to ").parse::<u64>().expect(rt, "a number");
+    let to = EventNo::new(next_number(&mut rest).expect(rt, "a number")).expect(rt, "a number");
     let jobs = jobs(alloc, &track, from, to).expect(rt, given);
-    wants(rt, alloc, given, jobs, wanted);
+    wants(alloc, jobs, wanted).expect(rt, given);
 }
 
 #[test]
 fn tells_jobs(rt: HostRuntime) {
     for line in ROWS.lines() {
-        let (given, wanted) = row(&rt, line);
+        let (given, wanted) = row(line).expect(&rt, line);
         tells(&rt, rt.alloc(), given, wanted);
     }
 }

@@ -1,12 +1,12 @@
 //! What is explained of histories, line by line.
 
-use crate::tests::replaying::{bytes_of, with_status};
-use crate::tests::rows::{made, row, same, string};
-use crate::tests::scripted::Scripted;
 use std::alloc::Global;
 use std::process::Abort;
-use wh_cli::explain_command;
-use wh_samples::{All, Asker, Nap};
+use std::slice;
+use test_support::{Scripted, bytes_of, row, same, with_status};
+use wh_explain::{explain, write_explanation};
+use wh_sample_workflows::{All, Asker, Nap};
+use wh_tester::all_good;
 use wh_workflow::Workflow;
 
 /// Histories without a fault, each with its text below it.
@@ -389,107 +389,6 @@ task at 14
 x.json: ok, 3 tasks
 status 0";
 
-/// Histories, each with the lines of JSON below it.
-const AS_JSON: &str = "\
-nap
-{'task':3}
-{'told':'Time','time':'2024-05-01T10:00:03Z'}
-{'told':'Start','workflowType':'Nap'}
-{'gives':'StartTimer','timerId':'nap','seconds':60}
-{'sends':'StartTimer','timerId':'nap','seconds':60,'recorded':{'event':5,'type':'TimerStarted','timerId':'nap'},'differs':false}
-{'task':8}
-{'told':'Time','time':'2024-05-01T10:00:08Z'}
-{'told':'TimerFired','timerId':'nap'}
-{'gives':'Complete'}
-{'sends':'Complete','recorded':{'event':10,'type':'WorkflowExecutionCompleted'},'differs':false}
-{'file':'x.json','verdict':'ok','tasks':2,'live':false}
-status 0
-
-greet | 'name':'greet' -> 'name':'greets'
-{'task':3}
-{'told':'Time','time':'2024-05-01T10:00:03Z'}
-{'told':'Start','workflowType':'Greet'}
-{'gives':'StartActivity','activityId':'1','activityType':'greet'}
-{'sends':'StartActivity','activityId':'1','activityType':'greet','recorded':{'event':5,'type':'ActivityTaskScheduled','activityId':'1','activityType':'greets'},'differs':true}
-{'file':'x.json','verdict':'fault','event':5,'fault':'event 5 differs'}
-status 1
-
-family/6 signal:stop S T C cancel_child:kid child_canceled:5 cancel_sent:11 S T
-{'task':3}
-{'told':'Time','time':'2024-05-01T10:00:03Z'}
-{'told':'Start','workflowType':'Family'}
-{'gives':'StartChild','workflowId':'kid','workflowType':'Nap'}
-{'sends':'StartChild','workflowId':'kid','workflowType':'Nap','recorded':{'event':5,'type':'StartChildWorkflowExecutionInitiated','workflowId':'kid','workflowType':'Nap'},'differs':false}
-{'task':9}
-{'told':'Time','time':'2024-05-01T10:00:09Z'}
-{'told':'Signal','signalName':'stop'}
-{'gives':'CancelChild','workflowId':'kid'}
-{'told':'ChildStarted','workflowId':'kid'}
-{'sends':'CancelChild','workflowId':'kid','recorded':{'event':11,'type':'RequestCancelExternalWorkflowExecutionInitiated','workflowId':'kid'},'differs':false}
-{'task':15}
-{'told':'Time','time':'2024-05-01T10:00:15Z'}
-{'told':'Child','workflowId':'kid','status':'Canceled'}
-{'gives':'Cancel'}
-{'told':'CancelSent','workflowId':'kid'}
-{'sends':'Cancel'}
-{'live':true}
-{'file':'x.json','verdict':'ok','tasks':3,'live':true}
-status 0
-
-start:Branch S T C chg_marker:MQ== activity:1:new
-{'task':3}
-{'told':'Time','time':'2024-05-01T10:00:03Z'}
-{'told':'Start','workflowType':'Branch'}
-{'gives':'Ask','changeId':'chg','min':-1,'max':1}
-{'told':'Version','changeId':'chg','version':1}
-{'gives':'StartActivity','activityId':'1','activityType':'new'}
-{'sends':'Marker','changeId':'chg','version':1,'recorded':{'event':5,'type':'MarkerRecorded','changeId':'chg','version':1},'differs':false}
-{'sends':'StartActivity','activityId':'1','activityType':'new','recorded':{'event':6,'type':'ActivityTaskScheduled','activityId':'1','activityType':'new'},'differs':false}
-{'file':'x.json','verdict':'ok','tasks':1,'live':false}
-status 0
-
-nap/5 timer:x
-{'task':3}
-{'told':'Time','time':'2024-05-01T10:00:03Z'}
-{'told':'Start','workflowType':'Nap'}
-{'gives':'StartTimer','timerId':'nap','seconds':60}
-{'sends':'StartTimer','timerId':'nap','seconds':60,'recorded':{'event':5,'type':'TimerStarted','timerId':'nap'},'differs':false}
-{'sends':null,'recorded':{'event':6,'type':'TimerStarted','timerId':'x'},'differs':true}
-{'file':'x.json','verdict':'fault','event':6,'fault':'event 6 has no command'}
-status 1
-
-nap/4
-{'task':3}
-{'told':'Time','time':'2024-05-01T10:00:03Z'}
-{'told':'Start','workflowType':'Nap'}
-{'gives':'StartTimer','timerId':'nap','seconds':60}
-{'sends':'StartTimer','timerId':'nap','seconds':60,'recorded':null,'differs':true}
-{'file':'x.json','verdict':'fault','task':3,'fault':'command 1 of the task at 3 has no event'}
-status 1
-
-start:Nap timer:nap S T
-{'task':4}
-{'told':'Time','time':'2024-05-01T10:00:04Z'}
-{'told':'Start','workflowType':'Nap'}
-{'gives':'StartTimer','timerId':'nap','seconds':60}
-{'refuses':'StartTimer','timerId':'nap','seconds':60}
-{'file':'x.json','verdict':'fault','task':4,'fault':'task at 4: IdInUse'}
-status 1
-
-start:Nope S T C
-{'unknownWorkflow':'Nope'}
-{'file':'x.json','verdict':'fault','task':1,'fault':'task at 1: UnknownWorkflow'}
-status 1
-
-nap/5 | 'timerId':'nap' -> 'timerId':'\u{e9}\\\\b'
-{'task':3}
-{'told':'Time','time':'2024-05-01T10:00:03Z'}
-{'told':'Start','workflowType':'Nap'}
-{'gives':'StartTimer','timerId':'nap','seconds':60}
-{'sends':'StartTimer','timerId':'nap','seconds':60,'recorded':{'event':5,'type':'TimerStarted','timerId':'?\\\\b'},'differs':true}
-{'file':'x.json','verdict':'fault','event':5,'fault':'event 5 differs'}
-status 1";
-
 /// Times of a task, and the line that tells them.
 const TIMES: &str = "\
 nap/3 | '2024-05-01T10:00:03Z' -> '2024-02-29T23:59:59Z' =>   told Time 2024-02-29T23:59:59Z
@@ -502,26 +401,23 @@ nap/3 | '2024-05-01T10:00:03Z' -> '0001-01-01T00:00:00Z' =>   told Time 0001-01-
 nap/3 | '2024-05-01T10:00:03Z' -> '9999-12-30T00:00:00Z' =>   told Time 9999-12-30T00:00:00Z
 ";
 
-/// What explains a history, as JSON or as text, with the status after it.
-fn explanation<W: Workflow>(
-    rt: &impl Abort,
-    alloc: Global,
-    history: &'static str,
-    json: bool,
-) -> String {
-    let bytes = bytes_of(rt, alloc, history);
-    let name = string(rt, alloc, "x.json");
+/// What explains a history, and below it the status: 0 where the history is good, and else 1.
+fn explanation<W: Workflow>(rt: &impl Abort, alloc: Global, history: &'static str) -> String {
+    let bytes = bytes_of(alloc, history).expect(rt, history);
+    let name = String::from_str(alloc, "x.json").expect(rt, "memory");
+    let explanation = explain::<W>(alloc, name, bytes.as_slice()).expect(rt, "memory");
     let mut out = Vec::new(alloc);
-    let status = explain_command::<W, _>(alloc, name, bytes.as_slice(), json, &mut out);
-    with_status(rt, out, status.expect(rt, "refused"))
+    write_explanation(&explanation, &mut out).expect(rt, "written");
+    let status = u8::from(!all_good(slice::from_ref(&explanation.line)));
+    with_status(out, status).expect(rt, "a text")
 }
 
 /// Explains the history that each block begins with, and compares the text with the block's.
 pub(crate) fn explains<W: Workflow>(rt: &impl Abort, alloc: Global, blocks: &'static str) {
     for block in blocks.split("\n\n") {
         let (history, wanted) = block.split_once("\n").expect(rt, block);
-        let text = explanation::<W>(rt, alloc, history, false);
-        same(rt, history, text.as_str(), wanted);
+        let text = explanation::<W>(rt, alloc, history);
+        same(alloc, text.as_str(), wanted).expect(rt, history);
     }
 }
 
@@ -530,17 +426,6 @@ fn explains_histories(rt: HostRuntime) {
     explains::<All>(&rt, rt.alloc(), GOOD);
     explains::<All>(&rt, rt.alloc(), BAD);
     explains::<Scripted>(&rt, rt.alloc(), SCRIPTED);
-}
-
-/// The lines of JSON have `'` for `"` in the blocks.
-#[test]
-fn explains_histories_as_json(rt: HostRuntime) {
-    for block in AS_JSON.split("\n\n") {
-        let (history, wanted) = block.split_once("\n").expect(&rt, block);
-        let text = explanation::<All>(&rt, rt.alloc(), history, true);
-        let text = made(&rt, text.as_str().replace(rt.alloc(), "\"", "'"));
-        same(&rt, history, text.as_str(), wanted);
-    }
 }
 
 /// How often a text has a line.
@@ -558,8 +443,8 @@ fn count_lines(text: &str, wanted: &str) -> u64 {
 #[test]
 fn tells_times(rt: HostRuntime) {
     for line in TIMES.lines() {
-        let (history, wanted) = row(&rt, line);
-        let text = explanation::<Nap>(&rt, rt.alloc(), history, false);
+        let (history, wanted) = row(line).expect(&rt, line);
+        let text = explanation::<Nap>(&rt, rt.alloc(), history);
         assert!(rt; count_lines(text.as_str(), wanted) == 1, "{line}: {text}");
     }
 }
@@ -567,7 +452,7 @@ fn tells_times(rt: HostRuntime) {
 /// A workflow that asks at each answer asks 4,097 times.
 #[test]
 fn explains_endless_questions(rt: HostRuntime) {
-    let text = explanation::<Asker>(&rt, rt.alloc(), "start:Asker S T", false);
+    let text = explanation::<Asker>(&rt, rt.alloc(), "start:Asker S T");
     let told = count_lines(text.as_str(), "  told Version a (version 1)");
     assert!(rt; told == 4_096);
     let end = "\n  refuses Ask a (-1 to 1)\nx.json: fault, task at 3: TooManyCommands\nstatus 1";

@@ -2,8 +2,8 @@
 
 use crate::tests::explaining::explains;
 use crate::tests::runs::begins;
-use crate::tests::scripted::Scripted;
-use wh_samples::Nap;
+use test_support::Scripted;
+use wh_sample_workflows::Nap;
 use wh_workflow::Pair;
 
 /// What the task of a history is told, of all tasks that went before it without a record, and what

@@ -1,8 +1,8 @@
 //! What texts are read as.
 
-use crate::tests::rows::{made, number, push, repeated, row, same, shown, wants};
 use std::alloc::Global;
 use std::process::Abort;
+use test_support::{push, repeated, row, same, shown, wants};
 use wh_json::read_events;
 
 /// A timer's history, as the Temporal CLI exports it.
@@ -264,31 +264,33 @@ WorkflowPropertiesModified EVENT_TYPE_WORKFLOW_PROPERTIES_MODIFIED  => Inert
 
 /// A form with other texts in place of its `@` and its `%`.
 fn filled(rt: &impl Abort, alloc: Global, form: &str, first: &str, second: &str) -> String {
-    let text = made(rt, form.replace(alloc, "@", first));
-    made(rt, text.as_str().replace(alloc, "%", second))
+    let text = form.replace(alloc, "@", first).expect(rt, "memory");
+    text.as_str()
+        .replace(alloc, "%", second)
+        .expect(rt, "memory")
 }
 
 /// How many events there are, or the fault.
 fn answer(rt: &impl Abort, alloc: Global, bytes: &[u8]) -> String {
     match read_events(alloc, bytes) {
-        Ok(events) => made(rt, format!(in alloc; "{} events", events.len())),
-        Err(fault) => shown(rt, alloc, &fault),
+        Ok(events) => format!(in alloc; "{} events", events.len()).expect(rt, "memory"),
+        Err(fault) => shown(alloc, &fault).expect(rt, "memory"),
     }
 }
 
 /// The answer to the bytes is what is wanted.
 fn answers(rt: &impl Abort, alloc: Global, bytes: &[u8], wanted: &str) {
     let answer = answer(rt, alloc, bytes);
-    same(rt, wanted, answer.as_str(), wanted);
+    same(alloc, answer.as_str(), wanted).expect(rt, wanted);
 }
 
 /// Puts the text of each line into a form, and compares the answers.
 fn answers_each(rt: &impl Abort, alloc: Global, form: &str, lines: &'static str) {
     for line in lines.lines() {
-        let (given, wanted) = row(rt, line);
+        let (given, wanted) = row(line).expect(rt, line);
         let text = filled(rt, alloc, form, given, "%");
         let answer = answer(rt, alloc, text.as_bytes());
-        same(rt, line, answer.as_str(), wanted);
+        same(alloc, answer.as_str(), wanted).expect(rt, line);
     }
 }
 
@@ -321,13 +323,13 @@ fn reads_kind(rt: &impl Abort, alloc: Global, name: &str, attributes: &str, body
     let text = filled(rt, alloc, ONE, name, attributes);
     let wanted = filled(rt, alloc, ONE_READ, body, "%");
     let events = read_events(alloc, text.as_bytes());
-    wants(rt, alloc, name, events, wanted.as_str());
+    wants(alloc, events, wanted.as_str()).expect(rt, name);
 }
 
 /// Reads an event of each type, under both of its names.
 fn reads_kinds(rt: &impl Abort, alloc: Global, lines: &'static str) {
     for line in lines.lines() {
-        let (given, body) = row(rt, line);
+        let (given, body) = row(line).expect(rt, line);
         let (name, rest) = given.split_once(' ').expect(rt, line);
         let (spelled, attributes) = rest.split_once(' ').expect(rt, line);
         reads_kind(rt, alloc, name, attributes, body);
@@ -348,9 +350,9 @@ fn reads_each_kind(rt: HostRuntime) {
 fn reads_alike(rt: &impl Abort, alloc: Global, first: &str, second: &str) {
     answers(rt, alloc, first.as_bytes(), "10 events");
     let events = read_events(alloc, first.as_bytes());
-    let wanted = shown(rt, alloc, &events);
+    let wanted = shown(alloc, &events).expect(rt, "memory");
     let others = read_events(alloc, second.as_bytes());
-    wants(rt, alloc, "a nap", others, wanted.as_str());
+    wants(alloc, others, wanted.as_str()).expect(rt, "a nap");
 }
 
 #[test]
@@ -396,15 +398,19 @@ const DEPTHS: &str = "\
 
 /// As many lists within one another.
 fn nested(rt: &impl Abort, alloc: Global, depth: usize) -> String {
-    let close = repeated(rt, alloc, "]", depth, "");
-    repeated(rt, alloc, "[", depth, close.as_str())
+    let close = repeated(alloc, "]", depth, "").expect(rt, "memory");
+    repeated(alloc, "[", depth, close.as_str()).expect(rt, "memory")
 }
 
 #[test]
 fn bounds_the_nesting(rt: HostRuntime) {
     for line in DEPTHS.lines() {
-        let (depth, wanted) = row(&rt, line);
-        let text = nested(&rt, rt.alloc(), number(&rt, depth) as usize);
+        let (depth, wanted) = row(line).expect(&rt, line);
+        let text = nested(
+            &rt,
+            rt.alloc(),
+            depth.parse::<u64>().expect(&rt, depth) as usize,
+        );
         answers(&rt, rt.alloc(), text.as_bytes(), wanted);
     }
 }
@@ -413,6 +419,6 @@ fn bounds_the_nesting(rt: HostRuntime) {
 fn bounds_the_length(rt: HostRuntime) {
     let mut bytes = vec![in rt.alloc(); b' '; 67_108_864].expect(&rt, "memory");
     answers(&rt, rt.alloc(), bytes.as_slice(), "BadJson");
-    push(&rt, &mut bytes, b' ');
+    push(&mut bytes, b' ').expect(&rt, "memory");
     answers(&rt, rt.alloc(), bytes.as_slice(), "TooLong");
 }

@@ -4,7 +4,7 @@ use crate::tests::cuts::CUTS;
 use crate::tests::places::PLACES;
 use crate::tests::reading::{READ, REFUSED, REFUSED_FIRST};
 use crate::tests::replaying::replays;
-use wh_samples::{All, Asker, Flood};
+use wh_sample_workflows::{All, Asker, Flood};
 
 /// Commands that match their record or do not, versions of a change, and commands that cannot
 /// stand.
@@ -91,16 +91,16 @@ start:Asker S T => x.json: fault, task at 3: TooManyCommands
 
 #[test]
 fn judges_histories(rt: HostRuntime) {
-    replays::<All, _>(&rt, rt.alloc(), READ);
-    replays::<All, _>(&rt, rt.alloc(), REFUSED);
-    replays::<All, _>(&rt, rt.alloc(), REFUSED_FIRST);
-    replays::<All, _>(&rt, rt.alloc(), PLACES);
-    replays::<All, _>(&rt, rt.alloc(), CUTS);
-    replays::<All, _>(&rt, rt.alloc(), ACTIVATIONS);
+    replays::<All>(&rt, rt.alloc(), READ);
+    replays::<All>(&rt, rt.alloc(), REFUSED);
+    replays::<All>(&rt, rt.alloc(), REFUSED_FIRST);
+    replays::<All>(&rt, rt.alloc(), PLACES);
+    replays::<All>(&rt, rt.alloc(), CUTS);
+    replays::<All>(&rt, rt.alloc(), ACTIVATIONS);
 }
 
 #[test]
 fn bounds_commands(rt: HostRuntime) {
-    replays::<Flood, _>(&rt, rt.alloc(), MANY);
-    replays::<Asker, _>(&rt, rt.alloc(), ASKS);
+    replays::<Flood>(&rt, rt.alloc(), MANY);
+    replays::<Asker>(&rt, rt.alloc(), ASKS);
 }

@@ -1,10 +1,12 @@
 //! Which events are in place, and where things stand.
 
-use crate::tests::rows::{self, made, numbered, recorded, row, text, track_of, wants};
 use std::alloc::Global;
 use std::process::Abort;
-use wh_events::{Event, EventKind, Items, OpenKind, Status, Text};
+use test_support::{row, wants};
+use wh_events::{Event, EventKind, EventNo, Items, OpenKind, Status, Text};
+use wh_histories::{events, events_after};
 use wh_machines::{PushFault, Track};
+use wh_workflow::text_of;
 
 /// A history, what becomes of further events, each pushed with the next number, and how many events
 /// the track then holds.
@@ -14,9 +16,18 @@ nap/5 then timer_fired:5 timer_fired:5 => ([Ok(()), Err(Place(AlreadyClosed))], 
  then ignored => ([Err(Place(FirstNotStart))], 0)
 ";
 
+/// The track of a history whose events are in place.
+pub(crate) fn track_of(rt: &impl Abort, alloc: Global, history: &'static str) -> Track {
+    let mut track = Track::new(alloc);
+    for event in events(alloc, history).expect(rt, history) {
+        track.push(event).expect(rt, history);
+    }
+    track
+}
+
 /// Pushes an event of the kind, with the next number.
 fn push(rt: &impl Abort, track: &mut Track, body: EventKind) -> Result<(), PushFault> {
-    let number = numbered(rt, (track.len() as u64).saturating_add(1));
+    let number = EventNo::new((track.len() as u64).saturating_add(1)).expect(rt, "a number");
     track.push(Event {
         number,
         time: 0,
@@ -33,8 +44,9 @@ fn pushes(
 ) -> (Vec<Result<(), PushFault>>, usize) {
     let mut track = track_of(rt, alloc, history);
     let mut answers = Vec::new(alloc);
-    for event in recorded(rt, alloc, further, 0) {
-        rows::push(rt, &mut answers, push(rt, &mut track, event.body));
+    for event in events_after(alloc, further, 0).expect(rt, further) {
+        let answer = push(rt, &mut track, event.body);
+        test_support::push(&mut answers, answer).expect(rt, "memory");
     }
     (answers, track.into_events().len())
 }
@@ -42,10 +54,10 @@ fn pushes(
 #[test]
 fn judges_places(rt: HostRuntime) {
     for line in PLACES.lines() {
-        let (given, wanted) = row(&rt, line);
+        let (given, wanted) = row(line).expect(&rt, line);
         let (history, further) = given.split_once(" then ").expect(&rt, given);
         let pushed = pushes(&rt, rt.alloc(), history, further);
-        wants(&rt, rt.alloc(), given, pushed, wanted);
+        wants(rt.alloc(), pushed, wanted).expect(&rt, given);
     }
 }
 
@@ -57,7 +69,7 @@ fn fire(rt: &impl Abort, track: &mut Track) {
 
 /// Starts a timer of the id, and fires it.
 fn start_and_fire(rt: &impl Abort, alloc: Global, track: &mut Track, id: &str) {
-    let id = text(rt, alloc, id);
+    let id = text_of(alloc, id).expect(rt, "memory");
     push(rt, track, EventKind::TimerStarted { id }).expect(rt, "in place");
     fire(rt, track);
 }
@@ -68,14 +80,14 @@ fn sendable<T: Send>(_value: &T) {}
 /// The timer `nap` that was opened last before a place, and its status then.
 fn last_nap(rt: &impl Abort, track: &Track, place: u64, opened: u64, status: Status) {
     let last = track.last_at(OpenKind::Timer, "nap", place);
-    let opened = numbered(rt, opened);
+    let opened = EventNo::new(opened).expect(rt, "a number");
     assert!(rt; last == Some((opened, status)), "at {place}");
 }
 
 /// The event of a number has this status, in words.
 fn stands(rt: &impl Abort, alloc: Global, track: &Track, opened: u64, status: &str) {
-    let opened = numbered(rt, opened);
-    wants(rt, alloc, "a status", track.status(opened), status);
+    let opened = EventNo::new(opened).expect(rt, "a number");
+    wants(alloc, track.status(opened), status).expect(rt, "a status");
 }
 
 /// A copy of a track of six events takes a seventh, and the first has six still.
@@ -92,7 +104,7 @@ fn follows_the_timer_of_a_nap(rt: HostRuntime) {
     let mut track = track_of(&rt, alloc, "nap/5");
     sendable(&track);
     let opened = track.open_named(OpenKind::Timer, "nap");
-    wants(&rt, alloc, "a timer", opened, "Some(5)");
+    wants(alloc, opened, "Some(5)").expect(&rt, "a timer");
     fire(&rt, &mut track);
     stands(&rt, alloc, &track, 5, "Some(Closed by: 6)");
     last_nap(&rt, &track, 5, 5, Status::Open);
@@ -107,7 +119,7 @@ fn refuses_a_number_that_no_event_has(rt: HostRuntime) {
     let mut track = track_of(&rt, rt.alloc(), "nap/5");
     let fired = EventKind::TimerFired { started: 1 << 63 };
     let pushed = push(&rt, &mut track, fired);
-    wants(&rt, rt.alloc(), "2^63", pushed, "Err(Place(NoSuchRef))");
+    wants(rt.alloc(), pushed, "Err(Place(NoSuchRef))").expect(&rt, "2^63");
 }
 
 /// The timers `nap` of event 3 and each second one after it, up to event 199, each of which the
@@ -115,7 +127,7 @@ fn refuses_a_number_that_no_event_has(rt: HostRuntime) {
 fn finds_each_nap(rt: &impl Abort, track: &Track) {
     for pair in 2..100u64 {
         let opened = 2 * pair + 1;
-        let by = numbered(rt, 2 * pair + 2);
+        let by = EventNo::new(2 * pair + 2).expect(rt, "a number");
         last_nap(rt, track, opened, opened, Status::Open);
         last_nap(rt, track, by.get(), opened, Status::Closed { by });
     }
@@ -135,7 +147,7 @@ fn walks_back_over_timers_of_one_id(rt: HostRuntime) {
 fn full_track(rt: &impl Abort, alloc: Global) -> Track {
     let mut track = track_of(rt, alloc, "start:Nap");
     for pair in 1..25_600u64 {
-        let id = made(rt, format!(in alloc; "{pair}"));
+        let id = format!(in alloc; "{pair}").expect(rt, "memory");
         start_and_fire(rt, alloc, &mut track, id.as_str());
     }
     track
@@ -146,27 +158,21 @@ fn holds_the_most_events(rt: HostRuntime) {
     let alloc = rt.alloc();
     let mut track = full_track(&rt, alloc);
     let opened = track.open_named(OpenKind::Timer, "25599");
-    wants(&rt, alloc, "an open timer", opened, "None");
+    wants(alloc, opened, "None").expect(&rt, "an open timer");
     let last = track.last_named(OpenKind::Timer, "25599");
-    wants(&rt, alloc, "the last timer", last, "Some(51198)");
+    wants(alloc, last, "Some(51198)").expect(&rt, "the last timer");
     stands(&rt, alloc, &track, 51_198, "Some(Closed by: 51199)");
     let pushed = push(&rt, &mut track, EventKind::WorkflowTaskScheduled);
-    wants(&rt, alloc, "event 51200", pushed, "Ok(())");
+    wants(alloc, pushed, "Ok(())").expect(&rt, "event 51200");
     let pushed = push(&rt, &mut track, EventKind::WorkflowTaskStarted);
-    wants(
-        &rt,
-        alloc,
-        "event 51201",
-        pushed,
-        "Err(Place(TooManyEvents))",
-    );
+    wants(alloc, pushed, "Err(Place(TooManyEvents))").expect(&rt, "event 51201");
 }
 
 /// A timer of a new id, made again if the first try found no memory.
 fn new_timer(rt: &impl Abort, alloc: Global, number: u64) -> EventKind {
     let id = match format!(in alloc; "timer {number}") {
         Ok(id) => id,
-        Err(_) => made(rt, format!(in alloc; "timer {number}")),
+        Err(_) => format!(in alloc; "timer {number}").expect(rt, "memory"),
     };
     EventKind::TimerStarted { id: Text::new(id) }
 }

@@ -1,14 +1,13 @@
 //! What a task may command, which versions it is told, and whether commands match their record.
 
-use crate::tests::rows::{
-    add, cut, made, number, numbered, push, row, same, shown, text, track_of, wants,
-};
+use crate::tests::machines::track_of;
 use std::alloc::Global;
 use std::process::Abort;
+use test_support::{cut, push, row, same, shown, wants};
 use wh_events::{Event, EventNo, Items};
 use wh_machines::Track;
 use wh_match::{Script, ScriptFault, Versions, matches};
-use wh_workflow::{Command, WorkflowFault};
+use wh_workflow::{Command, WorkflowFault, text_of};
 
 /// A history, two numbers of tasks, and what the code of the second commands or asks, by short
 /// words: the answer to each of these, with what is settled after an ask, and then what is sent.
@@ -32,11 +31,11 @@ late from 3 to 20 gives cancel_activity:1 timer:t => None None sends [StartTimer
 fn command(rt: &impl Abort, alloc: Global, word: &str) -> Command {
     let (deed, names) = word.split_once(':').unwrap_or((word, ""));
     let (name, second) = names.split_once(':').unwrap_or((names, ""));
-    let id = text(rt, alloc, name);
+    let id = text_of(alloc, name).expect(rt, "memory");
     match deed {
         "activity" => Command::StartActivity {
             id,
-            activity: text(rt, alloc, second),
+            activity: text_of(alloc, second).expect(rt, "memory"),
             input: Items::new(Vec::new(alloc)),
         },
         "cancel_activity" => Command::CancelActivity { id },
@@ -75,9 +74,11 @@ fn asked(
     let (min, max) = range.split_once(':').expect(rt, range);
     let min = min.parse::<i32>().expect(rt, range);
     let max = max.parse::<i32>().expect(rt, range);
-    let answer = shown(rt, alloc, &script.ask(recorded, versions, "chg", min, max));
-    let settled = shown(rt, alloc, &versions.get("chg"));
-    made(rt, format!(in alloc; "{answer} {settled}"))
+    let answer = shown(alloc, &script.ask(recorded, versions, "chg", min, max)).expect(
+        rt, "memory",
+    );
+    let settled = shown(alloc, &versions.get("chg")).expect(rt, "memory");
+    format!(in alloc; "{answer} {settled}").expect(rt, "memory")
 }
 
 /// What a script answers to a word. An ask is one of a live task, a recall one of a recorded task.
@@ -97,12 +98,12 @@ fn answered(
         return asked(rt, alloc, script, Some(recorded), versions, range);
     }
     let command = command(rt, alloc, word);
-    shown(rt, alloc, &give(rt, script, track, command))
+    shown(alloc, &give(rt, script, track, command)).expect(rt, "memory")
 }
 
 /// What is sent of the commands of a script.
 fn sent_text(rt: &impl Abort, alloc: Global, script: Script) -> String {
-    shown(rt, alloc, &script.reduced().expect(rt, "memory"))
+    shown(alloc, &script.reduced().expect(rt, "memory")).expect(rt, "memory")
 }
 
 /// The answers of a script to words, and then what is sent. What is recorded of a task stands
@@ -122,11 +123,12 @@ fn answers_text(
     let mut all = String::new(alloc);
     for word in words.split_whitespace() {
         let answer = answered(rt, alloc, &mut script, track, recorded, &mut versions, word);
-        add(rt, &mut all, answer.as_str());
-        add(rt, &mut all, " ");
+        all.push_str(answer.as_str()).expect(rt, "memory");
+        all.push_str(" ").expect(rt, "memory");
     }
-    add(rt, &mut all, "sends ");
-    add(rt, &mut all, sent_text(rt, alloc, script).as_str());
+    all.push_str("sends ").expect(rt, "memory");
+    all.push_str(sent_text(rt, alloc, script).as_str())
+        .expect(rt, "memory");
     all
 }
 
@@ -134,16 +136,23 @@ fn answers_text(
 fn answers(rt: &impl Abort, alloc: Global, given: &'static str, wanted: &str) {
     let mut words = given;
     let track = track_of(rt, alloc, cut(&mut words, " from "));
-    let previous = number(rt, cut(&mut words, " to "));
-    let task = numbered(rt, number(rt, cut(&mut words, " gives ")));
+    let previous = cut(&mut words, " to ")
+        .parse::<u64>()
+        .expect(rt, "a number");
+    let task = EventNo::new(
+        cut(&mut words, " gives ")
+            .parse::<u64>()
+            .expect(rt, "a number"),
+    )
+    .expect(rt, "a number");
     let text = answers_text(rt, alloc, &track, previous, task, words);
-    same(rt, given, text.as_str(), wanted);
+    same(alloc, text.as_str(), wanted).expect(rt, given);
 }
 
 #[test]
 fn answers_commands(rt: HostRuntime) {
     for line in ROWS.lines() {
-        let (given, wanted) = row(&rt, line);
+        let (given, wanted) = row(line).expect(&rt, line);
         answers(&rt, rt.alloc(), given, wanted);
     }
 }
@@ -152,19 +161,13 @@ fn answers_commands(rt: HostRuntime) {
 fn takes_as_many_asks_as_commands(rt: HostRuntime) {
     let alloc = rt.alloc();
     let mut versions = Versions::new(alloc);
-    let mut script = Script::new(alloc, 0, numbered(&rt, 3));
+    let mut script = Script::new(alloc, 0, EventNo::new(3).expect(&rt, "a number"));
     for _ in 0..4096u32 {
         let version = script.ask(None, &mut versions, "chg", -1, 1);
         assert!(rt; version.expect(&rt, "an ask") == 1);
     }
     let refused = script.ask(None, &mut versions, "chg", -1, 1);
-    wants(
-        &rt,
-        alloc,
-        "an ask",
-        refused,
-        "Err(Workflow(TooManyCommands))",
-    );
+    wants(alloc, refused, "Err(Workflow(TooManyCommands))").expect(&rt, "an ask");
 }
 
 /// What comes of two commands, to race and to start a timer, before the record that stands after
@@ -179,8 +182,8 @@ start:Racer S T C activity:1:greets => Err(Different event: 5)
 /// The commands to race, which a run that begins gives.
 fn race(rt: &impl Abort, alloc: Global) -> Vec<Command> {
     let mut commands = Vec::new(alloc);
-    push(rt, &mut commands, command(rt, alloc, "activity:1:race"));
-    push(rt, &mut commands, command(rt, alloc, "timer:t"));
+    push(&mut commands, command(rt, alloc, "activity:1:race")).expect(rt, "memory");
+    push(&mut commands, command(rt, alloc, "timer:t")).expect(rt, "memory");
     commands
 }
 
@@ -189,16 +192,10 @@ fn names_the_first_difference(rt: HostRuntime) {
     let alloc = rt.alloc();
     let commands = race(&rt, alloc);
     for line in RECORDS.lines() {
-        let (history, wanted) = row(&rt, line);
+        let (history, wanted) = row(line).expect(&rt, line);
         let track = track_of(&rt, alloc, history);
         let to = (track.len() as u64).saturating_add(1);
         assert!(rt; 4 < to);
-        wants(
-            &rt,
-            alloc,
-            history,
-            matches(&commands, &track, 4, to),
-            wanted,
-        );
+        wants(alloc, matches(&commands, &track, 4, to), wanted).expect(&rt, history);
     }
 }

@@ -1,7 +1,7 @@
 //! Which events are in place.
 
 use crate::tests::replaying::replays;
-use wh_samples::All;
+use wh_sample_workflows::All;
 
 /// Events that are not in place, and then events that are, with what the task makes of them.
 pub(crate) const PLACES: &str = "\
@@ -78,6 +78,6 @@ start:Nap signal:s*51199 timer_fired:9 => x.json: fault, event 51201 is not in p
 
 #[test]
 fn bounds_histories(rt: HostRuntime) {
-    replays::<All, _>(&rt, rt.alloc(), LONG);
-    replays::<All, _>(&rt, rt.alloc(), LONGEST);
+    replays::<All>(&rt, rt.alloc(), LONG);
+    replays::<All>(&rt, rt.alloc(), LONGEST);
 }

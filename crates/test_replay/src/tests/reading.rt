@@ -1,11 +1,10 @@
 //! What the reader takes, and what it refuses.
 
-use crate::tests::replaying::{bytes_of, reads};
-use crate::tests::rows::{number, row};
+use crate::tests::replaying::reads;
 use std::alloc::Global;
 use std::process::Abort;
-use std::thread::Threads;
-use wh_samples::All;
+use test_support::{bytes_of, row};
+use wh_sample_workflows::All;
 
 /// Forms that are read.
 pub(crate) const READ: &str = "\
@@ -169,22 +168,29 @@ fn spaces(rt: &impl Abort, alloc: Global, count: usize) -> Vec<u8> {
 #[test]
 fn long_files_are_refused(rt: HostRuntime) {
     for line in SPACES.lines() {
-        let (count, wanted) = row(&rt, line);
-        let bytes = spaces(&rt, rt.alloc(), number(&rt, count) as usize);
-        reads::<All, _>(&rt, rt.alloc(), line, bytes.as_slice(), wanted);
+        let (count, wanted) = row(line).expect(&rt, line);
+        let bytes = spaces(
+            &rt,
+            rt.alloc(),
+            count.parse::<u64>().expect(&rt, count) as usize,
+        );
+        reads::<All>(&rt, rt.alloc(), line, bytes.as_slice(), wanted);
     }
 }
 
 /// Each front of a text is refused with this line.
-fn refuses_fronts<R: Threads + Sync + Abort>(rt: &R, alloc: Global, text: &[u8], line: &str) {
+fn refuses_fronts(rt: &impl Abort, alloc: Global, text: &[u8], line: &str) {
     for count in 0..text.len() {
-        reads::<All, _>(rt, alloc, "cut", &text[..count], line);
+        reads::<All>(rt, alloc, "cut", &text[..count], line);
     }
 }
 
 #[test]
 fn cut_files_are_refused(rt: HostRuntime) {
-    let bytes = bytes_of(&rt, rt.alloc(), "nap | [{ -> {'events':[{ | }] -> }]}");
+    let bytes = bytes_of(rt.alloc(), "nap | [{ -> {'events':[{ | }] -> }]}").expect(
+        &rt,
+        "nap | [{ -> {'events':[{ | }] -> }]}",
+    );
     let wanted = "x.json: unreadable, not JSON";
     refuses_fronts(&rt, rt.alloc(), bytes.as_slice(), wanted);
 }

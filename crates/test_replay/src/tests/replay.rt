@@ -1,12 +1,12 @@
 //! Runs, how often they are stepped, and histories that are checked.
 
-use crate::tests::rows::{made, recorded, row, run_key, same, shown};
-use crate::tests::workflows::Still;
 use std::alloc::Global;
 use std::process::Abort;
+use test_support::{Still, row, same, shown};
 use wh_events::Event;
+use wh_histories::{events_after, key};
 use wh_replay::{Run, check};
-use wh_samples::All;
+use wh_sample_workflows::All;
 use wh_workflow::{Meter, Workflow};
 
 /// The steps to the second event of a history, and those on to its end: the time and the start, and
@@ -23,9 +23,9 @@ fn first_task<W: Workflow>(
     history: &'static str,
     meter: &mut Meter,
 ) -> Run<W> {
-    let mut events = recorded(rt, alloc, history, 0);
+    let mut events = events_after(alloc, history, 0).expect(rt, history);
     events.truncate(2);
-    Run::from_first(alloc, run_key(rt, alloc, "w"), events, meter).expect(rt, history)
+    Run::from_first(alloc, key(alloc, "w").expect(rt, "memory"), events, meter).expect(rt, history)
 }
 
 /// A run that goes on, whose advance has no fault.
@@ -47,19 +47,25 @@ fn steps<W: Workflow>(rt: &impl Abort, alloc: Global, history: &'static str) -> 
     let mut meter = Meter::new();
     let run = first_task::<W>(rt, alloc, history, &mut meter);
     let first = meter.count();
-    let run = advanced(rt, alloc, run, recorded(rt, alloc, history, 2), &mut meter);
+    let run = advanced(
+        rt,
+        alloc,
+        run,
+        events_after(alloc, history, 2).expect(rt, history),
+        &mut meter,
+    );
     let then = meter.count();
     let held = run.held_len();
     drop(run);
-    made(rt, format!(in alloc; "{first}, then {then}, holds {held}"))
+    format!(in alloc; "{first}, then {then}, holds {held}").expect(rt, "memory")
 }
 
 #[test]
 fn only_a_lost_task_is_stepped_again(rt: HostRuntime) {
     for line in STEPS.lines() {
-        let (history, wanted) = row(&rt, line);
+        let (history, wanted) = row(line).expect(&rt, line);
         let text = steps::<Still>(&rt, rt.alloc(), history);
-        same(&rt, history, text.as_str(), wanted);
+        same(rt.alloc(), text.as_str(), wanted).expect(&rt, history);
     }
 }
 
@@ -70,7 +76,7 @@ fn copied_answer<W: Workflow>(rt: &impl Abort, alloc: Global, history: &'static 
     drop(run);
     let copy = answer.try_copy(alloc);
     drop(answer);
-    let text = shown(rt, alloc, &copy);
+    let text = shown(alloc, &copy).expect(rt, "memory");
     drop(copy);
     text
 }
@@ -78,7 +84,7 @@ fn copied_answer<W: Workflow>(rt: &impl Abort, alloc: Global, history: &'static 
 #[test]
 fn an_answer_is_copied(rt: HostRuntime) {
     let copy = copied_answer::<Still>(&rt, rt.alloc(), "start:Still T");
-    same(&rt, "a copy", copy.as_str(), "Ok(Complete([]))");
+    same(rt.alloc(), copy.as_str(), "Ok(Complete([]))").expect(&rt, "a copy");
 }
 
 /// Histories that end anywhere.
@@ -111,18 +117,18 @@ C signal:s T | 'eventId':'3' -> 'eventId':'5' | 'eventId':'2' -> 'eventId':'4' |
 /// What a history has, or its fault.
 fn checked_text<W: Workflow>(rt: &impl Abort, alloc: Global, history: &'static str) -> String {
     shown(
-        rt,
         alloc,
-        &check::<W>(alloc, recorded(rt, alloc, history, 0)),
+        &check::<W>(alloc, events_after(alloc, history, 0).expect(rt, history)),
     )
+    .expect(rt, "memory")
 }
 
 /// Checks the history of each row.
 fn checks<W: Workflow>(rt: &impl Abort, alloc: Global, table: &'static str) {
     for line in table.lines() {
-        let (history, wanted) = row(rt, line);
+        let (history, wanted) = row(line).expect(rt, line);
         let text = checked_text::<W>(rt, alloc, history);
-        same(rt, history, text.as_str(), wanted);
+        same(alloc, text.as_str(), wanted).expect(rt, history);
     }
 }
 

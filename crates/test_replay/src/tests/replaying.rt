@@ -1,102 +1,48 @@
-//! What the command `replay` writes of histories in short words.
+//! The report of replay over histories in short words.
 
-use crate::tests::rows::{made, push, row, same, string, written};
 use std::alloc::Global;
-use std::io::Write;
 use std::process::Abort;
-use std::thread::Threads;
-use wh_cli::replay_command;
-use wh_histories::json;
-use wh_workflow::Workflow;
+use std::slice;
+use test_support::{bytes_of, row, same, with_status};
+use wh_tester::{Line, all_good, verdict, write_report};
+use wh_workflow::{Workflow, text_of};
 
-/// The bytes of a file with a history, none where there is no history.
-pub(crate) fn bytes_of(rt: &impl Abort, alloc: Global, history: &'static str) -> Vec<u8> {
-    if history.is_empty() {
-        return Vec::new(alloc);
-    }
-    json(alloc, history).expect(rt, history).into_bytes()
-}
-
-/// Adds a file.
-pub(crate) fn push_file(
-    rt: &impl Abort,
-    alloc: Global,
-    files: &mut Vec<(String, Vec<u8>)>,
-    name: &str,
-    bytes: &[u8],
-) {
-    let bytes = Vec::from_slice(alloc, bytes).expect(rt, "memory");
-    push(rt, files, (string(rt, alloc, name), bytes));
-}
-
-/// Adds a file with a history.
-pub(crate) fn push_history(
-    rt: &impl Abort,
-    alloc: Global,
-    files: &mut Vec<(String, Vec<u8>)>,
-    name: &str,
-    history: &'static str,
-) {
-    let bytes = bytes_of(rt, alloc, history);
-    push_file(rt, alloc, files, name, bytes.as_slice());
-}
-
-/// A report with its status after it.
-pub(crate) fn with_status(rt: &impl Abort, mut out: Vec<u8>, status: u8) -> String {
-    write!(out, "status {status}").expect(rt, "written");
-    written(rt, out)
-}
-
-/// What the command writes of the files, with its status after it.
-pub(crate) fn replayed<W: Workflow + Send, R: Threads + Sync + Abort>(
-    rt: &R,
-    alloc: Global,
-    files: Vec<(String, Vec<u8>)>,
-) -> String {
+/// The report of one file, `x.json`, and below it the status: 0 where the file is good, and else 1.
+fn report_of<W: Workflow>(rt: &impl Abort, alloc: Global, bytes: &[u8]) -> String {
+    let name = text_of(alloc, "x.json").expect(rt, "memory");
+    let verdict = verdict::<W>(alloc, bytes);
+    let line = Line { name, verdict };
+    let lines = slice::from_ref(&line);
     let mut out = Vec::new(alloc);
-    let status = replay_command::<W, _, _>(rt, alloc, files, &mut out);
-    with_status(rt, out, status.expect(rt, "refused"))
-}
-
-/// One file, `x.json`.
-fn one_file(rt: &impl Abort, alloc: Global, bytes: &[u8]) -> Vec<(String, Vec<u8>)> {
-    let mut files = Vec::new(alloc);
-    push_file(rt, alloc, &mut files, "x.json", bytes);
-    files
+    write_report(lines, &mut out).expect(rt, "written");
+    with_status(out, u8::from(!all_good(lines))).expect(rt, "a text")
 }
 
 /// A line of one file, the totals that fit it, and the status.
 fn report_with(rt: &impl Abort, alloc: Global, line: &str) -> String {
     let good = u8::from(line.starts_with("x.json: ok, "));
     let bad = 1 - good;
-    made(
-        rt,
-        format!(in alloc; "{line}\n1 files, {good} ok\nstatus {bad}"),
-    )
+    format!(in alloc; "{line}\n1 files, {good} ok\nstatus {bad}").expect(rt, "memory")
 }
 
-/// The command writes this line of one file, the totals that fit it, and its status.
-pub(crate) fn reads<W: Workflow + Send, R: Threads + Sync + Abort>(
-    rt: &R,
+/// The report of one file has this line, the totals that fit it, and its status.
+pub(crate) fn reads<W: Workflow>(
+    rt: &impl Abort,
     alloc: Global,
     given: &str,
     bytes: &[u8],
     line: &str,
 ) {
-    let report = replayed::<W, R>(rt, alloc, one_file(rt, alloc, bytes));
+    let report = report_of::<W>(rt, alloc, bytes);
     let wanted = report_with(rt, alloc, line);
-    same(rt, given, report.as_str(), wanted.as_str());
+    same(alloc, report.as_str(), wanted.as_str()).expect(rt, given);
 }
 
 /// Replays the history of each row, and compares the line of the report.
-pub(crate) fn replays<W: Workflow + Send, R: Threads + Sync + Abort>(
-    rt: &R,
-    alloc: Global,
-    table: &'static str,
-) {
+pub(crate) fn replays<W: Workflow>(rt: &impl Abort, alloc: Global, table: &'static str) {
     for line in table.lines() {
-        let (history, wanted) = row(rt, line);
-        let bytes = bytes_of(rt, alloc, history);
-        reads::<W, R>(rt, alloc, history, bytes.as_slice(), wanted);
+        let (history, wanted) = row(line).expect(rt, line);
+        let bytes = bytes_of(alloc, history).expect(rt, history);
+        reads::<W>(rt, alloc, history, bytes.as_slice(), wanted);
     }
 }

@@ -1,11 +1,12 @@
 //! Runs, from their first event and as they go on.
 
-use crate::tests::rows::{made, number, numbered, recorded, row, run_key, same, shown};
 use std::alloc::Global;
 use std::process::Abort;
+use test_support::{advance, row, run_text, same, shown};
 use wh_events::EventNo;
-use wh_replay::{AdvanceFault, Run, RunFault};
-use wh_samples::{All, Flood};
+use wh_histories::{events_after, key};
+use wh_replay::{Run, RunFault};
+use wh_sample_workflows::{All, Flood};
 use wh_workflow::{Meter, Workflow};
 
 /// Runs from their first event: their steps, how many events they hold, and their unsent commands.
@@ -93,32 +94,6 @@ caller/5 S T at 5 => Some(Open)
 caller/8 at 5 => Some(Closed by: 6)
 ";
 
-/// The version of the change `chg`, if there is one.
-fn version_text(rt: &impl Abort, alloc: Global, version: Option<i32>) -> String {
-    match version {
-        Some(version) => made(rt, format!(in alloc; ", chg is {version}")),
-        None => String::new(alloc),
-    }
-}
-
-/// A run after a word and so many steps: how many events it holds, its unsent commands, and the
-/// version of the change `chg`.
-fn run_text<W: Workflow>(
-    rt: &impl Abort,
-    alloc: Global,
-    word: &str,
-    steps: u64,
-    run: &Run<W>,
-) -> String {
-    let held = run.held_len();
-    let commands = shown(rt, alloc, &run.commands());
-    let version = version_text(rt, alloc, run.version("chg"));
-    made(
-        rt,
-        format!(in alloc; "{word}{steps} steps, holds {held}, {commands}{version}"),
-    )
-}
-
 /// The run of a history from its first event.
 fn begun<W: Workflow>(
     rt: &impl Abort,
@@ -126,8 +101,13 @@ fn begun<W: Workflow>(
     history: &'static str,
     meter: &mut Meter,
 ) -> Result<Run<W>, RunFault> {
-    let key = run_key(rt, alloc, "nap");
-    Run::from_first(alloc, key, recorded(rt, alloc, history, 0), meter)
+    let key = key(alloc, "nap").expect(rt, "memory");
+    Run::from_first(
+        alloc,
+        key,
+        events_after(alloc, history, 0).expect(rt, history),
+        meter,
+    )
 }
 
 /// What came of a run in so many steps.
@@ -138,8 +118,8 @@ fn text_of<W: Workflow>(
     begun: &Result<Run<W>, RunFault>,
 ) -> String {
     match begun {
-        Ok(run) => run_text(rt, alloc, "", steps, run),
-        Err(fault) => shown(rt, alloc, fault),
+        Ok(run) => run_text(alloc, "", steps, run).expect(rt, "memory"),
+        Err(fault) => shown(alloc, fault).expect(rt, "memory"),
     }
 }
 
@@ -157,39 +137,6 @@ fn good<W: Workflow>(rt: &impl Abort, alloc: Global, history: &'static str) -> R
     begun(rt, alloc, history, &mut Meter::new()).expect(rt, history)
 }
 
-/// What came of a run that was advanced in so many steps.
-fn advanced_text<W: Workflow>(
-    rt: &impl Abort,
-    alloc: Global,
-    steps: u64,
-    advanced: &Result<Run<W>, AdvanceFault<W>>,
-) -> String {
-    match advanced {
-        Ok(run) => run_text(rt, alloc, "", steps, run),
-        Err(AdvanceFault::NotATask(run)) => run_text(rt, alloc, "NotATask, ", steps, run),
-        Err(AdvanceFault::Gap(run)) => run_text(rt, alloc, "Gap, ", steps, run),
-        Err(AdvanceFault::Fault(fault)) => shown(rt, alloc, &RunFault::Fault(*fault)),
-        Err(AdvanceFault::OutOfMemory) => shown(rt, alloc, &RunFault::OutOfMemory),
-    }
-}
-
-/// What comes of a run that is advanced by the events of a history after those that it holds, or
-/// after the place that the history names: the steps of the advance, and the run, where it is not
-/// gone.
-pub(crate) fn advance<W: Workflow>(
-    rt: &impl Abort,
-    alloc: Global,
-    run: Run<W>,
-    history: &'static str,
-) -> String {
-    let mut meter = Meter::new();
-    let new = recorded(rt, alloc, history, run.held_len());
-    let advanced = run.advance(alloc, new, &mut meter);
-    let text = advanced_text(rt, alloc, meter.count(), &advanced);
-    drop(advanced);
-    text
-}
-
 /// Where something stands that the event of a number opened.
 fn status_text<W: Workflow>(
     rt: &impl Abort,
@@ -198,7 +145,7 @@ fn status_text<W: Workflow>(
     number: EventNo,
 ) -> String {
     let run = good::<W>(rt, alloc, history);
-    let text = shown(rt, alloc, &run.status(number));
+    let text = shown(alloc, &run.status(number)).expect(rt, "memory");
     drop(run);
     text
 }
@@ -211,7 +158,7 @@ fn goes_on<W: Workflow>(
     after: &'static str,
 ) -> String {
     let run = good::<W>(rt, alloc, before);
-    advance(rt, alloc, run, after)
+    advance(alloc, run, after).expect(rt, after)
 }
 
 /// What comes of what a row gives: the run of a history, a run that goes on after ` then `, or
@@ -222,7 +169,8 @@ fn given_text<W: Workflow>(rt: &impl Abort, alloc: Global, given: &'static str) 
     }
     match given.split_once(" at ") {
         Some((history, at)) => {
-            status_text::<W>(rt, alloc, history, numbered(rt, number(rt, at)))
+            let number = EventNo::new(at.parse::<u64>().expect(rt, at));
+            status_text::<W>(rt, alloc, history, number.expect(rt, "a number"))
         }
         None => begun_text::<W>(rt, alloc, given),
     }
@@ -231,9 +179,9 @@ fn given_text<W: Workflow>(rt: &impl Abort, alloc: Global, given: &'static str) 
 /// Compares what comes of what each row gives.
 pub(crate) fn begins<W: Workflow>(rt: &impl Abort, alloc: Global, table: &'static str) {
     for line in table.lines() {
-        let (given, wanted) = row(rt, line);
+        let (given, wanted) = row(line).expect(rt, line);
         let text = given_text::<W>(rt, alloc, given);
-        same(rt, given, text.as_str(), wanted);
+        same(alloc, text.as_str(), wanted).expect(rt, given);
     }
 }
 
@@ -249,7 +197,7 @@ fn answer_text<W: Workflow>(rt: &impl Abort, alloc: Global, history: &'static st
     let run = good::<W>(rt, alloc, history);
     let answer = run.answer(alloc);
     drop(run);
-    let text = shown(rt, alloc, &answer);
+    let text = shown(alloc, &answer).expect(rt, "memory");
     drop(answer);
     text
 }

@@ -2,7 +2,7 @@
 
 use crate::tests::replaying::replays;
 use crate::tests::runs::begins;
-use crate::tests::scripted::Scripted;
+use test_support::Scripted;
 
 /// What is opened and cancelled in one task, of which nothing was open before.
 const WITHDRAWN: &str = "\
@@ -176,6 +176,6 @@ fn judges_scripts(rt: HostRuntime) {
 
 #[test]
 fn counts_and_compares_commands(rt: HostRuntime) {
-    replays::<Scripted, _>(&rt, rt.alloc(), COUNTED);
-    replays::<Scripted, _>(&rt, rt.alloc(), RECORDED);
+    replays::<Scripted>(&rt, rt.alloc(), COUNTED);
+    replays::<Scripted>(&rt, rt.alloc(), RECORDED);
 }

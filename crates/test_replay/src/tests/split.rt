@@ -1,8 +1,10 @@
 //! Where the tasks of a history are.
 
-use crate::tests::rows::{cut, next_number, number, numbered, recorded, row, wants};
 use std::alloc::Global;
 use std::process::Abort;
+use test_support::{cut, next_number, row, wants};
+use wh_events::EventNo;
+use wh_histories::events_after;
 use wh_split::{cuts, is_live, next_cut};
 
 /// A history, an event and another one: its tasks, the first of them after the one event, and
@@ -20,25 +22,21 @@ nap/3 task_failed S T ignored after 0 at 3 => Ok([6]); Some(6); false
 fn splits(rt: &impl Abort, alloc: Global, given: &'static str, wanted: &'static str) {
     let (mut given, mut wanted) = (given, wanted);
     let history = cut(&mut given, " after ");
-    let from = number(rt, cut(&mut given, " at "));
-    let at = numbered(rt, next_number(rt, &mut given));
-    let events = recorded(rt, alloc, history, 0);
-    wants(
-        rt,
-        alloc,
-        history,
-        cuts(alloc, &events),
-        cut(&mut wanted, "; "),
-    );
+    let from = cut(&mut given, " at ")
+        .parse::<u64>()
+        .expect(rt, "a number");
+    let at = EventNo::new(next_number(&mut given).expect(rt, "a number")).expect(rt, "a number");
+    let events = events_after(alloc, history, 0).expect(rt, history);
+    wants(alloc, cuts(alloc, &events), cut(&mut wanted, "; ")).expect(rt, history);
     let next = next_cut(&events, from);
-    wants(rt, alloc, history, next, cut(&mut wanted, "; "));
-    wants(rt, alloc, history, is_live(&events, at), wanted);
+    wants(alloc, next, cut(&mut wanted, "; ")).expect(rt, history);
+    wants(alloc, is_live(&events, at), wanted).expect(rt, history);
 }
 
 #[test]
 fn finds_tasks(rt: HostRuntime) {
     for line in ROWS.lines() {
-        let (given, wanted) = row(&rt, line);
+        let (given, wanted) = row(line).expect(&rt, line);
         splits(&rt, rt.alloc(), given, wanted);
     }
 }

@@ -1,13 +1,13 @@
 //! What the report looks like.
 
-use crate::tests::rows::{numbered, push, repeated, same, text, written};
 use std::alloc::Global;
 use std::process::Abort;
-use wh_events::PlaceFault;
+use test_support::{push, repeated, same};
+use wh_events::{EventNo, PlaceFault};
 use wh_json::ReadFault;
 use wh_replay::{Checked, Fault};
 use wh_tester::{Line, Verdict, all_good, write_json_report, write_report};
-use wh_workflow::{Mismatch, WorkflowFault};
+use wh_workflow::{Mismatch, WorkflowFault, text_of};
 
 /// The faults of place.
 static PLACE_FAULTS: [PlaceFault; 8] = [
@@ -119,21 +119,21 @@ a: ok, 2 tasks: out of memory
 ";
 
 fn add(rt: &impl Abort, alloc: Global, lines: &mut Vec<Line>, name: &str, verdict: Verdict) {
-    let name = text(rt, alloc, name);
-    push(rt, lines, Line { name, verdict });
+    let name = text_of(alloc, name).expect(rt, "memory");
+    push(lines, Line { name, verdict }).expect(rt, "memory");
 }
 
 /// The report of these lines.
 fn report_of(rt: &impl Abort, alloc: Global, lines: &[Line]) -> String {
     let mut out = Vec::new(alloc);
     write_report(lines, &mut out).expect(rt, "written");
-    written(rt, out)
+    String::from_utf8(out).expect(rt, "a text")
 }
 
 /// The report of these lines is this text.
 fn reports(rt: &impl Abort, alloc: Global, lines: &[Line], wanted: &str) {
     let report = report_of(rt, alloc, lines);
-    same(rt, "a report", report.as_str(), wanted);
+    same(alloc, report.as_str(), wanted).expect(rt, "a report");
 }
 
 /// A file whose replay met a fault.
@@ -147,7 +147,7 @@ fn add_mismatch(rt: &impl Abort, alloc: Global, lines: &mut Vec<Line>, mismatch:
 }
 
 fn add_mismatches(rt: &impl Abort, alloc: Global, lines: &mut Vec<Line>) {
-    let event = numbered(rt, 5);
+    let event = EventNo::new(5).expect(rt, "a number");
     add_mismatch(rt, alloc, lines, Mismatch::Different { event });
     add_mismatch(rt, alloc, lines, Mismatch::CommandMissing { event });
     add_mismatch(rt, alloc, lines, Mismatch::CommandExtra { index: 2 });
@@ -199,14 +199,14 @@ fn add_bad_events(rt: &impl Abort, alloc: Global, lines: &mut Vec<Line>) {
 
 /// Files with an event that is not supported.
 fn add_unsupported(rt: &impl Abort, alloc: Global, lines: &mut Vec<Line>) {
-    let name = text(rt, alloc, "A\nB");
+    let name = text_of(alloc, "A\nB").expect(rt, "memory");
     add_unreadable(
         rt,
         alloc,
         lines,
         ReadFault::UnsupportedEvent { at: 4, name },
     );
-    let name = text(rt, alloc, "Side\u{e9}ffect");
+    let name = text_of(alloc, "Side\u{e9}ffect").expect(rt, "memory");
     add_unreadable(
         rt,
         alloc,
@@ -255,9 +255,9 @@ fn add_good(
 
 /// Of a name of 256 such characters the first 255 are shown.
 fn cuts(rt: &impl Abort, alloc: Global, character: &str, shown: &str) {
-    let name = repeated(rt, alloc, character, 256, "");
+    let name = repeated(alloc, character, 256, "").expect(rt, "memory");
     let end = ": ok, 1 tasks, last live\n1 files, 1 ok\n";
-    let wanted = repeated(rt, alloc, shown, 255, end);
+    let wanted = repeated(alloc, shown, 255, end).expect(rt, "memory");
     let mut lines = Vec::new(alloc);
     add_good(rt, alloc, &mut lines, name.as_str(), 1, true);
     reports(rt, alloc, lines.as_slice(), wanted.as_str());
@@ -299,7 +299,7 @@ fn reports_many_files(rt: HostRuntime) {
         add_good(&rt, alloc, &mut lines, "nap.json", 2, false);
     }
     let line = "nap.json: ok, 2 tasks\n";
-    let wanted = repeated(&rt, alloc, line, 3000, "3000 files, 3000 ok\n");
+    let wanted = repeated(alloc, line, 3000, "3000 files, 3000 ok\n").expect(&rt, "memory");
     reports(&rt, alloc, lines.as_slice(), wanted.as_str());
 }
 
@@ -309,7 +309,7 @@ fn add_each(rt: &impl Abort, alloc: Global, lines: &mut Vec<Line>) {
     add_good(rt, alloc, lines, "", 0, true);
     add_unreadable(rt, alloc, lines, ReadFault::BadJson);
     add_unreadable(rt, alloc, lines, ReadFault::MissingField { at: 4 });
-    let name = text(rt, alloc, "\"\\\u{1}");
+    let name = text_of(alloc, "\"\\\u{1}").expect(rt, "memory");
     add_unreadable(
         rt,
         alloc,
@@ -332,6 +332,6 @@ fn json_lines(rt: HostRuntime) {
     add(&rt, alloc, &mut lines, "x.json", Verdict::OutOfMemory);
     let mut out = Vec::new(alloc);
     write_json_report(lines.as_slice(), &mut out).expect(&rt, "written");
-    let report = written(&rt, out);
-    same(&rt, "a report", report.as_str(), JSON);
+    let report = String::from_utf8(out).expect(&rt, "a text");
+    same(rt.alloc(), report.as_str(), JSON).expect(&rt, "a report");
 }

@@ -1,19 +1,18 @@
 //! Copies of commands, and pairs of workflows.
 
-use crate::tests::rows::{text, wants};
-use crate::tests::workflows::{Brief, Still};
 use std::alloc::Global;
 use std::process::Abort;
-use wh_workflow::{Command, Job, Meter, Pair, Workflow};
+use test_support::{Brief, Still, wants};
+use wh_workflow::{Command, Job, Meter, Pair, Workflow, text_of};
 
 #[test]
 fn a_command_is_copied(rt: HostRuntime) {
     let command = Command::StartTimer {
-        id: text(&rt, rt.alloc(), "nap"),
+        id: text_of(rt.alloc(), "nap").expect(&rt, "memory"),
         seconds: 60,
     };
     let wanted = "Ok(StartTimer id: nap, seconds: 60)";
-    wants(&rt, rt.alloc(), "a command", command.try_copy(), wanted);
+    wants(rt.alloc(), command.try_copy(), wanted).expect(&rt, "a command");
 }
 
 /// How many commands a run of the workflow type gives to its first job, which is counted once.

@@ -1,4 +1,4 @@
-use Rattle.wfhost.proofs.tests.host.days_of_a_host.Given as goal
+use Rattle.test_host.proofs.tests.host.days_of_a_host.Given as goal
 
 abbrev pub ghosts-day_text-T-Ledger : goal.ghosts-day_text-T-Ledger
 ghosts-day_text-T-Ledger g a = record { name = a.taken.name; parts = a.taken.parts }

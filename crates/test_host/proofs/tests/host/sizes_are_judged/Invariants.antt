@@ -1,4 +1,4 @@
-use Rattle.wfhost.proofs.tests.host.sizes_are_judged.Given as goal
+use Rattle.test_host.proofs.tests.host.sizes_are_judged.Given as goal
 
 abbrev pub ghosts-fault_of-T-Ledger : goal.ghosts-fault_of-T-Ledger
 ghosts-fault_of-T-Ledger g a = record { name = a.taken.name; parts = a.taken.parts }

@@ -1,4 +1,4 @@
-use Rattle.wfhost.proofs.tests.hosting.spent.Given as goal
+use Rattle.test_host.proofs.tests.hosting.spent.Given as goal
 
 abbrev pub ghosts-spend-T-Ledger : goal.ghosts-spend-T-Ledger
 ghosts-spend-T-Ledger g a = record { name = a.taken.name; parts = a.taken.parts }

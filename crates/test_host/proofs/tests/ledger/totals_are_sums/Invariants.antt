@@ -1,4 +1,4 @@
-use Rattle.wfhost.proofs.tests.ledger.totals_are_sums.Given as goal
+use Rattle.test_host.proofs.tests.ledger.totals_are_sums.Given as goal
 
 abbrev pub ghosts-day-T-Ledger : goal.ghosts-day-T-Ledger
 ghosts-day-T-Ledger g a = record { name = a.taken.name; parts = a.taken.parts }

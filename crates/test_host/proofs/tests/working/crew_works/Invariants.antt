@@ -1,4 +1,4 @@
-use Rattle.wfhost.proofs.tests.working.crew_works.Given as goal
+use Rattle.test_host.proofs.tests.working.crew_works.Given as goal
 
 abbrev pub ghosts-counts_of-T-Ledger : goal.ghosts-counts_of-T-Ledger
 ghosts-counts_of-T-Ledger g a = record { name = a.taken.name; parts = a.taken.parts }

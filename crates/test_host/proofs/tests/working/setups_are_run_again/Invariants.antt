@@ -1,4 +1,4 @@
-use Rattle.wfhost.proofs.tests.working.setups_are_run_again.Given as goal
+use Rattle.test_host.proofs.tests.working.setups_are_run_again.Given as goal
 
 abbrev pub ghosts-counts_of_both-T-Ledger : goal.ghosts-counts_of_both-T-Ledger
 ghosts-counts_of_both-T-Ledger g a = record { name = a.taken.name; parts = a.taken.parts }
