@@ -1,0 +1,9 @@
+//! A module for each file of `src/tests`. `fixtures` holds what `hosting` and `working` use.
+
+mod cache;
+mod fixtures;
+mod host;
+mod hosting;
+mod ledger;
+mod slots;
+mod working;

@@ -1,0 +1,150 @@
+//! What the cache keeps, and what has to go.
+
+use std::alloc::Global;
+use std::process::Abort;
+use test_support::{Still, cut, next_number, row, same, shown};
+use wh_cache::{MOST_CACHED_EVENTS, MOST_RUNS, Put, Sticky};
+use wh_histories::{events_after, key};
+use wh_replay::Run;
+use wh_workflow::Meter;
+
+/// How many runs and events a cache may hold, and below it what is done with it, with its answers
+/// and how many events it then holds.
+const CACHES: &str = "\
+10 10
+put a start:Still S T => kept, holds 3
+put b start:Still S*4 T => kept, holds 9
+put c start:Still S T => gone a, holds 9
+put d start:Still S*8 T => gone b c, holds 10
+put e start:Still S*9 T => too large, holds 10
+put d start:Still S*9 T => too large, holds 10
+peek d => Some(10), holds 10
+take d => Some(10), holds 0
+
+2 0
+put a start:Still S T => kept, holds 3
+put b start:Still S T => kept, holds 6
+put c start:Still S T => gone a, holds 6
+evict a => false, holds 6
+put d start:Still S T => gone b, holds 6
+evict c => true, holds 3
+len => 1, holds 3
+
+2 0
+put a start:Still S*4 T => kept, holds 6
+put a start:Still S T => shorter, holds 6
+put a start:Still S*4 T => shorter, holds 6
+peek a => Some(6), holds 6
+put a start:Still S*7 T => kept, holds 9
+
+0 10
+put a start:Still S T => off, holds 0";
+
+/// A run by its name and its history.
+pub(crate) fn run_of(rt: &impl Abort, alloc: Global, run: &'static str) -> Run<Still> {
+    let mut history = run;
+    let key = key(alloc, cut(&mut history, " ")).expect(rt, "memory");
+    let events = events_after(alloc, history, 0).expect(rt, history);
+    Run::from_first(alloc, key, events, &mut Meter::new()).expect(rt, run)
+}
+
+/// The names of the runs that had to go.
+fn gone(rt: &impl Abort, alloc: Global, runs: &[Run<Still>]) -> String {
+    let mut names = String::from_str(alloc, "gone").expect(rt, "memory");
+    for run in runs {
+        names.push_str(" ").expect(rt, "memory");
+        names
+            .push_str(run.key().workflow_id.get())
+            .expect(rt, "memory");
+    }
+    names
+}
+
+/// What became of a run that was put into a cache.
+pub(crate) fn put_word(rt: &impl Abort, alloc: Global, put: &Put<Still>) -> String {
+    let word = match put {
+        Put::Kept => "kept",
+        Put::PushedOut(runs) => return gone(rt, alloc, runs.get()),
+        Put::Off(_) => "off",
+        Put::Shorter(_) => "shorter",
+        Put::TooLarge(_) => "too large",
+        Put::NoMemory(_) => "no memory",
+    };
+    String::from_str(alloc, word).expect(rt, "memory")
+}
+
+/// Puts a run by its name and its history into a cache, and says what became of it.
+fn put(rt: &impl Abort, alloc: Global, cache: &mut Sticky<Still>, run: &'static str) -> String {
+    let put = cache.put(run_of(rt, alloc, run));
+    let word = put_word(rt, alloc, &put);
+    drop(put);
+    word
+}
+
+/// How many events a run held that is let go, if there was one.
+pub(crate) fn held_len(run: Option<Run<Still>>) -> Option<usize> {
+    let length = match &run {
+        Some(run) => Some(run.held_len()),
+        None => None,
+    };
+    drop(run);
+    length
+}
+
+/// What a cache answers to a step with a run of some name.
+fn answered(
+    rt: &impl Abort,
+    alloc: Global,
+    cache: &mut Sticky<Still>,
+    step: &'static str,
+) -> String {
+    let (word, run) = step.split_once(' ').unwrap_or((step, ""));
+    if word == "put" {
+        return put(rt, alloc, cache, run);
+    }
+    let key = key(alloc, run).expect(rt, "memory");
+    match word {
+        "peek" => shown(alloc, &cache.peek_len(&key)).expect(rt, "memory"),
+        "take" => shown(alloc, &held_len(cache.take(&key))).expect(rt, "memory"),
+        "evict" => shown(alloc, &cache.evict(&key)).expect(rt, "memory"),
+        _ => shown(alloc, &cache.len()).expect(rt, "memory"),
+    }
+}
+
+/// Takes a step, and tells the answer and how many events the cache then holds.
+fn step_text(
+    rt: &impl Abort,
+    alloc: Global,
+    cache: &mut Sticky<Still>,
+    step: &'static str,
+) -> String {
+    let answer = answered(rt, alloc, cache, step);
+    let held = cache.held();
+    format!(in alloc; "{answer}, holds {held}").expect(rt, "memory")
+}
+
+/// Takes the steps, and compares what a cache answers.
+fn follows(rt: &impl Abort, alloc: Global, mut cache: Sticky<Still>, steps: &'static str) {
+    for line in steps.lines() {
+        let (step, wanted) = row(line).expect(rt, line);
+        let text = step_text(rt, alloc, &mut cache, step);
+        same(alloc, text.as_str(), wanted).expect(rt, step);
+    }
+}
+
+/// Opens a cache, and compares what it answers.
+fn answers(rt: &impl Abort, alloc: Global, given: &'static str) {
+    let mut steps = given;
+    let runs = next_number(&mut steps).expect(rt, "a number") as usize;
+    let events = cut(&mut steps, "\n").parse::<u64>().expect(rt, "a number");
+    assert!(rt; runs <= MOST_RUNS && events <= MOST_CACHED_EVENTS);
+    let cache = Sticky::<Still>::open(alloc, runs, events).expect(rt, "memory");
+    follows(rt, alloc, cache, steps);
+}
+
+#[test]
+fn caches_answer(rt: HostRuntime) {
+    for given in CACHES.split("\n\n") {
+        answers(&rt, rt.alloc(), given);
+    }
+}

@@ -1,0 +1,6 @@
+//! A module for each file of `src/tests`.
+
+mod command_lines;
+mod explaining;
+mod reports;
+mod serve;

@@ -1,0 +1,344 @@
+//! Command lines.
+
+use std::alloc::Global;
+use std::process::Abort;
+use test_support::{push, row, same, shown};
+use wh_cli::{Plan, Refusal, WorkOptions, parse};
+use wh_events::Text;
+
+/// What a line after the program's name asks for.
+const LINES: &str = "\
+replay d => replay d
+replay ./a/b.c => replay ./a/b.c
+replay - => replay -
+replay d e => replay d e
+replay d e/f.json - d => replay d e/f.json - d
+replay d --json => replay d as JSON
+replay --json d e => replay d e as JSON
+replay d -- --json => replay d --json
+replay d --require-files => replay d, which needs a history
+replay --require-files d e --json => replay d e as JSON, which needs a history
+explain d/x.json => explain d/x.json
+explain - => explain -
+explain --json d/x.json => explain d/x.json as JSON
+serve d => serve d, workers 1, cache 100, cache events 0, slots 100
+serve d --workers 64 --cache 0 --cache-events 512000000 --slots 1000 => serve d, workers 64, cache 0, cache events 512000000, slots 1000
+serve d --workers 1 --cache 10000 --slots 1 => serve d, workers 1, cache 10000, cache events 0, slots 1
+serve d --workers 4 --slots 4 => serve d, workers 4, cache 100, cache events 0, slots 4
+serve d --require-files => serve d, workers 1, cache 100, cache events 0, slots 100, which needs a history
+serve d --workers 4 --slots 3 => too few slots
+serve d --workers 65 => bad line
+serve d --workers 0 => bad line
+serve d --workers 65 --slots 3 => bad line
+serve d --workers zz --slots 3 => bad line
+serve d --cache 10001 => bad line
+serve d --cache-events 512000001 => bad line
+serve d --slots 0 => bad line
+serve d --slots 1001 => bad line
+serve d --workers -1 => bad line
+serve d --workers => bad line
+serve d --workers 2 --workers 2 => bad line
+serve d --workers 4 --slots 3 --cache 10001 => bad line
+serve gone --slots 3 --workers 4 => too few slots
+ => bad line
+serve => bad line
+replay => bad line
+replay --json => bad line
+replay d --json --json => bad line
+replay d --json=no => bad line
+replay d --workers 2 => bad line
+explain => bad line
+explain a b => bad line
+explain a --json --json => bad line
+serve d --json => bad line
+explain a --require-files => bad line
+nope d => bad line
+-- => bad line
+--nope => bad line
+--help => help
+--version => help
+-V => help
+replay --help => help
+work --help => help
+";
+
+/// What a line after the program's name and `work` asks for: its Task Queue, namespace and identity,
+/// workers and activity workers, cache, its events and slots, the timeout and attempts of activities,
+/// the sticky timeout, whether it is verbose, and the time between counts.
+const WORK_LINES: &str = "\
+--task-queue q => work q, default, wfhost, 2, 0, 100, 0, 100, 60, 1, 10, false, None
+--task-queue q --namespace n --identity i => work q, n, i, 2, 0, 100, 0, 100, 60, 1, 10, false, None
+--task-queue=q --namespace= --identity= => work q, , , 2, 0, 100, 0, 100, 60, 1, 10, false, None
+--task-queue q --workers 1 --slots 1 => work q, default, wfhost, 1, 0, 100, 0, 1, 60, 1, 10, false, None
+--task-queue q --workers 64 => work q, default, wfhost, 64, 0, 100, 0, 100, 60, 1, 10, false, None
+--task-queue q --workers 1 --activity-workers 63 => work q, default, wfhost, 1, 63, 100, 0, 100, 60, 1, 10, false, None
+--task-queue q --activity-workers 62 => work q, default, wfhost, 2, 62, 100, 0, 100, 60, 1, 10, false, None
+--task-queue q --cache 0 --cache-events 7 --slots 9 => work q, default, wfhost, 2, 0, 0, 7, 9, 60, 1, 10, false, None
+--task-queue q --activity-timeout 1 --activity-attempts 0 --sticky-timeout 2 => work q, default, wfhost, 2, 0, 100, 0, 100, 1, 0, 2, false, None
+--activity-timeout 4294967295 --task-queue q => work q, default, wfhost, 2, 0, 100, 0, 100, 4294967295, 1, 10, false, None
+--task-queue q --activity-attempts 65535 => work q, default, wfhost, 2, 0, 100, 0, 100, 60, 65535, 10, false, None
+--task-queue q --verbose => work q, default, wfhost, 2, 0, 100, 0, 100, 60, 1, 10, true, None
+--stats 30 --verbose --task-queue q => work q, default, wfhost, 2, 0, 100, 0, 100, 60, 1, 10, true, Some(30)
+--task-queue q --slots 1 => too few slots
+--task-queue q --activity-workers 3 --slots 2 => too few slots
+--task-queue= --slots 1 => bad line
+--task-queue q --slots 1 --workers 64 --activity-workers 1 => bad line
+ => bad line
+d --task-queue q => bad line
+--task-queue => bad line
+--namespace n => bad line
+--task-queue q --task-queue q => bad line
+--task-queue q --verbose --verbose => bad line
+--task-queue q --json => bad line
+--task-queue q --stats => bad line
+";
+
+/// What the program `shop` says to a line without a command, and to one without a file.
+const NO_COMMAND: &str = "\
+error: a command is needed
+
+Usage: shop [COMMAND]
+
+For more information, try '--help'.
+";
+
+const NO_FILE: &str = "\
+error: the following required arguments were not provided:
+  <FILE>
+
+Usage: shop explain <FILE>
+
+For more information, try '--help'.
+";
+
+/// What the text of a refused line says after `error: --` of an option with a bad value.
+const BAD_VALUES: &str = "\
+serve d --workers 65 => workers must be 1 to 64
+serve d --workers 0 => workers must be 1 to 64
+serve d --workers zz => workers must be a number
+serve d --cache 10001 => cache must be 0 to 10000
+serve d --cache x => cache must be a number
+serve d --cache-events 512000001 => cache-events must be 0 to 512000000
+serve d --slots 0 => slots must be 1 to 1000
+serve d --slots 1001 => slots must be 1 to 1000
+work --task-queue q --workers 65 => workers must be 1 to 64
+work --task-queue q --workers 0 => workers must be 1 to 64
+work --task-queue q --activity-workers 64 => activity-workers must be 0 to 63
+work --task-queue q --activity-workers 63 => workers and --activity-workers must be at most 64 together
+work --task-queue q --cache 10001 => cache must be 0 to 10000
+work --task-queue q --cache-events 512000001 => cache-events must be 0 to 512000000
+work --task-queue q --slots 1001 => slots must be 1 to 1000
+work --task-queue q --activity-timeout 0 => activity-timeout must be 1 to 4294967295
+work --task-queue q --activity-timeout 4294967296 => activity-timeout must be 1 to 4294967295
+work --task-queue q --activity-timeout 1s => activity-timeout must be a number
+work --task-queue q --activity-attempts 65536 => activity-attempts must be 0 to 65535
+work --task-queue q --sticky-timeout 0 => sticky-timeout must be 1 to 4294967295
+work --task-queue q --stats 0 => stats must be 1 to 4294967295
+work --task-queue q --stats x => stats must be a number
+work --task-queue= => task-queue must not be empty
+";
+
+/// What follows a plan's words where a flag is set.
+fn add_flags(rt: &impl Abort, text: &mut String, json: bool, require_files: bool) {
+    text.push_str(if json { " as JSON" } else { "" })
+        .expect(rt, "memory");
+    let need = if require_files {
+        ", which needs a history"
+    } else {
+        ""
+    };
+    text.push_str(need).expect(rt, "memory");
+}
+
+/// A plan to replay, in words.
+fn replay_text(rt: &impl Abort, alloc: Global, dir: &Text, more: &[Text]) -> String {
+    let mut text = String::from_str(alloc, "replay ").expect(rt, "memory");
+    text.push_str(dir.get()).expect(rt, "memory");
+    for path in more {
+        text.push_str(" ").expect(rt, "memory");
+        text.push_str(path.get()).expect(rt, "memory");
+    }
+    text
+}
+
+/// A plan to serve, in words.
+fn serve_text(
+    rt: &impl Abort,
+    alloc: Global,
+    dir: &Text,
+    workers: u64,
+    cache: u64,
+    cache_events: u64,
+    slots: u64,
+) -> String {
+    let dir = dir.get();
+    let text = format!(in alloc;
+        "serve {dir}, workers {workers}, cache {cache}, cache events {cache_events}, slots {slots}"
+    );
+    text.expect(rt, "memory")
+}
+
+/// A word, and what stands after it.
+fn joined(rt: &impl Abort, alloc: Global, word: &str, rest: &str) -> String {
+    let mut text = String::from_str(alloc, word).expect(rt, "memory");
+    text.push_str(rest).expect(rt, "memory");
+    text
+}
+
+/// What the derived text of options has in front of each, none of which is the end of a later one.
+const NAMES: [&str; 14] = [
+    "WorkOptions ",
+    "task_queue: ",
+    "namespace: ",
+    "identity: ",
+    "activity_workers: ",
+    "workers: ",
+    "cache: ",
+    "cache_events: ",
+    "slots: ",
+    "activity_timeout: ",
+    "activity_attempts: ",
+    "sticky_timeout: ",
+    "verbose: ",
+    "stats: ",
+];
+
+/// A plan to work, in words: its options in their order.
+fn work_text(rt: &impl Abort, alloc: Global, options: &WorkOptions) -> String {
+    let mut text = shown(alloc, options).expect(rt, "memory");
+    for name in NAMES {
+        text = text.as_str().replace(alloc, name, "").expect(rt, "memory");
+    }
+    joined(rt, alloc, "work ", text.as_str())
+}
+
+/// A plan in words.
+fn plan_text(rt: &impl Abort, alloc: Global, plan: &Plan) -> String {
+    match plan {
+        Plan::Replay {
+            dir,
+            more,
+            json,
+            require_files,
+        } => {
+            let mut text = replay_text(rt, alloc, dir, more);
+            add_flags(rt, &mut text, *json, *require_files);
+            text
+        }
+        Plan::Explain { file, json } => {
+            let mut text = joined(rt, alloc, "explain ", file.get());
+            add_flags(rt, &mut text, *json, false);
+            text
+        }
+        Plan::Serve {
+            dir,
+            workers,
+            cache,
+            cache_events,
+            slots,
+            require_files,
+        } => {
+            let mut text = serve_text(rt, alloc, dir, *workers, *cache, *cache_events, *slots);
+            add_flags(rt, &mut text, false, *require_files);
+            text
+        }
+        Plan::Work { options } => work_text(rt, alloc, options),
+        Plan::Help { .. } => String::from_str(alloc, "help").expect(rt, "memory"),
+    }
+}
+
+/// A refusal in words, and in further lines the text of a bad line.
+fn refusal_text(rt: &impl Abort, alloc: Global, refusal: &Refusal) -> String {
+    match refusal {
+        Refusal::BadLine { text } => joined(rt, alloc, "bad line\n", text.get()),
+        Refusal::FewSlots => String::from_str(alloc, "too few slots").expect(rt, "memory"),
+        Refusal::OutOfMemory => String::from_str(alloc, "out of memory").expect(rt, "memory"),
+    }
+}
+
+/// The words of a line after the program's name, and that name before them.
+fn words_of(rt: &impl Abort, alloc: Global, line: &str) -> Vec<String> {
+    let mut words = Vec::new(alloc);
+    push(
+        &mut words,
+        String::from_str(alloc, "wfhost").expect(rt, "memory"),
+    )
+    .expect(rt, "memory");
+    for word in line.split_whitespace() {
+        push(
+            &mut words,
+            String::from_str(alloc, word).expect(rt, "memory"),
+        )
+        .expect(rt, "memory");
+    }
+    words
+}
+
+/// The answer to words, in words.
+fn answer_text(rt: &impl Abort, alloc: Global, words: &[String]) -> String {
+    match parse(alloc, "wfhost", words) {
+        Ok(plan) => plan_text(rt, alloc, &plan),
+        Err(refusal) => refusal_text(rt, alloc, &refusal),
+    }
+}
+
+/// The answer to the words of a line after the program's name is this.
+fn answers(rt: &impl Abort, alloc: Global, line: &str, wanted: &str) {
+    let words = words_of(rt, alloc, line);
+    let answer = answer_text(rt, alloc, words.as_slice());
+    let (first, _) = answer
+        .as_str()
+        .split_once('\n')
+        .unwrap_or((answer.as_str(), ""));
+    same(alloc, first, wanted).expect(rt, line);
+}
+
+/// A line of a program under a name is answered by a text.
+fn says(rt: &impl Abort, alloc: Global, name: &str, line: &str, wanted: &str) {
+    let words = words_of(rt, alloc, line);
+    match parse(alloc, name, words.as_slice()) {
+        Ok(Plan::Help { text }) | Err(Refusal::BadLine { text }) => {
+            same(alloc, text.get(), wanted).expect(rt, line);
+        }
+        _ => assert!(rt; false, "{line}"),
+    }
+}
+
+#[test]
+fn reads_command_lines(rt: HostRuntime) {
+    for line in LINES.lines() {
+        let (words, wanted) = row(line).expect(&rt, line);
+        answers(&rt, rt.alloc(), words, wanted);
+    }
+}
+
+#[test]
+fn reads_lines_of_work(rt: HostRuntime) {
+    for line in WORK_LINES.lines() {
+        let (words, wanted) = row(line).expect(&rt, line);
+        let words = joined(&rt, rt.alloc(), "work ", words);
+        answers(&rt, rt.alloc(), words.as_str(), wanted);
+    }
+}
+
+#[test]
+fn names_bad_values(rt: HostRuntime) {
+    for line in BAD_VALUES.lines() {
+        let (words, wanted) = row(line).expect(&rt, line);
+        let text = format!(in rt.alloc(); "error: --{wanted}\n");
+        says(
+            &rt,
+            rt.alloc(),
+            "wfhost",
+            words,
+            text.expect(&rt, "memory").as_str(),
+        );
+    }
+}
+
+#[test]
+fn calls_the_program_by_its_name(rt: HostRuntime) {
+    says(&rt, rt.alloc(), "shop", "--version", "shop 0.1.0\n");
+    says(&rt, rt.alloc(), "shop", "", NO_COMMAND);
+    says(&rt, rt.alloc(), "shop", "explain", NO_FILE);
+}

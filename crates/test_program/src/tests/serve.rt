@@ -1,0 +1,251 @@
+//! Folders of recorded histories, served.
+
+use crate::tests::reports::named_files;
+use std::alloc::Global;
+use std::io::Write;
+use std::process::Abort;
+use std::sync::Wait;
+use std::thread::Threads;
+use test_support::{next_number, same, with_status};
+use wh_cli::{CommandFault, ServiceEnd, serve_command, serve_with_failures};
+use wh_sample_workflows::All;
+
+/// Files of all samples, each by its name and its history.
+const SAMPLES: &str =
+    "branch.json: branch; caller.json: caller; family.json: family; greet.json: greet; nap.json: nap; racer.json: racer";
+
+/// What is reported of all samples.
+const SAMPLES_SERVED: &str = "\
+branch.json: 2 tasks, 2 completed, 0 failed
+caller.json: 2 tasks, 2 completed, 0 failed
+family.json: 3 tasks, 3 completed, 0 failed
+greet.json: 2 tasks, 2 completed, 0 failed
+nap.json: 2 tasks, 2 completed, 0 failed
+racer.json: 4 tasks, 4 completed, 0 failed
+taken 15, completed 15, failed 0, in hand 0
+status 0";
+
+/// How many workers serve all samples, and how many runs and events the cache holds.
+const SIZES: &str = "\
+1 0 0
+1 0 3
+1 1 0
+1 1 3
+1 2 0
+1 2 3
+1 100 0
+1 100 3
+4 0 0
+4 0 3
+4 1 0
+4 1 3
+4 2 0
+4 2 3
+4 100 0
+4 100 3
+";
+
+/// How many workers serve files, and below it the report with what else is told after it: the
+/// failed tasks, whether a last record was not compared, and the status.
+///
+/// There are no files, five samples, histories that end after their last task in an event that is
+/// passed over or not in place, a file that is no JSON, an activity that the workflow does not ask
+/// for, a workflow that the program does not know, a command that can't stand in a task before the
+/// last, and histories that end in their last task, alone and between others.
+const SERVICES: &str = "\
+4
+taken 0, completed 0, failed 0, in hand 0
+not compared: false
+status 0
+
+4 branch.json: branch; family.json: family; greet.json: greet; nap.json: nap; racer.json: racer
+branch.json: 2 tasks, 2 completed, 0 failed
+family.json: 3 tasks, 3 completed, 0 failed
+greet.json: 2 tasks, 2 completed, 0 failed
+nap.json: 2 tasks, 2 completed, 0 failed
+racer.json: 4 tasks, 4 completed, 0 failed
+taken 13, completed 13, failed 0, in hand 0
+not compared: true
+status 0
+
+1 inert.json: nap/3 attributes_upserted; late.json: nap/8 C timer_fired:99
+inert.json: 1 tasks, 1 completed, 0 failed
+late.json: 2 tasks, 2 completed, 0 failed
+taken 3, completed 3, failed 0, in hand 0
+not compared: true
+status 0
+
+2 branch.json: branch; hole.json: ; nap.json: nap
+branch.json: 2 tasks, 2 completed, 0 failed
+hole.json: unreadable, not JSON
+nap.json: 2 tasks, 2 completed, 0 failed
+taken 4, completed 4, failed 0, in hand 0
+not compared: true
+status 1
+
+1 gr\u{fc}\u{df}.json: greet | 'name':'greet' -> 'name':'greets'; nap.json: nap
+gr??.json: 2 tasks, 1 completed, 1 failed
+nap.json: 2 tasks, 2 completed, 0 failed
+taken 4, completed 3, failed 1, in hand 0
+gr??.json: task at 9: event 5 differs
+not compared: true
+status 1
+
+1 nap.json: nap | 'name':'Nap' -> 'name':'Napp'
+nap.json: 2 tasks, 0 completed, 2 failed
+taken 2, completed 0, failed 2, in hand 0
+nap.json: task at 3: UnknownWorkflow
+nap.json: task at 8: UnknownWorkflow
+not compared: true
+status 1
+
+1 nap.json: start:Nap timer:nap S T C S T
+nap.json: 2 tasks, 0 completed, 2 failed
+taken 2, completed 0, failed 2, in hand 0
+nap.json: task at 4: IdInUse
+nap.json: task at 7: IdInUse in the task at 4
+not compared: false
+status 1
+
+1 nap.json: nap/3
+nap.json: 1 tasks, 1 completed, 0 failed
+taken 1, completed 1, failed 0, in hand 0
+not compared: false
+status 0
+
+4 nap.json: nap/3
+nap.json: 1 tasks, 1 completed, 0 failed
+taken 1, completed 1, failed 0, in hand 0
+not compared: false
+status 0
+
+1 a.json: nap; b.json: nap/8; c.json: nap/3; d.json: greet
+a.json: 2 tasks, 2 completed, 0 failed
+b.json: 2 tasks, 2 completed, 0 failed
+c.json: 1 tasks, 1 completed, 0 failed
+d.json: 2 tasks, 2 completed, 0 failed
+taken 7, completed 7, failed 0, in hand 0
+not compared: true
+status 0
+
+4 a.json: nap; b.json: nap/8; c.json: nap/3; d.json: greet
+a.json: 2 tasks, 2 completed, 0 failed
+b.json: 2 tasks, 2 completed, 0 failed
+c.json: 1 tasks, 1 completed, 0 failed
+d.json: 2 tasks, 2 completed, 0 failed
+taken 7, completed 7, failed 0, in hand 0
+not compared: true
+status 0";
+
+/// How many workers serve, and how many runs and events the cache holds.
+#[derive(Clone, Copy)]
+struct Sizes {
+    workers: u64,
+    cache: u64,
+    cache_events: u64,
+}
+
+/// Serves the files.
+fn serve<R: Threads + Wait + Abort + Sync, O: Write>(
+    rt: &R,
+    alloc: Global,
+    files: Vec<(String, Vec<u8>)>,
+    sizes: Sizes,
+    writer: &mut O,
+) -> Result<u8, CommandFault> {
+    let (workers, cache, cache_events) = (sizes.workers, sizes.cache, sizes.cache_events);
+    assert!(rt; 1 <= workers && workers <= 4 && cache <= 100 && cache_events <= 100);
+    serve_command::<All, _, _>(
+        rt,
+        alloc,
+        files,
+        workers,
+        cache,
+        cache_events,
+        workers,
+        writer,
+    )
+}
+
+/// The sizes that a line says.
+fn sizes_of(rt: &impl Abort, line: &'static str) -> Sizes {
+    let mut words = line;
+    Sizes {
+        workers: next_number(&mut words).expect(rt, "a number"),
+        cache: next_number(&mut words).expect(rt, "a number"),
+        cache_events: next_number(&mut words).expect(rt, "a number"),
+    }
+}
+
+/// The report of all samples, with its status after it.
+fn samples_served<R: Threads + Wait + Abort + Sync>(rt: &R, alloc: Global, sizes: Sizes) -> String {
+    let mut out = Vec::new(alloc);
+    let files = named_files(rt, alloc, SAMPLES);
+    let status = serve(rt, alloc, files, sizes, &mut out);
+    with_status(out, status.expect(rt, "refused")).expect(rt, "a text")
+}
+
+#[test]
+fn samples_are_served_whatever_the_sizes(rt: HostRuntime) {
+    for line in SIZES.lines() {
+        let report = samples_served(&rt, rt.alloc(), sizes_of(&rt, line));
+        same(rt.alloc(), report.as_str(), SAMPLES_SERVED).expect(&rt, line);
+    }
+}
+
+/// Serves files with so many workers.
+fn service<R: Threads + Wait + Abort + Sync>(
+    rt: &R,
+    alloc: Global,
+    files: &'static str,
+    workers: u64,
+    out: &mut Vec<u8>,
+) -> ServiceEnd {
+    assert!(rt; 1 <= workers && workers <= 4);
+    let files = named_files(rt, alloc, files);
+    match serve_with_failures::<All, _, _>(rt, alloc, files, workers, 1, 0, workers, out) {
+        Ok(end) => end,
+        Err(_) => panic!(rt; "refused"),
+    }
+}
+
+/// The report of a service with what else is told of it after it.
+fn told(rt: &impl Abort, end: &ServiceEnd, mut out: Vec<u8>) -> String {
+    for failure in &end.failures {
+        write!(out, "{failure}\n").expect(rt, "written");
+    }
+    let uncompared = end.uncompared;
+    write!(out, "not compared: {uncompared}\n").expect(rt, "written");
+    with_status(out, end.status).expect(rt, "a text")
+}
+
+/// What is told of a service is the text below its first line.
+fn is_served<R: Threads + Wait + Abort + Sync>(rt: &R, alloc: Global, block: &'static str) {
+    let (mut files, wanted) = block.split_once("\n").expect(rt, block);
+    let workers = next_number(&mut files).expect(rt, "a number");
+    let mut out = Vec::new(alloc);
+    let end = service(rt, alloc, files, workers, &mut out);
+    let told = told(rt, &end, out);
+    same(alloc, told.as_str(), wanted).expect(rt, files);
+}
+
+#[test]
+fn services_are_reported(rt: HostRuntime) {
+    for block in SERVICES.split("\n\n") {
+        is_served(&rt, rt.alloc(), block);
+    }
+}
+
+#[test]
+fn a_writer_that_fails_is_told(rt: HostRuntime) {
+    let mut room = [0; 50];
+    let mut writer = room.as_mut_slice();
+    let files = named_files(&rt, rt.alloc(), "nap.json: nap; greet.json: greet");
+    let sizes = Sizes {
+        workers: 1,
+        cache: 100,
+        cache_events: 0,
+    };
+    let answer = serve(&rt, rt.alloc(), files, sizes, &mut writer);
+    assert!(rt; matches!(answer, Err(CommandFault::Output)));
+}

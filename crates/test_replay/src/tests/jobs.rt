@@ -1,0 +1,259 @@
+//! Which jobs a task has, and in which order.
+
+use crate::tests::explaining::explains;
+use crate::tests::runs::begins;
+use test_support::Scripted;
+use wh_sample_workflows::Nap;
+use wh_workflow::Pair;
+
+/// What the task of a history is told, of all tasks that went before it without a record, and what
+/// a second task is told after a recorded one.
+const JOBS: &str = "\
+nap/3
+task at 3
+  told Time 2024-05-01T10:00:03Z
+  told Start Nap
+  not recorded yet
+x.json: ok, 1 tasks, last live
+status 0
+
+start:Any signal:b signal:a S T
+task at 5
+  told Time 2024-05-01T10:00:05Z
+  told Start Any
+  told Signal b
+  told Signal a
+  not recorded yet
+x.json: ok, 1 tasks, last live
+status 0
+
+start:Any timer:t timer_fired:2 signal:s cancel_requested signal:r S T
+task at 8
+  told Time 2024-05-01T10:00:08Z
+  told Start Any
+  told Signal s
+  told Signal r
+  told TimerFired t
+  told CancelRequested
+  not recorded yet
+x.json: ok, 1 tasks, last live
+status 0
+
+start:Any activity:1:a activity_started:2 activity_completed:2 activity:2:a activity_failed:5 activity:3:a activity_timed_out:7 activity:4:a activity_canceled:9 S T
+task at 12
+  told Time 2024-05-01T10:00:12Z
+  told Start Any
+  told Activity 1 Completed
+  told Activity 2 Failed
+  told Activity 3 TimedOut
+  told Activity 4 Canceled
+  not recorded yet
+x.json: ok, 1 tasks, last live
+status 0
+
+start:Any child:a:Nap child_started:2 child_completed:2 child:b:Nap child_failed:5 child:c:Nap child_canceled:7 S T
+task at 10
+  told Time 2024-05-01T10:00:10Z
+  told Start Any
+  told ChildStarted a
+  told Child a Completed
+  told Child b Failed
+  told Child c Canceled
+  not recorded yet
+x.json: ok, 1 tasks, last live
+status 0
+
+start:Any child:d:Nap child_timed_out:2 child:e:Nap child_terminated:4 child:f:Nap child_refused:6 S T
+task at 9
+  told Time 2024-05-01T10:00:09Z
+  told Start Any
+  told Child d TimedOut
+  told Child e Terminated
+  told Child f StartFailed
+  not recorded yet
+x.json: ok, 1 tasks, last live
+status 0
+
+start:Any child:kid:Nap cancel_child:kid cancel_sent:3 cancel_child:kid cancel_failed:5 S T
+task at 8
+  told Time 2024-05-01T10:00:08Z
+  told Start Any
+  told CancelSent kid
+  told CancelFailed kid
+  not recorded yet
+x.json: ok, 1 tasks, last live
+status 0
+
+start:Any external:other:go external_sent:2 external:another:stop external_failed:4 S T
+task at 7
+  told Time 2024-05-01T10:00:07Z
+  told Start Any
+  told SignalSent other go
+  told SignalFailed another stop
+  not recorded yet
+x.json: ok, 1 tasks, last live
+status 0
+
+start:Any attributes_upserted ignored timer:t timer_canceled:4 chg_marker:MQ== S T
+task at 8
+  told Time 2024-05-01T10:00:08Z
+  told Start Any
+  not recorded yet
+x.json: ok, 1 tasks, last live
+status 0
+
+start:Any S T signal:a task_failed signal:b S T
+task at 8
+  told Time 2024-05-01T10:00:08Z
+  told Start Any
+  told Signal a
+  told Signal b
+  not recorded yet
+x.json: ok, 1 tasks, last live
+status 0
+
+start:Any S T task_timed_out S T
+task at 6
+  told Time 2024-05-01T10:00:06Z
+  told Start Any
+  not recorded yet
+x.json: ok, 1 tasks, last live
+status 0
+
+start:Any S T signal:a C signal:b S T
+task at 8
+  told Time 2024-05-01T10:00:08Z
+  told Start Any
+  told Signal a
+  told Signal b
+  not recorded yet
+x.json: ok, 1 tasks, last live
+status 0
+
+start:Any S T signal:a signal:b S T
+task at 7
+  told Time 2024-05-01T10:00:07Z
+  told Start Any
+  told Signal a
+  told Signal b
+  not recorded yet
+x.json: ok, 1 tasks, last live
+status 0
+
+start:Greet activity:1:greet activity_started:2 S T C activity_completed:2 signal:s S T
+task at 5
+  told Time 2024-05-01T10:00:05Z
+  told Start Greet
+task at 10
+  told Time 2024-05-01T10:00:10Z
+  told Signal s
+  told Activity 1 Completed
+  not recorded yet
+x.json: ok, 2 tasks, last live
+status 0
+
+start:Caller external:other:go S T C external_sent:2 S T
+task at 4
+  told Time 2024-05-01T10:00:04Z
+  told Start Caller
+task at 8
+  told Time 2024-05-01T10:00:08Z
+  told SignalSent other go
+  not recorded yet
+x.json: ok, 2 tasks, last live
+status 0
+
+start:Any S T signal:a task_failed S T C signal:b S T
+task at 7
+  told Time 2024-05-01T10:00:07Z
+  told Start Any
+  told Signal a
+task at 11
+  told Time 2024-05-01T10:00:11Z
+  told Signal b
+  not recorded yet
+x.json: ok, 2 tasks, last live
+status 0
+
+start:Any signal:a S T attributes_upserted C S T
+task at 4
+  told Time 2024-05-01T10:00:04Z
+  told Start Any
+  told Signal a
+task at 8
+  told Time 2024-05-01T10:00:08Z
+  not recorded yet
+x.json: ok, 2 tasks, last live
+status 0
+
+start:Any timer:t S T C signal:a timer_fired:2 S T signal:b task_timed_out S T
+task at 4
+  told Time 2024-05-01T10:00:04Z
+  told Start Any
+task at 13
+  told Time 2024-05-01T10:00:13Z
+  told Signal a
+  told Signal b
+  told TimerFired t
+  not recorded yet
+x.json: ok, 2 tasks, last live
+status 0";
+
+/// How many jobs a workflow that gives nothing was told up to the last task.
+const STEPS: &str = "\
+nap/3 => 2 steps, holds 3, []
+start:Any signal:b signal:a S T => 4 steps, holds 5, []
+start:Any timer:t timer_fired:2 signal:s cancel_requested signal:r S T => 6 steps, holds 8, []
+start:Any activity:1:a activity_started:2 activity_completed:2 activity:2:a activity_failed:5 activity:3:a activity_timed_out:7 activity:4:a activity_canceled:9 S T => 6 steps, holds 12, []
+start:Any child:a:Nap child_started:2 child_completed:2 child:b:Nap child_failed:5 child:c:Nap child_canceled:7 S T => 6 steps, holds 10, []
+start:Any child:d:Nap child_timed_out:2 child:e:Nap child_terminated:4 child:f:Nap child_refused:6 S T => 5 steps, holds 9, []
+start:Any child:kid:Nap cancel_child:kid cancel_sent:3 cancel_child:kid cancel_failed:5 S T => 4 steps, holds 8, []
+start:Any external:other:go external_sent:2 external:another:stop external_failed:4 S T => 4 steps, holds 7, []
+start:Any attributes_upserted ignored timer:t timer_canceled:4 chg_marker:MQ== S T => 2 steps, holds 8, []
+start:Any S T signal:a task_failed signal:b S T => 4 steps, holds 8, []
+start:Any S T task_timed_out S T => 2 steps, holds 6, []
+start:Any S T signal:a C signal:b S T => 4 steps, holds 8, []
+start:Any S T signal:a signal:b S T => 4 steps, holds 7, []
+start:Greet activity:1:greet activity_started:2 S T C activity_completed:2 signal:s S T => 5 steps, holds 10, []
+start:Caller external:other:go S T C external_sent:2 S T => 4 steps, holds 8, []
+start:Any S T signal:a task_failed S T C signal:b S T => 5 steps, holds 11, []
+start:Any signal:a S T attributes_upserted C S T => 4 steps, holds 8, []
+start:Any timer:t S T C signal:a timer_fired:2 S T signal:b task_timed_out S T => 6 steps, holds 13, []
+";
+
+/// What the first part of a pair gives to a history that both parts have code for, and the second
+/// one to a history that the first one has no code for.
+const PARTS: &str = "\
+nap/3 => 2 steps, holds 3, [StartTimer id: nap, seconds: 60]
+nap/8 => 4 steps, holds 8, [Complete result: []]
+greet/3 => 2 steps, holds 3, []
+start:nap S T => 2 steps, holds 3, []
+";
+
+/// What the second part is told of a history that the first one has no code for.
+const SECOND_PART: &str = "\
+greet/3
+task at 3
+  told Time 2024-05-01T10:00:03Z
+  told Start Greet
+  not recorded yet
+x.json: ok, 1 tasks, last live
+status 0
+
+start:nap S T
+task at 3
+  told Time 2024-05-01T10:00:03Z
+  told Start nap
+  not recorded yet
+x.json: ok, 1 tasks, last live
+status 0";
+
+#[test]
+fn tells_jobs_in_order(rt: HostRuntime) {
+    explains::<Scripted>(&rt, rt.alloc(), JOBS);
+    begins::<Scripted>(&rt, rt.alloc(), STEPS);
+    begins::<Pair<Nap, Scripted>>(&rt, rt.alloc(), PARTS);
+    explains::<Pair<Nap, Scripted>>(&rt, rt.alloc(), SECOND_PART);
+    explains::<Pair<Scripted, Nap>>(&rt, rt.alloc(), JOBS);
+    begins::<Pair<Scripted, Nap>>(&rt, rt.alloc(), STEPS);
+}

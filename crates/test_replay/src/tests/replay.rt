@@ -1,0 +1,139 @@
+//! Runs, how often they are stepped, and histories that are checked.
+
+use std::alloc::Global;
+use std::process::Abort;
+use test_support::{Still, row, same, shown};
+use wh_events::Event;
+use wh_histories::{events_after, key};
+use wh_replay::{Run, check};
+use wh_sample_workflows::All;
+use wh_workflow::{Meter, Workflow};
+
+/// The steps to the second event of a history, and those on to its end: the time and the start, and
+/// then the time and the signal, with the start before it where the first task did not complete.
+const STEPS: &str = "\
+start:Still T C signal:s T => 2, then 4, holds 5
+start:Still T task_timed_out signal:s T => 2, then 5, holds 5
+";
+
+/// A run of the first two events of a history, and its answer.
+fn first_task<W: Workflow>(
+    rt: &impl Abort,
+    alloc: Global,
+    history: &'static str,
+    meter: &mut Meter,
+) -> Run<W> {
+    let mut events = events_after(alloc, history, 0).expect(rt, history);
+    events.truncate(2);
+    Run::from_first(alloc, key(alloc, "w").expect(rt, "memory"), events, meter).expect(rt, history)
+}
+
+/// A run that goes on, whose advance has no fault.
+fn advanced<W: Workflow>(
+    rt: &impl Abort,
+    alloc: Global,
+    run: Run<W>,
+    next: Vec<Event>,
+    meter: &mut Meter,
+) -> Run<W> {
+    match run.advance(alloc, next, meter) {
+        Ok(run) => run,
+        Err(_) => panic!(rt; "no advance"),
+    }
+}
+
+/// How a run goes on after the first two events of a history.
+fn steps<W: Workflow>(rt: &impl Abort, alloc: Global, history: &'static str) -> String {
+    let mut meter = Meter::new();
+    let run = first_task::<W>(rt, alloc, history, &mut meter);
+    let first = meter.count();
+    let run = advanced(
+        rt,
+        alloc,
+        run,
+        events_after(alloc, history, 2).expect(rt, history),
+        &mut meter,
+    );
+    let then = meter.count();
+    let held = run.held_len();
+    drop(run);
+    format!(in alloc; "{first}, then {then}, holds {held}").expect(rt, "memory")
+}
+
+#[test]
+fn only_a_lost_task_is_stepped_again(rt: HostRuntime) {
+    for line in STEPS.lines() {
+        let (history, wanted) = row(line).expect(&rt, line);
+        let text = steps::<Still>(&rt, rt.alloc(), history);
+        same(rt.alloc(), text.as_str(), wanted).expect(&rt, history);
+    }
+}
+
+/// The copied answer of the first task of a run, in words.
+fn copied_answer<W: Workflow>(rt: &impl Abort, alloc: Global, history: &'static str) -> String {
+    let run = first_task::<W>(rt, alloc, history, &mut Meter::new());
+    let answer = run.answer(alloc).expect(rt, "memory");
+    drop(run);
+    let copy = answer.try_copy(alloc);
+    drop(answer);
+    let text = shown(alloc, &copy).expect(rt, "memory");
+    drop(copy);
+    text
+}
+
+#[test]
+fn an_answer_is_copied(rt: HostRuntime) {
+    let copy = copied_answer::<Still>(&rt, rt.alloc(), "start:Still T");
+    same(rt.alloc(), copy.as_str(), "Ok(Complete([]))").expect(&rt, "a copy");
+}
+
+/// Histories that end anywhere.
+const ENDED: &str = "\
+nap => Ok(Checked tasks: 2, live: false)
+nap/3 => Ok(Checked tasks: 1, live: true)
+nap/1 => Ok(Checked tasks: 0, live: false)
+nap/3 attributes_upserted => Ok(Checked tasks: 1, live: true)
+nap/3 signal:s => Ok(Checked tasks: 0, live: false)
+racer => Ok(Checked tasks: 4, live: false)
+racer/19 => Ok(Checked tasks: 4, live: true)
+ => Err(Fault(Place at: 1, fault: FirstNotStart))
+S => Err(Fault(Place at: 1, fault: FirstNotStart))
+start:Nope => Err(Fault(Workflow at: 1, fault: UnknownWorkflow))
+greet | 'name':'greet' -> 'name':'greets' => Err(Fault(Mismatch at: 3, mismatch: Different event: 5))
+racer/5 => Err(Fault(Mismatch at: 3, mismatch: CommandExtra index: 2))
+nap/5 timer:x => Err(Fault(Mismatch at: 3, mismatch: CommandMissing event: 6))
+nap/8 task_failed S T C failed => Err(Fault(Mismatch at: 11, mismatch: Different event: 13))
+nap/5 timer_fired:3 => Err(Fault(Place at: 6, fault: WrongKindRef))
+start:Nap timer:nap S T => Err(Fault(Workflow at: 4, fault: IdInUse))
+";
+
+/// What a history has.
+const CHECKED: &str = "\
+start:Still T C signal:s T => Ok(Checked tasks: 2, live: true)
+C signal:s T => Err(Fault(Place at: 1, fault: FirstNotStart))
+C signal:s T | 'eventId':'3' -> 'eventId':'5' | 'eventId':'2' -> 'eventId':'4' | 'eventId':'1' -> 'eventId':'3' => Err(Fault(Place at: 1, fault: FirstNotStart))
+";
+
+/// What a history has, or its fault.
+fn checked_text<W: Workflow>(rt: &impl Abort, alloc: Global, history: &'static str) -> String {
+    shown(
+        alloc,
+        &check::<W>(alloc, events_after(alloc, history, 0).expect(rt, history)),
+    )
+    .expect(rt, "memory")
+}
+
+/// Checks the history of each row.
+fn checks<W: Workflow>(rt: &impl Abort, alloc: Global, table: &'static str) {
+    for line in table.lines() {
+        let (history, wanted) = row(line).expect(rt, line);
+        let text = checked_text::<W>(rt, alloc, history);
+        same(alloc, text.as_str(), wanted).expect(rt, history);
+    }
+}
+
+#[test]
+fn histories_are_checked(rt: HostRuntime) {
+    checks::<Still>(&rt, rt.alloc(), CHECKED);
+    checks::<All>(&rt, rt.alloc(), ENDED);
+}
