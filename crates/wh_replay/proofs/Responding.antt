@@ -3,14 +3,12 @@ use Rattle.std.proofs.Common.{◌≡◌, ℕ, ◌+◌, ◌-◌, Bool, true, fals
 use Rattle.wh_events.specs.declared.event.Event.{Event}
 use Rattle.wh_workflow.specs.declared.command.Command.{Command}
 use Rattle.wh_workflow.specs.declared.command.Command.TheVariants.{Ask, Marker}
-use Rattle.wh_workflow.specs.declared.job.Job.{Job}
 use Rattle.wh_workflow.specs.declared.job.Job.TheVariants.{Version}
 use Rattle.wh_workflow.specs.declared.fault.WorkflowFault.{WorkflowFault}
 use Rattle.wh_events.specs.Machines.{or_else}
-use Rattle.wh_workflow.specs.Counting.{ticked}
-use Rattle.wh_workflow.specs.Law.{Program, is_ask, is_marker, asks_last, records_none}
+use Rattle.wh_workflow.specs.Law.{is_ask, is_marker, asks_last, records_none}
 use Rattle.wh_workflow.specs.Scripts.{ActivationContext, Settled, act_of, choice_of, with_version, command_fault, reduced}
-use Rattle.wh_workflow.specs.Activations.{and_then, unless_fault, Script, issue_all, question_in, question_at, question_of, marker_if, Reply, reply, respond, Progress, Turn, turn}
+use Rattle.wh_workflow.specs.Activations.{and_then, unless_fault, Script, issue_all, question_in, question_at, question_of, marker_if, Reply, reply, respond, Progress}
 use Rattle.wh_workflow.specs.ActivationScripts.{first_fault}
 use Rattle.wh_workflow.proofs.Judging.{neither}
 use Rattle.std.specs.Prelude.{IfErr}
@@ -198,15 +196,6 @@ pub gives_then : {A B C : Type 0} (result : Result A ScriptFault) (defined : Res
 gives_then (Ok x) defined seen next whole_seen same gives = ap (λ r. and_then r (λ y. Ok (next y))) gives ∙ ap Ok (same x)
 gives_then (Err (Workflow fault)) defined seen next whole_seen same gives = ap (λ r. and_then r (λ y. Ok (next y))) gives
 gives_then (Err OutOfMemory) defined seen next whole_seen same gives = tt
-
--- a step of the workflow whose commands are issued is a turn
-pub turned : {S : Type 0} (program : Program S) (context : ActivationContext) (job : Job) (before : Progress S) (result : Result (Option Job) ScriptFault) (given : List Command) (state : S) (left : Script) (meter : ℕ) → given ≡ program.gives before.state job → state ≡ program.after before.state job → meter ≡ ticked before.meter
-    → Gives result (respond context before.script given) (λ next. record { script = left; next = next }) → Gives result (turn program context job before) (λ next. record { progress = record { state = state; script = left; meter = meter }; next = next })
-turned {S} program context job before result given state left meter gave after counted gives =
-    let next : Reply → Turn S = λ y. record { progress = record { state = program.after before.state job; script = y.script; meter = ticked before.meter }; next = y.next } in
-    let made : S → ℕ → Option Job → Turn S = λ a m x. record { progress = record { state = a; script = left; meter = m }; next = x } in
-    gives_along result (and_then (respond context before.script given) (λ y. Ok (next y))) (turn program context job before) (made state meter) (ap (λ l. and_then (respond context before.script l) (λ y. Ok (next y))) (sym gave))
-    (gives_then result (respond context before.script given) (λ x. record { script = left; next = x }) next (made state meter) (λ x. ap (λ a. made a (ticked before.meter) x) (sym after) ∙ ap (λ m. made state m x) (sym counted)) gives)
 
 -- the context of a script is that of its cut
 pub place_is : (cut : Cut) (s : Issuing) → IsOf cut s → context_in cut.track.now s (context_of cut).recorded ≡ context_of cut
