@@ -22,6 +22,7 @@ use Rattle.wh_workflow.proofs.Scripting.{longest_in_words, one_is_longest}
 use Rattle.wh_replay.specs.declared.fault.Fault.{Fault}
 use Rattle.wh_replay.specs.declared.fault.Fault.TheVariants.{NotATask, Place as PlaceFaulty, Workflow as WorkflowFaulty, Mismatch as Mismatched}
 use Rattle.wh_replay.specs.Replays.{ReplayResult, begin_at, reached, close_task, task_after, unless_mismatch, replay_after, replay_known, replay_placed, replay_tasks, start, workflow_of}
+use Rattle.wh_replay.specs.Tracking.{in_place}
 use Rattle.wh_replay.specs.Views.{context_after}
 use Rattle.wh_replay.proofs.Stepping.{IsNext, next_is, no_cut, task_at, walk_next}
 use Rattle.wh_explain.specs.declared.explanation.ExplainedTask.{ExplainedTask}
@@ -29,7 +30,7 @@ use Rattle.wh_explain.specs.declared.explanation.RecordedEvent.{RecordedEvent}
 use Rattle.wh_explain.specs.declared.explanation.Pairing.{Pairing}
 use Rattle.wh_explain.specs.declared.explanation.Pairing.TheVariants.{Alike, Different}
 use Rattle.wh_explain.specs.Pairings.{pairings, recorded_event, differs, difference_from}
-use Rattle.wh_explain.specs.Explaining.{in_place, sent_ending, unless_refused, stops, IsTask, AreTasks, all, stopped, passed, AreTasksIf, AreTasksPlaced}
+use Rattle.wh_explain.specs.Explaining.{sent_ending, unless_refused, stops, IsTask, AreTasks, all, stopped, passed, AreTasksIf, AreTasksPlaced}
 use Rattle.wh_explain.specs.Laws.{EndAs, EndsAsReplay}
 use Rattle.wh_explain.proofs.Tasks.{told_plain}
 

@@ -1,6 +1,4 @@
-pub mod Issuing
-pub mod Tracing
-pub mod Scripted
+pub mod Traced
 pub mod Tasks
 pub mod Printable
 pub mod One

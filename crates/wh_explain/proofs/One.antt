@@ -1,5 +1,5 @@
 -- A history has but one explanation.
-use Rattle.std.proofs.Common.{◌≡◌, ℕ, Bool, true, false, List, [], ◌∷◌, Option, Some, None, refl, sym, ap, subst, ◌∙◌}
+use Rattle.std.proofs.Common.{◌≡◌, ℕ, Bool, true, false, List, [], ◌∷◌, Result, Ok, Err, refl, sym, ap, subst, ◌∙◌}
 use Rattle.wh_events.specs.declared.event.Event.{Event}
 use Rattle.wh_events.specs.Cuts.{cuts}
 use Rattle.wh_events.specs.Places.{history_fault}
@@ -8,11 +8,13 @@ use Rattle.wh_workflow.specs.Law.{Program}
 use Rattle.wh_workflow.specs.Scripts.{Settled}
 use Rattle.wh_workflow.specs.ActivationScripts.{Step, settled_after, state_after}
 use Rattle.wh_workflow.proofs.Scripting.{one_is_longest}
+use Rattle.wh_replay.specs.declared.fault.Fault.{Fault}
 use Rattle.wh_replay.specs.Replays.{workflow_of}
+use Rattle.wh_replay.specs.Tracking.{in_place}
 use Rattle.wh_replay.specs.Views.{context_after}
 use Rattle.wh_explain.specs.declared.explanation.Ending.{Ending}
 use Rattle.wh_explain.specs.declared.explanation.ExplainedTask.{ExplainedTask}
-use Rattle.wh_explain.specs.Explaining.{in_place, ending_of, stops, IsTask, AreTasks, all, stopped, passed, AreTasksIf, AreTasksPlaced}
+use Rattle.wh_explain.specs.Explaining.{ending_of, stops, IsTask, AreTasks, all, stopped, passed, AreTasksIf, AreTasksPlaced}
 use Rattle.wh_explain.specs.Laws.{OneExplains}
 
 made : ℕ → List Step → Ending → ExplainedTask
@@ -52,6 +54,6 @@ module _ {S : Type 0} (program : Program S) (events : List Event) where
 pub one_explains : {S : Type 0} (program : Program S) → OneExplains program
 one_explains program events tasks other t o = by (in_place (history_fault events) events) t o
   where
-    by : (placed : Option (List Event)) → AreTasksPlaced placed program tasks → AreTasksPlaced placed program other → tasks ≡ other
-    by None a b = a ∙ sym b
-    by (Some found) a b = same_known program found (program.knows (workflow_of found)) tasks other a b
+    by : (placed : Result (List Event) Fault) → AreTasksPlaced placed program tasks → AreTasksPlaced placed program other → tasks ≡ other
+    by (Err fault) a b = a ∙ sym b
+    by (Ok found) a b = same_known program found (program.knows (workflow_of found)) tasks other a b

@@ -1,40 +1,27 @@
 -- The tasks of a history, one after another.
-use Rattle.std.proofs.Common.{◌≡◌, ℕ, ◌-◌, true, false, List, [], ◌∷◌, ◌++◌, take, drop, slice_get, Option, Some, None, option_map, refl, sym, ap, subst, ◌∙◌, append_assoc, append-nil, if◌then◌else◌, IsTrue}
+use Rattle.std.proofs.Common.{◌≡◌, ℕ, ◌-◌, true, false, List, [], ◌∷◌, ◌++◌, take, drop, slice_get, Option, Some, None, option_map, refl, sym, ap, subst, ◌∙◌, append_assoc, append-nil, IsTrue}
 use Rattle.wh_events.specs.declared.event.Event.{Event}
-use Rattle.wh_events.specs.declared.place.PlaceFault.{PlaceFault}
-use Rattle.wh_events.specs.Cuts.{cuts, is_recorded, record_of}
-use Rattle.wh_events.specs.Places.{place_fault, fault_after, history_fault}
-use Rattle.wh_machines.specs.declared.fault.PushFault.TheVariants.{Place}
+use Rattle.wh_events.specs.Cuts.{cuts}
 use Rattle.wh_machines.specs.Lookups.{events_between}
-use Rattle.wh_split.specs.Splits.{first_of}
 use Rattle.wh_workflow.specs.declared.command.Command.{Command}
 use Rattle.wh_workflow.specs.declared.job.Job.{Job}
 use Rattle.wh_workflow.specs.declared.fault.WorkflowFault.{WorkflowFault}
-use Rattle.wh_workflow.specs.Law.{Program, IsLawful}
+use Rattle.wh_workflow.specs.Law.{Program}
 use Rattle.wh_workflow.specs.Scripts.{ActivationContext, Settled, reduced}
-use Rattle.wh_workflow.specs.Activations.{Progress}
-use Rattle.wh_workflow.specs.ActivationScripts.{IsLongest, fault_in, issued_in, settled_after, state_after, ok_unless}
+use Rattle.wh_workflow.specs.ActivationScripts.{Step, IsLongest, issued_in, settled_after, state_after}
 use Rattle.wh_workflow.proofs.Following.{no_versions}
 use Rattle.wh_workflow.proofs.Plain.{jobs_plain}
-use Rattle.wh_match.specs.Issuing.{context_at}
 use Rattle.wh_activation.specs.Cutting.{jobs_in, jobs_at}
-use Rattle.wh_replay.specs.Views.{progress}
-use Rattle.wh_replay.proofs.Taking.{refused}
+use Rattle.wh_replay.specs.declared.cut.Cut.{Cut}
+use Rattle.wh_replay.specs.Views.{context_of}
+use Rattle.wh_replay.specs.Activating.{IsCutAfter}
 use Rattle.wh_explain.specs.declared.explanation.Ending.{Ending}
 use Rattle.wh_explain.specs.declared.explanation.Ending.TheVariants.{Live, Recorded}
 use Rattle.wh_explain.specs.declared.explanation.ExplainedTask.{ExplainedTask}
 use Rattle.wh_explain.specs.declared.explanation.Pairing.{Pairing}
 use Rattle.wh_explain.specs.Pairings.{pairings}
-use Rattle.wh_explain.specs.Tracing.{IsTraced}
-use Rattle.wh_explain.specs.Explaining.{in_place, sent_ending, unless_refused, stops, IsTaskAt, IsTask, AreTasks, all, stopped, passed}
-use Rattle.wh_explain.proofs.Scripted.{Comes, longest_traced}
-
--- a history of which an event is not in place
-pub misplaced : (before rest whole : List Event) (event : Event) (fault : PlaceFault) → fault_after [] before ≡ None → place_fault before event ≡ Some fault → whole ≡ before ++ event ∷ rest → None ≡ in_place (history_fault whole) whole
-misplaced before rest [] event fault none here is = refl
-misplaced before rest (x ∷ xs) event fault none here is =
-    let found = refused (Unit {0}) [] before rest (x ∷ xs) before event (Place fault) none (λ f e. here ∙ ap Some (cc)) refl is in
-    ap (λ o. in_place o (x ∷ xs)) (sym found)
+use Rattle.wh_explain.specs.Stepping.{Leaves}
+use Rattle.wh_explain.specs.Explaining.{sent_ending, unless_refused, stops, IsTaskAt, LeavesTask, IsTask, AreTasks, all, stopped, passed}
 
 -- a task that is not recorded
 pub live_ending : {A : Type 0} (events : List Event) (sent shown : List Command) (fault : Option WorkflowFault) (recorded : Option A) (seen : A → List Event) → fault ≡ None → recorded ≡ None → shown ≡ sent → Live shown ≡ unless_refused fault (sent_ending events sent (option_map seen recorded))
@@ -44,10 +31,6 @@ live_ending events sent shown fault recorded seen free none is = ap Live is ∙ 
 pub recorded_ending : {A : Type 0} (events : List Event) (sent : List Command) (shown : List Pairing) (fault : Option WorkflowFault) (recorded : Option A) (there : A) (seen : A → List Event) → fault ≡ None → recorded ≡ Some there → shown ≡ pairings events sent (seen there)
     → Recorded shown ≡ unless_refused fault (sent_ending events sent (option_map seen recorded))
 recorded_ending events sent shown fault recorded there seen free some is = ap Recorded is ∙ sym (ap (λ o. unless_refused o (sent_ending events sent (option_map seen recorded))) free ∙ ap (λ o. sent_ending events sent (option_map seen o)) some)
-
-no_numbers : (numbers : List ℕ) → first_of numbers ≡ None → numbers ≡ []
-no_numbers [] e = refl
-no_numbers (number ∷ rest) e = cc
 
 -- a task that does not stop has no fault
 pub no_fault : (fault : Option WorkflowFault) (whole ending : Ending) → whole ≡ unless_refused fault ending → stops whole ≡ false → fault ≡ None
@@ -62,56 +45,49 @@ told_plain events last number = by (slice_get events (number - 1))
     by None = refl
     by (Some cut) = jobs_plain (take number events) (events_between events last number) cut
 
-module _ {S : Type 0} where
-  -- what is explained of a task whose steps are traced
-  pub task_traced : (program : Program S) → IsLawful program → (events : List Event) (context : ActivationContext) (jobs told : List Job) (at : ℕ) (state : S) (settled : Settled) (meter : ℕ) (begin : Progress S) (task : ExplainedTask) (fault : Option WorkflowFault) (left : Progress S)
-      → jobs ≡ told → IsTrue (no_versions told) → begin ≡ progress state settled [] meter → IsTraced program context jobs begin task.steps (ok_unless fault left)
-      → task.at ≡ at → task.ending ≡ unless_refused fault (sent_ending events (reduced context left.script.issued) context.recorded)
-      → IsTaskAt program events context told at state settled task × (fault_in context settled [] task.steps ≡ None → (left.state ≡ state_after program state task.steps) × (left.script.settled ≡ settled_after settled task.steps))
-  task_traced program lawful events context jobs told at state settled meter begin task fault left same plain begins traced number ending =
-      let P : List Job → Type 0 = λ l. IsTraced program context l begin task.steps (ok_unless fault left) in
-      let Q : Progress S → Type 0 = λ b. IsTraced program context told b task.steps (ok_unless fault left) in
-      let both = longest_traced program lawful context told state settled meter task.steps (ok_unless fault left) plain (subst Q begins (subst P same traced)) in
-      by fault (both.1) ending both.0
-    where
-      by : (fault : Option WorkflowFault) → Comes program context state settled [] [] task.steps (ok_unless fault left) → task.ending ≡ unless_refused fault (sent_ending events (reduced context left.script.issued) context.recorded) → IsLongest program context told state settled task.steps
-          → IsTaskAt program events context told at state settled task × (fault_in context settled [] task.steps ≡ None → (left.state ≡ state_after program state task.steps) × (left.script.settled ≡ settled_after settled task.steps))
-      by None comes ends longest = (
+-- a task ends alike where it has the fault, or sends the same
+pub same_ending : (fault : Option WorkflowFault) (events : List Event) (one other : List Command) (recorded : Option (List Event)) → (fault ≡ None → one ≡ other) → unless_refused fault (sent_ending events one recorded) ≡ unless_refused fault (sent_ending events other recorded)
+same_ending None events one other recorded is = ap (λ l. sent_ending events l recorded) (is refl)
+same_ending (Some found) events one other recorded is = refl
+
+module _ {S : Type 0} (program : Program S) where
+  -- what is explained of a task that is stepped, and what it leaves
+  pub task_stepped : (events : List Event) (context : ActivationContext) (jobs told : List Job) (at : ℕ) (from state left next : S) (known settled versions more : Settled) (issued : List Command) (steps : List Step) (task : ExplainedTask) (fault : Option WorkflowFault) → jobs ≡ told → from ≡ state → known ≡ settled
+      → task.steps ≡ steps → IsLongest program context jobs from known steps → Leaves program context from known steps fault left versions issued → task.at ≡ at → task.ending ≡ unless_refused fault (sent_ending events (reduced context issued) context.recorded) → next ≡ left → more ≡ versions
+      → IsTaskAt program events context told at state settled task × LeavesTask program state settled task next more
+  task_stepped events context jobs told at from state left next known settled versions more issued steps task fault same begins knows whole longest leaves number ending a b =
+      let Q : S → Settled → List Step → Type 0 = λ s v l. IsLongest program context told s v l × Leaves program context s v l fault left versions issued in
+      let there : Q state settled task.steps
+      = subst (Q state settled) (sym whole) (subst (λ v. Q state v steps) knows (subst (λ s. Q s known steps) begins (subst (λ l. IsLongest program context l from known steps) same longest, leaves))) in
+      let does = there.1 in
+      let sent = reduced context issued in (
         record {
           number = number;
-          steps = longest;
+          steps = there.0;
           ending =
-              ends ∙ (ap (λ l. sent_ending events (reduced context l) context.recorded) comes.3
-              ∙ sym (ap (λ o. unless_refused o (sent_ending events (reduced context (issued_in context settled task.steps)) context.recorded)) comes.0));
+              ending ∙ (same_ending fault events sent (reduced context (issued_in context settled task.steps)) context.recorded (λ none. ap (reduced context) (does.issued_are none))
+              ∙ ap (λ o. unless_refused o (sent_ending events (reduced context (issued_in context settled task.steps)) context.recorded)) does.fault_is);
         },
-        λ none. (comes.1, comes.2),
+        λ pass. let none = no_fault fault task.ending (sent_ending events sent context.recorded) ending pass in (a ∙ does.left_is none, b ∙ does.versions_are none),
       )
-      by (Some found) comes ends longest = (
-        record {
-          number = number;
-          steps = longest;
-          ending = ends ∙ sym (ap (λ o. unless_refused o (sent_ending events (reduced context (issued_in context settled task.steps)) context.recorded)) comes);
-        },
-        λ none. absurd (let w : Some found ≡ None = sym comes ∙ none in cc),
-      )
+
+  -- the task of a cut of the code is that at its number
+  pub task_here : (events : List Event) (last : ℕ) (cut : Cut) (state : S) (settled : Settled) (task : ExplainedTask) → IsCutAfter events last cut
+      → IsTaskAt program cut.track.now (context_of cut) (jobs_at cut.track.now cut.previous cut.number) cut.number state settled task → IsTask program events last cut.number state settled task
+  task_here events last cut state settled task is here =
+      let P : List Event → ℕ → ActivationContext → Type 0 = λ history previous context. IsTaskAt program history context (jobs_at history previous cut.number) cut.number state settled task in
+      subst (P events last) is.context (subst (λ previous. P events previous (context_of cut)) is.previous (subst (λ history. P history cut.previous (context_of cut)) is.history here))
 
 module _ {S : Type 0} (program : Program S) (events : List Event) where
-  -- the task of a cut of the code is that at its number
-  pub task_here : (last number : ℕ) (there : Option (List Event)) (state : S) (settled : Settled) (task : ExplainedTask) → there ≡ (if is_recorded (drop number events) then Some (record_of (drop number events)) else None)
-      → IsTaskAt program events (context_at events last number there) (jobs_at events last number) number state settled task → IsTask program events last number state settled task
-  task_here last number there state settled task is task_at =
-      let P : Option (List Event) → Type 0 = λ recorded. IsTaskAt program events (context_at events last number recorded) (jobs_at events last number) number state settled task in
-      subst P is task_at
-
   -- what is explained of the cuts that are left continues the tasks so far
   abbrev pub Continues : S → Settled → List ExplainedTask → ℕ → S → Settled → Type 0
   Continues start started done last state settled = (more : List ExplainedTask) → AreTasks program events last (cuts (drop last events)) state settled more → AreTasks program events 0 (cuts events) start started (done ++ more)
 
   -- no cut is left
-  pub no_cut_left : (start state : S) (started settled : Settled) (done : List ExplainedTask) (last : ℕ) → first_of (cuts (drop last events)) ≡ None → Continues start started done last state settled → AreTasks program events 0 (cuts events) start started done
+  pub no_cut_left : (start state : S) (started settled : Settled) (done : List ExplainedTask) (last : ℕ) → cuts (drop last events) ≡ [] → Continues start started done last state settled → AreTasks program events 0 (cuts events) start started done
   no_cut_left start state started settled done last none left =
       let P : List ℕ → Type 0 = λ numbers. AreTasks program events last numbers state settled [] in
-      let rest = left [] (subst P (sym (no_numbers (cuts (drop last events)) none)) (all last state settled)) in
+      let rest = left [] (subst P (sym none) (all last state settled)) in
       subst (AreTasks program events 0 (cuts events) start started) (append-nil done) rest
 
   -- the task of the next cut is the last

@@ -2,7 +2,6 @@
 use Rattle.std.specs.Prelude.{◌≡◌, ℕ, Bool, true, false, List, [], ◌∷◌, Option, Some, None, Result, Ok, Err, if◌then◌else◌}
 use Rattle.std.specs.List.{list_any}
 use Rattle.wh_events.specs.declared.event.Event.{Event}
-use Rattle.wh_events.specs.declared.place.PlaceFault.{PlaceFault}
 use Rattle.wh_events.specs.Cuts.{cuts}
 use Rattle.wh_events.specs.Places.{history_fault}
 use Rattle.wh_activation.specs.Cutting.{jobs_at}
@@ -13,17 +12,14 @@ use Rattle.wh_workflow.specs.declared.fault.WorkflowFault.{WorkflowFault}
 use Rattle.wh_workflow.specs.Law.{Program}
 use Rattle.wh_workflow.specs.Scripts.{ActivationContext, Settled, reduced}
 use Rattle.wh_workflow.specs.ActivationScripts.{Step, IsLongest, fault_in, issued_in, settled_after, state_after}
+use Rattle.wh_replay.specs.declared.fault.Fault.{Fault}
 use Rattle.wh_replay.specs.Replays.{workflow_of}
+use Rattle.wh_replay.specs.Tracking.{in_place}
 use Rattle.wh_replay.specs.Views.{context_after}
 use Rattle.wh_explain.specs.declared.explanation.Ending.{Ending}
 use Rattle.wh_explain.specs.declared.explanation.Ending.TheVariants.{Refused, Live, Recorded}
 use Rattle.wh_explain.specs.declared.explanation.ExplainedTask.{ExplainedTask}
 use Rattle.wh_explain.specs.Pairings.{pairings, differs}
-
--- the events, if they are in place
-abbrev pub in_place : Option (ℕ × PlaceFault) → List Event → Option (List Event)
-in_place None events = Some events
-in_place (Some fault) events = None
 
 -- how a task ends that sends this: it is not recorded yet, or what is sent stands beside the record
 abbrev pub sent_ending : List Event → List Command → Option (List Event) → Ending
@@ -57,6 +53,12 @@ module _ {S : Type 0} where
     pub steps : IsLongest program context jobs state settled task.steps
     pub ending : task.ending ≡ ending_of events context settled task.steps
 
+  -- where it does not stop, the task leaves this state and these versions
+  abbrev pub LeavesTask : Program S → S → Settled → ExplainedTask → S → Settled → Type 0
+  LeavesTask program state settled task left versions =
+      stops task.ending ≡ false → (left ≡ state_after program state task.steps)
+      × (versions ≡ settled_after settled task.steps)
+
   -- what is explained of the task at the cut of a number of a history, where the cut before has the
   -- other number
   abbrev pub IsTask : Program S → List Event → (last number : ℕ) → S → Settled → ExplainedTask → Type 0
@@ -86,9 +88,9 @@ module _ {S : Type 0} where
   AreTasksIf false program events tasks = tasks ≡ []
 
   -- where the events are in place
-  abbrev pub AreTasksPlaced : Option (List Event) → Program S → List ExplainedTask → Type 0
-  AreTasksPlaced None program tasks = tasks ≡ []
-  AreTasksPlaced (Some events) program tasks = AreTasksIf (program.knows (workflow_of events)) program events tasks
+  abbrev pub AreTasksPlaced : Result (List Event) Fault → Program S → List ExplainedTask → Type 0
+  AreTasksPlaced (Err fault) program tasks = tasks ≡ []
+  AreTasksPlaced (Ok events) program tasks = AreTasksIf (program.knows (workflow_of events)) program events tasks
 
   -- what is explained of a history: its tasks, or none where an event is not in place or where
   -- there is no code for its workflow type
@@ -101,9 +103,9 @@ module _ {S : Type 0} where
   AreTasksIn program (Err fault) tasks = tasks ≡ []
 
   -- the workflow type of events in place, unless there is code for it
-  abbrev pub unknown_placed : Program S → Option (List Event) → Option (List ℕ)
-  unknown_placed program None = None
-  unknown_placed program (Some events) = if program.knows (workflow_of events) then None else Some (workflow_of events)
+  abbrev pub unknown_placed : Program S → Result (List Event) Fault → Option (List ℕ)
+  unknown_placed program (Err fault) = None
+  unknown_placed program (Ok events) = if program.knows (workflow_of events) then None else Some (workflow_of events)
 
   -- the workflow type of a history in place, where there is no code for it
   abbrev pub unknown_of : Program S → List Event → Option (List ℕ)

@@ -2,8 +2,7 @@ pub mod Times
 pub mod Phrases
 pub mod Texts
 pub mod Json
-pub mod Tracing
-pub mod Walking
+pub mod Stepping
 pub mod Pairings
 pub mod Explaining
 pub mod Laws

@@ -1,79 +1,75 @@
 //! The tasks of a history, each with the steps of its activation and with its record.
-ghost use Rattle.std.specs.Prelude.{◌≡◌, ◌≤◌, [], None, Some, length, IfOk, IfErr, string_bytes};
+ghost use Rattle.std.specs.Prelude.{◌≡◌, ◌≤◌, [], None, Some, Ok, length, IfOk, IfErr, string_bytes};
 ghost use Rattle.wh_events.specs.Cuts.{cuts};
 ghost use Rattle.wh_activation.specs.Cutting.{jobs_at};
 ghost use Rattle.wh_json.specs.Events.{history, longest};
-ghost use Rattle.wh_workflow.specs.ActivationScripts.{fault_in};
 ghost use Rattle.wh_workflow.specs.Scripts.{reduced};
 ghost use Rattle.wh_replay.specs.Replays.{workflow_of};
+ghost use Rattle.wh_replay.specs.Views.{context_of};
+ghost use Rattle.wh_replay.specs.Activating.{IsWithin, IsOf};
 ghost use Rattle.wh_tester.specs.Verdicts.{IsVerdict};
-ghost use Rattle.wh_explain.specs.Explaining.{unless_refused, sent_ending, stops, IsTaskAt};
+ghost use Rattle.wh_explain.specs.Explaining.{unless_refused, sent_ending, stops, IsTaskAt, LeavesTask};
 ghost use Rattle.wh_explain.specs.Explaining.{AreTasks, AreTasksPlaced, AreTasksOf, AreTasksIn};
 ghost use Rattle.wh_explain.specs.Explaining.{unknown_placed, unknown_of, unknown_in};
-ghost use Rattle.wh_explain.specs.Walking.{IsWithin, IsOf, Leaves, context_of};
 
-use crate::activation::Reached;
-use crate::cut::Cut;
 use crate::explanation::{Ending, ExplainedTask, Explanation};
 use crate::pairing::{pair_up, some_differ};
-use crate::records::record_after;
-use crate::tracking::track_of;
+use crate::stepping::step_all;
 use std::alloc::Global;
 use wh_activation::jobs;
-use wh_events::{Event, EventKind, Items, OutOfMemory, Text};
+use wh_events::{Event, Items, OutOfMemory, Text};
 use wh_json::{ReadFault, read_events};
 use wh_machines::Track;
-use wh_match::{Script, Versions};
-use wh_split::next_cut;
+use wh_replay::{
+    Activation, Cut, ReplayState, RunFault, cut_after, sent_state, start, track_of, workflow_of,
+};
 use wh_tester::{Line, verdict};
-use wh_workflow::{Meter, Workflow, WorkflowFault};
+use wh_workflow::{Command, Workflow, WorkflowFault};
 
-/// What is told of a history.
+/// What is explained of a history.
 #[derive(Drop)]
-struct Told {
+struct ExplainedHistory {
     unknown: Option<Text>,
     tasks: Vec<ExplainedTask>,
 }
 
-/// Nothing is told.
-fn nothing(alloc: Global) -> Told
+/// Nothing is explained.
+fn nothing(alloc: Global) -> ExplainedHistory
     ensures tasks { result.tasks.items ≡ [] }
     ensures unknown { result.unknown ≡ None }
 {
-    Told {
+    ExplainedHistory {
         unknown: None,
         tasks: Vec::new(alloc),
     }
 }
 
-/// A workflow type is told, for which there is no code.
-fn no_code(alloc: Global, kind: &str) -> Result<Told, OutOfMemory>
-    ensures tasks { IfOk result (λ told. told.tasks.items ≡ []) }
-    ensures unknown { IfOk result (λ told. told.unknown ≡ Some kind.now) }
+/// A workflow type is named, for which there is no code.
+fn no_code(alloc: Global, kind: &str) -> Result<ExplainedHistory, OutOfMemory>
+    ensures tasks { IfOk result (λ explained. explained.tasks.items ≡ []) }
+    ensures unknown { IfOk result (λ explained. explained.unknown ≡ Some kind.now) }
 {
-    Ok(Told {
+    Ok(ExplainedHistory {
         unknown: Some(Text::new(String::from_str(alloc, kind)?)),
         tasks: Vec::new(alloc),
     })
 }
 
-/// How a task ends, of whose commands the last has the fault, if there is one.
-fn end_task(
+/// How a task ends that sends these commands, of which the last has the fault, if there is one.
+fn end_with(
     alloc: Global,
     cut: &Cut,
-    script: Script,
+    sent: Vec<Command>,
     fault: Option<WorkflowFault>,
 ) -> Result<Ending, OutOfMemory>
-    requires script { IsOf cut.now script }
-    ensures { let context = context_of cut.now in
-        let sent = sent_ending cut.now.track.now (reduced context script.issued) context.recorded in
-        IfOk result (λ ending. ending ≡ unless_refused fault sent) }
+    requires within { IsWithin cut.now }
+    ensures { let sending = sent_ending cut.now.track.now sent.items (context_of cut.now).recorded in
+        IfOk result (λ ending. ending ≡ unless_refused fault sending) }
 {
     if let Some(_fault) = fault {
         return Ok(Ending::Refused);
     }
-    let sent = script.reduced()?;
-    let Some(events) = cut.recorded else {
+    let Some(events) = cut.recorded() else {
         return Ok(Ending::Live {
             sent: Items::new(sent),
         });
@@ -82,6 +78,36 @@ fn end_task(
     Ok(Ending::Recorded {
         pairings: Items::new(pairings),
     })
+}
+
+/// How a task ends, and what it leaves.
+fn end_task<W: Workflow>(
+    alloc: Global,
+    cut: &Cut,
+    activation: Activation<W>,
+    fault: Option<WorkflowFault>,
+) -> Result<(Ending, ReplayState<W::State>), OutOfMemory>
+    requires within { IsWithin cut.now }
+    requires script { fault ≡ None → IsOf cut.now activation.script }
+    ensures ending { let context = context_of cut.now in
+        let sent = sent_ending cut.now.track.now (reduced context activation.script.issued) context.recorded in
+        IfOk result (λ ended. ended.0 ≡ unless_refused fault sent) }
+    ensures state { IfOk result (λ ended. ended.1.state ≡ activation.state) }
+    ensures versions { IfOk result (λ ended. ended.1.versions ≡ activation.versions) }
+{
+    let ReplayState {
+        state,
+        versions,
+        unsent,
+    } = activation.finish()?;
+    match end_with(alloc, cut, unsent, fault) {
+        Ok(ending) => Ok((ending, sent_state(alloc, state, versions))),
+        Err(full) => {
+            drop(state);
+            drop(versions);
+            Err(full)
+        }
+    }
 }
 
 /// Whether no task follows one that ends so.
@@ -96,89 +122,68 @@ fn stops(ending: &Ending) -> bool
 }
 
 /// Explains the task of a cut after what the tasks before it left. What it leaves is known where
-/// its commands can stand.
+/// no task stops there.
 fn explain_task<W: Workflow>(
     alloc: Global,
     cut: &Cut,
-    reached: &mut Reached<W>,
-) -> Result<ExplainedTask, OutOfMemory>
+    before: ReplayState<W::State>,
+) -> Result<(ExplainedTask, ReplayState<W::State>), OutOfMemory>
     requires within { IsWithin cut.now }
     ensures task { let told = jobs_at cut.now.track.now cut.now.previous cut.now.number in
-        IfOk result (λ task. IsTaskAt W.program cut.now.track.now (context_of cut.now) told cut.now.number
-        reached.old.state reached.old.versions task) }
-    ensures left { let context = context_of cut.now in
-        IfOk result (λ task. fault_in context reached.old.versions [] task.steps ≡ None
-        → Leaves W.program reached.old.state reached.old.versions task.steps reached.new.state reached.new.versions) }
+        IfOk result (λ explained. IsTaskAt W.program cut.now.track.now (context_of cut.now) told cut.now.number
+        before.state before.versions explained.0) }
+    ensures left { IfOk result (λ explained. LeavesTask W.program before.state before.versions
+        explained.0 explained.1.state explained.1.versions) }
 {
     let jobs = jobs(alloc, cut.track, cut.previous, cut.number)?;
-    let mut script = Script::new(alloc, cut.previous, cut.number);
-    let (steps, fault) = reached.run(alloc, cut, &mut script, jobs)?;
-    let ending = end_task(alloc, cut, script, fault)?;
-    Ok(ExplainedTask {
+    let mut activation = Activation::<W>::new(alloc, cut, before);
+    let (steps, fault) = step_all(alloc, cut, &mut activation, jobs)?;
+    let (ending, left) = end_task::<W>(alloc, cut, activation, fault)?;
+    let task = ExplainedTask {
         at: cut.number,
         steps: Items::new(steps),
         ending,
-    })
+    };
+    Ok((task, left))
 }
 
 /// Explains the tasks of a history in their order, up to the first that has a fault.
 fn explain_tasks<W: Workflow>(
     alloc: Global,
     track: &Track,
-    reached: &mut Reached<W>,
+    mut left: ReplayState<W::State>,
 ) -> Result<Vec<ExplainedTask>, OutOfMemory>
     ensures { IfOk result (λ tasks. AreTasks W.program track.now 0 (cuts track.now)
-        reached.old.state reached.old.versions tasks.items) }
+        left.state left.versions tasks.items) }
 {
     let mut tasks = Vec::new(alloc);
     let mut last = 0;
-    while let Some(number) = next_cut(track.events(), last) {
-        let cut = Cut {
-            track,
-            previous: last,
-            number,
-            recorded: record_after(track.events(), number.get() as usize),
-        };
-        let task = explain_task::<W>(alloc, &cut, reached)?;
+    while let Some(cut) = cut_after(track, last) {
+        let (task, next) = explain_task::<W>(alloc, &cut, left)?;
+        left = next;
         let stop = stops(&task.ending);
         tasks.push(task)?;
         if stop {
             return Ok(tasks);
         }
-        last = number.get();
+        last = cut.number.get();
     }
     Ok(tasks)
 }
 
-/// The workflow type of a history.
-fn workflow_of(events: &[Event]) -> &str
-    ensures { result.now ≡ workflow_of events.now }
-{
-    if let Some(event) = events.first()
-        && let EventKind::WorkflowExecutionStarted { workflow, .. } = &event.body
-    {
-        return workflow.get();
-    }
-    ""
-}
-
 /// Explains a history whose events are in place: its tasks, of which there are none where there is
 /// no code for its workflow type.
-fn explain_track<W: Workflow>(alloc: Global, track: &Track) -> Result<Told, OutOfMemory>
-    ensures tasks { IfOk result (λ told. AreTasksPlaced (Some track.now) W.program told.tasks.items) }
-    ensures unknown { IfOk result (λ told. told.unknown ≡ unknown_placed W.program (Some track.now)) }
+fn explain_track<W: Workflow>(alloc: Global, track: &Track) -> Result<ExplainedHistory, OutOfMemory>
+    ensures tasks { IfOk result (λ explained. AreTasksPlaced (Ok track.now) W.program explained.tasks.items) }
+    ensures unknown { IfOk result (λ explained. explained.unknown ≡ unknown_placed W.program (Ok track.now)) }
 {
     let kind = workflow_of(track.events());
     if !W::handles(kind) {
         return no_code(alloc, kind);
     }
-    let mut reached = Reached::<W> {
-        state: W::begin(alloc, kind)?,
-        versions: Versions::new(alloc),
-        meter: Meter::new(),
-    };
-    let tasks = explain_tasks::<W>(alloc, track, &mut reached)?;
-    Ok(Told {
+    let first = start::<W>(alloc, kind)?;
+    let tasks = explain_tasks::<W>(alloc, track, first)?;
+    Ok(ExplainedHistory {
         unknown: None,
         tasks,
     })
@@ -186,21 +191,22 @@ fn explain_track<W: Workflow>(alloc: Global, track: &Track) -> Result<Told, OutO
 
 /// Explains a history: its tasks, of which there are none where its events are not in place, or
 /// where there is no code for its workflow type.
-fn explain_events<W: Workflow>(alloc: Global, events: Vec<Event>) -> Result<Told, OutOfMemory>
-    ensures tasks { IfOk result (λ told. AreTasksOf W.program events.items told.tasks.items) }
-    ensures unknown { IfOk result (λ told. told.unknown ≡ unknown_of W.program events.items) }
+fn explain_events<W: Workflow>(alloc: Global, events: Vec<Event>) -> Result<ExplainedHistory, OutOfMemory>
+    ensures tasks { IfOk result (λ explained. AreTasksOf W.program events.items explained.tasks.items) }
+    ensures unknown { IfOk result (λ explained. explained.unknown ≡ unknown_of W.program events.items) }
 {
-    match track_of(alloc, events)? {
-        Some(track) => explain_track::<W>(alloc, &track),
-        None => Ok(nothing(alloc)),
+    match track_of(alloc, events) {
+        Ok(track) => explain_track::<W>(alloc, &track),
+        Err(RunFault::OutOfMemory) => Err(OutOfMemory),
+        Err(RunFault::Fault(_)) => Ok(nothing(alloc)),
     }
 }
 
 /// Explains the history of a file, of which there is nothing where it can't be read.
 #[tactic(auto, using(wh_tester::proofs::Reading::read_within))]
-fn explain_bytes<W: Workflow>(alloc: Global, bytes: &[u8]) -> Result<Told, OutOfMemory>
-    ensures tasks { IfOk result (λ told. AreTasksIn W.program (history bytes.now) told.tasks.items) }
-    ensures unknown { IfOk result (λ told. told.unknown ≡ unknown_in W.program (history bytes.now)) }
+fn explain_bytes<W: Workflow>(alloc: Global, bytes: &[u8]) -> Result<ExplainedHistory, OutOfMemory>
+    ensures tasks { IfOk result (λ explained. AreTasksIn W.program (history bytes.now) explained.tasks.items) }
+    ensures unknown { IfOk result (λ explained. explained.unknown ≡ unknown_in W.program (history bytes.now)) }
     ensures memory { IfErr result (λ _. length bytes.now ≤ longest) }
 {
     match read_events(alloc, bytes) {
@@ -240,7 +246,7 @@ pub fn explain<W: Workflow>(
     ensures verdict { IfOk result (λ explained. IsVerdict W.program bytes.now explained.line.verdict) }
     ensures memory { IfErr result (λ _. length bytes.now ≤ longest) }
 {
-    let Told { unknown, tasks } = explain_bytes::<W>(alloc, bytes)?;
+    let ExplainedHistory { unknown, tasks } = explain_bytes::<W>(alloc, bytes)?;
     Ok(Explanation {
         unknown,
         tasks: Items::new(tasks),

@@ -2,8 +2,6 @@
 //! record has beside it, up to the first difference.
 #![tactic(auto)]
 
-mod activation;
-mod cut;
 mod explaining;
 mod explanation;
 mod json_lines;
@@ -11,10 +9,9 @@ mod keys;
 pub mod laws;
 mod pairing;
 mod phrase;
-mod records;
 mod showing;
+mod stepping;
 mod times;
-mod tracking;
 
 pub use explaining::explain;
 pub use explanation::{Ending, ExplainedTask, Explanation, Pairing, RecordedEvent, Step};

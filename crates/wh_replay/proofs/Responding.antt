@@ -1,13 +1,17 @@
 -- The commands of a step, issued one after another, and the answer to what the last one asks.
-use Rattle.std.proofs.Common.{◌≡◌, ℕ, ◌-◌, Bool, true, false, not, List, [], ◌∷◌, ◌++◌, length, slice_get, Option, Some, None, Result, Ok, Err, ℤ, refl, sym, ap, ◌∙◌, subst, arith, append-nil, length-append}
+use Rattle.std.proofs.Common.{◌≡◌, ℕ, ◌+◌, ◌-◌, Bool, true, false, not, List, [], ◌∷◌, ◌++◌, length, slice_get, Option, Some, None, Result, Ok, Err, ℤ, refl, sym, ap, ◌∙◌, subst, arith, append_assoc, append-nil, length-append}
 use Rattle.wh_events.specs.declared.event.Event.{Event}
 use Rattle.wh_workflow.specs.declared.command.Command.{Command}
 use Rattle.wh_workflow.specs.declared.command.Command.TheVariants.{Ask, Marker}
 use Rattle.wh_workflow.specs.declared.job.Job.TheVariants.{Version}
 use Rattle.wh_workflow.specs.declared.fault.WorkflowFault.{WorkflowFault}
+use Rattle.wh_events.specs.Machines.{or_else}
 use Rattle.wh_workflow.specs.Law.{is_ask, is_marker, asks_last, records_none}
 use Rattle.wh_workflow.specs.Scripts.{ActivationContext, Settled, act_of, choice_of, with_version, command_fault, reduced}
 use Rattle.wh_workflow.specs.Activations.{and_then, unless_fault, Script, issue_all, question_in, question_at, question_of, marker_if, Reply, reply, respond, Progress}
+use Rattle.wh_workflow.specs.ActivationScripts.{first_fault}
+use Rattle.wh_workflow.proofs.Judging.{neither}
+use Rattle.std.specs.Prelude.{IfErr}
 use Rattle.wh_match.specs.declared.fault.ScriptFault.{ScriptFault}
 use Rattle.wh_match.specs.declared.fault.ScriptFault.TheVariants.{Workflow, OutOfMemory}
 use Rattle.wh_match.specs.Faults.{workflow_fault}
@@ -17,10 +21,12 @@ use Rattle.wh_workflow.specs.declared.fault.Mismatch.{Mismatch}
 use Rattle.wh_workflow.specs.Names.{mismatch}
 use Rattle.wh_replay.specs.declared.fault.Fault.TheVariants.{Mismatch as Mismatched}
 use Rattle.wh_replay.specs.Replays.{reached, close_task, unless_mismatch}
+use Rattle.wh_replay.specs.declared.activation.StepFault.{StepFault}
 use Rattle.wh_replay.specs.declared.cut.Cut.{Cut}
 use Rattle.wh_replay.specs.Views.{context_of, script}
-use Rattle.wh_replay.specs.Activating.{Gives, IsPlain, IsOf}
+use Rattle.wh_replay.specs.Activating.{Gives, StopsBy, StopsAt, IsPlain, IsOf, fault_alone}
 use Rattle.wh_replay.proofs.Confirming.{and_parts}
+use Rattle.wh_replay.proofs.Settling.{issued_all}
 use Rattle.wh_replay.proofs.Stepping.{slice_get-seam}
 
 not_true : (b : Bool) → not b ≡ true → b ≡ false
@@ -107,6 +113,79 @@ refused_one B context settled issued command rest OutOfMemory seen whole is e = 
 pub issued_one : (context : ActivationContext) (settled : Settled) (issued more : List Command) (command : Command) (rest : List Command) → command_fault context settled issued command ≡ None → more ≡ issued ++ command ∷ []
     → issue_all context (script settled more) rest ≡ issue_all context (script settled issued) (command ∷ rest)
 issued_one context settled issued more command rest none is = ap (λ l. issue_all context (script settled l) rest) is ∙ sym (ap (λ o. unless_fault o (issue_all context (script settled (issued ++ command ∷ [])) rest)) none)
+
+-- after commands that can stand, what follows is judged
+stands_then : (context : ActivationContext) (settled : Settled) (earlier front rest : List Command) → first_fault context settled earlier front ≡ None → first_fault context settled earlier (front ++ rest) ≡ first_fault context settled (earlier ++ front) rest
+stands_then context settled earlier [] rest none = ap (λ l. first_fault context settled l rest) (sym (append-nil earlier))
+stands_then context settled earlier (command ∷ front) rest none =
+    let next = earlier ++ command ∷ [] in
+    let parts = neither (command_fault context settled earlier command) (first_fault context settled next front) none in
+    ap (λ o. or_else o (first_fault context settled next (front ++ rest))) parts.0
+    ∙ (stands_then context settled next front rest parts.1 ∙ ap (λ l. first_fault context settled l rest) (append_assoc earlier (command ∷ []) front))
+
+-- one more command can stand
+pub stands_one : (context : ActivationContext) (settled : Settled) (earlier front issued : List Command) (command : Command) → issued ≡ earlier ++ front → first_fault context settled earlier front ≡ None → command_fault context settled issued command ≡ None
+    → first_fault context settled earlier (front ++ command ∷ []) ≡ None
+stands_one context settled earlier front issued command is none fits =
+    stands_then context settled earlier front (command ∷ []) none ∙ ap (λ o. or_else o None) (ap (λ l. command_fault context settled l command) (sym is) ∙ fits)
+
+-- the next one can't
+pub stops_by : (A : Type 0) (context : ActivationContext) (settled : Settled) (earlier front issued rest whole : List Command) (command : Command) (place : ℕ) (fault : ScriptFault) → whole ≡ front ++ command ∷ rest → place ≡ length front + 1 → issued ≡ earlier ++ front
+    → first_fault context settled earlier front ≡ None → workflow_fault {A = A} (Err fault) ≡ command_fault context settled issued command → StopsBy fault context settled earlier whole place
+stops_by A context settled earlier front issued rest whole command place (Workflow fault) parts size is none faulty = record {
+  front = front;
+  command = command;
+  rest = rest;
+  parts = parts;
+  place_is = size;
+  stands = none;
+  faulty = ap (λ l. command_fault context settled l command) (sym is) ∙ sym faulty;
+}
+stops_by A context settled earlier front issued rest whole command place OutOfMemory parts size is none faulty = tt
+
+-- nor does it where more follow
+pub stops_sooner : (context : ActivationContext) (settled : Settled) (earlier commands more whole : List Command) (place : ℕ) (fault : ScriptFault) → whole ≡ commands ++ more → StopsBy fault context settled earlier commands place → StopsBy fault context settled earlier whole place
+stops_sooner context settled earlier commands more whole place (Workflow fault) is stop = record {
+  front = stop.front;
+  command = stop.command;
+  rest = stop.rest ++ more;
+  parts = is ∙ (ap (λ l. l ++ more) stop.parts ∙ append_assoc stop.front (stop.command ∷ stop.rest) more);
+  place_is = stop.place_is;
+  stands = stop.stands;
+  faulty = stop.faulty;
+}
+stops_sooner context settled earlier commands more whole place OutOfMemory is stop = tt
+
+-- commands that are all issued can stand
+all_stand : (context : ActivationContext) (settled : Settled) (earlier commands : List Command) (next : Script) → issue_all context (script settled earlier) commands ≡ Ok next → first_fault context settled earlier commands ≡ None
+all_stand context settled earlier [] next e = refl
+all_stand context settled earlier (command ∷ rest) next e = by (command_fault context settled earlier command) e (all_stand context settled (earlier ++ command ∷ []) rest next)
+  where
+    by : (fault : Option WorkflowFault) → unless_fault fault (issue_all context (script settled (earlier ++ command ∷ [])) rest) ≡ Ok next
+        → (issue_all context (script settled (earlier ++ command ∷ [])) rest ≡ Ok next → first_fault context settled (earlier ++ command ∷ []) rest ≡ None) → or_else fault (first_fault context settled (earlier ++ command ∷ []) rest) ≡ None
+    by None e later = later e
+    by (Some fault) e later = cc
+
+last_faulty : (context : ActivationContext) (settled : Settled) (issued : List Command) (command : Command) (found : Option WorkflowFault) (fault : WorkflowFault)
+    → and_then (unless_fault found (Ok (script settled (issued ++ command ∷ [])))) (λ next. Ok (reply context next (question_of (command ∷ [])))) ≡ Err fault → Some fault ≡ found
+last_faulty context settled issued command None fault e = cc
+last_faulty context settled issued command (Some other) fault e = cc
+
+-- the last of the commands can't stand
+pub stops_last : {A : Type 0} (result : Result A StepFault) (answer : Result A ScriptFault) (context : ActivationContext) (settled : Settled) (earlier front whole : List Command) (last : Command) (next : Script) (place : ℕ) (seen : A → Reply)
+    → fault_alone result ≡ answer → IfErr result (λ stop. stop.place ≡ place) → place ≡ length front + 1 → whole ≡ front ++ last ∷ [] → issue_all context (script settled earlier) front ≡ Ok next
+    → Gives answer (respond context next (last ∷ [])) seen → IfErr result (StopsAt context settled earlier whole)
+stops_last (Ok x) answer context settled earlier front whole last next place seen same places size parts stands gives = tt
+stops_last {A} (Err stop) answer context settled earlier front whole last next place seen same places size parts stands gives =
+    by stop.fault (let P : Result A ScriptFault → Type 0 = λ r. Gives r (respond context next (last ∷ [])) seen in subst P (sym same) gives)
+  where
+    by : (fault : ScriptFault) → Gives {A = A} (Err fault) (respond context next (last ∷ [])) seen → StopsBy fault context settled earlier whole stop.place
+    by (Workflow fault) e =
+        let both = issued_all context (script settled earlier) front next stands in
+        let found = last_faulty context next.settled next.issued last (command_fault context next.settled next.issued last) fault e in
+        stops_by A context settled earlier front next.issued [] whole last stop.place (Workflow fault) parts (places ∙ size) both.1 (all_stand context settled earlier front next stands)
+        (found ∙ ap (λ (s : Settled). command_fault context s next.issued last) both.0)
+    by OutOfMemory e = tt
 
 -- an answer to what equals the whole is one to the whole
 pub gives_along : {A B : Type 0} (result : Result A ScriptFault) (defined whole : Result B WorkflowFault) (seen : A → B) → whole ≡ defined → Gives result defined seen → Gives result whole seen

@@ -19,6 +19,7 @@ use Rattle.wh_replay.specs.declared.fault.Fault.{Fault}
 use Rattle.wh_replay.specs.Replays.{ReplayResult, task, task_after, begin_at, replay_after}
 use Rattle.wh_replay.specs.declared.cut.Cut.{Cut}
 use Rattle.wh_replay.specs.Views.{context_of, context_after, task_of}
+use Rattle.wh_replay.specs.Activating.{IsCutAfter}
 use Rattle.wh_replay.specs.Checks.{ends_live}
 
 -- none of the first events is a cut, where the history goes on with the rest
@@ -152,14 +153,6 @@ next_is events last number placed low h =
       lives = p.lives ∙ ap (λ l. cond (is_recorded l) (ends_live l) true) (sym more);
     }
 
--- the next cut, where a look after the last one finds it
-pub next_seen : (events seen : List Event) (last number : ℕ) (found : Option ℕ) → seen ≡ events → fault_after [] events ≡ None → last ≤ length events → found ≡ first_of (cuts (drop last seen)) → found ≡ Some number → IsNext events last number
-next_seen events seen last number found same placed low is some = next_is events last number placed low (ap (λ l. first_of (cuts (drop last l))) (sym same) ∙ (sym is ∙ some))
-
--- no cut is left, where such a look finds none
-pub none_left : (events seen : List Event) (last : ℕ) (found : Option ℕ) → seen ≡ events → found ≡ first_of (cuts (drop last seen)) → found ≡ None → first_of (cuts (drop last events)) ≡ None
-none_left events seen last found same is none = ap (λ l. first_of (cuts (drop last l))) (sym same) ∙ (sym is ∙ none)
-
 first_none : (numbers : List ℕ) → first_of numbers ≡ None → numbers ≡ []
 first_none [] e = refl
 first_none (number ∷ rest) e = cc
@@ -227,13 +220,11 @@ module _ {S : Type 0} (program : Program S) where
   task_at events last number current = let context = context_after events last number in task_after events context number (activate program context (jobs_at events last number) (begin_at current))
 
   -- the task at a cut of the code is that at its number
-  pub task_here : (cut : Cut) (current : ReplayResult S) → (context_of cut).recorded ≡ (context_after cut.track.now cut.previous cut.number).recorded → task_of program cut current ≡ task_at cut.track.now cut.previous cut.number current
-  task_here cut current e =
-      let events = cut.track.now in
-      let P : Option (List Event) → Result (ReplayResult S) Fault
-      = λ recorded.
-      let context : ActivationContext = record { seen = take cut.number events; between = events_between events cut.previous cut.number; recorded = recorded } in task_after events context cut.number (activate program context (jobs_at events cut.previous cut.number) (begin_at current)) in
-      ap P e
+  pub task_here : (events : List Event) (last : ℕ) (cut : Cut) (current : ReplayResult S) → IsCutAfter events last cut → task_of program cut current ≡ task_at events last cut.number current
+  task_here events last cut current is =
+      let F : List Event → ℕ → ActivationContext → Result (ReplayResult S) Fault
+      = λ history previous context. task_after history context cut.number (activate program context (jobs_at history previous cut.number) (begin_at current)) in
+      ap (λ history. F history cut.previous (context_of cut)) is.history ∙ (ap (λ previous. F events previous (context_of cut)) is.previous ∙ ap (F events last) is.context)
 
   -- the next cut of a history, and what follows it
   pub walk_next : (events : List Event) (last number : ℕ) (current : ReplayResult S) → IsNext events last number

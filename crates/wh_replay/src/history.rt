@@ -6,10 +6,11 @@ ghost use Rattle.wh_replay.specs.Replays.{ends_in_task};
 ghost use Rattle.wh_replay.specs.Runs.{IsReplayed, run_of, steps, advance_steps, status_in};
 ghost use Rattle.wh_replay.specs.Advances.{GivesHistory};
 
-use crate::checking::{ReplayState, replay};
+use crate::checking::replay;
 use crate::continuing::{ends_in_task, replay_joined};
 use crate::fault::{Fault, RunFault};
 use crate::pushing::push_all;
+use crate::state::ReplayState;
 use std::alloc::Global;
 use std::marker::Model;
 use wh_events::{Event, EventNo, MOST_EVENTS, Status};
@@ -71,7 +72,10 @@ impl<W: Workflow> ReplayedHistory<W> {
         ensures meter { OnOk result (meter.new ≡ risen meter.old (advance_steps W.program self.events events.items)) }
         ensures never_lowered { meter.old ≤ meter.new }
     {
-        let ReplayedHistory { mut track, replayed } = self;
+        let ReplayedHistory {
+            mut track,
+            replayed,
+        } = self;
         let held = track.len();
         if let Err(fault) = push_all(&mut track, events) {
             drop(replayed);

@@ -11,10 +11,16 @@ mod history;
 pub mod laws;
 mod pushing;
 mod run;
+mod state;
 
-pub use checking::check;
+pub use activation::{Activation, StepFault};
+pub use checking::{check, workflow_of};
 pub use continuing::ends_in_task;
+pub use cut::{Cut, Span};
+pub use cuts::cut_after;
 pub use fault::{Checked, Fault, RunFault};
 pub use history::ReplayedHistory;
-pub use run::{AdvanceFault, Answer, Run};
+pub use pushing::track_of;
+pub use run::{AdvanceFault, Answer, Run, copy_commands};
+pub use state::{ReplayState, sent_state, start};
 pub use wh_match::Versions;

@@ -34,8 +34,9 @@ pub(crate) fn push_all(track: &mut Track, events: Vec<Event>) -> Result<(), RunF
     }
 }
 
-/// A track of the events of a history, or the first fault of their places.
-pub(crate) fn track_of(alloc: Global, events: Vec<Event>) -> Result<Track, RunFault>
+/// A track of the events of a history, or the first fault of their places, which is that of the
+/// first place where there are none. `OutOfMemory` may come in its place.
+pub fn track_of(alloc: Global, events: Vec<Event>) -> Result<Track, RunFault>
     ensures { Answers result (in_place (history_fault events.items) events.items) (λ track. track) }
 {
     if events.is_empty() {

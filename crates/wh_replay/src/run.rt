@@ -67,8 +67,8 @@ pub enum Answer {
     Fail(Fault),
 }
 
-/// Copies of the commands.
-fn copy_commands(alloc: Global, commands: &[Command]) -> Result<Vec<Command>, OutOfMemory>
+/// Copies of the commands. `OutOfMemory` where an allocation was refused.
+pub fn copy_commands(alloc: Global, commands: &[Command]) -> Result<Vec<Command>, OutOfMemory>
     ensures { IfOk result (λ copies. copies.items ≡ commands.now) }
 {
     let mut copies = Vec::new(alloc);

@@ -1,26 +1,22 @@
-use Rattle.std.proofs.Common.{◌≡◌, ◌∙◌, ap}
-use Rattle.wh_events.specs.Cuts.{commanded}
+use Rattle.std.proofs.Common.{◌∙◌, ap}
 use Rattle.wh_workflow.specs.Scripts.{reduced}
-use Rattle.wh_explain.specs.Pairings.{pairings}
-use Rattle.wh_explain.specs.Walking.{context_of}
-use Rattle.wh_explain.proofs.Issuing.{sent_is}
-use Rattle.wh_explain.proofs.Tasks.{live_ending, recorded_ending}
+use Rattle.wh_replay.specs.Replays.{ReplayResult}
+use Rattle.wh_replay.specs.Views.{context_of}
+use Rattle.wh_replay.proofs.Responding.{sent_is}
+use Rattle.wh_explain.proofs.Tasks.{same_ending}
 use Rattle.wh_explain.proofs.explaining.end_task.Goals as goal
 
-pub returns-in_default-recorded : goal.returns-in_default-recorded
-returns-in_default-recorded c =
+pub returns-in-Ok-clause-ending : goal.returns-in-Ok-clause-ending
+returns-in-Ok-clause-ending g c =
     let cut = c.args.cut.now in
-    let sent = reduced (context_of cut) c.args.script.issued in
-    live_ending cut.track.now sent c.new.result c.args.fault cut.recorded (λ events. commanded events.now) c.in_default.is c.in_default-recorded.is (c.new.ensures ∙ sent_is cut c.args.script c.in_ok-sent.sent.items c.requires.script c.in_ok-sent.ensures)
+    let context = context_of cut in
+    let script = c.args.activation.script in
+    let sent = c.in_ok-state.field-0.unsent.items in
+    let left = ap (λ (u : ReplayResult _). u.unsent) (c.in_ok-state.ensures 0) in
+    c.in-Ok.ensures ∙ same_ending c.args.fault cut.track.now sent (reduced context script.issued) context.recorded (λ none. sent_is cut script sent (c.requires.script none) left)
 
-pub returns : goal.returns
-returns c =
-    let cut = c.args.cut.now in
-    let sent = reduced (context_of cut) c.args.script.issued in
-    let there = commanded c.in-Some-recorded.events.now in
-    let shown : c.new-2.result ≡ pairings cut.track.now sent there
-    = c.new-2.ensures
-    ∙ (c.in_ok-pairings.ensures
-    ∙ (ap (λ history. pairings history c.as_slice.result.now there) c.events.ensures.events
-    ∙ ap (λ l. pairings cut.track.now l there) (c.as_slice.ensures.value ∙ sent_is cut c.args.script c.in_ok-sent.sent.items c.requires.script c.in_ok-sent.ensures))) in
-    recorded_ending cut.track.now sent c.new-2.result c.args.fault cut.recorded c.in-Some-recorded.events (λ events. commanded events.now) c.in_default.is c.in-Some-recorded.is shown
+pub returns-in-Ok-clause-state : goal.returns-in-Ok-clause-state
+returns-in-Ok-clause-state g c = ap (λ (u : ReplayResult _). u.state) (c.sent_state.ensures 0) ∙ ap (λ (u : ReplayResult _). u.state) (c.in_ok-state.ensures 0)
+
+pub returns-in-Ok-clause-versions : goal.returns-in-Ok-clause-versions
+returns-in-Ok-clause-versions g c = ap (λ (u : ReplayResult _). u.settled) (c.sent_state.ensures 0) ∙ ap (λ (u : ReplayResult _). u.settled) (c.in_ok-state.ensures 0)

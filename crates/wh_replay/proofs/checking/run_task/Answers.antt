@@ -14,5 +14,5 @@ returns-in-Ok-clause-ran g c =
     let after = task_after cut.track.now place cut.number in
     answers_along c.step_task.result _ (task_of program cut before) _
     (ap (λ l. after (activate program place l (begin_at before))) (sym (c.as_slice.ensures.value ∙ c.in-Ok.ensures))
-    ∙ ap (λ p. after (activate program place c.as_slice.result.now p)) (sym (c.activation_at-activation.ensures.progress c.args.meter.now)))
+    ∙ ap (λ p. after (activate program place c.as_slice.result.now p)) (sym (c.new-activation.ensures.progress c.args.meter.now)))
     c.step_task.ensures.stepped

@@ -1,0 +1,41 @@
+-- The steps of an activation, one after another, with what is shown of each.
+use Rattle.std.specs.Prelude.{◌≡◌, ℕ, List, [], ◌∷◌, ◌++◌, Option, Some, None, Result, Ok, Err}
+use Rattle.wh_workflow.specs.declared.command.Command.{Command}
+use Rattle.wh_workflow.specs.declared.job.Job.{Job}
+use Rattle.wh_workflow.specs.declared.fault.WorkflowFault.{WorkflowFault}
+use Rattle.wh_workflow.specs.Law.{Program}
+use Rattle.wh_workflow.specs.Scripts.{ActivationContext, Settled}
+use Rattle.wh_workflow.specs.Activations.{Progress}
+use Rattle.wh_workflow.specs.ActivationScripts.{Step, fault_in, issued_in, settled_after, state_after}
+use Rattle.wh_match.specs.declared.fault.ScriptFault.{ScriptFault}
+use Rattle.wh_match.specs.declared.fault.ScriptFault.TheVariants.{Workflow, OutOfMemory}
+use Rattle.wh_replay.specs.Activating.{StopsAfter}
+
+module _ {S : Type 0} where
+  -- of the commands that the workflow gives at a job all are shown, or, where one of them can't
+  -- stand, those before it and that one; nothing is said where memory ran out
+  abbrev pub Shows : {A : Type 0} → Result A ScriptFault → Program S → ActivationContext → Progress S → Job → List Command → Type 0
+  Shows (Ok _) program context progress job shown = shown ≡ program.gives progress.state job
+  Shows (Err (Workflow fault)) program context progress job shown =
+      let script = progress.script in
+      (place : ℕ) × (stop : StopsAfter context script.settled script.issued (program.gives progress.state job) place fault)
+      × (shown ≡ stop.front ++ stop.command ∷ [])
+  Shows (Err OutOfMemory) program context progress job shown = Unit {0}
+
+  -- the job is a step more, with the commands that are shown
+  abbrev pub AddsStep : {A : Type 0} → Result A ScriptFault → Program S → ActivationContext → Progress S → Job → List Step → List Step → Type 0
+  AddsStep (Ok _) program context progress job before after =
+      after ≡ before ++ record { job = job; commands = program.gives progress.state job } ∷ []
+  AddsStep {A} (Err (Workflow fault)) program context progress job before after =
+      (shown : List Command) × (after ≡ before ++ record { job = job; commands = shown } ∷ [])
+      × Shows {A = A} (Err (Workflow fault)) program context progress job shown
+  AddsStep (Err OutOfMemory) program context progress job before after = Unit {0}
+
+  -- the steps have this fault; where they have none, they leave this state, these versions and
+  -- these issued commands
+  pub record Leaves (program : Program S) (context : ActivationContext) (state : S) (settled : Settled)
+      (steps : List Step) (fault : Option WorkflowFault) (left : S) (versions : Settled) (issued : List Command) : Type 0 where
+    pub fault_is : fault ≡ fault_in context settled [] steps
+    pub left_is : fault ≡ None → left ≡ state_after program state steps
+    pub versions_are : fault ≡ None → versions ≡ settled_after settled steps
+    pub issued_are : fault ≡ None → issued ≡ issued_in context settled steps

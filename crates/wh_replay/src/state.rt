@@ -1,0 +1,54 @@
+//! What the tasks of a history leave.
+ghost use Rattle.std.specs.Prelude.{◌≡◌, ℕ, true, [], IfOk};
+ghost use Rattle.wh_replay.specs.Replays.{start};
+ghost use Rattle.wh_replay.specs.Checks.{replay_result};
+ghost use Rattle.wh_replay.specs.Views.{replay_result_of};
+
+use std::alloc::Global;
+use wh_events::OutOfMemory;
+use wh_match::Versions;
+use wh_workflow::{Command, Workflow};
+
+/// What the tasks of a history leave. Contracts see it, on a meter, as a `ReplayResult`.
+#[derive(Drop)]
+pub struct ReplayState<S> {
+    /// The state of the workflow.
+    pub state: S,
+    /// The versions that are settled.
+    pub versions: Versions,
+    /// The commands of the last task, where that is live.
+    pub unsent: Vec<Command>,
+}
+
+/// What tasks leave of which nothing is unsent.
+pub fn sent_state<S>(alloc: Global, state: S, versions: Versions) -> ReplayState<S>
+    ensures { (meter : ℕ) → replay_result_of result meter ≡ replay_result state versions [] meter }
+{
+    ReplayState {
+        state,
+        versions,
+        unsent: Vec::new(alloc),
+    }
+}
+
+/// What there is before the first task of a history of the workflow type `kind`. `OutOfMemory`
+/// where an allocation was refused.
+pub fn start<W: Workflow>(alloc: Global, kind: &str) -> Result<ReplayState<W::State>, OutOfMemory>
+    requires { W.program.knows kind.now ≡ true }
+    ensures { (meter : ℕ) → IfOk result (λ first. replay_result_of first meter ≡ start W.program kind.now meter) }
+{
+    let state = W::begin(alloc, kind)?;
+    Ok(sent_state(alloc, state, Versions::new(alloc)))
+}
+
+/// What is left as the unsent commands are sent.
+pub(crate) fn sent<S>(alloc: Global, replayed: ReplayState<S>) -> ReplayState<S>
+    ensures { (meter : ℕ) → replay_result_of result meter ≡ replay_result replayed.state replayed.versions [] meter }
+{
+    let ReplayState {
+        state,
+        versions,
+        ..
+    } = replayed;
+    sent_state(alloc, state, versions)
+}
