@@ -44,13 +44,6 @@ shows_fault A (Workflow fault) program context now job given shown issued settle
 )
 shows_fault A OutOfMemory program context now job given shown issued settled place gave settles issues is stop = tt
 
--- the step is added
-pub adds_step : {S A : Type 0} (result : Result A ScriptFault) (program : Program S) (context : ActivationContext) (now : Progress S) (job : Job) (before after : List Step) (shown : List Command) → after ≡ before ++ record { job = job; commands = shown } ∷ []
-    → Shows result program context now job shown → AddsStep result program context now job before after
-adds_step (Ok x) program context now job before after shown is e = is ∙ ap (λ (commands : List Command). before ++ record { job = job; commands = commands } ∷ []) e
-adds_step (Err (Workflow fault)) program context now job before after shown is e = (shown, is, e)
-adds_step (Err OutOfMemory) program context now job before after shown is e = tt
-
 same_outcome : {A : Type 0} (one other : Option WorkflowFault) (a b : A) → ok_unless one a ≡ ok_unless other b → (one ≡ other) × (one ≡ None → a ≡ b)
 same_outcome None None a b e = (refl, λ none. ok_same a b e)
 same_outcome None (Some fault) a b e = cc

@@ -191,7 +191,10 @@ fn explain_track<W: Workflow>(alloc: Global, track: &Track) -> Result<ExplainedH
 
 /// Explains a history: its tasks, of which there are none where its events are not in place, or
 /// where there is no code for its workflow type.
-fn explain_events<W: Workflow>(alloc: Global, events: Vec<Event>) -> Result<ExplainedHistory, OutOfMemory>
+fn explain_events<W: Workflow>(
+    alloc: Global,
+    events: Vec<Event>,
+) -> Result<ExplainedHistory, OutOfMemory>
     ensures tasks { IfOk result (λ explained. AreTasksOf W.program events.items explained.tasks.items) }
     ensures unknown { IfOk result (λ explained. explained.unknown ≡ unknown_of W.program events.items) }
 {

@@ -3,11 +3,10 @@ use Rattle.std.proofs.Common.{◌≡◌, ℕ, ◌+◌, ◌-◌, Bool, true, fals
 use Rattle.wh_events.specs.declared.event.Event.{Event}
 use Rattle.wh_workflow.specs.declared.command.Command.{Command}
 use Rattle.wh_workflow.specs.declared.command.Command.TheVariants.{Ask, Marker}
-use Rattle.wh_workflow.specs.declared.job.Job.TheVariants.{Version}
 use Rattle.wh_workflow.specs.declared.fault.WorkflowFault.{WorkflowFault}
 use Rattle.wh_events.specs.Machines.{or_else}
 use Rattle.wh_workflow.specs.Law.{is_ask, is_marker, asks_last, records_none}
-use Rattle.wh_workflow.specs.Scripts.{ActivationContext, Settled, act_of, choice_of, with_version, command_fault, reduced}
+use Rattle.wh_workflow.specs.Scripts.{ActivationContext, Settled, act_of, choice_of, command_fault, reduced}
 use Rattle.wh_workflow.specs.Activations.{and_then, unless_fault, Script, issue_all, question_in, question_at, question_of, marker_if, Reply, reply, respond, Progress}
 use Rattle.wh_workflow.specs.ActivationScripts.{first_fault}
 use Rattle.wh_workflow.proofs.Judging.{neither}
@@ -71,43 +70,6 @@ respond-push context s front last =
     ap (λ question. and_then (issue_all context s (front ++ last ∷ [])) (λ next. Ok (reply context next question))) (question_of-push front last)
     ∙ (ap (λ r. and_then r (λ next. Ok (reply context next (question_in last)))) (issue_all-push context s front last)
     ∙ and_then_twice (issue_all context s front) (λ next. issue_all context next (last ∷ [])) (λ next. Ok (reply context next (question_in last))))
-
-question_plain : (command : Command) → is_ask command ≡ false → question_in command ≡ None
-question_plain (Ask _ _ _) h = cc
-question_plain _ h = refl
-
--- a plain command that can stand
-pub plain_ok : (context : ActivationContext) (settled : Settled) (issued more : List Command) (command : Command) → command_fault context settled issued command ≡ None → is_ask command ≡ false → more ≡ issued ++ command ∷ []
-    → respond context (script settled issued) (command ∷ []) ≡ Ok (record { script = script settled more; next = None })
-plain_ok context settled issued more command none plain is =
-    ap (λ fault. and_then (unless_fault fault (Ok (script settled (issued ++ command ∷ [])))) (λ next. Ok (reply context next (question_in command)))) none
-    ∙ (ap (λ question. Ok (reply context (script settled (issued ++ command ∷ [])) question)) (question_plain command plain)
-    ∙ ap (λ l. let r : Reply = record { script = script settled l; next = None } in Ok r) (sym is))
-
--- an ask that can stand
-pub asked_ok : (context : ActivationContext) (settled after : Settled) (issued more : List Command) (change_id : List ℕ) (low high version : ℤ) → command_fault context settled issued (Ask change_id low high) ≡ None
-    → after ≡ with_version settled change_id (choice_of context settled change_id high).version
-    → more ≡ (issued ++ Ask change_id low high ∷ []) ++ marker_if (choice_of context settled change_id high).marked change_id (choice_of context settled change_id high).version → version ≡ (choice_of context settled change_id high).version
-    → respond context (script settled issued) (Ask change_id low high ∷ []) ≡ Ok (record { script = script after more; next = Some (Version change_id version) })
-asked_ok context settled after issued more change_id low high version none settles issues answers =
-    let made : Settled → List Command → ℤ → Result Reply WorkflowFault = λ a l v. Ok (record { script = script a l; next = Some (Version change_id v) }) in
-    let choice = choice_of context settled change_id high in
-    let given = (issued ++ Ask change_id low high ∷ []) ++ marker_if choice.marked change_id choice.version in
-    ap (λ fault. and_then (unless_fault fault (Ok (script settled (issued ++ Ask change_id low high ∷ [])))) (λ next. Ok (reply context next (question_in (Ask change_id low high))))) none
-    ∙ (ap (λ a. made a given choice.version) (sym settles)
-    ∙ (ap (λ l. made after l choice.version) (sym issues) ∙ ap (made after more) (sym answers)))
-
--- a command that can't stand
-pub refused_last : {A : Type 0} (B : Type 0) (context : ActivationContext) (settled : Settled) (issued : List Command) (command : Command) (fault : ScriptFault) (seen : A → Reply) → workflow_fault {A = B} (Err fault) ≡ command_fault context settled issued command
-    → Gives (Err fault) (respond context (script settled issued) (command ∷ [])) seen
-refused_last B context settled issued command (Workflow fault) seen is =
-    ap (λ o. and_then (unless_fault o (Ok (script settled (issued ++ command ∷ [])))) (λ next. Ok (reply context next (question_in command)))) (sym is)
-refused_last B context settled issued command OutOfMemory seen is = tt
-
-pub refused_one : {A : Type 0} (B : Type 0) (context : ActivationContext) (settled : Settled) (issued : List Command) (command : Command) (rest : List Command) (fault : ScriptFault) (seen : A → Script) (whole : Result Script WorkflowFault) → workflow_fault {A = B} (Err fault) ≡ command_fault context settled issued command
-    → issue_all context (script settled issued) (command ∷ rest) ≡ whole → Gives (Err fault) whole seen
-refused_one B context settled issued command rest (Workflow fault) seen whole is e = sym e ∙ ap (λ o. unless_fault o (issue_all context (script settled (issued ++ command ∷ [])) rest)) (sym is)
-refused_one B context settled issued command rest OutOfMemory seen whole is e = tt
 
 -- a command that can stand, and the rest
 pub issued_one : (context : ActivationContext) (settled : Settled) (issued more : List Command) (command : Command) (rest : List Command) → command_fault context settled issued command ≡ None → more ≡ issued ++ command ∷ []
@@ -191,18 +153,12 @@ stops_last {A} (Err stop) answer context settled earlier front whole last next p
 pub gives_along : {A B : Type 0} (result : Result A ScriptFault) (defined whole : Result B WorkflowFault) (seen : A → B) → whole ≡ defined → Gives result defined seen → Gives result whole seen
 gives_along {A} {B} result defined whole seen e gives = let P = λ (r : Result B WorkflowFault). Gives result r seen in subst P (sym e) gives
 
--- what is made of the value
-pub gives_then : {A B C : Type 0} (result : Result A ScriptFault) (defined : Result B WorkflowFault) (seen : A → B) (next : B → C) (whole_seen : A → C) → ((x : A) → next (seen x) ≡ whole_seen x) → Gives result defined seen → Gives result (and_then defined (λ y. Ok (next y))) whole_seen
-gives_then (Ok x) defined seen next whole_seen same gives = ap (λ r. and_then r (λ y. Ok (next y))) gives ∙ ap Ok (same x)
-gives_then (Err (Workflow fault)) defined seen next whole_seen same gives = ap (λ r. and_then r (λ y. Ok (next y))) gives
-gives_then (Err OutOfMemory) defined seen next whole_seen same gives = tt
-
 -- the context of a script is that of its cut
-pub place_is : (cut : Cut) (s : Issuing) → IsOf cut s → context_in cut.track.now s (context_of cut).recorded ≡ context_of cut
+place_is : (cut : Cut) (s : Issuing) → IsOf cut s → context_in cut.track.now s (context_of cut).recorded ≡ context_of cut
 place_is cut s of = ap (λ k. context_at cut.track.now k s.cut (context_of cut).recorded) of.previous ∙ ap (λ k. context_at cut.track.now cut.previous k (context_of cut).recorded) of.number
 
 -- one more command has the mark of its context
-pub issued_late : (context here : ActivationContext) (s next : Issuing) (command : Command) → here ≡ context → s.late ≡ late_marks context s.issued → next ≡ with_issued s command (is_late_act here s.issued (act_of command)) → next.late ≡ late_marks context next.issued
+issued_late : (context here : ActivationContext) (s next : Issuing) (command : Command) → here ≡ context → s.late ≡ late_marks context s.issued → next ≡ with_issued s command (is_late_act here s.issued (act_of command)) → next.late ≡ late_marks context next.issued
 issued_late context here s next command place late is =
     ap (λ (n : Issuing). n.late) is
     ∙ (ap (λ context. s.late ++ is_late_act context s.issued (act_of command) ∷ []) place
@@ -227,7 +183,7 @@ marks_asked context issued change_id low high version false =
     append-nil (late_marks context issued ++ false ∷ []) ∙ (sym (late_marks-push context issued ask) ∙ ap (late_marks context) (sym (append-nil (issued ++ ask ∷ []))))
 
 -- an ask has the mark of none that is late, and so has its marker
-pub asked_late : (context : ActivationContext) (s next : Issuing) (settled : Settled) (change_id : List ℕ) (low high : ℤ) → s.late ≡ late_marks context s.issued → next ≡ with_asked s change_id low high (choice_of context settled change_id high) → next.late ≡ late_marks context next.issued
+asked_late : (context : ActivationContext) (s next : Issuing) (settled : Settled) (change_id : List ℕ) (low high : ℤ) → s.late ≡ late_marks context s.issued → next ≡ with_asked s change_id low high (choice_of context settled change_id high) → next.late ≡ late_marks context next.issued
 asked_late context s next settled change_id low high late is =
     let choice = choice_of context settled change_id high in
     ap (λ (n : Issuing). n.late) is

@@ -1,4 +1,4 @@
-use Rattle.std.proofs.Common.{◌≡◌, ◌∙◌, ℕ, sym, ap, subst, arith, length}
+use Rattle.std.proofs.Common.{◌∙◌, ℕ, sym, ap, subst, arith, length}
 use Rattle.wh_explain.proofs.Tasks.{task_here, no_cut_left, stops_here, goes_past, Continues}
 use Rattle.wh_explain.proofs.explaining.explain_tasks.Goals as goal
 

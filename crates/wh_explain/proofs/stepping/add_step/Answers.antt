@@ -1,1 +1,0 @@
-use Rattle.wh_explain.proofs.stepping.add_step.Goals as goal
