@@ -11,12 +11,12 @@ use crate::explanation::Step;
 use std::alloc::Global;
 use wh_events::OutOfMemory;
 use wh_match::ScriptFault;
-use wh_replay::{Activation, Cut, StepFault, copy_commands};
+use wh_replay::{Activation, Cut, IssueFault, copy_commands};
 use wh_workflow::{Command, Job, Meter, Workflow, WorkflowFault};
 
 /// Steps the workflow by one job, and answers what it asks. The commands that it gives are shown;
 /// where one of them can't stand, those up to it.
-fn tell<W: Workflow>(
+fn step_shown<W: Workflow>(
     alloc: Global,
     cut: &Cut,
     activation: &mut Activation<W>,
@@ -36,7 +36,7 @@ fn tell<W: Workflow>(
     *shown = copy_commands(alloc, given.as_slice())?;
     match activation.respond(cut, given) {
         Ok(next) => Ok(next),
-        Err(StepFault { place, fault }) => {
+        Err(IssueFault { place, fault }) => {
             shown.truncate(place);
             Err(fault)
         }
@@ -68,7 +68,7 @@ fn add_step<W: Workflow>(
         }
     }
     let mut shown = Vec::new(alloc);
-    let answer = tell(alloc, cut, activation, &job, meter, &mut shown);
+    let answer = step_shown(alloc, cut, activation, &job, meter, &mut shown);
     steps.push_reserved(Step::new(job, shown));
     answer
 }

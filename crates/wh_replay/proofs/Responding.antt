@@ -20,7 +20,7 @@ use Rattle.wh_workflow.specs.declared.fault.Mismatch.{Mismatch}
 use Rattle.wh_workflow.specs.Names.{mismatch}
 use Rattle.wh_replay.specs.declared.fault.Fault.TheVariants.{Mismatch as Mismatched}
 use Rattle.wh_replay.specs.Replays.{reached, close_task, unless_mismatch}
-use Rattle.wh_replay.specs.declared.activation.StepFault.{StepFault}
+use Rattle.wh_replay.specs.declared.activation.IssueFault.{IssueFault}
 use Rattle.wh_replay.specs.declared.cut.Cut.{Cut}
 use Rattle.wh_replay.specs.Views.{context_of, script}
 use Rattle.wh_replay.specs.Activating.{Gives, StopsBy, StopsAt, IsPlain, IsOf, fault_alone}
@@ -134,7 +134,7 @@ last_faulty context settled issued command None fault e = cc
 last_faulty context settled issued command (Some other) fault e = cc
 
 -- the last of the commands can't stand
-pub stops_last : {A : Type 0} (result : Result A StepFault) (answer : Result A ScriptFault) (context : ActivationContext) (settled : Settled) (earlier front whole : List Command) (last : Command) (next : Script) (place : ℕ) (seen : A → Reply)
+pub stops_last : {A : Type 0} (result : Result A IssueFault) (answer : Result A ScriptFault) (context : ActivationContext) (settled : Settled) (earlier front whole : List Command) (last : Command) (next : Script) (place : ℕ) (seen : A → Reply)
     → fault_alone result ≡ answer → IfErr result (λ stop. stop.place ≡ place) → place ≡ length front + 1 → whole ≡ front ++ last ∷ [] → issue_all context (script settled earlier) front ≡ Ok next
     → Gives answer (respond context next (last ∷ [])) seen → IfErr result (StopsAt context settled earlier whole)
 stops_last (Ok x) answer context settled earlier front whole last next place seen same places size parts stands gives = tt

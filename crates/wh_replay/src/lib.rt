@@ -13,7 +13,7 @@ mod pushing;
 mod run;
 mod state;
 
-pub use activation::{Activation, StepFault};
+pub use activation::{Activation, IssueFault};
 pub use checking::{check, workflow_of};
 pub use continuing::ends_in_task;
 pub use cut::{Cut, Span};

@@ -3,7 +3,7 @@ use Rattle.wh_match.specs.Issuing.{Issuing}
 use Rattle.wh_workflow.specs.declared.job.Job.{Job}
 use Rattle.wh_replay.specs.Views.{context_of, progress_of}
 use Rattle.wh_explain.proofs.Traced.{shows_fault}
-use Rattle.wh_explain.proofs.stepping.tell.Goals as goal
+use Rattle.wh_explain.proofs.stepping.step_shown.Goals as goal
 
 pub returns-in-Err-clause-shown : goal.returns-in-Err-clause-shown
 returns-in-Err-clause-shown g c =
