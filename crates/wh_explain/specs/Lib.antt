@@ -5,5 +5,6 @@ pub mod Json
 pub mod Tracing
 pub mod Walking
 pub mod Pairings
+pub mod Differences
 pub mod Explaining
 pub mod Laws

@@ -30,9 +30,9 @@ use wh_workflow::{Meter, Workflow, WorkflowFault};
 
 /// What is told of a history.
 #[derive(Drop)]
-struct Told {
-    unknown: Option<Text>,
-    tasks: Vec<ExplainedTask>,
+pub(crate) struct Told {
+    pub(crate) unknown: Option<Text>,
+    pub(crate) tasks: Vec<ExplainedTask>,
 }
 
 /// Nothing is told.
@@ -198,7 +198,7 @@ fn explain_events<W: Workflow>(alloc: Global, events: Vec<Event>) -> Result<Told
 
 /// Explains the history of a file, of which there is nothing where it can't be read.
 #[tactic(auto, using(wh_tester::proofs::Reading::read_within))]
-fn explain_bytes<W: Workflow>(alloc: Global, bytes: &[u8]) -> Result<Told, OutOfMemory>
+pub(crate) fn explain_bytes<W: Workflow>(alloc: Global, bytes: &[u8]) -> Result<Told, OutOfMemory>
     ensures tasks { IfOk result (λ told. AreTasksIn W.program (history bytes.now) told.tasks.items) }
     ensures unknown { IfOk result (λ told. told.unknown ≡ unknown_in W.program (history bytes.now)) }
     ensures memory { IfErr result (λ _. length bytes.now ≤ longest) }

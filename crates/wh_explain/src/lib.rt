@@ -4,6 +4,7 @@
 
 mod activation;
 mod cut;
+mod differences;
 mod explaining;
 mod explanation;
 mod json_lines;
@@ -16,7 +17,8 @@ mod showing;
 mod times;
 mod tracking;
 
+pub use differences::{difference, unknown_type};
 pub use explaining::explain;
 pub use explanation::{Ending, ExplainedTask, Explanation, Pairing, RecordedEvent, Step};
-pub use json_lines::write_json_explanation;
+pub use json_lines::{PairingMembers, write_json_explanation};
 pub use showing::write_explanation;
