@@ -211,8 +211,8 @@ fn serve<
 ) -> Result<u8, Failure>
 where
     F: Drop,
-    requires { IsHost (F.pre host) (leaves (F.setup host)) }
-    ensures { IfOk result (HasServedAll R.gives W.program (leaves (F.setup host)) (sizes_of options) inputs.items lacks
+    requires { IsHost (F.pre host) (leaves (F.post host)) }
+    ensures { IfOk result (HasServedAll R.gives W.program (leaves (F.post host)) (sizes_of options) inputs.items lacks
         (O.contents output.old) (O.contents output.new) E.contents errors.old errors.new) }
 {
     let answer = serve_inputs::<W, R, F, O>(rt, inputs, options, output, host)?;
@@ -312,7 +312,7 @@ where
     F: Drop,
     requires limits { IsWithinLimits plan }
     requires serves { MayServe (F.pre live) }
-    ensures { IfOk result (Obeys W.program (lives (F.setup live)) plan
+    ensures { IfOk result (Obeys W.program (lives (F.post live)) plan
         (O.contents output.old) (O.contents output.new) E.contents errors.old errors.new) }
 {
     match plan {

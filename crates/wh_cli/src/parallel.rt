@@ -26,7 +26,7 @@ pub(crate) fn all_made<
 ) -> Result<Result<(Vec<U>, Vec<FileFault>), E>, OutOfMemory>
     requires { F.IsAlwaysCallable make }
     ensures { IfOk result (λ told. IfOk told (λ parts.
-        AreMade (λ file both. F.setup make file (Ok both)) files.items parts.0.items parts.1.items)) }
+        AreMade (λ file both. F.post make file (Ok both)) files.items parts.0.items parts.1.items)) }
 {
     let Ok(told) = files
         .into_par_iter()

@@ -134,7 +134,7 @@ where
     R::Dir: Send,
     F: Drop,
     requires { MayServe (F.pre live) }
-    ensures { IfOk result (HasObeyed W.program (lives (F.setup live)) (map string_bytes words.now)
+    ensures { IfOk result (HasObeyed W.program (lives (F.post live)) (map string_bytes words.now)
         (O.contents output.old) (O.contents output.new) E.contents errors.old errors.new) }
 {
     let plan = plan(rt.alloc(), words)?;
@@ -155,7 +155,7 @@ where
     R::Dir: Send,
     F: Drop,
     requires { MayServe (F.pre live) }
-    ensures { Answers W.program (lives (F.setup live)) (map string_bytes words.now) output.new.closed
+    ensures { Answers W.program (lives (F.post live)) (map string_bytes words.now) output.new.closed
         (O.contents output.old.writer) (O.contents output.new.writer) E.contents errors.old errors.new result }
 {
     match obeyed::<W, R, Outlet<O>, E, F>(rt, words, live, output, errors) {

@@ -61,8 +61,8 @@ fn serve_all<F: Fn(Config, Vec<ServiceSetup>) -> Result<ServiceHost, OutOfMemory
 ) -> Result<Service, OutOfMemory>
 where
     F: Drop,
-    requires { IsHost (F.pre host) (leaves (F.setup host)) }
-    ensures { IfOk result (IsServiceOf (leaves (F.setup host)) (sizes_of options) (map reading files.items)) }
+    requires { IsHost (F.pre host) (leaves (F.post host)) }
+    ensures { IfOk result (IsServiceOf (leaves (F.post host)) (sizes_of options) (map reading files.items)) }
 {
     let config = options.config();
     let (assigned, sources) = assign_sources(alloc, files, config.seats)?;
@@ -145,8 +145,8 @@ fn serve_read<F: Fn(Config, Vec<ServiceSetup>) -> Result<ServiceHost, OutOfMemor
 ) -> Result<ServiceEnd, CommandFault>
 where
     F: Drop,
-    requires { IsHost (F.pre host) (leaves (F.setup host)) }
-    ensures report { IfOk result (HasServed (leaves (F.setup host)) (sizes_of options) (map reading read.0.items)
+    requires { IsHost (F.pre host) (leaves (F.post host)) }
+    ensures report { IfOk result (HasServed (leaves (F.post host)) (sizes_of options) (map reading read.0.items)
         (O.contents writer.old) (O.contents writer.new)) }
     ensures faults { IfOk result (λ end. end.file_faults.items ≡ read.1.items) }
     ensures unwritten { result ≡ Err CommandFault.OutOfMemory → writer.new ≡ writer.old }
@@ -212,9 +212,9 @@ pub(crate) fn serve_inputs<
 ) -> Result<Result<ServiceEnd, CommandFault>, InputFault>
 where
     F: Drop,
-    requires { IsHost (F.pre host) (leaves (F.setup host)) }
+    requires { IsHost (F.pre host) (leaves (F.post host)) }
     ensures report { IfOk result (λ answer. IfOk answer (HasServedInputs R.gives W.program
-        (leaves (F.setup host)) (sizes_of options) inputs.items (O.contents writer.old) (O.contents writer.new))) }
+        (leaves (F.post host)) (sizes_of options) inputs.items (O.contents writer.old) (O.contents writer.new))) }
     ensures unread { OnErr result (writer.new ≡ writer.old) }
     ensures unwritten { result ≡ Ok (Err CommandFault.OutOfMemory) → writer.new ≡ writer.old }
 {

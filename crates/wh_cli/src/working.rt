@@ -123,7 +123,7 @@ where
     F: Drop,
     requires limits { IsWithinWorkLimits options }
     requires serves { MayServe (F.pre live) }
-    ensures { IfOk result (HasWorked (lives (F.setup live)) options E.contents errors.old errors.new) }
+    ensures { IfOk result (HasWorked (lives (F.post live)) options E.contents errors.old errors.new) }
 {
     let Ok(plan) = live_plan(alloc, options) else {
         drop(live);

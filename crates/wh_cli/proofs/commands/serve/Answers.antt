@@ -7,7 +7,7 @@ use Rattle.wh_cli.proofs.commands.serve.Goals as goal
 -- what was written of the service stays, and the rest is told after it
 pub returns : goal.returns
 returns g c =
-    let hosts : HostsBy = λ config setups end. g.F.Fn.setup c.args.host (config, (setups, tt)) (Ok end) in
+    let hosts : HostsBy = λ config setups end. g.F.Fn.post c.args.host (config, (setups, tt)) (Ok end) in
     served_all g.R.ReadsInputs.gives g.W.Workflow.program hosts (sizes_of c.args.options) c.args.inputs.items c.args.lacks
     (g.O.Write.contents c.args.output.now) (g.O.Write.contents c.serve_inputs.new.writer) (g.O.Write.contents c.served.new.output)
     g.E.Write.contents c.args.errors.now c.served.new.errors c.in_ok-answer.answer c.served.result

@@ -9,7 +9,7 @@ use Rattle.wh_cli.proofs.serving.serve_all.Goals as goal
 -- what is gathered is the service of a host that was run on setups over what its workers were assigned
 pub returns : goal.returns
 returns g c =
-    let hosts : HostsBy = λ config setups end. g.F.Fn.setup c.args.host (config, (setups, tt)) (Ok end) in
+    let hosts : HostsBy = λ config setups end. g.F.Fn.post c.args.host (config, (setups, tt)) (Ok end) in
     let end = c.in_ok-end.end in
     let config = c.config-config.result in
     let readings = map reading c.args.files.items in
