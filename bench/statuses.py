@@ -276,13 +276,13 @@ j.json: unreadable, event 4 has the unsupported type A?B"C\\D
 """
 REPLAYED_VERDICTS_JSON = r"""{"file":"a.json","verdict":"ok","tasks":2,"live":false}
 {"file":"b.json","verdict":"ok","tasks":1,"live":true}
-{"file":"c.json","verdict":"unreadable","fault":"not JSON"}
-{"file":"d.json","verdict":"fault","event":5,"fault":"event 5 differs"}
-{"file":"e.json","verdict":"fault","task":1,"fault":"task at 1: UnknownWorkflow"}
+{"file":"c.json","verdict":"unreadable","fault":"not JSON","line":2,"column":3}
+{"file":"d.json","verdict":"fault","event":5,"fault":"event 5 differs","sends":"StartTimer","timerId":"nap","seconds":60,"recorded":{"event":5,"type":"TimerStarted","timerId":"nip"}}
+{"file":"e.json","verdict":"fault","task":1,"fault":"task at 1: UnknownWorkflow","workflowType":"Nope"}
 {"file":"f.json","verdict":"fault","event":6,"fault":"event 6 is not in place: NoSuchRef"}
 {"file":"g.json","verdict":"unreadable","event":5,"fault":"event 5 lacks a field"}
-{"file":"h.json","verdict":"fault","task":3,"fault":"command 2 of the task at 3 has no event"}
-{"file":"i.json","verdict":"fault","event":6,"fault":"event 6 has no command"}
+{"file":"h.json","verdict":"fault","task":3,"fault":"command 2 of the task at 3 has no event","sends":"StartTimer","timerId":"t","seconds":30,"recorded":null}
+{"file":"i.json","verdict":"fault","event":6,"fault":"event 6 has no command","sends":null,"recorded":{"event":6,"type":"TimerStarted","timerId":"x"}}
 {"file":"j.json","verdict":"unreadable","event":4,"fault":"event 4 has the unsupported type A?B\"C\\D"}
 {"files":10,"ok":2}
 """

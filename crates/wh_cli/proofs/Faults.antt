@@ -1,5 +1,5 @@
 -- What is told of a file by one of the two causes.
-use Rattle.std.proofs.Common.{◌≡◌, ℕ, List, None, Some}
+use Rattle.std.proofs.Common.{ℕ, List, None, Some}
 use Rattle.std.specs.Prelude.{Option, IfSome}
 use Rattle.wh_workflow.specs.Law.{Program}
 use Rattle.wh_cli.specs.declared.file_faults.Cause.{Cause}
@@ -24,3 +24,8 @@ of_json program name bytes (Some fault) h = record { named = h.named; causes = j
 pub of_code : {S : Type 0} (program : Program S) (name bytes : List ℕ) (told : Option FileFault) → IfSome told (IsFaultOf (IsUncoded program) name bytes) → IfSome told (IsFaultOf (IsCauseOf program) name bytes)
 of_code program name bytes None h = tt
 of_code program name bytes (Some fault) h = record { named = h.named; causes = code_cause program bytes fault.cause h.causes }
+
+-- a fault that is told has a cause of the bytes
+pub has_cause : {S : Type 0} (program : Program S) (name bytes : List ℕ) (told : Option FileFault) → IfSome told (IsFaultOf (IsCauseOf program) name bytes) → IfSome told (λ fault. IsCauseOf program bytes fault.cause)
+has_cause program name bytes None h = tt
+has_cause program name bytes (Some fault) h = h.causes

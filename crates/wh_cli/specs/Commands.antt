@@ -14,13 +14,13 @@ use Rattle.wh_files.specs.declared.Input.{Input}
 use Rattle.wh_host.specs.declared.config.Config.{Config}
 use Rattle.wh_json.specs.Events.{history}
 use Rattle.wh_live.specs.declared.serving.LiveEnd.{LiveEnd}
-use Rattle.wh_tester.specs.Verdicts.{IsLineOf, IsVerdict}
-use Rattle.wh_tester.specs.declared.line.Line.{Line}
+use Rattle.wh_tester.specs.Verdicts.{IsVerdict}
 use Rattle.wh_workflow.specs.Law.{Program}
 use Rattle.wh_cli.specs.declared.complaints.Complaints.{Complaints}
 use Rattle.wh_cli.specs.declared.failures.Failure.{Failure}
 use Rattle.wh_cli.specs.declared.failures.Failure.TheVariants.{Output}
 use Rattle.wh_cli.specs.declared.file_faults.FileFault.{FileFault}
+use Rattle.wh_cli.specs.declared.noted.NotedLine.{NotedLine}
 use Rattle.wh_cli.specs.declared.serving.ServiceEnd.{ServiceEnd}
 use Rattle.wh_cli.specs.declared.working.LivePlan.{LivePlan}
 use Rattle.wh_cli.specs.Complaints.{Reported, failed_text, fault_lines, service_told}
@@ -28,7 +28,8 @@ use Rattle.wh_cli.specs.Faults.{AreMadeOf, IsFaultOf, IsNoJson, told_of}
 use Rattle.wh_cli.specs.Listings.{AreListed, IsListed, is_by_path}
 use Rattle.wh_cli.specs.Live.{IsLivePlan, LivesBy, live_status, live_text}
 use Rattle.wh_cli.specs.Readings.{Gives, IsReadAs}
-use Rattle.wh_cli.specs.Replays.{explanation_as, report_as}
+use Rattle.wh_cli.specs.Noted.{IsNotedOf, lines_in, noted_report}
+use Rattle.wh_cli.specs.Replays.{explanation_as}
 use Rattle.wh_cli.specs.Served.{HasServedInputs}
 use Rattle.wh_cli.specs.Services.{File, HostsBy, IsHosted}
 use Rattle.wh_cli.specs.Statuses.{lacks_files, status_of, status_with}
@@ -38,22 +39,22 @@ pub record HasPrinted (text : List ℕ) (old new : Option (List ℕ)) (status : 
   pub written : Appends old new text
   pub ends : status ≡ 0
 
--- the report of lines was written, then the faults of files were told, and the status is that of the lines, unless files
--- are lacking
-pub record HasReported {E : Type 0} (lines : List Line) (faults : List FileFault) (json lacks : Bool)
+-- the report of lines was written, as JSON with their notes, then the faults of files were told, and the status is that
+-- of the lines, unless files are lacking
+pub record HasReported {E : Type 0} (lines : List NotedLine) (faults : List FileFault) (json lacks : Bool)
     (old new : Option (List ℕ)) (contents : E → Option (List ℕ)) (before after : Complaints E)
     (status : ℕ) : Type 0 where
-  pub written : Appends old new (report_as json lines)
+  pub written : Appends old new (noted_report json lines)
   pub told : Reported contents before after (fault_lines faults)
-  pub ends : status ≡ status_with lacks (status_of lines)
+  pub ends : status ≡ status_with lacks (status_of (lines_in lines))
 
 -- inputs were read as files and replayed, and the report of their lines was written
 pub record HasReplayed {S E : Type 0} (gives : Gives) (program : Program S) (inputs : List Input) (json lacks : Bool)
     (old new : Option (List ℕ)) (contents : E → Option (List ℕ)) (before after : Complaints E)
     (status : ℕ) : Type 0 where
-  pub lines : List Line
+  pub lines : List NotedLine
   pub faults : List FileFault
-  pub made : AreMadeOf program (IsReadAs gives) (IsLineOf program) inputs lines faults
+  pub made : AreMadeOf program (IsReadAs gives) (IsNotedOf program) inputs lines faults
   pub reported : HasReported lines faults json lacks old new contents before after status
 
 -- a file was explained: that was written, as JSON or as text, and the status is that of its line in the report of replay

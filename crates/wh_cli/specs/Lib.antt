@@ -3,6 +3,7 @@ pub mod Complaints
 pub mod Faults
 pub mod Listings
 pub mod Live
+pub mod Noted
 pub mod Outlets
 pub mod Readings
 pub mod Replays

@@ -58,7 +58,11 @@ fn assign_file(
 }
 
 /// Assigns the histories of the files to the workers in turn.
-fn assign_files(alloc: Global, files: Vec<ReadFile>, lists: &mut [WorkerHistories]) -> Result<Vec<AssignedFile>, OutOfMemory>
+fn assign_files(
+    alloc: Global,
+    files: Vec<ReadFile>,
+    lists: &mut [WorkerHistories],
+) -> Result<Vec<AssignedFile>, OutOfMemory>
     requires { 0 < length lists.old }
     ensures lists { length lists.new ≡ length lists.old }
     ensures assigned { IfOk result (λ assigned. assigned.items ≡ map assigned_as (map reading files.items)) }

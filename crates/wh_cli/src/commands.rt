@@ -15,25 +15,26 @@ ghost use Rattle.wh_command_line.specs.Options.{IsWithinLimits};
 ghost use Rattle.wh_host.specs.Machine.{IsConfig};
 
 use crate::complaints::{Complaint, Complaints};
-use crate::explaining::explain_command;
+use crate::explaining::explain_file;
 use crate::failures::Failure;
-use crate::file_faults::{FileFault, json_fault};
+use crate::file_faults::{FileFault, unread_fault};
 use crate::hosts::{ServiceHost, ServiceSetup, host_of};
 use crate::inputs::ReadsInputs;
 use crate::listing::{all_inputs, folder_of, input_of};
-use crate::replaying::{CommandFault, lines_of, report};
+use crate::noted::NotedLine;
+use crate::replaying::{CommandFault, lines_of, report, status_of};
 use crate::serving::{ServiceEnd, serve_inputs};
 use crate::working::{LivePlan, work};
 use std::alloc::Global;
 use std::io::Write;
 use std::rt::Runtime;
+use std::slice;
 use std::sync::Wait;
 use std::thread::Threads;
 use wh_command_line::{Plan, ServeOptions};
 use wh_events::{OutOfMemory, Text};
 use wh_files::Input;
 use wh_host::Config;
-use wh_json::{ReadFault, read_events};
 use wh_live::LiveEnd;
 use wh_tester::Line;
 use wh_workflow::Workflow;
@@ -83,7 +84,7 @@ fn status_with(lacks: bool, status: u8) -> u8
 /// Writes the report of lines, and once it is out, tells where files are no JSON and for which
 /// workflow types there is no code.
 fn tell_report<O: Write, E: Write>(
-    lines: Vec<Line>,
+    lines: Vec<NotedLine>,
     faults: Vec<FileFault>,
     json: bool,
     lacks: bool,
@@ -116,19 +117,11 @@ fn replay<W: Workflow + Send, R: ReadsInputs + AllocGlobal + Threads + Sync, O: 
     tell_report(lines, faults, json, lacks, output, errors)
 }
 
-/// Whether that is why bytes are not read: that they are no JSON.
-fn is_bad_json(alloc: Global, bytes: &[u8]) -> bool {
-    matches!(read_events(alloc, bytes), Err(ReadFault::BadJson))
-}
-
-/// Tells where a file is no JSON, if that is why it is not read.
-fn tell_if_bad<E: Write>(alloc: Global, name: &str, bytes: &[u8], errors: &mut Complaints<'_, E>)
-    ensures { HasToldOf name.now bytes.now E.contents errors.old errors.new }
+/// Tells where the file of a line is no JSON, if that is its verdict.
+fn tell_if_bad<E: Write>(alloc: Global, line: &Line, bytes: &[u8], errors: &mut Complaints<'_, E>)
+    ensures { HasToldOf line.now.name bytes.now E.contents errors.old errors.new }
 {
-    if !is_bad_json(alloc, bytes) {
-        return;
-    }
-    if let Some(fault) = json_fault(alloc, name, bytes) {
+    if let Some(fault) = unread_fault(alloc, line.name.get(), &line.verdict, bytes) {
         errors.tell(Complaint::BadJson { fault });
     }
 }
@@ -145,14 +138,12 @@ fn explain<W: Workflow, O: Write, E: Write>(
     ensures { IfOk result (HasExplained W.program (string_bytes name) bytes.now json
         (O.contents output.old) (O.contents output.new) E.contents errors.old errors.new) }
 {
-    let Ok(called) = String::from_str(alloc, name.as_str()) else {
-        return Err(Failure::OutOfMemory);
+    let line = match explain_file::<W, O>(alloc, name, bytes, json, output) {
+        Ok(line) => line,
+        Err(fault) => return flushed(Err(fault), output),
     };
-    let answer = explain_command::<W, _>(alloc, name, bytes, json, output);
-    let status = flushed(answer, output)?;
-    if status != 0 {
-        tell_if_bad(alloc, called.as_str(), bytes, errors);
-    }
+    let status = flushed(Ok(status_of(slice::from_ref(&line))), output)?;
+    tell_if_bad(alloc, &line, bytes, errors);
     Ok(status)
 }
 

@@ -9,8 +9,9 @@ use crate::position::{Mark, Position, mark_of, position_of};
 use std::alloc::Global;
 use std::fmt;
 use wh_events::{OutOfMemory, Text};
-use wh_explain::{Explanation, explain};
-use wh_tester::Shown;
+use wh_explain::unknown_type;
+use wh_json::ReadFault;
+use wh_tester::{Shown, Verdict};
 use wh_workflow::Workflow;
 
 /// Why a file is named beside the report.
@@ -28,6 +29,23 @@ pub enum Cause {
         /// The workflow type.
         kind: Text,
     },
+}
+
+impl Cause {
+    /// A copy with the same content. `OutOfMemory` where there was no memory for it.
+    pub(crate) fn try_copy(&self) -> Result<Cause, OutOfMemory>
+        ensures { IfOk result (λ copy. copy ≡ self.now) }
+    {
+        match self {
+            Cause::NotJson { position, mark } => Ok(Cause::NotJson {
+                position: *position,
+                mark: *mark,
+            }),
+            Cause::NoCode { kind } => Ok(Cause::NoCode {
+                kind: kind.try_copy()?,
+            }),
+        }
+    }
 }
 
 /// A file that is no JSON or has a workflow type that there is no code for. As a text: the name of
@@ -107,6 +125,22 @@ pub(crate) fn json_fault(alloc: Global, name: &str, bytes: &[u8]) -> Option<File
     })
 }
 
+/// Where a file with this verdict is no JSON, if it is unreadable for that. Nothing is told where
+/// memory for that is refused.
+pub(crate) fn unread_fault(
+    alloc: Global,
+    name: &str,
+    verdict: &Verdict,
+    bytes: &[u8],
+) -> Option<FileFault>
+    ensures { IfSome result (IsFaultOf IsNoJson name.now bytes.now) }
+{
+    match verdict {
+        Verdict::Unreadable(ReadFault::BadJson) => json_fault(alloc, name, bytes),
+        _ => None,
+    }
+}
+
 /// The workflow type of a file, if there is no code for it. Nothing is told where memory for that
 /// is refused.
 pub(crate) fn code_fault<W: Workflow>(alloc: Global, name: &str, bytes: &[u8]) -> Option<FileFault>
@@ -115,11 +149,7 @@ pub(crate) fn code_fault<W: Workflow>(alloc: Global, name: &str, bytes: &[u8]) -
     let Ok(name) = String::from_str(alloc, name) else {
         return None;
     };
-    let Ok(explanation) = explain::<W>(alloc, String::new(alloc), bytes) else {
-        return None;
-    };
-    let Explanation { unknown, .. } = explanation;
-    let Some(kind) = unknown else {
+    let Ok(Some(kind)) = unknown_type::<W>(alloc, bytes) else {
         return None;
     };
     Some(FileFault {

@@ -10,7 +10,7 @@ use crate::service_report::{FileFailure, Row, Tally};
 use std::alloc::Global;
 use wh_events::OutOfMemory;
 use wh_host::Totals;
-use wh_poll::{HostEnd, WorkerEnd, NoActivities, NoObserver};
+use wh_poll::{HostEnd, NoActivities, NoObserver, WorkerEnd};
 use wh_recorded::ScriptSource;
 
 /// What the workers did.

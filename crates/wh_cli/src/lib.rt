@@ -3,10 +3,10 @@
 //! its command line.
 #![tactic(auto)]
 
+mod assigning;
 mod calls;
 mod commands;
 mod complaints;
-mod assigning;
 mod explaining;
 mod failures;
 mod file_faults;
@@ -15,6 +15,7 @@ mod hosts;
 mod inputs;
 mod listing;
 mod live;
+mod noted;
 mod outlet;
 mod parallel;
 mod position;

@@ -6,24 +6,23 @@ ghost use Rattle.std.specs.Io.KnownBytes.{Appends};
 ghost use Rattle.wh_tester.specs.Report.{report};
 ghost use Rattle.wh_cli.specs.Faults.{AreMadeOf, IsCauseOf, IsFaultOf, IsMadeOf, MayBeTold};
 ghost use Rattle.wh_cli.specs.Readings.{IsReadAs};
-ghost use Rattle.wh_cli.specs.Replays.{report_as};
+ghost use Rattle.wh_cli.specs.Noted.{IsNotedOf, lines_in, noted_report};
 ghost use Rattle.wh_cli.specs.Statuses.{status_of};
 ghost use Rattle.wh_tester.specs.Verdicts.{IsLineOf};
 ghost use Rattle.wh_tester.specs.declared.line.Line.{Line};
 
-use crate::file_faults::{FileFault, code_fault, json_fault};
+use crate::file_faults::{FileFault, code_fault, unread_fault};
 use crate::inputs::ReadsInputs;
+use crate::noted::{NotedLine, all_good as all_noted_good, note_of, write_noted};
 use crate::parallel::all_made;
 use std::alloc::Global;
-use std::io;
 use std::io::Write;
 use std::thread::Threads;
 use thiserror::Error;
 use wh_events::Text;
 use wh_files::{Input, InputFault};
-use wh_json::ReadFault;
 use wh_replay::Fault;
-use wh_tester::{Line, Verdict, all_good, check_all, verdict, write_json_report, write_report};
+use wh_tester::{Line, Verdict, all_good, check_all, verdict, write_report};
 use wh_workflow::{Workflow, WorkflowFault};
 
 /// Why a command has no status.
@@ -44,33 +43,27 @@ pub(crate) fn status_of(lines: &[Line]) -> u8
     if all_good(lines) { 0 } else { 1 }
 }
 
-/// Writes the report of the lines, as JSON or as text. After an error some of the report may have
-/// been written.
-fn write_as<O: Write>(lines: &[Line], json: bool, writer: &mut O) -> io::Result<()>
-    ensures { OnOk result (Appends (O.contents writer.old) (O.contents writer.new) (report_as json lines.now)) }
+/// The status: 0 where each file is good, and else 1.
+fn status_of_noted(noted: &[NotedLine]) -> u8
+    ensures { result ≡ status_of (lines_in noted.now) }
 {
-    if json {
-        write_json_report(lines, writer)
-    } else {
-        write_report(lines, writer)
-    }
+    if all_noted_good(noted) { 0 } else { 1 }
 }
 
-/// Writes the report of the lines, as JSON or as text. The status is 0 where each file is good, and
-/// else 1.
+/// Writes the report of the lines, as JSON with their notes, or as text. The status is 0 where each
+/// file is good, and else 1.
 pub(crate) fn report<O: Write>(
-    lines: &[Line],
+    noted: &[NotedLine],
     json: bool,
     writer: &mut O,
 ) -> Result<u8, CommandFault>
-    ensures written { OnOk result (Appends (O.contents writer.old) (O.contents writer.new) (report_as json lines.now)) }
-    ensures status { IfOk result (λ status. status ≡ status_of lines.now) }
-    ensures memory { result ≢ Err CommandFault.OutOfMemory }
+    ensures written { OnOk result (Appends (O.contents writer.old) (O.contents writer.new) (noted_report json noted.now)) }
+    ensures status { IfOk result (λ status. status ≡ status_of (lines_in noted.now)) }
 {
-    let Ok(()) = write_as(lines, json, writer) else {
+    let Ok(()) = write_noted(noted, json, writer) else {
         return Err(CommandFault::Output);
     };
-    Ok(status_of(lines))
+    Ok(status_of_noted(noted))
 }
 
 /// What is told of a file with this name, verdict and bytes: where it is no JSON or for which
@@ -85,59 +78,61 @@ fn fault_in<W: Workflow>(
     ensures { IfSome result (IsFaultOf (IsCauseOf W.program) name.now bytes.now) }
 {
     match verdict {
-        Verdict::Unreadable(ReadFault::BadJson) => json_fault(alloc, name, bytes),
         Verdict::Faulty(
             Fault::Workflow {
                 fault: WorkflowFault::UnknownWorkflow,
                 ..
             },
         ) => code_fault::<W>(alloc, name, bytes),
-        _ => None,
+        _ => unread_fault(alloc, name, verdict, bytes),
     }
 }
 
-/// The line of a file: its name, with the verdict on its bytes, which are kept no longer. Beside it
-/// is what is told of it.
-fn line_of<W: Workflow>(alloc: Global, file: (String, Vec<u8>)) -> (Line, Option<FileFault>)
-    ensures line { IsLineOf W.program file result.0 }
+/// The line of a file: its name, with the verdict on its bytes, which are kept no longer, and its
+/// note. Beside it is what is told of the file.
+#[tactic(auto, using(crate::proofs::Faults::has_cause))]
+fn line_of<W: Workflow>(alloc: Global, file: (String, Vec<u8>)) -> (NotedLine, Option<FileFault>)
+    ensures line { IsNotedOf W.program file result.0 }
     ensures told { MayBeTold W.program file result.1 }
 {
     let (name, bytes) = file;
     let verdict = verdict::<W>(alloc, bytes.as_slice());
     let fault = fault_in::<W>(alloc, name.as_str(), &verdict, bytes.as_slice());
+    let note = note_of::<W>(alloc, &verdict, &fault, bytes.as_slice());
     let name = Text::new(name);
-    (Line { name, verdict }, fault)
+    let line = Line { name, verdict };
+    (NotedLine { line, note }, fault)
 }
 
 /// Reads an input, and gives the line of its name and of the bytes that were read.
 fn line_from<W: Workflow, R: ReadsInputs + AllocGlobal>(
     rt: &R,
     input: Input,
-) -> Result<(Line, Option<FileFault>), InputFault>
-    ensures { IfOk result (IsMadeOf W.program (IsReadAs R.gives) (IsLineOf W.program) input) }
+) -> Result<(NotedLine, Option<FileFault>), InputFault>
+    ensures { IfOk result (IsMadeOf W.program (IsReadAs R.gives) (IsNotedOf W.program) input) }
 {
     let Input { name, origin } = input;
     let bytes = rt.read(origin)?;
     Ok(line_of::<W>(rt.alloc(), (name, bytes)))
 }
 
-/// The lines of inputs that are replayed with the code of `W`, in their order, and apart from these
-/// where inputs are no JSON and for which workflow types there is no code. Each is read in the
-/// thread that replays it: so the bytes of no more files are there at once than there are threads.
-/// The fault is that of the first that cannot be read.
+/// The lines of inputs that are replayed with the code of `W`, in their order, with their notes, and
+/// apart from these where inputs are no JSON and for which workflow types there is no code. Each is
+/// read in the thread that replays it: so the bytes of no more files are there at once than there
+/// are threads. The fault is that of the first that cannot be read.
 pub(crate) fn lines_of<W: Workflow + Send, R: ReadsInputs + AllocGlobal + Threads + Sync>(
     rt: &R,
     inputs: Vec<Input>,
-) -> Result<(Vec<Line>, Vec<FileFault>), InputFault>
+) -> Result<(Vec<NotedLine>, Vec<FileFault>), InputFault>
     ensures { IfOk result (λ told.
-        AreMadeOf W.program (IsReadAs R.gives) (IsLineOf W.program) inputs.items told.0.items told.1.items) }
+        AreMadeOf W.program (IsReadAs R.gives) (IsNotedOf W.program) inputs.items told.0.items told.1.items) }
 {
     let Ok(told) = all_made(
         rt,
         rt.alloc(),
         inputs,
-        |input: Input| -> Result<(Line, Option<FileFault>), InputFault>
-            ensures { IfOk result (IsMadeOf W.program (IsReadAs R.gives) (IsLineOf W.program) input) }
+        |input: Input| -> Result<(NotedLine, Option<FileFault>), InputFault>
+            ensures { IfOk result (IsMadeOf W.program (IsReadAs R.gives) (IsNotedOf W.program) input) }
         { line_from::<W, R>(rt, input) },
     ) else {
         return Err(InputFault::OutOfMemory);
@@ -161,5 +156,8 @@ pub fn replay_command<W: Workflow + Send, R: Threads + Sync, O: Write>(
     let Ok(lines) = check_all::<W>(rt, alloc, files) else {
         return Err(CommandFault::OutOfMemory);
     };
-    report(lines.as_slice(), false, writer)
+    let Ok(()) = write_report(lines.as_slice(), writer) else {
+        return Err(CommandFault::Output);
+    };
+    Ok(status_of(lines.as_slice()))
 }

@@ -6,3 +6,5 @@ pub mod Alike
 pub mod Agreeing
 pub mod Calendar
 pub mod TimesRead
+pub mod Popped
+pub mod Found

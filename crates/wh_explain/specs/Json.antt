@@ -1,5 +1,5 @@
 -- An explanation as JSON: for each line of the text an object with its parts, on a line of its own.
-use Rattle.std.specs.Prelude.{ℕ, List, [], ◌++◌, codes, decimal, Option, Some, None}
+use Rattle.std.specs.Prelude.{ℕ, List, [], ◌++◌, codes, decimal, Option, Some, None, if◌then◌else◌}
 use Rattle.std.specs.Fmt.{signed_decimal}
 use Rattle.std.specs.List.{flat_map}
 use Rattle.wh_events.specs.declared.kind.EventKind.{EventKind}
@@ -24,6 +24,7 @@ use Rattle.wh_explain.specs.declared.explanation.Ending.TheVariants.{Refused, Li
 use Rattle.wh_explain.specs.declared.explanation.ExplainedTask.{ExplainedTask}
 use Rattle.wh_explain.specs.declared.explanation.Explanation.{Explanation}
 use Rattle.wh_explain.specs.declared.keys.Keys as code
+use Rattle.wh_explain.specs.Pairings.{differs}
 use Rattle.wh_explain.specs.Phrases.{event_phrase}
 use Rattle.wh_explain.specs.Texts.{last_command}
 use Rattle.wh_explain.specs.Times.{time_text}
@@ -151,16 +152,22 @@ sends_member command = codes "\"sends\":" ++ command_json command
 abbrev pub sends_object : Command → List ℕ
 sends_object command = codes "{" ++ (sends_member command ++ codes "}\n")
 
--- what is sent, what is recorded, and whether they differ
+-- what is sent and what is recorded
+abbrev pub both_members : Command → RecordedEvent → List ℕ
+both_members command event = sends_member command ++ (codes "," ++ recorded_member event)
+
+-- the same of a pairing; `null` stands for the one that is missing
+abbrev pub pairing_members : Pairing → List ℕ
+pairing_members (Alike command event) = both_members command event
+pairing_members (Different command event) = both_members command event
+pairing_members (CommandMissing event) = codes "\"sends\":null," ++ recorded_member event
+pairing_members (CommandExtra command) = sends_member command ++ codes ",\"recorded\":null"
+
+-- these, and whether they differ
 unfoldable pub pairing_object : Pairing → List ℕ
-pairing_object (Alike command event) =
-    codes "{" ++ (sends_member command ++ (codes "," ++ (recorded_member event ++ codes ",\"differs\":false}\n")))
-pairing_object (Different command event) =
-    codes "{" ++ (sends_member command ++ (codes "," ++ (recorded_member event ++ codes ",\"differs\":true}\n")))
-pairing_object (CommandMissing event) =
-    codes "{\"sends\":null," ++ (recorded_member event ++ codes ",\"differs\":true}\n")
-pairing_object (CommandExtra command) =
-    codes "{" ++ (sends_member command ++ codes ",\"recorded\":null,\"differs\":true}\n")
+pairing_object pairing =
+    codes "{" ++ (pairing_members pairing
+    ++ (codes ",\"differs\":" ++ ((if differs pairing then codes "true" else codes "false") ++ codes "}\n")))
 
 -- how a task of these steps ends; `{"live":true}` says that it is not recorded yet
 abbrev pub ending_objects : List Step → Ending → List ℕ

@@ -4,5 +4,6 @@ pub mod Texts
 pub mod Json
 pub mod Stepping
 pub mod Pairings
+pub mod Differences
 pub mod Explaining
 pub mod Laws

@@ -28,9 +28,9 @@ use wh_workflow::{Command, Workflow, WorkflowFault};
 
 /// What is explained of a history.
 #[derive(Drop)]
-struct ExplainedHistory {
-    unknown: Option<Text>,
-    tasks: Vec<ExplainedTask>,
+pub(crate) struct ExplainedHistory {
+    pub(crate) unknown: Option<Text>,
+    pub(crate) tasks: Vec<ExplainedTask>,
 }
 
 /// Nothing is explained.
@@ -207,7 +207,10 @@ fn explain_events<W: Workflow>(
 
 /// Explains the history of a file, of which there is nothing where it can't be read.
 #[tactic(auto, using(wh_tester::proofs::Reading::read_within))]
-fn explain_bytes<W: Workflow>(alloc: Global, bytes: &[u8]) -> Result<ExplainedHistory, OutOfMemory>
+pub(crate) fn explain_bytes<W: Workflow>(
+    alloc: Global,
+    bytes: &[u8],
+) -> Result<ExplainedHistory, OutOfMemory>
     ensures tasks { IfOk result (λ explained. AreTasksIn W.program (history bytes.now) explained.tasks.items) }
     ensures unknown { IfOk result (λ explained. explained.unknown ≡ unknown_in W.program (history bytes.now)) }
     ensures memory { IfErr result (λ _. length bytes.now ≤ longest) }

@@ -1,17 +1,19 @@
 //! An explanation as JSON.
 
 ghost use Rattle.std.specs.Prelude.{◌≡◌, ◌∷◌, ◌++◌, Some, OnOk, codes, option_map};
+ghost use Rattle.std.specs.Fmt.{DisplaysOnOk};
 ghost use Rattle.std.specs.List.{flat_map};
 ghost use Rattle.std.specs.Io.KnownBytes.{Appends};
 ghost use Rattle.wh_events.specs.Phrases.{phrase_seen};
 ghost use Rattle.wh_explain.specs.Texts.{last_command};
 ghost use Rattle.wh_explain.specs.Json.{keys_seen, word_member, detail_members, phrase_json, job_json, command_json};
 ghost use Rattle.wh_explain.specs.Json.{event_json, gives_object, step_objects, refuses_object, recorded_member};
-ghost use Rattle.wh_explain.specs.Json.{sends_member, sends_object, pairing_object, ending_objects, task_objects};
+ghost use Rattle.wh_explain.specs.Json.{both_members, sends_member, sends_object, pairing_members, pairing_object, ending_objects, task_objects};
 ghost use Rattle.wh_explain.specs.Json.{unknown_object, json_explanation};
 
 use crate::explanation::{Ending, ExplainedTask, Explanation, Pairing, RecordedEvent, Step};
 use crate::keys::{Keys, command_keys, job_keys, kind_keys};
+use crate::pairing::differs;
 use crate::phrase::event_phrase;
 use crate::times::TimeText;
 use std::io::Write;
@@ -100,6 +102,44 @@ impl fmt::Display for RecordedMember<'_> {
         let number = self.0.number.get();
         let phrase = PhraseJson(kind_keys(&self.0.kind), event_phrase(self.0));
         write!(f, "\"recorded\":{{\"event\":{number},\"type\":{phrase}}}")
+    }
+}
+
+/// Writes what is sent and what is recorded, as members.
+fn write_both<W: fmt::Write>(
+    command: &Command,
+    event: &RecordedEvent,
+    f: &mut fmt::Formatter<W>,
+) -> fmt::Result
+    ensures { let text = both_members command.now event.now in
+        DisplaysOnOk W.write_str_gives f.old result (Some text) f.new }
+{
+    let command = CommandJson(command);
+    let event = RecordedMember(event);
+    write!(f, "\"sends\":{command},{event}")
+}
+
+/// A command and the event in its place, as members: what is sent and what is recorded, with `null`
+/// for the one that is missing.
+#[derive(Drop)]
+pub struct PairingMembers<'a>(pub &'a Pairing);
+
+impl fmt::Display for PairingMembers<'_> {
+    ghost output = { λ p. Some (pairing_members p.0.now) };
+
+    fn fmt<W: fmt::Write>(&self, f: &mut fmt::Formatter<W>) -> fmt::Result {
+        match self.0 {
+            Pairing::Alike { command, event } => write_both(command, event, f),
+            Pairing::Different { command, event } => write_both(command, event, f),
+            Pairing::CommandMissing { event } => {
+                let event = RecordedMember(event);
+                write!(f, "\"sends\":null,{event}")
+            }
+            Pairing::CommandExtra { command } => {
+                let command = CommandJson(command);
+                write!(f, "\"sends\":{command},\"recorded\":null")
+            }
+        }
     }
 }
 
@@ -193,32 +233,9 @@ fn write_sent<O: Write>(sent: &[Command], writer: &mut O) -> io::Result<()>
 fn write_pairing<O: Write>(pairing: &Pairing, writer: &mut O) -> io::Result<()>
     ensures { OnOk result (Appends (O.contents writer.old) (O.contents writer.new) (pairing_object pairing.now)) }
 {
-    match pairing {
-        Pairing::Alike { command, event } => {
-            let command = CommandJson(command);
-            let event = RecordedMember(event);
-            write!(
-                writer,
-                "{{\"sends\":{command},{event},\"differs\":false}}\n"
-            )
-        }
-        Pairing::Different { command, event } => {
-            let command = CommandJson(command);
-            let event = RecordedMember(event);
-            write!(writer, "{{\"sends\":{command},{event},\"differs\":true}}\n")
-        }
-        Pairing::CommandMissing { event } => {
-            let event = RecordedMember(event);
-            write!(writer, "{{\"sends\":null,{event},\"differs\":true}}\n")
-        }
-        Pairing::CommandExtra { command } => {
-            let command = CommandJson(command);
-            write!(
-                writer,
-                "{{\"sends\":{command},\"recorded\":null,\"differs\":true}}\n"
-            )
-        }
-    }
+    let members = PairingMembers(pairing);
+    let differs = differs(pairing);
+    write!(writer, "{{{members},\"differs\":{differs}}}\n")
 }
 
 /// Writes an object for each command and the event in its place.
@@ -279,7 +296,7 @@ fn write_tasks<O: Write>(tasks: &[ExplainedTask], writer: &mut O) -> io::Result<
 /// - `{"sends":COMMAND,"recorded":{"event":N,"type":EVENT},"differs":false}` of a command and the
 ///   event in its place, with `null` for the one that is missing;
 /// - `{"sends":COMMAND}` of a live task, then `{"live":true}`;
-/// - last the object of the file in the report of replay.
+/// - last the object of the file in the report of replay, as `wh_tester::write_json_line` writes it.
 ///
 /// A job, a command or an event is its name, and after that its members in Temporal's words, as
 /// `"activityId"`, `"activityType"`, `"timerId"`, `"time"` and `"seconds"`. After an error some of

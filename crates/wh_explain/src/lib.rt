@@ -2,6 +2,7 @@
 //! record has beside it, up to the first difference.
 #![tactic(auto)]
 
+mod differences;
 mod explaining;
 mod explanation;
 mod json_lines;
@@ -13,7 +14,8 @@ mod showing;
 mod stepping;
 mod times;
 
+pub use differences::{difference, unknown_type};
 pub use explaining::explain;
 pub use explanation::{Ending, ExplainedTask, Explanation, Pairing, RecordedEvent, Step};
-pub use json_lines::write_json_explanation;
+pub use json_lines::{PairingMembers, write_json_explanation};
 pub use showing::write_explanation;

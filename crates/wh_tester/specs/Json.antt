@@ -68,16 +68,27 @@ verdict_members (verdicts.Faulty fault) =
     ∷ (subject_members fault ++ text_member (codes "fault") (replay_fault_text fault) ∷ [])
 verdict_members verdicts.OutOfMemory = text_member (codes "verdict") (codes "out of memory") ∷ []
 
--- the line of a file: its name, shown as in the report in words, and its verdict
+-- the line of a file: its name, shown as in the report in words, its verdict, and members after these
+abbrev pub json_line_with : Line → List (List ℕ) → List ℕ
+json_line_with line more =
+    object (text_member (codes "file") (shown line.name)) (verdict_members line.verdict ++ more)
+
+-- the line of a file without others
 abbrev pub json_line : Line → List ℕ
 json_line line = object (text_member (codes "file") (shown line.name)) (verdict_members line.verdict)
 
+-- the line of a file without its end, on which members may follow
+abbrev pub open_line : Line → List ℕ
+open_line line = codes "{" ++ (text_member (codes "file") (shown line.name) ++ following (verdict_members line.verdict))
+
+-- the line of so many files and good ones
+abbrev pub totals_object : (files good : ℕ) → List ℕ
+totals_object files good =
+    object (plain_member (codes "files") (decimal files)) (plain_member (codes "ok") (decimal good) ∷ [])
+
 -- the line of totals
 abbrev pub json_totals : List Line → List ℕ
-json_totals lines =
-    object
-    (plain_member (codes "files") (decimal (length lines)))
-    (plain_member (codes "ok") (decimal (good_count lines)) ∷ [])
+json_totals lines = totals_object (length lines) (good_count lines)
 
 -- the whole report
 unfoldable pub json_report : List Line → List ℕ

@@ -5,7 +5,7 @@ ghost use Rattle.std.specs.Fmt.{DisplaysOnOk};
 ghost use Rattle.std.specs.Io.KnownBytes.{Appends};
 ghost use Rattle.wh_tester.specs.Report.{shown, fault_text};
 ghost use Rattle.wh_tester.specs.Json.{escaped_char, escaped, following, event_members, subject_members};
-ghost use Rattle.wh_tester.specs.Json.{verdict_members, json_line, json_report};
+ghost use Rattle.wh_tester.specs.Json.{verdict_members, json_line, json_report, open_line, totals_object};
 
 use crate::faults::ReplayFaultText;
 use crate::line::{Line, Verdict};
@@ -137,6 +137,16 @@ impl fmt::Display for VerdictMembers<'_> {
     }
 }
 
+/// Writes the object of a file without its end: members may follow, each after a comma, and then
+/// `}` and a line feed. After an error some of it may have been written.
+pub fn write_open_json_line<W: Write>(line: &Line, writer: &mut W) -> io::Result<()>
+    ensures { OnOk result (Appends (W.contents writer.old) (W.contents writer.new) (open_line line.now)) }
+{
+    let name = EscapedName(line.name.get());
+    let members = VerdictMembers(&line.verdict);
+    write!(writer, "{{\"file\":\"{name}\"{members}")
+}
+
 /// Writes the object of a file, on a line. After an error some of the line may have been written.
 pub fn write_json_line<W: Write>(line: &Line, writer: &mut W) -> io::Result<()>
     ensures { OnOk result (Appends (W.contents writer.old) (W.contents writer.new) (json_line line.now)) }
@@ -144,6 +154,14 @@ pub fn write_json_line<W: Write>(line: &Line, writer: &mut W) -> io::Result<()>
     let name = EscapedName(line.name.get());
     let members = VerdictMembers(&line.verdict);
     write!(writer, "{{\"file\":\"{name}\"{members}}}\n")
+}
+
+/// Writes the object of so many files and good ones, on a line. After an error some of the line may
+/// have been written.
+pub fn write_json_totals<W: Write>(files: usize, good: usize, writer: &mut W) -> io::Result<()>
+    ensures { OnOk result (Appends (W.contents writer.old) (W.contents writer.new) (totals_object files good)) }
+{
+    write!(writer, "{{\"files\":{files},\"ok\":{good}}}\n")
 }
 
 /// Writes the report as lines of JSON (RFC 8259): for each file an object, in the order given, and
@@ -166,7 +184,5 @@ pub fn write_json_report<W: Write>(lines: &[Line], writer: &mut W) -> io::Result
     for line in lines {
         write_json_line(line, writer)?;
     }
-    let files = lines.len();
-    let good = good_count(lines);
-    write!(writer, "{{\"files\":{files},\"ok\":{good}}}\n")
+    write_json_totals(lines.len(), good_count(lines), writer)
 }

@@ -1,4 +1,4 @@
-use Rattle.wh_tester.specs.Verdicts.{IsLineOf}
+use Rattle.wh_cli.specs.Noted.{IsNotedOf}
 use Rattle.wh_cli.specs.Readings.{IsReadAs}
 use Rattle.wh_cli.proofs.Collected.{all_ok, of_files}
 use Rattle.wh_cli.proofs.replaying.lines_of.Goals as goal
@@ -6,4 +6,4 @@ use Rattle.wh_cli.proofs.replaying.lines_of.Goals as goal
 -- the lines are those of the files that the inputs were read as
 pub returns : goal.returns
 returns g c =
-    all_ok c.in-Ok.told (λ parts made. of_files g.W.Workflow.program (IsReadAs g.R.ReadsInputs.gives) (IsLineOf g.W.Workflow.program) c.args.inputs.items parts.0.items parts.1.items made) c.in-Ok.ensures
+    all_ok c.in-Ok.told (λ parts made. of_files g.W.Workflow.program (IsReadAs g.R.ReadsInputs.gives) (IsNotedOf g.W.Workflow.program) c.args.inputs.items parts.0.items parts.1.items made) c.in-Ok.ensures

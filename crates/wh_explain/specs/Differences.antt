@@ -1,0 +1,49 @@
+-- The difference that a replay stops at.
+use Rattle.std.specs.Prelude.{◌≡◌, ◌-◌, ℕ, List, length, slice_get, Option, Some, None, if◌then◌else◌}
+use Rattle.wh_json.specs.Events.{history}
+use Rattle.wh_replay.specs.declared.fault.Fault.TheVariants.{Mismatch as Mismatched}
+use Rattle.wh_tester.specs.declared.line.Verdict.TheVariants.{Faulty}
+use Rattle.wh_tester.specs.Verdicts.{verdict_on}
+use Rattle.wh_workflow.specs.declared.fault.Mismatch.{Mismatch}
+use Rattle.wh_workflow.specs.Law.{Program}
+use Rattle.wh_explain.specs.declared.explanation.Ending.{Ending}
+use Rattle.wh_explain.specs.declared.explanation.Ending.TheVariants.{Refused, Live, Recorded}
+use Rattle.wh_explain.specs.declared.explanation.ExplainedTask.{ExplainedTask}
+use Rattle.wh_explain.specs.declared.explanation.Pairing.{Pairing}
+use Rattle.wh_explain.specs.Explaining.{AreTasksIn}
+use Rattle.wh_explain.specs.Pairings.{differs}
+
+-- the last element, if there is one
+abbrev pub last_of : {A : Type 0} → List A → Option A
+last_of items = slice_get items (length items - 1)
+
+-- the pairing, if what is sent differs there from what is recorded
+abbrev pub if_differs : Option Pairing → Option Pairing
+if_differs None = None
+if_differs (Some pairing) = if differs pairing then Some pairing else None
+
+-- the difference that a task ends in, if it does: pairings go up to the first one, so it is the last
+abbrev pub difference_at : Ending → Option Pairing
+difference_at Refused = None
+difference_at (Live sent) = None
+difference_at (Recorded pairings) = if_differs (last_of pairings)
+
+-- the same of a task, if there is one
+abbrev pub difference_of : Option ExplainedTask → Option Pairing
+difference_of None = None
+difference_of (Some task) = difference_at task.ending
+
+-- the difference that tasks end in, if they do
+abbrev pub last_difference : List ExplainedTask → Option Pairing
+last_difference tasks = difference_of (last_of tasks)
+
+-- the difference that what is explained of a file ends in, if it does
+pub record IsDifferenceIn {S : Type 0} (program : Program S) (bytes : List ℕ) (found : Option Pairing) : Type 0 where
+  pub tasks : List ExplainedTask
+  pub explained : AreTasksIn program (history bytes) tasks
+  pub last : found ≡ last_difference tasks
+
+-- the verdict on a file is a difference
+abbrev pub StopsAtDifference : {S : Type 0} → Program S → List ℕ → Type 0
+StopsAtDifference program bytes =
+    (at : ℕ) × (mismatch : Mismatch) × (verdict_on program bytes ≡ Faulty (Mismatched at mismatch))
