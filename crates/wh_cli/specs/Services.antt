@@ -1,20 +1,18 @@
 -- What the command `serve` did: its report, and its status.
 use Rattle.std.specs.Prelude.{◌≡◌, ℕ, ◌+◌, ◌<◌, ◌≤◌, ◌%◌, ◌&&◌, List, [], ◌∷◌, ◌++◌, length, map, get_or, codes, decimal, not, All, Bool, false, Option, Some, None, is_none, Result, Ok, Err, String, string_bytes, Vec, vec_len, if◌then◌else◌, eqb}
-use Rattle.std.specs.List.{AllZip, flat_map, list_all, list_any}
+use Rattle.std.specs.List.{flat_map, list_all, list_any}
 use Rattle.std.specs.declared.alloc.Global.{Global}
 use Rattle.wh_json.specs.declared.fault.ReadFault.{ReadFault}
 use Rattle.wh_json.specs.Events.{history}
-use Rattle.wh_ledger.specs.Shares.{no_shares, sums_of}
 use Rattle.wh_host.specs.declared.config.Config.{Config}
 use Rattle.wh_host.specs.declared.reply.Totals.{Totals}
-use Rattle.wh_host.specs.Machine.{IsConfig, totals_of}
-use Rattle.wh_tasks.specs.Source.{KeepsSource, RoseIfFailed}
+use Rattle.wh_host.specs.Machine.{IsConfig}
 use Rattle.wh_tasks.specs.declared.handler.NoActivities.{NoActivities}
 use Rattle.wh_tasks.specs.declared.source.ActivityAnswer.TheVariants.{Failed}
 use Rattle.wh_poll.specs.declared.hosting.HostEnd.{HostEnd}
 use Rattle.wh_poll.specs.declared.observer.NoObserver.{NoObserver}
 use Rattle.wh_poll.specs.declared.setup.WorkerSetup.{WorkerSetup}
-use Rattle.wh_poll.specs.Turns.{IsLedBy}
+use Rattle.wh_poll.specs.Ends.{IsHostEnd}
 use Rattle.wh_events.specs.declared.event.Event.{Event}
 use Rattle.wh_replay.specs.declared.fault.Fault.{Fault}
 use Rattle.wh_replay.specs.declared.fault.Fault.TheVariants.{Workflow as OfCommands}
@@ -152,20 +150,11 @@ leaves gives config setups end = gives config setups (Ok end)
 pub record IsHosted {P : Type 0} (program : Program P) (config : Config) (setups : Vec ServiceSetup Global)
     (end : ServiceHost) : Type 0 where
   pub sizes : IsConfig config
-  pub opened : end.config ≡ config
   pub seats : config.seats ≡ vec_len setups
-  pub workers : vec_len end.workers ≡ vec_len setups
-  pub led : AllZip (IsLedBy program (λ source. Recounts source.histories) (λ source. Gives source.histories)
+  pub left : IsHostEnd program (λ source. Recounts source.histories) (λ source. Gives source.histories)
       (λ source. source.answers) (λ source. 0) ComesFrom
-      (λ handler task answer. answer ≡ Failed (codes "no activities")) (λ old turn new. new ≡ old) no_shares)
-      setups.items end.workers.items
-  pub keeps : AllZip (λ setup end. KeepsSource (λ source. Gives source.histories) (λ source. Recounts source.histories)
-      ComesFrom setup.source end.source) setups.items end.workers.items
-  pub answered : AllZip (λ setup left. length left.source.answers ≤ length setup.source.answers + left.counted.taken)
-      setups.items end.workers.items
-  pub faults : AllZip (λ setup left. RoseIfFailed left.fault 0 0) setups.items end.workers.items
-  pub sums : end.totals ≡ totals_of (sums_of (map (λ left. left.counted) end.workers.items))
-  pub balanced : end.totals.taken ≡ end.totals.completed + end.totals.failed + end.totals.in_hand
+      (λ handler task answer. answer ≡ Failed (codes "no activities")) (λ old turn new. new ≡ old)
+      config setups end
 
 -- a setup has at least as many turns as its source has tasks
 abbrev pub IsLongEnough : ServiceSetup → Type 0

@@ -1,5 +1,5 @@
 -- What workers hand back by lists.
-use Rattle.std.proofs.Common.{◌≡◌, ℕ, ◌+◌, ◌≤◌, List, [], ◌∷◌, length, map, Option, refl, sym, ap, ◌∙◌, subst}
+use Rattle.std.proofs.Common.{◌≡◌, ℕ, ◌+◌, ◌≤◌, List, [], ◌∷◌, length, map, Option, refl, sym, ap, ◌∙◌, subst, arith}
 use Rattle.std.specs.List.{AllZip}
 use Rattle.wh_ledger.specs.declared.Shares.{Shares}
 use Rattle.wh_workflow.specs.Law.{Program}
@@ -10,7 +10,7 @@ use Rattle.wh_poll.specs.declared.observer.NoObserver.{NoObserver}
 use Rattle.wh_poll.specs.declared.setup.WorkerSetup.{WorkerSetup}
 use Rattle.wh_poll.specs.declared.setup.WorkerEnd.{WorkerEnd}
 use Rattle.wh_poll.specs.Lists.{worker_of, AreWorkOf, IsWorkOf, WithinTurns, AllRoseIfFailed, AllAnsweredWithin}
-use Rattle.wh_poll.specs.Turns.{IsWorked}
+use Rattle.wh_poll.specs.Ends.{IsWorked}
 use Rattle.wh_poll.proofs.Zips.{map-map, moved, moved_two, zip_into, zip_weaker}
 
 -- where each worker keeps within its turns, all do
@@ -48,7 +48,7 @@ module _ (T C F : Type 0) {P S A : Type 0} (program : Program P) (tells : S → 
   pub work_of : (seat : Shares) (setup : WorkerSetup S A NoObserver) (end : Shares × WorkerEnd S A NoObserver) → Worked program tells delivers answers failures comes_from may (seat, setup) end
       → IsWorkOf {T = T} {C = C} {F = F} program tells delivers answers failures comes_from may seat setup.source setup.handler setup.turns (worker_of end)
   work_of seat setup end worked =
-      record { setup = setup; source_is = refl; handler_is = refl; turns_are = refl; end = end.1; led = worked.told; worker_is = ap (λ s. worker_of (s, end.1)) worked.seat }
+      record { setup = setup; source_is = refl; handler_is = refl; turns_are = refl; end = end.1; led = worked.end.told; worker_is = ap (λ s. worker_of (s, end.1)) worked.seat }
 
   works : (pairs : List (Shares × WorkerSetup S A NoObserver)) (ended : List (Shares × WorkerEnd S A NoObserver)) → AllZip (Worked program tells delivers answers failures comes_from may) pairs ended
       → AreWorkOf {T = T} {C = C} {F = F} program tells delivers answers failures comes_from may (map (λ seated. seated.0) pairs) (map (λ seated. seated.1.source) pairs) (map (λ seated. seated.1.handler) pairs) (map (λ seated. seated.1.turns) pairs) (map worker_of ended)
@@ -75,18 +75,18 @@ module _ {T C F P S A : Type 0} (program : Program P) (tells : S → Tells) (del
   pub workers_within : WithinTurns seats turns (map (λ worker. worker.seat) workers)
   workers_within =
       moved WithinTurns _ _ _ _ _ _ firsts (of_setups (λ setup. setup.turns) turns turns_are) (of_workers (λ worker. worker.seat))
-      (within_turns (λ seated. seated.0) (λ seated. seated.1.turns) (λ end. end.0) pairs ended (zip_weaker (Worked program tells delivers answers failures comes_from may) _ pairs ended all (λ seated end worked. worked.taken)))
+      (within_turns (λ seated. seated.0) (λ seated. seated.1.turns) (λ end. end.0) pairs ended (zip_weaker (Worked program tells delivers answers failures comes_from may) _ pairs ended all (λ seated end worked. omega (arith, worked.end.taken, ap (λ shares. shares.taken) worked.seat))))
 
   pub workers_rose : AllRoseIfFailed (map failures sources) (map (λ worker. worker.fault) workers) (map (λ worker. failures worker.source) workers)
   workers_rose =
       moved AllRoseIfFailed _ _ _ _ _ _
       (sym (map-map failures (λ seated. seated.1.source) pairs) ∙ ap (map failures) (of_setups (λ setup. setup.source) sources sources_are)) (of_workers (λ worker. worker.fault)) (of_workers (λ worker. failures worker.source))
-      (faults_rose (λ seated. failures seated.1.source) (λ end. end.1.fault) (λ end. failures end.1.source) pairs ended (zip_weaker (Worked program tells delivers answers failures comes_from may) _ pairs ended all (λ seated end worked. worked.fault)))
+      (faults_rose (λ seated. failures seated.1.source) (λ end. end.1.fault) (λ end. failures end.1.source) pairs ended (zip_weaker (Worked program tells delivers answers failures comes_from may) _ pairs ended all (λ seated end worked. worked.end.fault)))
 
   pub workers_come : AllZip (KeepsOrigin comes_from) sources (map (λ worker. worker.source) workers)
   workers_come =
       moved_two (AllZip (KeepsOrigin comes_from)) _ _ _ _ (of_setups (λ setup. setup.source) sources sources_are) (of_workers (λ worker. worker.source))
-      (zip_into (Worked program tells delivers answers failures comes_from may) (KeepsOrigin comes_from) (λ seated. seated.1.source) (λ end. end.1.source) pairs ended all (λ seated end worked. worked.keeps.origin))
+      (zip_into (Worked program tells delivers answers failures comes_from may) (KeepsOrigin comes_from) (λ seated. seated.1.source) (λ end. end.1.source) pairs ended all (λ seated end worked. worked.end.keeps.origin))
 
   pub workers_answered : AllAnsweredWithin (map (λ source. length (answers source)) sources) seats (map (λ worker. length (answers worker.source)) workers) (map (λ worker. worker.seat) workers)
   workers_answered =
@@ -94,7 +94,7 @@ module _ {T C F P S A : Type 0} (program : Program P) (tells : S → Tells) (del
       (moved (λ x y z. AllAnsweredWithin x (map (λ seated. seated.0) pairs) y z) _ _ _ _ _ _
       (sym (map-map (λ source. length (answers source)) (λ seated. seated.1.source) pairs) ∙ ap (map (λ source. length (answers source))) (of_setups (λ setup. setup.source) sources sources_are))
       (of_workers (λ worker. length (answers worker.source))) (of_workers (λ worker. worker.seat))
-      (all_answered (λ seated. length (answers seated.1.source)) (λ seated. seated.0) (λ end. length (answers end.1.source)) (λ end. end.0) pairs ended (zip_weaker (Worked program tells delivers answers failures comes_from may) _ pairs ended all (λ seated end worked. worked.answered))))
+      (all_answered (λ seated. length (answers seated.1.source)) (λ seated. seated.0) (λ end. length (answers end.1.source)) (λ end. end.0) pairs ended (zip_weaker (Worked program tells delivers answers failures comes_from may) _ pairs ended all (λ seated end worked. omega (arith, worked.end.answered, ap (λ shares. shares.taken) worked.seat)))))
 
   pub workers_worked : AreWorkOf program tells delivers answers failures comes_from may seats sources handlers turns workers
   workers_worked =

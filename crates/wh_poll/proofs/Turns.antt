@@ -1,5 +1,5 @@
 -- What turns of a worker have done.
-use Rattle.std.proofs.Common.{◌≡◌, ◌≤◌, inr, arith, ℕ, Bool, false, List, [], ◌∷◌, ◌++◌, Option, Some, None, ap, subst, ◌∙◌, refl}
+use Rattle.std.proofs.Common.{◌≡◌, ◌≤◌, inr, arith, ℕ, Bool, false, List, [], ◌∷◌, ◌++◌, Option, Some, None, ap, subst, sym, ◌∙◌, refl}
 use Rattle.std.specs.Prelude.{Result, Ok, Err, ◌+◌, length}
 use Rattle.std.proofs.lemmas.List.{length-append}
 use Rattle.wh_slots.specs.declared.TaskName.{TaskName}
@@ -18,14 +18,17 @@ use Rattle.wh_host.specs.declared.reply.Outcome.TheVariants.{Failed}
 use Rattle.wh_poll.specs.declared.answer.Reply.{Reply}
 use Rattle.wh_poll.specs.declared.serve.Served.{Served}
 use Rattle.wh_tasks.specs.declared.source.Sent.TheVariants.{Workflow as OfWorkflow}
-use Rattle.wh_tasks.specs.Source.{Delivers, Tells, Answers, Workflow, SameTelling, FailsOnly, RoseIfFailed}
+use Rattle.wh_tasks.specs.Source.{Answerable, Delivers, Tells, Answers, Workflow, SameTelling, FailsOnly, KeepsSource, RoseIfFailed, SameMay}
 use Rattle.wh_tasks.specs.Tasks.{Basis, Own, Nothing, Joined, Told, basis_of, StepsFrom, FailsOnlySource}
 use Rattle.wh_host.specs.Machine.{with_taken}
 use Rattle.wh_poll.specs.Serve.{Sends, ServesWorkflow, Counts, MayCount, ended, served_workflow}
 use Rattle.wh_slots.specs.declared.SlotKind.{SlotKind}
 use Rattle.wh_poll.specs.declared.workers.Rota.{Rota}
 use Rattle.wh_poll.specs.Workers.{first_fault, is_last, next_rota}
-use Rattle.wh_poll.specs.Turns.{Turn, GoesOn}
+use Rattle.wh_poll.specs.declared.setup.WorkerSetup.{WorkerSetup}
+use Rattle.wh_poll.specs.declared.setup.WorkerEnd.{WorkerEnd}
+use Rattle.wh_poll.specs.Turns.{Turn, Hears, IsTurn, IsLedBy, GoesOn}
+use Rattle.wh_poll.specs.Ends.{IsEndOf}
 
 -- what a task gives stays what it gives where the same is told
 StepsFrom-same : {S : Type 0} (program : Program S) (basis : Basis) (p q : Tells) (run : Option Held) (key : RunKey) (events : List Event) (stepped : Option Held) (fault : Option Fault) (hit : Bool) (before after : ℕ)
@@ -99,3 +102,58 @@ goes_on_more step rota next first last new (t ∷ ts) turn led went more =
 -- one turn more, and how many they are
 pub turn_more : {T : Type 0} (turns : List T) (turn : T) (count : ℕ) → length turns ≡ count → length (turns ++ turn ∷ []) ≡ count + 1
 turn_more turns turn count long = omega (arith, long, length-append turns (turn ∷ []))
+
+-- what two calls keep of a source, one after the other
+keeps_on : {S : Type 0} (delivers : S → Delivers) (tells : S → Tells) (comes_from : S → S → Type 0) (old between new : S)
+    → KeepsSource delivers tells comes_from old between → KeepsSource delivers tells comes_from between new → KeepsSource delivers tells comes_from old new
+keeps_on delivers tells comes_from old between new before after = record {
+  same = record {
+    delivers = λ task. (λ gave. (after.same.delivers task).0 ((before.same.delivers task).0 gave), λ gives. (before.same.delivers task).1 ((after.same.delivers task).1 gives));
+    tells = λ key up_to history. (λ told. (after.same.tells key up_to history).0 ((before.same.tells key up_to history).0 told), λ tells. (before.same.tells key up_to history).1 ((after.same.tells key up_to history).1 tells));
+  };
+  origin = λ first came. after.origin first (before.origin first came);
+}
+
+-- which answers are allowed, after two calls
+allows_on : (p q r : Answerable) → SameMay p q → SameMay q r → SameMay p r
+allows_on p q r before after = λ task answer. (λ might. (after task answer).0 ((before task answer).0 might), λ may. (before task answer).1 ((after task answer).1 may))
+
+module _ {S A O : Type 0} (tells : S → Tells) (delivers : S → Delivers) (answers : S → Answers) (failures : S → ℕ) (comes_from : S → S → Type 0) (may : A → Answerable) where
+  -- what a worker would leave of its setup after so many turns
+  pub record IsSoFar (counted : Shares) (setup : WorkerSetup S A O) (count : ℕ) (end : WorkerEnd S A O) : Type 0 where
+    pub taken : end.counted.taken ≤ counted.taken + count
+    pub fault : RoseIfFailed end.fault (failures setup.source) (failures end.source)
+    pub keeps : KeepsSource delivers tells comes_from setup.source end.source
+    pub allows : SameMay (may setup.handler) (may end.handler)
+    pub answered : length (answers end.source) + counted.taken ≤ length (answers setup.source) + end.counted.taken
+
+module _ {P S A O : Type 0} (program : Program P) (tells : S → Tells) (delivers : S → Delivers) (answers : S → Answers) (failures : S → ℕ) (comes_from : S → S → Type 0) (may : A → Answerable) (hears : Hears O)
+    (counted : Shares) (setup : WorkerSetup S A O) (count : ℕ) where
+  -- one turn more
+  pub one_more_so_far : (kind : SlotKind) (old : WorkerEnd S A O) (turn : Turn) (new : WorkerEnd S A O)
+      → IsSoFar tells delivers answers failures comes_from may counted setup count old → IsTurn program tells delivers answers failures comes_from may hears kind old turn new
+      → (seat later : Shares) → seat ≡ old.counted → later ≡ new.counted → later.taken ≤ seat.taken + 1
+      → length (answers new.source) + seat.taken ≤ length (answers old.source) + later.taken
+      → IsSoFar tells delivers answers failures comes_from may counted setup (count + 1) new
+  one_more_so_far kind old turn new before took seat later was is more answered =
+      let had : seat.taken ≡ old.counted.taken = ap (λ shares. shares.taken) was in
+      let has : later.taken ≡ new.counted.taken = ap (λ shares. shares.taken) is in
+      record {
+        taken = omega (arith, had, has, more, before.taken);
+        fault = subst (λ fault. RoseIfFailed fault (failures setup.source) (failures new.source)) (sym took.kept) (rose_kept old.fault turn _ _ _ before.fault took.failed);
+        keeps = keeps_on delivers tells comes_from setup.source old.source new.source before.keeps took.keeps;
+        allows = allows_on _ _ _ before.allows took.allows;
+        answered = omega (arith, had, has, answered, before.answered);
+      }
+
+  -- no turn follows
+  pub end_so_far : (end : WorkerEnd S A O) → count ≤ setup.turns → IsSoFar tells delivers answers failures comes_from may counted setup count end
+      → IsLedBy program tells delivers answers failures comes_from may hears counted setup end → IsEndOf program tells delivers answers failures comes_from may hears counted setup end
+  end_so_far end within so_far led = record {
+    taken = omega (arith, within, so_far.taken);
+    fault = so_far.fault;
+    keeps = so_far.keeps;
+    allows = so_far.allows;
+    answered = so_far.answered;
+    told = led;
+  }

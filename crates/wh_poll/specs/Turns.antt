@@ -1,16 +1,14 @@
 -- The turns of a worker, one after the other.
-use Rattle.std.specs.Prelude.{◌≡◌, ◌⊎◌, ℕ, ◌+◌, ◌<◌, ◌≤◌, true, false, List, [], ◌∷◌, length, None, Result}
-use Rattle.std.specs.List.{AllZip, zip}
+use Rattle.std.specs.Prelude.{◌≡◌, ◌⊎◌, ℕ, ◌<◌, true, false, List, [], ◌∷◌, length, None, Result}
 use Rattle.wh_workflow.specs.Law.{Program}
 use Rattle.wh_slots.specs.declared.SlotKind.{SlotKind}
 use Rattle.wh_ledger.specs.declared.Shares.{Shares}
 use Rattle.wh_tasks.specs.declared.source.SourceFault.{SourceFault}
-use Rattle.wh_tasks.specs.Source.{Answers, Answerable, Delivers, Tells, FailsOnly, KeepsSource, RoseIfFailed, SameMay}
+use Rattle.wh_tasks.specs.Source.{Answers, Answerable, Delivers, Tells, FailsOnly, KeepsSource, SameMay}
 use Rattle.wh_poll.specs.declared.serve.Served.{Served}
 use Rattle.wh_poll.specs.declared.setup.WorkerSetup.{WorkerSetup}
 use Rattle.wh_poll.specs.declared.setup.WorkerEnd.{WorkerEnd}
 use Rattle.wh_poll.specs.declared.workers.Rota.{Rota}
-use Rattle.wh_poll.specs.declared.workers.WorkerLoop.{WorkerLoop}
 use Rattle.wh_poll.specs.Serve.{Serves, Counts}
 use Rattle.wh_poll.specs.Workers.{first_fault, first_rota, is_last, next_rota}
 
@@ -21,20 +19,6 @@ Turn = Result Served SourceFault
 -- what an observer may become of being told of a turn
 abbrev pub Hears : Type 0 → Type 1
 Hears O = O → Turn → O → Type 0
-
--- one turn of a worker, of a kind: the answer that it sends, what its seat counts, what its source and its handler
--- keep, the fault that it keeps, and what its observer is told
-pub record IsTurn {P S A O : Type 0} (program : Program P) (tells : S → Tells) (delivers : S → Delivers)
-    (answers : S → Answers) (failures : S → ℕ) (comes_from : S → S → Type 0) (may : A → Answerable) (hears : Hears O)
-    (kind : SlotKind) (old : WorkerEnd S A O) (turn : Turn) (new : WorkerEnd S A O) : Type 0 where
-  pub serves : Serves kind program (tells old.source) (delivers old.source) (may old.handler)
-      (answers old.source) (answers new.source) turn
-  pub counts : Counts old.counted new.counted turn
-  pub failed : FailsOnly turn (failures old.source) (failures new.source)
-  pub keeps : KeepsSource delivers tells comes_from old.source new.source
-  pub allows : SameMay (may old.handler) (may new.handler)
-  pub kept : new.fault ≡ first_fault old.fault turn
-  pub told : hears old.observer turn new.observer
 
 -- turns lead from what a worker had to what it has, and from its rota to the next one: each is of the kind of the
 -- rota before it, and each lets another turn follow
@@ -50,55 +34,36 @@ Ends step count turns rota old new =
     ((length turns ≡ count) × (new ≡ old))
     ⊎ ((turn : Turn) × step rota.kind old turn new × (is_last rota.other_closed turn ≡ true) × (length turns < count))
 
--- what a worker would leave now
-abbrev pub end_at : {T C F S A O : Type 0} → WorkerLoop T C F S A O → WorkerEnd S A O
-end_at worker_loop = record {
-  counted = worker_loop.seat;
-  source = worker_loop.source;
-  handler = worker_loop.handler;
-  observer = worker_loop.observer;
-  fault = worker_loop.fault;
-}
-
--- what it would leave before its first turn
+-- what a worker would leave before its first turn
 abbrev pub at_first : {S A O : Type 0} → Shares → WorkerSetup S A O → WorkerEnd S A O
 at_first counted setup =
-    record { counted = counted; source = setup.source; handler = setup.handler; observer = setup.observer; fault = None }
+    record {
+      counted = counted;
+      source = setup.source;
+      handler = setup.handler;
+      observer = setup.observer;
+      fault = None;
+    }
 
--- the turns of a setup led to what its worker leaves: workflow and activity tasks by turns, workflow tasks first, a closed kind
--- not again, until both are closed, the host drains or all turns are done; its observer was told of each turn
-pub record IsLedBy {P S A O : Type 0} (program : Program P) (tells : S → Tells) (delivers : S → Delivers)
-    (answers : S → Answers) (failures : S → ℕ) (comes_from : S → S → Type 0) (may : A → Answerable) (hears : Hears O)
-    (counted : Shares) (setup : WorkerSetup S A O) (end : WorkerEnd S A O) : Type 0 where
-  pub turns : List Turn
-  pub rota : Rota
-  pub before : WorkerEnd S A O
-  pub led : GoesOn (IsTurn program tells delivers answers failures comes_from may hears)
-      first_rota (at_first counted setup) turns rota before
-  pub ended : Ends (IsTurn program tells delivers answers failures comes_from may hears) setup.turns turns rota before end
+module _ {P S A O : Type 0} (program : Program P) (tells : S → Tells) (delivers : S → Delivers) (answers : S → Answers)
+    (failures : S → ℕ) (comes_from : S → S → Type 0) (may : A → Answerable) (hears : Hears O) where
+  -- one turn of a worker, of a kind: the answer that it sends, what its seat counts, what its source and its handler
+  -- keep, the fault that it keeps, and what its observer is told
+  pub record IsTurn (kind : SlotKind) (old : WorkerEnd S A O) (turn : Turn) (new : WorkerEnd S A O) : Type 0 where
+    pub serves : Serves kind program (tells old.source) (delivers old.source) (may old.handler)
+        (answers old.source) (answers new.source) turn
+    pub counts : Counts old.counted new.counted turn
+    pub failed : FailsOnly turn (failures old.source) (failures new.source)
+    pub keeps : KeepsSource delivers tells comes_from old.source new.source
+    pub allows : SameMay (may old.handler) (may new.handler)
+    pub kept : new.fault ≡ first_fault old.fault turn
+    pub told : hears old.observer turn new.observer
 
--- what a worker, a seat with a setup, has become: the seat, and what it leaves
-pub record IsWorked {P S A O : Type 0} (program : Program P) (tells : S → Tells) (delivers : S → Delivers)
-    (answers : S → Answers) (failures : S → ℕ) (comes_from : S → S → Type 0) (may : A → Answerable) (hears : Hears O)
-    (seated : Shares × WorkerSetup S A O) (ended : Shares × WorkerEnd S A O) : Type 0 where
-  pub seat : ended.0 ≡ ended.1.counted
-  pub taken : ended.0.taken ≤ seated.0.taken + seated.1.turns
-  pub fault : RoseIfFailed ended.1.fault (failures seated.1.source) (failures ended.1.source)
-  pub keeps : KeepsSource delivers tells comes_from seated.1.source ended.1.source
-  pub allows : SameMay (may seated.1.handler) (may ended.1.handler)
-  pub answered : length (answers ended.1.source) + seated.0.taken ≤ length (answers seated.1.source) + ended.0.taken
-  pub told : IsLedBy program tells delivers answers failures comes_from may hears seated.0 seated.1 ended.1
-
--- what workers leave of their setups, by what each seat had counted before
-pub record AreEnds {P S A O : Type 0} (program : Program P) (tells : S → Tells) (delivers : S → Delivers)
-    (answers : S → Answers) (failures : S → ℕ) (comes_from : S → S → Type 0) (may : A → Answerable) (hears : Hears O)
-    (seats : List Shares) (setups : List (WorkerSetup S A O)) (ends : List (WorkerEnd S A O)) : Type 0 where
-  pub count : length ends ≡ length setups
-  pub turns : AllZip (λ seated end. end.counted.taken ≤ seated.0.taken + seated.1.turns) (zip seats setups) ends
-  pub faults : AllZip (λ setup end. RoseIfFailed end.fault (failures setup.source) (failures end.source)) setups ends
-  pub keeps : AllZip (λ setup end. KeepsSource delivers tells comes_from setup.source end.source) setups ends
-  pub handlers : AllZip (λ setup end. SameMay (may setup.handler) (may end.handler)) setups ends
-  pub answered : AllZip (λ seated end. length (answers end.source) + seated.0.taken
-      ≤ length (answers seated.1.source) + end.counted.taken) (zip seats setups) ends
-  pub told : AllZip (λ seated end. IsLedBy program tells delivers answers failures comes_from may hears seated.0 seated.1 end)
-      (zip seats setups) ends
+  -- the turns of a setup led to what its worker leaves: workflow and activity tasks by turns, workflow tasks first, a
+  -- closed kind not again, until both are closed, the host drains or all turns are done; its observer was told of each
+  pub record IsLedBy (counted : Shares) (setup : WorkerSetup S A O) (end : WorkerEnd S A O) : Type 0 where
+    pub turns : List Turn
+    pub rota : Rota
+    pub before : WorkerEnd S A O
+    pub led : GoesOn IsTurn first_rota (at_first counted setup) turns rota before
+    pub ended : Ends IsTurn setup.turns turns rota before end

@@ -1,10 +1,8 @@
 //! The setups of an open host, and a host in one call.
-ghost use Rattle.std.specs.Prelude.{◌≡◌, ◌≤◌, ◌+◌, ◌↔◌, IfOk, Err, OnErr, length, map, replicate, vec_len};
-ghost use Rattle.std.specs.List.{AllZip, zip};
+ghost use Rattle.std.specs.Prelude.{◌≡◌, ◌+◌, ◌↔◌, IfOk, Err, OnErr, map, replicate, vec_len};
 ghost use Rattle.wh_ledger.specs.Shares.{no_shares, sums_of};
 ghost use Rattle.wh_host.specs.Machine.{IsConfig, totals_of};
-ghost use Rattle.wh_tasks.specs.Source.{KeepsSource, RoseIfFailed, SameMay};
-ghost use Rattle.wh_poll.specs.Turns.{AreEnds, IsLedBy};
+ghost use Rattle.wh_poll.specs.Ends.{AreEnds, IsHostEnd};
 
 use crate::observer::Observer;
 use crate::pairs::{room_for, unzipped, zipped};
@@ -53,22 +51,8 @@ pub fn run_on_host<
     ensures seats { IfOk result (λ ended. vec_len ended.0 ≡ vec_len setups) }
     ensures count { IfOk result (λ ended. vec_len ended.1 ≡ vec_len setups) }
     ensures counted { IfOk result (λ ended. ended.0.items ≡ map (λ end. end.counted) ended.1.items) }
-    ensures turns { IfOk result (λ ended. AllZip
-        (λ seated end. end.counted.taken ≤ seated.0.taken + seated.1.turns) (zip seats.items setups.items) ended.1.items) }
-    ensures faults { IfOk result (λ ended.
-        AllZip (λ setup end. RoseIfFailed end.fault (S.failures setup.source) (S.failures end.source))
-        setups.items ended.1.items) }
-    ensures keeps { IfOk result (λ ended.
-        AllZip (λ setup end. KeepsSource S.delivers S.tells S.comes_from setup.source end.source)
-        setups.items ended.1.items) }
-    ensures handlers { IfOk result (λ ended.
-        AllZip (λ setup end. SameMay (A.may setup.handler) (A.may end.handler)) setups.items ended.1.items) }
-    ensures answered { IfOk result (λ ended. AllZip
-        (λ seated end. length (S.answers end.source) + seated.0.taken
-        ≤ length (S.answers seated.1.source) + end.counted.taken) (zip seats.items setups.items) ended.1.items) }
-    ensures told { IfOk result (λ ended. AllZip
-        (λ seated end. IsLedBy W.program S.tells S.delivers S.answers S.failures S.comes_from A.may O.hears
-        seated.0 seated.1 end) (zip seats.items setups.items) ended.1.items) }
+    ensures ends { IfOk result (λ ended. AreEnds W.program S.tells S.delivers S.answers S.failures S.comes_from
+        A.may O.hears seats.items setups.items ended.1.items) }
 {
     let pairs = zipped(alloc, seats, setups)?;
     let room = room_for(alloc, pairs.len())?;
@@ -111,28 +95,8 @@ pub fn run_host<
     gate: &G,
 ) -> Result<HostEnd<S, A, O>, OpenFault>
     ensures bad { (result ≡ Err OpenFault.BadConfig) ↔ (¬ (IsConfig config × (config.seats ≡ vec_len setups))) }
-    ensures sizes { IfOk result (λ host_end. host_end.config ≡ config) }
-    ensures count { IfOk result (λ host_end. vec_len host_end.workers ≡ vec_len setups) }
-    ensures turns { IfOk result (λ host_end.
-        AllZip (λ setup end. end.counted.taken ≤ setup.turns) setups.items host_end.workers.items) }
-    ensures faults { IfOk result (λ host_end.
-        AllZip (λ setup end. RoseIfFailed end.fault (S.failures setup.source) (S.failures end.source))
-        setups.items host_end.workers.items) }
-    ensures keeps { IfOk result (λ host_end.
-        AllZip (λ setup end. KeepsSource S.delivers S.tells S.comes_from setup.source end.source)
-        setups.items host_end.workers.items) }
-    ensures handlers { IfOk result (λ host_end.
-        AllZip (λ setup end. SameMay (A.may setup.handler) (A.may end.handler)) setups.items host_end.workers.items) }
-    ensures answered { IfOk result (λ host_end.
-        AllZip (λ setup end. length (S.answers end.source) ≤ length (S.answers setup.source) + end.counted.taken)
-        setups.items host_end.workers.items) }
-    ensures told { IfOk result (λ host_end. AllZip
-        (IsLedBy W.program S.tells S.delivers S.answers S.failures S.comes_from A.may O.hears no_shares)
-        setups.items host_end.workers.items) }
-    ensures gathered { IfOk result (λ host_end.
-        host_end.totals ≡ totals_of (sums_of (map (λ end. end.counted) host_end.workers.items))) }
-    ensures balanced { IfOk result (λ host_end.
-        host_end.totals.taken ≡ host_end.totals.completed + host_end.totals.failed + host_end.totals.in_hand) }
+    ensures end { IfOk result (IsHostEnd W.program S.tells S.delivers S.answers S.failures S.comes_from
+        A.may O.hears config setups) }
 {
     let seats = config.seats;
     if seats != setups.len() {
@@ -177,13 +141,8 @@ fn run_with<
         × (completed.parts ≡ config.seats) }
     requires failed { (failed.name ≡ F.name) × (failed.parts ≡ F.parts) × (failed.parts ≡ config.seats) }
     ensures bad { (result ≡ Err OpenFault.BadConfig) ↔ (¬ IsConfig config) }
-    ensures sizes { IfOk result (λ host_end. host_end.config ≡ config) }
-    ensures ends { IfOk result (λ host_end. AreEnds W.program S.tells S.delivers S.answers S.failures S.comes_from
-        A.may O.hears (replicate (vec_len setups) no_shares) setups.items host_end.workers.items) }
-    ensures gathered { IfOk result (λ host_end.
-        host_end.totals ≡ totals_of (sums_of (map (λ end. end.counted) host_end.workers.items))) }
-    ensures balanced { IfOk result (λ host_end.
-        host_end.totals.taken ≡ host_end.totals.completed + host_end.totals.failed + host_end.totals.in_hand) }
+    ensures end { IfOk result (IsHostEnd W.program S.tells S.delivers S.answers S.failures S.comes_from
+        A.may O.hears config setups) }
 {
     let (host, seats) = Host::<W, T, C, F>::open(alloc, config, taken, completed, failed)?;
     run_open(rt, alloc, config, host, seats, setups, gate)
@@ -212,13 +171,8 @@ fn run_open<
     requires seats { seats.items ≡ replicate (vec_len setups) no_shares }
     requires parts { T.parts ≡ vec_len setups }
     ensures fault { OnErr result (result ≡ Err OpenFault.OutOfMemory) }
-    ensures sizes { IfOk result (λ host_end. host_end.config ≡ config) }
-    ensures ends { IfOk result (λ host_end. AreEnds W.program S.tells S.delivers S.answers S.failures S.comes_from
-        A.may O.hears (replicate (vec_len setups) no_shares) setups.items host_end.workers.items) }
-    ensures gathered { IfOk result (λ host_end.
-        host_end.totals ≡ totals_of (sums_of (map (λ end. end.counted) host_end.workers.items))) }
-    ensures balanced { IfOk result (λ host_end.
-        host_end.totals.taken ≡ host_end.totals.completed + host_end.totals.failed + host_end.totals.in_hand) }
+    ensures end { IfOk result (IsHostEnd W.program S.tells S.delivers S.answers S.failures S.comes_from
+        A.may O.hears config setups) }
 {
     let (seats, workers) = run_on_host(rt, alloc, &host, seats, setups, gate)?;
     let totals = close(host, seats);

@@ -69,7 +69,7 @@ pub fn work<
         observer: NoObserver,
         turns,
     };
-    worker_of(run_worker(rt, alloc, host, gate, (seat, setup)))
+    worker_of(run_worker(rt, alloc, host, gate, seat, setup))
 }
 
 /// What a worker hands back, by what it leaves.

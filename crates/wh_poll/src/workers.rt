@@ -2,9 +2,9 @@
 ghost use Rattle.std.specs.Prelude.{◌≡◌, ◌≤◌, ◌<◌, ◌+◌, ℕ, IfOk, not, length, vec_len, slice_index_or};
 ghost use Rattle.std.specs.Bool.{OnTrue};
 ghost use denote.Param.Send.{IsSend};
-ghost use Rattle.wh_tasks.specs.Source.{KeepsSource, SameMay, FailsOnly, RoseIfFailed};
 ghost use Rattle.wh_poll.specs.Workers.{first_fault, first_rota, other, is_last, next_rota};
-ghost use Rattle.wh_poll.specs.Turns.{end_at, IsTurn, IsLedBy, IsWorked};
+ghost use Rattle.wh_poll.specs.Turns.{IsTurn};
+ghost use Rattle.wh_poll.specs.Ends.{IsWorked};
 
 use crate::observer::Observer;
 use crate::serve::{Served, serve_one};
@@ -19,65 +19,6 @@ use wh_ledger::Seat;
 use wh_slots::SlotKind;
 use wh_tasks::{ActivityHandler, Gate, SourceFault, TaskSource};
 use wh_workflow::Workflow;
-
-/// A worker between its turns: its seat, and what it would leave now but for the count.
-struct WorkerLoop<T: Ledger, C: Ledger, F: Ledger, S, A, O> {
-    seat: Seat<T, C, F>,
-    source: S,
-    handler: A,
-    observer: O,
-    fault: Option<SourceFault>,
-}
-
-impl<T: Ledger, C: Ledger, F: Ledger, S: TaskSource, A: ActivityHandler, O: Observer> WorkerLoop<
-    T,
-    C,
-    F,
-    S,
-    A,
-    O,
-> {
-    /// Serves one task of the kind, keeps the fault of the source, if it is the first, and tells
-    /// the observer.
-    fn serve<R: Wait, W: Workflow, G: Gate>(
-        &mut self,
-        rt: &R,
-        alloc: Global,
-        host: &Host<W, T, C, F>,
-        gate: &G,
-        kind: SlotKind,
-    ) -> Result<Served, SourceFault>
-        ensures taken { self.new.seat.taken ≤ self.old.seat.taken + 1 }
-        ensures fault { self.new.fault ≡ first_fault self.old.fault result }
-        ensures failures { FailsOnly result (S.failures self.old.source) (S.failures self.new.source) }
-        ensures keeps { KeepsSource S.delivers S.tells S.comes_from self.old.source self.new.source }
-        ensures allows { SameMay (A.may self.old.handler) (A.may self.new.handler) }
-        ensures answered { length (S.answers self.new.source) + self.old.seat.taken
-            ≤ length (S.answers self.old.source) + self.new.seat.taken }
-        ensures turn { IsTurn W.program S.tells S.delivers S.answers S.failures S.comes_from A.may O.hears
-            kind (end_at self.old) result (end_at self.new) }
-    {
-        let seat = &mut self.seat;
-        let source = &mut self.source;
-        let served = serve_one(rt, alloc, host, seat, source, &mut self.handler, gate, kind);
-        self.fault = first_fault(self.fault, served);
-        self.observer.observe(served);
-        served
-    }
-}
-
-/// The fault that a worker keeps after a turn.
-fn first_fault(
-    kept: Option<SourceFault>,
-    served: Result<Served, SourceFault>,
-) -> Option<SourceFault>
-    ensures { result ≡ first_fault kept served }
-{
-    match (kept, served) {
-        (None, Err(fault)) => Some(fault),
-        _ => kept,
-    }
-}
 
 /// A seat with the setup of its worker.
 pub(crate) type SeatedWorker<T, C, F, S, A, O> = (Seat<T, C, F>, WorkerSetup<S, A, O>);
@@ -131,59 +72,49 @@ fn other(kind: SlotKind) -> SlotKind
     }
 }
 
-/// Serves tasks from a setup, at most one a turn.
-#[tactic(auto, using(crate::proofs::Turns::rose_kept))]
-fn work_at<
-    R: Wait,
-    W: Workflow,
-    T: Ledger,
-    C: Ledger,
-    F: Ledger,
-    S: TaskSource,
-    A: ActivityHandler,
-    O: Observer,
-    G: Gate,
->(
-    rt: &R,
-    alloc: Global,
-    host: &Host<W, T, C, F>,
-    gate: &G,
-    seat: Seat<T, C, F>,
-    setup: WorkerSetup<S, A, O>,
-) -> WorkerLoop<T, C, F, S, A, O>
-    ensures taken { result.seat.taken ≤ seat.taken + setup.turns }
-    ensures fault { RoseIfFailed result.fault (S.failures setup.source) (S.failures result.source) }
-    ensures keeps { KeepsSource S.delivers S.tells S.comes_from setup.source result.source }
-    ensures allows { SameMay (A.may setup.handler) (A.may result.handler) }
-    ensures answered { length (S.answers result.source) + seat.taken
-        ≤ length (S.answers setup.source) + result.seat.taken }
-    ensures turns { IsLedBy W.program S.tells S.delivers S.answers S.failures S.comes_from A.may O.hears
-        seat setup (end_at result) }
-{
-    let WorkerSetup {
-        source,
-        handler,
-        observer,
-        turns,
-    } = setup;
-    let mut worker_loop = WorkerLoop {
-        seat,
-        source,
-        handler,
-        observer,
-        fault: None,
-    };
-    let mut rota = Rota::first();
-    for _turn in 0..turns {
-        let served = worker_loop.serve(rt, alloc, host, gate, rota.kind);
-        if !rota.goes_on(served) {
-            break;
-        }
+impl<S: TaskSource, A: ActivityHandler, O: Observer> WorkerEnd<S, A, O> {
+    /// Goes on from what the worker would leave by one turn more, with its seat: serves one task of
+    /// the kind, keeps the fault of the source, if it is the first, and tells the observer.
+    fn take_turn<R: Wait, W: Workflow, T: Ledger, C: Ledger, F: Ledger, G: Gate>(
+        &mut self,
+        rt: &R,
+        alloc: Global,
+        host: &Host<W, T, C, F>,
+        gate: &G,
+        seat: &mut Seat<T, C, F>,
+        kind: SlotKind,
+    ) -> Result<Served, SourceFault>
+        requires { seat.old ≡ self.old.counted }
+        ensures counted { seat.new ≡ self.new.counted }
+        ensures taken { seat.new.taken ≤ seat.old.taken + 1 }
+        ensures answered { length (S.answers self.new.source) + seat.old.taken
+            ≤ length (S.answers self.old.source) + seat.new.taken }
+        ensures turn { IsTurn W.program S.tells S.delivers S.answers S.failures S.comes_from A.may O.hears
+            kind self.old result self.new }
+    {
+        let source = &mut self.source;
+        let served = serve_one(rt, alloc, host, seat, source, &mut self.handler, gate, kind);
+        self.counted = seat.share();
+        self.fault = first_fault(self.fault, served);
+        self.observer.observe(served);
+        served
     }
-    worker_loop
 }
 
-/// Runs a worker from its setup to its end.
+/// The fault that a worker keeps after a turn.
+fn first_fault(
+    kept: Option<SourceFault>,
+    served: Result<Served, SourceFault>,
+) -> Option<SourceFault>
+    ensures { result ≡ first_fault kept served }
+{
+    match (kept, served) {
+        (None, Err(fault)) => Some(fault),
+        _ => kept,
+    }
+}
+
+/// Runs a worker from its setup to its end: serves tasks, at most one a turn.
 pub(crate) fn run_worker<
     R: Wait,
     W: Workflow,
@@ -199,35 +130,32 @@ pub(crate) fn run_worker<
     alloc: Global,
     host: &Host<W, T, C, F>,
     gate: &G,
-    seated: SeatedWorker<T, C, F, S, A, O>,
+    mut seat: Seat<T, C, F>,
+    setup: WorkerSetup<S, A, O>,
 ) -> EndedWorker<T, C, F, S, A, O>
-    ensures { IsWorked W.program S.tells S.delivers S.answers S.failures S.comes_from A.may O.hears seated result }
+    ensures { IsWorked W.program S.tells S.delivers S.answers S.failures S.comes_from A.may O.hears
+        (seat, setup) result }
 {
-    let (seat, setup) = seated;
-    leave(work_at(rt, alloc, host, gate, seat, setup))
-}
-
-/// The seat of a worker, and what it leaves.
-fn leave<T: Ledger, C: Ledger, F: Ledger, S, A, O>(
-    worker_loop: WorkerLoop<T, C, F, S, A, O>,
-) -> EndedWorker<T, C, F, S, A, O>
-    ensures { result ≡ (worker_loop.seat, end_at worker_loop) }
-{
-    let counted = worker_loop.seat.share();
-    let WorkerLoop {
-        seat,
+    let WorkerSetup {
         source,
         handler,
         observer,
-        fault,
-    } = worker_loop;
-    let end = WorkerEnd {
-        counted,
+        turns,
+    } = setup;
+    let mut end = WorkerEnd {
+        counted: seat.share(),
         source,
         handler,
         observer,
-        fault,
+        fault: None,
     };
+    let mut rota = Rota::first();
+    for _turn in 0..turns {
+        let served = end.take_turn(rt, alloc, host, gate, &mut seat, rota.kind);
+        if !rota.goes_on(served) {
+            break;
+        }
+    }
     (seat, end)
 }
 
@@ -261,6 +189,9 @@ pub(crate) fn run_in_threads<
             requires { IsSend W.row × IsSend W.State.row }
             ensures { IsWorked W.program S.tells S.delivers S.answers S.failures S.comes_from A.may O.hears
                 seated result }
-        { run_worker(rt, alloc, host, gate, seated) },
+        {
+            let (seat, setup) = seated;
+            run_worker(rt, alloc, host, gate, seat, setup)
+        },
     )
 }

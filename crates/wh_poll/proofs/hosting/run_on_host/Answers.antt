@@ -1,6 +1,6 @@
 use Rattle.std.proofs.Common.{◌≡◌, ◌∙◌, length, map, vec_len, arith, ap, sym}
 use Rattle.std.proofs.lemmas.List.{length-map}
-use Rattle.wh_poll.specs.Turns.{IsWorked}
+use Rattle.wh_poll.specs.Ends.{IsWorked}
 use Rattle.wh_poll.proofs.Ends.{ends_of_pairs, seats_counted}
 use Rattle.wh_poll.proofs.Zips.{map-map, zip_each}
 use Rattle.wh_poll.proofs.hosting.run_on_host.Goals as goal
@@ -22,16 +22,10 @@ returns g c =
     let setups = sym (length-map pairs (λ seated. seated.1)) ∙ ap length c.in_ok-pairs.ensures.seconds ∙ sym c.args.setups.ok.0 in
     let R = IsWorked g.W.Workflow.program S.tells S.delivers S.answers S.failures S.comes_from g.A.ActivityHandler.may g.O.Observer.hears in
     let all = zip_each R pairs ended same (λ i seated end below. c.in_ok-ended.ensures.each i seated end (omega (arith, below, long))) in
-    let ends = ends_of_pairs g.W.Workflow.program S.tells S.delivers S.answers S.failures S.comes_from g.A.ActivityHandler.may g.O.Observer.hears
-    pairs ended c.args.seats.items c.args.setups.items c.unzipped.result.1.items c.in_ok-pairs.ensures.firsts c.in_ok-pairs.ensures.seconds seconds same all in
     record {
       seats = c.unzipped.result.0.ok.0 ∙ (ap length firsts ∙ length-map ended (λ end. end.0) ∙ same ∙ setups);
-      count = c.unzipped.result.1.ok.0 ∙ ends.count ∙ sym c.args.setups.ok.0;
+      count = c.unzipped.result.1.ok.0 ∙ (ap length seconds ∙ length-map ended (λ end. end.1) ∙ same ∙ setups);
       counted = firsts ∙ seats_counted R pairs ended all (λ seated end worked. worked.seat) ∙ sym (ap (map (λ end. end.counted)) seconds ∙ map-map (λ end. end.counted) (λ end. end.1) ended);
-      turns = ends.turns;
-      faults = ends.faults;
-      keeps = ends.keeps;
-      handlers = ends.handlers;
-      answered = ends.answered;
-      told = ends.told;
+      ends = ends_of_pairs g.W.Workflow.program S.tells S.delivers S.answers S.failures S.comes_from g.A.ActivityHandler.may g.O.Observer.hears
+          pairs ended c.args.seats.items c.args.setups.items c.unzipped.result.1.items c.in_ok-pairs.ensures.firsts c.in_ok-pairs.ensures.seconds seconds all;
     }

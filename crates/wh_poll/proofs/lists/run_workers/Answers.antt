@@ -1,5 +1,5 @@
 use Rattle.std.proofs.Common.{◌≡◌, ◌∙◌, length, vec_len, arith, sym}
-use Rattle.wh_poll.specs.Turns.{IsWorked}
+use Rattle.wh_poll.specs.Ends.{IsWorked}
 use Rattle.wh_poll.proofs.ByLists.{workers_answered, workers_come, workers_rose, workers_within, workers_worked}
 use Rattle.wh_poll.proofs.Zips.{zip_each}
 use Rattle.wh_poll.proofs.lists.run_workers.Goals as goal
