@@ -7,6 +7,7 @@ A talk is a file of lines:
 
     # WORDS          a comment
     run WORDS        the options of the command, after those that all talks have
+    called PATH      the path by which the program is called, otherwise its own
     let NAME TEXT    $NAME stands for the text in what is sent
     -> LINE          the next request, which has to be this line
     => LINE          so too, but those that stand one after another come in any order; @NAME in one is a number, and from
@@ -43,10 +44,10 @@ class Wrong(Exception):
 class Worker:
     """The program, by its pipes."""
 
-    def __init__(self, program, words):
-        command = [*program, "work", *OPTIONS, *TIMES, *words]
+    def __init__(self, program, called, words):
+        command = [called, *program[1:], "work", *OPTIONS, *TIMES, *words]
         pipe = subprocess.PIPE
-        self.child = subprocess.Popen(command, stdin=pipe, stdout=pipe, stderr=pipe)
+        self.child = subprocess.Popen(command, executable=program[0], stdin=pipe, stdout=pipe, stderr=pipe)
         self.held = b""
         self.until = time.monotonic() + LIMIT_SECONDS
 
@@ -133,7 +134,8 @@ class Talk:
     """A talk with a worker, line by line."""
 
     def __init__(self, program, lines):
-        self.worker = Worker(program, next(line.split()[1:] for line in lines if line.startswith("run ")))
+        called = next((line.partition(" ")[2] for line in lines if line.startswith("called ")), program[0])
+        self.worker = Worker(program, called, next(line.split()[1:] for line in lines if line.startswith("run ")))
         self.lines, self.texts, self.numbers = lines, {}, {}
         self.status, self.says, self.wanted = 0, [], []
 

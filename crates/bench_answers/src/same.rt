@@ -8,7 +8,7 @@ use wh_tasks::Sent;
 use wh_workflow::Command;
 
 /// What can be compared.
-pub trait Same {
+pub(crate) trait Same {
     ghost use Rattle.std.specs.Prelude.{◌≡◌, IsTrue};
 
     /// Whether both are the same.
@@ -17,7 +17,7 @@ pub trait Same {
 }
 
 /// Whether both lists have the same items in the same order.
-pub fn same_all<T: Same>(left: &[T], right: &[T]) -> bool
+pub(crate) fn same_all<T: Same>(left: &[T], right: &[T]) -> bool
     ensures { IsTrue result → left.now ≡ right.now }
 {
     if left.len() != right.len() {

@@ -14,7 +14,7 @@ use wh_slots::TaskName;
 /// A workflow task has the events of its run since the task before, as a server gives them to a
 /// worker that is expected to have cached the run.
 #[derive(Drop)]
-pub struct Inbox {
+pub(crate) struct Inbox {
     alloc: Global,
     workflow_tasks: Vec<WorkflowTask>,
     activity_tasks: Vec<ActivityTask>,
@@ -25,7 +25,7 @@ pub struct Inbox {
 
 impl Inbox {
     /// A source without tasks.
-    pub fn new(alloc: Global) -> Inbox {
+    pub(crate) fn new(alloc: Global) -> Inbox {
         Inbox {
             alloc,
             workflow_tasks: Vec::new(alloc),
@@ -37,26 +37,26 @@ impl Inbox {
     }
 
     /// Puts a workflow task after the others.
-    pub fn add_workflow(&mut self, task: WorkflowTask) -> Result<(), OutOfMemory> {
+    pub(crate) fn add_workflow(&mut self, task: WorkflowTask) -> Result<(), OutOfMemory> {
         self.workflow_tasks.push(task)?;
         Ok(())
     }
 
     /// Puts an activity task after the others.
-    pub fn add_activity(&mut self, task: ActivityTask) -> Result<(), OutOfMemory> {
+    pub(crate) fn add_activity(&mut self, task: ActivityTask) -> Result<(), OutOfMemory> {
         self.activity_tasks.push(task)?;
         Ok(())
     }
 
     /// As many turns as a worker needs: one for each task, and one more for each kind, by which it
     /// learns that there are no more.
-    pub fn turns(&self) -> u64 {
+    pub(crate) fn turns(&self) -> u64 {
         let tasks = self.workflow_tasks.len() as u64 + self.activity_tasks.len() as u64;
         tasks.saturating_add(2)
     }
 
     /// How many answers it was sent.
-    pub fn count_answers(&self) -> usize {
+    pub(crate) fn count_answers(&self) -> usize {
         self.answers.len()
     }
 }

@@ -78,7 +78,7 @@ fn print<R: Print>(rt: &R, end: &OrderEnd) -> io::Result<()> {
 }
 
 /// Serves six orders in memory, and prints how that ended. The status is 0 where it could be printed.
-pub fn serve_from_memory<R: Threads + Wait + Print + Eprint + AllocGlobal + Sync>(
+pub(crate) fn serve_from_memory<R: Threads + Wait + Print + Eprint + AllocGlobal + Sync>(
     rt: &R,
 ) -> ExitCode {
     let end = match serve(rt, rt.alloc()) {

@@ -151,7 +151,7 @@ fn charge_task(alloc: Global, order: u64) -> Result<ActivityTask, OutOfMemory> {
 
 /// Adds the tasks of an order: three workflow tasks, and one to charge for it. Every third order
 /// is called off, and the others are shipped.
-pub fn add_order(inbox: &mut Inbox, alloc: Global, order: u64) -> Result<(), OutOfMemory> {
+pub(crate) fn add_order(inbox: &mut Inbox, alloc: Global, order: u64) -> Result<(), OutOfMemory> {
     inbox.add_workflow(workflow_task(alloc, order, 1, begun(alloc, order)?)?)?;
     inbox.add_activity(charge_task(alloc, order)?)?;
     inbox.add_workflow(workflow_task(alloc, order, 4, charged(alloc, order)?)?)?;

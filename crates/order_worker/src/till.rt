@@ -8,9 +8,9 @@ use wh_workflow::text_of;
 
 /// Charges cards, and gives their receipts.
 #[derive(Drop)]
-pub struct Till {
+pub(crate) struct Till {
     /// Where reasons are made.
-    pub alloc: Global,
+    pub(crate) alloc: Global,
 }
 
 impl ActivityHandler for Till {

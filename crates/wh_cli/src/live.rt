@@ -24,7 +24,7 @@ fn crew_of<'a, R, A: Drop, M: Fn() -> A>(
     alloc: Global,
     make: &M,
     seats: usize,
-    progress: Option<&'a Progress>,
+    progress: Option<&'a Progress<'a>>,
 ) -> Result<Vec<(A, Watch<'a, R>)>, OutOfMemory>
     requires { M.IsAlwaysCallable make.now }
     ensures { IfOk result (λ crew. vec_len crew ≡ seats) }
@@ -36,7 +36,8 @@ fn crew_of<'a, R, A: Drop, M: Fn() -> A>(
     Ok(crew)
 }
 
-/// Listens to what the other end writes, and serves its tasks until there are no more.
+/// Listens to what the other end writes, and serves its tasks until there are no more. Lines on the
+/// standard error begin with the program's name.
 pub(crate) fn serve_calls<
     W: Workflow + Send,
     R: Threads + Wait + Clock + Eprint + Sync,
@@ -44,7 +45,7 @@ pub(crate) fn serve_calls<
     L: FnOnce() -> bool,
     A: ActivityHandler + Send + Drop,
     M: Fn() -> A,
->(rt: &R, calls: &C, listen: L, make: &M, plan: LivePlan) -> Result<LiveEnd, Failure>
+>(rt: &R, name: &str, calls: &C, listen: L, make: &M, plan: LivePlan) -> Result<LiveEnd, Failure>
 where
     L: Drop,
     requires sizes { IsConfig plan.config }
@@ -61,7 +62,7 @@ where
     } = plan;
     let alloc = calls.allocator();
     let progress = match stats {
-        Some(seconds) => Some(Progress::new(rt, seconds)),
+        Some(seconds) => Some(Progress::new(rt, name, seconds)),
         None => None,
     };
     let Ok(crew) = crew_of(rt, alloc, make, config.seats, progress.as_ref()) else {
@@ -73,6 +74,7 @@ where
     let end = serve_live::<W, R, C, A, Watch<R>, Progress>(
         rt,
         alloc,
+        name,
         config,
         calls,
         &options,

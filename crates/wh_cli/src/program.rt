@@ -32,10 +32,10 @@ use wh_workflow::Workflow;
 const FAILED: u8 = 2;
 
 /// What the program is called where no word says it.
-const UNCALLED: &str = "wfhost";
+pub(crate) const UNCALLED: &str = "wfhost";
 
 /// The words of the command line, the program's name first.
-fn words<R: Env + AllocGlobal>(rt: &R) -> Result<Vec<String>, Failure>
+pub(crate) fn words<R: Env + AllocGlobal>(rt: &R) -> Result<Vec<String>, Failure>
     ensures { result ≢ Err Failure.FewSlots }
 {
     match env::args(rt) {
@@ -61,7 +61,7 @@ fn name_of(path: &str) -> &str
 }
 
 /// What the program is called: the last part of its first word, or `wfhost` where there is none.
-fn called(words: &[String]) -> &str
+pub(crate) fn called(words: &[String]) -> &str
     ensures { result.now ≡ called (map string_bytes words.now) }
 {
     match words.first() {
@@ -225,10 +225,11 @@ where
         Ok(words) => words,
         Err(failure) => return fail_unnamed(rt, failure),
     };
+    let name = called(words.as_slice());
     let live = |plan: LivePlan| -> Result<LiveEnd, Failure>
         requires sizes { IsConfig plan.config }
         requires listens { L.IsAlwaysCallable listen }
         requires makes { M.IsAlwaysCallable make }
-    { serve_calls::<W, R, C, L, A, M>(rt, calls, listen, &make, plan) };
+    { serve_calls::<W, R, C, L, A, M>(rt, name, calls, listen, &make, plan) };
     ExitCode::from(run_words::<W, R, _>(rt, words.as_slice(), live))
 }

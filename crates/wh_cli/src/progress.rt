@@ -7,6 +7,7 @@ use std::time::Clock;
 use wh_host::{Counts, Outcome};
 use wh_live::Reporter;
 use wh_poll::{Served, SourceFault};
+use wh_tester::Shown;
 
 /// What the workers have told of their turns, and what was reported last.
 #[derive(Clone, Copy)]
@@ -131,15 +132,17 @@ impl Display for Report {
 
 /// Tells from time to time how many tasks were answered, and what the host holds and caches.
 #[derive(Drop)]
-pub(crate) struct Progress {
+pub(crate) struct Progress<'a> {
+    /// What the program is called.
+    name: &'a str,
     /// In seconds.
     period: u64,
     turns: Mutex<Turns>,
 }
 
-impl Progress {
-    /// One that begins now, and is told after so many seconds each.
-    pub(crate) fn new<R: Clock>(rt: &R, period: u64) -> Progress {
+impl<'a> Progress<'a> {
+    /// One that begins now, and is told under the program's name after so many seconds each.
+    pub(crate) fn new<R: Clock>(rt: &R, name: &'a str, period: u64) -> Progress<'a> {
         let turns = Turns {
             completed: 0,
             failed: 0,
@@ -149,6 +152,7 @@ impl Progress {
             before: 0,
         };
         Progress {
+            name,
             period,
             turns: Mutex::new(turns),
         }
@@ -160,7 +164,7 @@ impl Progress {
     }
 }
 
-impl Reporter for Progress {
+impl Reporter for Progress<'_> {
     fn period(&self) -> u64 {
         self.period
     }
@@ -169,6 +173,7 @@ impl Reporter for Progress {
     fn report<R: Wait + Clock + Eprint>(&self, rt: &R, counts: Option<Counts>) {
         let now = milliseconds(rt);
         let report = self.turns.lock(rt).report(now, counts);
-        let _ = eprintln!(rt; "wfhost: {report}");
+        let name = Shown(self.name);
+        let _ = eprintln!(rt; "{name}: {report}");
     }
 }

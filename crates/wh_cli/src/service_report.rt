@@ -19,22 +19,22 @@ use wh_workflow::WorkflowFault;
 
 /// How many tasks of a file were polled, and how they ended.
 #[derive(Clone, Copy)]
-pub struct Tally {
+pub(crate) struct Tally {
     /// Tasks that were polled.
-    pub tasks: u64,
+    pub(crate) tasks: u64,
     /// Tasks to which `Complete` was sent.
-    pub completed: u64,
+    pub(crate) completed: u64,
     /// The other tasks.
-    pub failed: u64,
+    pub(crate) failed: u64,
 }
 
 /// A file by its name, with what came of its tasks, or why it cannot be read.
 #[derive(Drop)]
-pub struct Row {
+pub(crate) struct Row {
     /// The name of the file.
-    pub name: Text,
+    pub(crate) name: Text,
     /// Its tally, or the fault of reading it.
-    pub outcome: Result<Tally, ReadFault>,
+    pub(crate) outcome: Result<Tally, ReadFault>,
 }
 
 /// A failed task of a file. As a text: the name of the file as the report shows it, the task by the
@@ -183,7 +183,11 @@ fn write_rows<O: Write>(rows: Vec<Row>, writer: &mut O) -> io::Result<()>
 
 /// Writes a line for each file in the order given, then the totals. After an error some of the
 /// report may have been written.
-pub fn write_service<O: Write>(rows: Vec<Row>, totals: Totals, writer: &mut O) -> io::Result<()>
+pub(crate) fn write_service<O: Write>(
+    rows: Vec<Row>,
+    totals: Totals,
+    writer: &mut O,
+) -> io::Result<()>
     ensures { OnOk result (Appends (O.contents writer.old) (O.contents writer.new) (service_text rows.items totals)) }
 {
     write_rows(rows, writer)?;
@@ -201,7 +205,7 @@ fn is_good(row: &Row) -> bool
 }
 
 /// Whether each file was read and no task of theirs failed.
-pub fn all_served(rows: &[Row]) -> bool
+pub(crate) fn all_served(rows: &[Row]) -> bool
     ensures { result ≡ all_served rows.now }
 {
     rows.iter().all(|row| is_good(row))

@@ -8,7 +8,7 @@ use wh_poll::{Observer, Served, SourceFault};
 #[derive(Drop)]
 pub(crate) struct Watch<'a, R> {
     pub(crate) rt: &'a R,
-    pub(crate) progress: Option<&'a Progress>,
+    pub(crate) progress: Option<&'a Progress<'a>>,
 }
 
 impl<R: Wait> Observer for Watch<'_, R> {

@@ -7,6 +7,7 @@ use std::sync::Wait;
 use std::thread;
 use std::time::{Clock, Duration};
 use wh_rpc::{CallFault, Caller, Outcome};
+use wh_tester::Shown;
 
 /// A connection over calls of a link, whose person reads standard error. It holds the handle, since
 /// a poll is passed none.
@@ -14,6 +15,8 @@ use wh_rpc::{CallFault, Caller, Outcome};
 pub(crate) struct LinkConnection<'a, R, C> {
     pub(crate) rt: &'a R,
     pub(crate) calls: &'a C,
+    /// What the program is called, under which a person is told.
+    pub(crate) name: &'a str,
 }
 
 /// The time in whole seconds since 1970, 0 where there is no clock.
@@ -40,7 +43,8 @@ impl<R: Wait + Clock + Eprint, C: Caller> Connection for LinkConnection<'_, R, C
     }
 
     fn tell(&self, what: &str) {
-        let _ = eprintln!(self.rt; "wfhost: {what}");
+        let name = Shown(self.name);
+        let _ = eprintln!(self.rt; "{name}: {what}");
     }
 
     fn log(&self, what: &str) {

@@ -63,7 +63,7 @@ pub(crate) fn take_spare<T: Ledger, K: Ledger, F: Ledger>(
 }
 
 /// Puts the seat back that was taken out, if one was.
-fn put_spare<T: Ledger, K: Ledger, F: Ledger>(
+pub(crate) fn put_spare<T: Ledger, K: Ledger, F: Ledger>(
     seats: &mut Vec<Seat<T, K, F>>,
     spare: Option<Seat<T, K, F>>,
 ) -> Result<(), OutOfMemory>
@@ -168,7 +168,7 @@ pub(crate) type CrewEnd<T, K, F> = (Vec<Seat<T, K, F>>, Tally);
 
 /// Runs the workers, and the reporter in a thread beside them. The seat that is there for it comes
 /// back as it was.
-fn run_beside<
+pub(crate) fn run_beside<
     R: Threads + Wait + Clock + Eprint + Sync,
     W: Workflow + Send,
     T: Ledger + Send,
@@ -208,37 +208,4 @@ fn run_beside<
             ended
         },
     )
-}
-
-/// Runs the workers, and the reporter beside them, if there is one. The spare seat is among those
-/// that come back.
-pub(crate) fn run_told<
-    R: Threads + Wait + Clock + Eprint + Sync,
-    W: Workflow + Send,
-    T: Ledger + Send,
-    K: Ledger + Send,
-    F: Ledger + Send,
-    L: Connection + Sync,
-    A: ActivityHandler + Send + Drop,
-    O: Observer + Send + Drop,
-    P: Reporter + Sync,
->(
-    rt: &R,
-    alloc: Global,
-    host: &Host<W, T, K, F>,
-    seats: Vec<Seat<T, K, F>>,
-    spare: Option<Seat<T, K, F>>,
-    setups: Vec<WorkerSetup<LiveSource<'_, L>, A, O>>,
-    reporter: Option<&P>,
-) -> Result<CrewEnd<T, K, F>, OutOfMemory>
-    requires { vec_len seats ≡ vec_len setups }
-    ensures { IfOk result (λ ended. vec_len ended.0 ≡ vec_len setups.entry + spare_count spare) }
-{
-    let (spare, ended) = match reporter {
-        Some(reporter) => run_beside(rt, alloc, host, seats, spare, setups, reporter),
-        None => (spare, run_crew(rt, alloc, host, seats, setups)),
-    };
-    let (mut seats, tally) = ended?;
-    put_spare(&mut seats, spare)?;
-    Ok((seats, tally))
 }

@@ -4,10 +4,10 @@ ghost use Rattle.std.specs.Prelude.{◌≡◌, ◌≤◌, ◌+◌, ◌↔◌, Er
 ghost use Rattle.wh_host.specs.Machine.{IsConfig};
 
 use crate::connection::Connection;
-use crate::crews::setups_of;
+use crate::crews::{run_crew, setups_of};
 use crate::link_connection::LinkConnection;
 use crate::options::LiveOptions;
-use crate::reports::{CrewEnd, Reporter, run_told, take_spare, with_spare};
+use crate::reports::{CrewEnd, Reporter, put_spare, run_beside, take_spare, with_spare};
 use crate::tallies::Tally;
 use std::alloc::Global;
 use std::io::BufReader;
@@ -22,6 +22,7 @@ use wh_ledger::Seat;
 use wh_messages::shutdown;
 use wh_poll::{ActivityHandler, Observer};
 use wh_rpc::{Caller, read_lines};
+use wh_tester::Shown;
 use wh_workflow::Workflow;
 
 /// What is left of a host whose tasks a server gave.
@@ -34,13 +35,19 @@ pub struct LiveEnd {
 }
 
 /// Reads what the other end writes, until it ends, and gives each response to the call that waits
-/// for it. Once the input has ended, or where it can't be read, all calls are closed.
+/// for it. Once the input has ended, or where it can't be read, all calls are closed. Lines that are
+/// passed over are told on standard error, each after the program's name.
 ///
 /// It stands in a thread beside `serve_live`, which needs the responses to its last calls too. A
 /// program that is to end while its input is open lets that thread go: it does not join it.
-pub fn read_input<R: Wait + Input + Eprint, C: Caller>(rt: &R, alloc: Global, calls: &C) {
+pub fn read_input<R: Wait + Input + Eprint, C: Caller>(
+    rt: &R,
+    alloc: Global,
+    name: &str,
+    calls: &C,
+) {
     match BufReader::new(alloc, rt.reader()) {
-        Ok(input) => read_lines(rt, alloc, input, calls),
+        Ok(input) => read_lines(rt, alloc, &Shown(name), input, calls),
         Err(_) => calls.close(rt),
     }
 }
@@ -54,12 +61,12 @@ fn give_up_queue<L: Connection>(line: &L, options: &LiveOptions) {
     }
 }
 
-/// Runs the workers of an open host, and gives all of its seats back and what the sources have
-/// counted.
+/// Runs the workers of an open host, and the reporter beside them, if there is one. All seats come
+/// back, with what the sources have counted.
 fn run_open<
     W: Workflow + Send,
     R: Threads + Wait + Clock + Eprint + Sync,
-    C: Caller + Sync,
+    L: Connection + Sync,
     A: ActivityHandler + Send + Drop,
     O: Observer + Send + Drop,
     P: Reporter + Sync,
@@ -69,7 +76,7 @@ fn run_open<
 >(
     rt: &R,
     alloc: Global,
-    calls: &C,
+    line: &L,
     host: &Host<W, T, K, F>,
     mut seats: Vec<Seat<T, K, F>>,
     options: &LiveOptions,
@@ -81,11 +88,15 @@ fn run_open<
     ensures { IfOk result (λ ended. vec_len ended.0 ≡ vec_len seats) }
 {
     let spare = take_spare(&mut seats, crew.len());
-    let line = LinkConnection { rt, calls };
-    let setups = setups_of(alloc, &line, options, workers, crew)?;
-    let ended = run_told(rt, alloc, host, seats, spare, setups, reporter)?;
-    give_up_queue(&line, options);
-    Ok(ended)
+    let setups = setups_of(alloc, line, options, workers, crew)?;
+    let (spare, ended) = match reporter {
+        Some(reporter) => run_beside(rt, alloc, host, seats, spare, setups, reporter),
+        None => (spare, run_crew(rt, alloc, host, seats, setups)),
+    };
+    let (mut seats, tally) = ended?;
+    put_spare(&mut seats, spare)?;
+    give_up_queue(line, options);
+    Ok((seats, tally))
 }
 
 /// Closes a host with all of its seats.
@@ -106,7 +117,7 @@ fn close<W: Workflow, T: Ledger, K: Ledger, F: Ledger>(
 fn serve_with<
     W: Workflow + Send,
     R: Threads + Wait + Clock + Eprint + Sync,
-    C: Caller + Sync,
+    L: Connection + Sync,
     A: ActivityHandler + Send + Drop,
     O: Observer + Send + Drop,
     P: Reporter + Sync,
@@ -117,7 +128,7 @@ fn serve_with<
     rt: &R,
     alloc: Global,
     config: Config,
-    calls: &C,
+    line: &L,
     options: &LiveOptions,
     workers: usize,
     crew: Vec<(A, O)>,
@@ -137,7 +148,7 @@ fn serve_with<
 {
     let (host, seats) = Host::<W, T, K, F>::open(alloc, config, taken, completed, failed)?;
     let (seats, tally) = run_open(
-        rt, alloc, calls, &host, seats, options, workers, crew, reporter,
+        rt, alloc, line, &host, seats, options, workers, crew, reporter,
     )?;
     let totals = close(host, seats);
     Ok(LiveEnd { totals, tally })
@@ -155,7 +166,8 @@ fn serve_with<
 ///
 /// The reporter, if there is one, is told what the host counts, caches and holds while the workers
 /// run, in one thread more: the host is opened with a seat for it, which counts nothing, unless the
-/// members of the crew take all that a host may have.
+/// members of the crew take all that a host may have. What a person has to know is told on standard
+/// error, after the program's name.
 ///
 /// `BadConfig` where a size is not within its range, or there are not as many seats as members of
 /// the crew; `OutOfMemory` where there was no memory. Then the crew is given up. (Temporal
@@ -170,6 +182,7 @@ pub fn serve_live<
 >(
     rt: &R,
     alloc: Global,
+    name: &str,
     config: Config,
     calls: &C,
     options: &LiveOptions,
@@ -187,11 +200,12 @@ pub fn serve_live<
     }
     let opened = with_spare(config, reporter.is_some());
     let parts = opened.seats as u64;
-    serve_with::<W, R, C, A, O, P, Brand, Brand, Brand>(
+    let line = LinkConnection { rt, calls, name };
+    serve_with::<W, R, LinkConnection<R, C>, A, O, P, Brand, Brand, Brand>(
         rt,
         alloc,
         opened,
-        calls,
+        &line,
         options,
         workers,
         crew,

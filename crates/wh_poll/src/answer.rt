@@ -17,22 +17,22 @@ use wh_workflow::{Meter, Workflow};
 
 /// What was sent: whether a cached run served, the steps that replay took, and how the task ended.
 #[derive(Clone, Copy)]
-pub struct Reply {
-    pub hit: bool,
-    pub steps: u64,
-    pub outcome: Outcome,
+pub(crate) struct Reply {
+    pub(crate) hit: bool,
+    pub(crate) steps: u64,
+    pub(crate) outcome: Outcome,
 }
 
 /// The run that replay gave, and what was sent.
 #[derive(Drop)]
-pub struct Answered<W: Workflow> {
-    pub run: Option<Run<W>>,
-    pub sent: Result<Reply, StepFault>,
+pub(crate) struct Answered<W: Workflow> {
+    pub(crate) run: Option<Run<W>>,
+    pub(crate) sent: Result<Reply, StepFault>,
 }
 
 /// Replays a workflow task over a new meter, and sends the answer. Also where sending fails the run
 /// comes back.
-pub fn answer_by_replay<W: Workflow, S: TaskSource>(
+pub(crate) fn answer_by_replay<W: Workflow, S: TaskSource>(
     alloc: Global,
     run: Option<Run<W>>,
     task: WorkflowTask,
@@ -143,7 +143,7 @@ fn outcome_of(answer: &Answer) -> Outcome
 }
 
 /// Runs an activity task, and sends the handler's answer.
-pub fn answer_by_handler<S: TaskSource, A: ActivityHandler>(
+pub(crate) fn answer_by_handler<S: TaskSource, A: ActivityHandler>(
     task: &ActivityTask,
     source: &mut S,
     handler: &mut A,

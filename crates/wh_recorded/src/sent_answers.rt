@@ -49,7 +49,7 @@ fn enter(
 /// The answers that a source was sent, in the order in which they came, with the names of the tasks
 /// that one of them completes, and the last fault under each name that has one.
 #[derive(Drop)]
-pub struct SentAnswers {
+pub(crate) struct SentAnswers {
     list: Vec<(TaskName, Sent)>,
     completed: BTreeSet<u128>,
     faults: BTreeMap<u128, Fault>,
@@ -75,7 +75,7 @@ impl Model for SentAnswers {
 
 impl SentAnswers {
     /// None were sent yet. It takes no memory.
-    pub fn new(alloc: Global) -> SentAnswers
+    pub(crate) fn new(alloc: Global) -> SentAnswers
         ensures { result ≡ [] }
     {
         SentAnswers {
@@ -86,28 +86,28 @@ impl SentAnswers {
     }
 
     /// The answers, each with the name of its task.
-    pub fn as_slice(&self) -> &[(TaskName, Sent)]
+    pub(crate) fn as_slice(&self) -> &[(TaskName, Sent)]
         ensures { result.now ≡ self.now }
     {
         self.list.as_slice()
     }
 
     /// Whether one of the answers completes the task of this name.
-    pub fn is_completed(&self, name: TaskName) -> bool
+    pub(crate) fn is_completed(&self, name: TaskName) -> bool
         ensures { result ≡ is_completed self.now name }
     {
         self.completed.contains(&name.0)
     }
 
     /// The fault that the task of this name failed by: the last that was sent under it.
-    pub fn fault_under(&self, name: TaskName) -> Option<Fault>
+    pub(crate) fn fault_under(&self, name: TaskName) -> Option<Fault>
         ensures { result ≡ fault_under self.now name }
     {
         self.faults.get(&name.0).copied()
     }
 
     /// One more answer was sent. After want of memory the answers are as they were.
-    pub fn store(&mut self, name: TaskName, sent: Sent) -> Result<(), SourceFault>
+    pub(crate) fn store(&mut self, name: TaskName, sent: Sent) -> Result<(), SourceFault>
         ensures sent { OnOk result (self.new ≡ self.old ++ (name, sent) ∷ []) }
         ensures unsent { OnErr result (self.new ≡ self.old) }
         ensures failures { FailsOnly result 0 0 }

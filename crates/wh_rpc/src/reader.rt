@@ -10,6 +10,7 @@ use crate::bad_line::BadLine;
 use crate::calls::Caller;
 use crate::response::{Line, MAX_LINE, read_line};
 use std::alloc::Global;
+use std::fmt::Display;
 use std::io;
 use std::io::{BufRead, Read};
 use std::sync::Wait;
@@ -108,25 +109,26 @@ fn take_line<R: Wait, C: Caller>(
 }
 
 /// Tells that a line is passed over, unless many are told.
-fn tell<R: Eprint>(rt: &R, number: u64, passed: u64, why: &PassedOver) {
+fn tell<R: Eprint, N: Display>(rt: &R, name: &N, number: u64, passed: u64, why: &PassedOver) {
     if passed < MOST_TOLD {
-        let _ = eprintln!(rt; "wfhost: line {number} of the bridge is passed over: {why}");
+        let _ = eprintln!(rt; "{name}: line {number} of the bridge is passed over: {why}");
     }
 }
 
 /// Tells how many lines were passed over that were not told one by one.
-fn tell_rest<R: Eprint>(rt: &R, passed: u64) {
+fn tell_rest<R: Eprint, N: Display>(rt: &R, name: &N, passed: u64) {
     if MOST_TOLD < passed {
         let more = passed - MOST_TOLD;
-        let _ = eprintln!(rt; "wfhost: {more} more lines of the bridge were passed over");
+        let _ = eprintln!(rt; "{name}: {more} more lines of the bridge were passed over");
     }
 }
 
 /// Takes the lines of the input, up to its end or to one for which no memory is left. How many were
 /// passed over.
-fn take_lines<R: Wait + Eprint, B: BufRead, C: Caller>(
+fn take_lines<R: Wait + Eprint, N: Display, B: BufRead, C: Caller>(
     rt: &R,
     alloc: Global,
+    name: &N,
     input: &mut B,
     calls: &C,
 ) -> u64 {
@@ -136,7 +138,7 @@ fn take_lines<R: Wait + Eprint, B: BufRead, C: Caller>(
             break;
         };
         if let Err(why) = take_line(rt, alloc, calls, line.as_slice()) {
-            tell(rt, number, passed, &why);
+            tell(rt, name, number, passed, &why);
             passed = passed.saturating_add(1);
             if why.is_loss() {
                 break;
@@ -147,18 +149,19 @@ fn take_lines<R: Wait + Eprint, B: BufRead, C: Caller>(
 }
 
 /// Reads lines to the end of the input, and gives each response to the call of its id. A line that
-/// says nothing, or whose call is not open, changes nothing: it is told on standard error, the first
-/// hundred of them each with its number and the reason, and at the end how many more there were.
-/// Once the bridge tells that it shuts down, new polls are `Closed`. At the end of the input, and
-/// where it cannot be read or no memory is left for a line of it, each call is `Closed`, those that
-/// wait and new ones.
-pub fn read_lines<R: Wait + Eprint, B: BufRead + Drop, C: Caller>(
+/// says nothing, or whose call is not open, changes nothing: it is told on standard error after the
+/// name, the first hundred of them each with its number and the reason, and at the end how many more
+/// there were. Once the bridge tells that it shuts down, new polls are `Closed`. At the end of the
+/// input, and where it cannot be read or no memory is left for a line of it, each call is `Closed`,
+/// those that wait and new ones.
+pub fn read_lines<R: Wait + Eprint, N: Display, B: BufRead + Drop, C: Caller>(
     rt: &R,
     alloc: Global,
+    name: &N,
     mut input: B,
     calls: &C,
 ) {
-    let passed = take_lines(rt, alloc, &mut input, calls);
+    let passed = take_lines(rt, alloc, name, &mut input, calls);
     calls.close(rt);
-    tell_rest(rt, passed);
+    tell_rest(rt, name, passed);
 }

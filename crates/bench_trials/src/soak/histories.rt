@@ -12,7 +12,7 @@ use wh_recorded::ScriptSource;
 const RUN_ID: &str = "recorded";
 
 /// A file by its name, with its bytes.
-pub type File = (String, Vec<u8>);
+pub(crate) type File = (String, Vec<u8>);
 
 /// The name and the bytes of the history of an index: `nap-17` is made of `nap.json`.
 fn history_at(alloc: Global, files: &[File], index: u64) -> Result<(String, &[u8]), AllocError>
@@ -56,7 +56,11 @@ fn push_keys(
 }
 
 /// The keys of the runs of so many histories.
-pub fn keys_of(alloc: Global, files: &[File], histories: u64) -> Result<Vec<RunKey>, AllocError>
+pub(crate) fn keys_of(
+    alloc: Global,
+    files: &[File],
+    histories: u64,
+) -> Result<Vec<RunKey>, AllocError>
     requires { 0 < length files.now }
 {
     let mut keys = Vec::new(alloc);
@@ -138,7 +142,7 @@ fn push_sources(
 }
 
 /// A source for each of so many workers, to whom so many histories are dealt in turn.
-pub fn sources_of(
+pub(crate) fn sources_of(
     alloc: Global,
     files: &[File],
     histories: u64,
@@ -152,7 +156,7 @@ pub fn sources_of(
 }
 
 /// How many tasks the sources have together.
-pub fn tasks_of(sources: &[ScriptSource]) -> u64 {
+pub(crate) fn tasks_of(sources: &[ScriptSource]) -> u64 {
     let mut tasks: u64 = 0;
     for source in sources {
         tasks = tasks.saturating_add(source.deliveries());

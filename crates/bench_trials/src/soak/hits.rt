@@ -4,11 +4,11 @@ use wh_poll::{Observer, Served, SourceFault};
 
 /// Counts the workflow tasks that its worker has answered.
 #[derive(Drop)]
-pub struct HitCount {
+pub(crate) struct HitCount {
     /// Those that were answered from a cached run.
-    pub hits: u64,
+    pub(crate) hits: u64,
     /// Those that were answered without one.
-    pub misses: u64,
+    pub(crate) misses: u64,
 }
 
 impl Observer for HitCount {

@@ -26,7 +26,7 @@ fn check(totals: Totals, tally: Tally) -> Result<(), &'static str>
 /// Checks what a soak with a cache found: the host's totals, what the workers counted, that the
 /// host drained, that runs were evicted where there is a cache, and that the answers are those of a
 /// plain soak without a cache.
-pub fn judge(found: &Findings, plain: &Findings, cache: usize) -> Result<(), &'static str>
+pub(crate) fn judge(found: &Findings, plain: &Findings, cache: usize) -> Result<(), &'static str>
     ensures sound { OnOk result (IsSound found.now.totals found.now.tally) }
     ensures drained { OnOk result (found.now.is_drained ≡ true) }
     ensures same { OnOk result

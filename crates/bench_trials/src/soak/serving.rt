@@ -18,7 +18,7 @@ use std::{io, thread};
 use wh_events::{OutOfMemory, RunKey};
 use wh_host::{Config, Evict, Host, Totals};
 use wh_ledger::Seat;
-use wh_poll::{WorkerEnd, NoActivities, OpenGate, WorkerSetup, run_on_host};
+use wh_poll::{NoActivities, OpenGate, WorkerEnd, WorkerSetup, run_on_host};
 use wh_recorded::ScriptSource;
 use wh_slots::{ReserveFault, SlotKind};
 use wh_workflow::Workflow;
@@ -37,30 +37,30 @@ const PAUSE: u64 = 2_000;
 
 /// What workers counted.
 #[derive(Clone, Copy)]
-pub struct Tally {
+pub(crate) struct Tally {
     /// The tasks that their sources had.
-    pub tasks: u64,
+    pub(crate) tasks: u64,
     /// The tasks that were answered from a cached run.
-    pub hits: u64,
+    pub(crate) hits: u64,
     /// The tasks that were answered without one.
-    pub misses: u64,
+    pub(crate) misses: u64,
 }
 
 /// What a soak gave.
 #[derive(Drop)]
-pub struct Findings {
+pub(crate) struct Findings {
     /// What the closed host counted.
-    pub totals: Totals,
+    pub(crate) totals: Totals,
     /// What the workers counted.
-    pub tally: Tally,
+    pub(crate) tally: Tally,
     /// How many runs were cached when they were evicted.
-    pub evicted: u64,
+    pub(crate) evicted: u64,
     /// Whether nothing could be reserved once the host drained.
-    pub is_drained: bool,
+    pub(crate) is_drained: bool,
     /// For how many microseconds the workers served.
-    pub micros: u64,
+    pub(crate) micros: u64,
     /// The sources of the workers, with what they were sent.
-    pub sources: Vec<ScriptSource>,
+    pub(crate) sources: Vec<ScriptSource>,
 }
 
 /// What a worker begins with.
@@ -341,7 +341,7 @@ fn soak_with<
 /// Serves so many tasks of the sources, each by a worker, with a cache of so many runs, while the
 /// runs of the keys are evicted. A worker serves each kind of tasks by turns, so it has two turns
 /// for each task, and two by which it learns that there are no more.
-pub fn serve<W: Workflow + Send, R: Threads + Wait + Clock + Sync>(
+pub(crate) fn serve<W: Workflow + Send, R: Threads + Wait + Clock + Sync>(
     rt: &R,
     alloc: Global,
     sources: Vec<ScriptSource>,

@@ -1,0 +1,24 @@
+//! What the other end of live tasks writes.
+
+use crate::program::{UNCALLED, called, words};
+use std::alloc::Global;
+use std::env::Env;
+use std::sync::Wait;
+use wh_rpc::Caller;
+
+/// Reads the standard input, until it ends, and gives each response to the call that waits for it.
+/// Once the input has ended, or where it can't be read, all calls are closed. Lines that are passed
+/// over are told on the standard error, under the name by which the program was called.
+///
+/// It stands in a thread beside `run`, which needs the responses to its last calls too. A program
+/// that is to end while its input is open lets that thread go: it does not join it.
+pub fn read_input<R: Env + AllocGlobal + Wait + Input + Eprint, C: Caller>(
+    rt: &R,
+    alloc: Global,
+    calls: &C,
+) {
+    match words(rt) {
+        Ok(words) => wh_live::read_input(rt, alloc, called(words.as_slice()), calls),
+        Err(_) => wh_live::read_input(rt, alloc, UNCALLED, calls),
+    }
+}
