@@ -9,8 +9,8 @@ use wh_workflow::{Command, Job, Meter, Workflow};
 const BLOCK: usize = 1 << 20;
 
 /// Gives nothing to any job. Each step by a signal takes a block of memory, writes all of it and
-/// never gives it back, so the peak of the process's memory tells how many signals were told in it,
-/// whatever became of the states.
+/// never gives it back, so the peak of the process's memory tells how many signals were given in
+/// it, whatever became of the states.
 pub(crate) struct Keeper;
 
 /// Takes a block of memory for good by a signal, and nothing by another job.

@@ -5,7 +5,7 @@ use wh_events::{Event, EventKind, OutOfMemory, RunKey, Text};
 use wh_replay::Run;
 use wh_workflow::{Meter, Workflow, texts_of};
 
-/// A run that is told a signal in each task but the first, and starts so many timers in each.
+/// A run that gets a signal in each task but the first, and starts so many timers in each.
 #[derive(Clone, Copy)]
 pub(crate) struct LongRun {
     /// Its workflow type.

@@ -1,6 +1,6 @@
 //! Replay as its definition computes it: each task goes over the history anew, up to the end of its
-//! own record. What a workflow is told, which commands can stand and whether a record matches them
-//! is asked of the crates that say so.
+//! own record. Which jobs a workflow is given, which commands can stand and whether a record
+//! matches them is asked of the crates that say so.
 ghost use Rattle.std.specs.Prelude.{◌≡◌, ◌<◌, ◌≤◌, ◌+◌, false, length};
 ghost use Rattle.wh_workflow.specs.Law.{is_ask, is_marker};
 
@@ -217,7 +217,7 @@ impl<'a> Task<'a> {
         Ok(())
     }
 
-    /// Steps a workflow by all that it is told at the cut.
+    /// Steps a workflow by all jobs of the cut.
     fn run<W: Workflow>(
         &mut self,
         alloc: Global,

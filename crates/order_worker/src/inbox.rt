@@ -9,7 +9,7 @@ use wh_replay::Answer;
 use wh_slots::TaskName;
 
 /// A source that gives the tasks that were put into it, in their order, and keeps what they are
-/// answered. After the last task of a kind it is closed. No call fails but for want of memory.
+/// answered. After the last task of a kind it is closed. No call fails unless memory runs out.
 ///
 /// A workflow task has the events of its run since the task before, as a server gives them to a
 /// worker that is expected to have cached the run.

@@ -1,4 +1,4 @@
-//! Orders, as a server tells of them.
+//! Orders, as a server has them.
 
 use crate::inbox::Inbox;
 use std::alloc::Global;

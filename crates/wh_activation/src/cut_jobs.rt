@@ -245,17 +245,17 @@ fn between(events: &[Event], from: u64, to: EventNo) -> &[Event]
     &before[first..]
 }
 
-/// What a workflow is told at the cut `to`, the WorkflowTaskStarted of a workflow task, where
-/// `from` is the cut before, or 0 for the first: the time of the cut, the start where the run
+/// The jobs that a workflow is given at the cut `to`, the WorkflowTaskStarted of a workflow task,
+/// where `from` is the cut before, or 0 for the first: the time of the cut, the start where the run
 /// starts since the cut before, the signals since then in the order of the history, and then the
 /// other outside events since then in that order, except that an activity was started. (Temporal
 /// documentation, workflow tasks: <https://docs.temporal.io/tasks#workflow-task>; events:
 /// <https://docs.temporal.io/references/events>.)
 ///
 /// It is not looked at whether either is a cut, and later events change nothing. Where `from` is
-/// not below `to`, no event stands between them, and only the time is told; where the track holds
-/// no event `to`, nothing is told. `OutOfMemory` where the allocator refused a growth; nothing was
-/// kept, and the track is as it was.
+/// not below `to`, no event stands between them, and the time is the only job; where the track
+/// holds no event `to`, there is no job. `OutOfMemory` where the allocator refused a growth;
+/// nothing was kept, and the track is as it was.
 pub fn jobs(alloc: Global, track: &Track, from: u64, to: EventNo) -> Result<Vec<Job>, OutOfMemory>
     ensures { IfOk result (λ jobs. jobs.items ≡ jobs_at track.now from to) }
 {

@@ -1,4 +1,4 @@
-//! What a workflow is told at a workflow task: the jobs of a cut of its history.
+//! What a workflow is given at a workflow task: the jobs of a cut of its history.
 #![tactic(auto)]
 
 mod cut_jobs;

@@ -1,4 +1,4 @@
--- What is told on the standard error.
+-- What is reported on standard error.
 use Rattle.std.specs.Prelude.{◌≡◌, ℕ, List, [], ◌++◌, codes, Bool, true, false, Option, Some, None, String, string_bytes}
 use Rattle.std.specs.List.{flat_map}
 use Rattle.std.specs.Io.KnownBytes.{Appends}

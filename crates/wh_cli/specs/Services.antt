@@ -144,9 +144,9 @@ pub record IsHost (may : Config → Vec ServiceSetup Global → Type 0) (leaves 
 abbrev pub leaves : {E : Type 0} → (Config → Vec ServiceSetup Global → Result ServiceHost E → Type 0) → HostsBy
 leaves gives config setups end = gives config setups (Ok end)
 
--- a host was opened with these sizes, worked by a worker for each setup, and closed: what each worker leaves is what turns
--- with the program led to from its setup, its source comes from that of the setup by calls, with no more answers than its
--- seat took tasks, and it has no fault but want of memory; the totals are the sums of what the seats counted
+-- a host was opened with these sizes, worked by a worker for each setup, and closed: what each worker leaves is what
+-- turns with the program led to from its setup, its source comes from that of the setup by calls, with no more answers
+-- than its seat took tasks, and it has no fault but out of memory; the totals are the sums of what the seats counted
 pub record IsHosted {P : Type 0} (program : Program P) (config : Config) (setups : Vec ServiceSetup Global)
     (end : ServiceHost) : Type 0 where
   pub sizes : IsConfig config

@@ -1,4 +1,4 @@
-//! The commands, each as what it writes, what it tells and its status.
+//! The commands, each as what it writes, what it reports and its status.
 
 ghost use Rattle.std.specs.Prelude.{◌≡◌, Err, IfOk, Ok, string_bytes, vec_len};
 ghost use Rattle.std.specs.Io.KnownBytes.{Keeps};
@@ -81,7 +81,7 @@ fn status_with(lacks: bool, status: u8) -> u8
     if lacks { 1 } else { status }
 }
 
-/// Writes the report of lines, and once it is out, tells where files are no JSON and for which
+/// Writes the report of lines, and once it is out, reports where files are no JSON and for which
 /// workflow types there is no code.
 fn tell_report<O: Write, E: Write>(
     lines: Vec<NotedLine>,
@@ -100,7 +100,7 @@ fn tell_report<O: Write, E: Write>(
     Ok(status_with(lacks, status))
 }
 
-/// Replays inputs, writes the report of their lines, and once it is out, tells where they are no
+/// Replays inputs, writes the report of their lines, and once it is out, reports where they are no
 /// JSON and for which workflow types there is no code.
 fn replay<W: Workflow + Send, R: ReadsInputs + AllocGlobal + Threads + Sync, O: Write, E: Write>(
     rt: &R,
@@ -126,7 +126,8 @@ fn tell_if_bad<E: Write>(alloc: Global, line: &Line, bytes: &[u8], errors: &mut 
     }
 }
 
-/// Explains a file, and once that is out, tells where it is no JSON, if that is why it is not read.
+/// Explains a file, and once that is out, reports where it is no JSON, if that is why it is not
+/// read.
 fn explain<W: Workflow, O: Write, E: Write>(
     alloc: Global,
     name: String,
@@ -163,7 +164,7 @@ fn explain_input<W: Workflow, R: ReadsInputs + AllocGlobal, O: Write, E: Write>(
     explain::<W, O, E>(rt.alloc(), name, bytes.as_slice(), json, output, errors)
 }
 
-/// The status of a service, once its report is out and the rest is told.
+/// The status of a service, once its report is out and the rest is reported.
 fn served<O: Write, E: Write>(
     answer: Result<ServiceEnd, CommandFault>,
     lacks: bool,
@@ -184,7 +185,7 @@ fn served<O: Write, E: Write>(
     }
 }
 
-/// Serves inputs, writes the report, and once it is out, tells the rest.
+/// Serves inputs, writes the report, and once it is out, reports the rest.
 fn serve<
     W: Workflow + Send,
     R: ReadsInputs + AllocGlobal + Threads + Sync,

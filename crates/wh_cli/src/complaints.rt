@@ -1,4 +1,4 @@
-//! What is told on the standard error.
+//! What is reported on standard error.
 
 ghost use Rattle.std.specs.Prelude.{◌≡◌, ◌++◌, OnOk, codes, true};
 ghost use Rattle.std.specs.Io.KnownBytes.{Appends};
@@ -46,7 +46,7 @@ impl<R: Eprint> Write for ErrorPrinter<'_, R> {
     }
 }
 
-/// What may be told of a run.
+/// What may be reported of a run.
 #[derive(Drop)]
 pub(crate) enum Complaint {
     /// A folder has no file that is read.
@@ -57,7 +57,7 @@ pub(crate) enum Complaint {
     BadJson { fault: FileFault },
     /// Files are no JSON.
     BadFiles { faults: Vec<FileFault> },
-    /// What a service tells beside its report.
+    /// What is reported of a service beside its report.
     Served { end: ServiceEnd },
     /// How live tasks ended.
     Worked { end: LiveEnd },
@@ -315,8 +315,8 @@ fn tell_complaint<E: Write>(complaint: Complaint, name: &str, writer: &mut E) ->
     }
 }
 
-/// The standard error: the name that the program is called by, under which lines are told, the
-/// writer, and whether that took all that it was told.
+/// The standard error: the name that the program is called by, with which lines begin, the writer,
+/// and whether that took all that was reported.
 #[derive(Drop)]
 pub(crate) struct Complaints<'a, E> {
     name: &'a str,
@@ -325,7 +325,7 @@ pub(crate) struct Complaints<'a, E> {
 }
 
 impl<'a, E: Write> Complaints<'a, E> {
-    /// A standard error that was told nothing yet.
+    /// A standard error on which nothing was reported yet.
     pub(crate) fn new(name: &'a str, writer: E) -> Complaints<'a, E>
         ensures named { result.name ≡ name.entry }
         ensures writer { result.writer ≡ writer }

@@ -106,7 +106,7 @@ impl fmt::Display for FileFault {
     }
 }
 
-/// Where a file is no JSON, if it is none. Nothing is told where memory for that is refused.
+/// Where a file is no JSON, if it is none. Nothing is reported where memory for that is refused.
 pub(crate) fn json_fault(alloc: Global, name: &str, bytes: &[u8]) -> Option<FileFault>
     ensures { IfSome result (IsFaultOf IsNoJson name.now bytes.now) }
 {
@@ -125,8 +125,8 @@ pub(crate) fn json_fault(alloc: Global, name: &str, bytes: &[u8]) -> Option<File
     })
 }
 
-/// Where a file with this verdict is no JSON, if it is unreadable for that. Nothing is told where
-/// memory for that is refused.
+/// Where a file with this verdict is no JSON, if it is unreadable for that. Nothing is reported
+/// where memory for that is refused.
 pub(crate) fn unread_fault(
     alloc: Global,
     name: &str,
@@ -141,8 +141,8 @@ pub(crate) fn unread_fault(
     }
 }
 
-/// The workflow type of a file, if there is no code for it. Nothing is told where memory for that
-/// is refused.
+/// The workflow type of a file, if there is no code for it. Nothing is reported where memory for
+/// that is refused.
 pub(crate) fn code_fault<W: Workflow>(alloc: Global, name: &str, bytes: &[u8]) -> Option<FileFault>
     ensures { IfSome result (IsFaultOf (IsUncoded W.program) name.now bytes.now) }
 {
@@ -183,7 +183,8 @@ fn add_told<T: Drop>(
     if added { Ok(()) } else { Err(OutOfMemory) }
 }
 
-/// What was made of files, and apart from it the faults that are told of them, in the same order.
+/// What was made of files, and apart from it the faults that are reported of them, in the same
+/// order.
 pub(crate) fn parted<T: Drop>(
     alloc: Global,
     told: Vec<(T, Option<FileFault>)>,

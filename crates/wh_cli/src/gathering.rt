@@ -44,7 +44,7 @@ fn tally_in(source: &ScriptSource, name: &str) -> Tally
     }
 }
 
-/// What came of a file, as the source of its worker tells it.
+/// What came of a file, as the source of its worker has it.
 fn row_of(file: AssignedFile, source: &ScriptSource) -> Row
     ensures { result ≡ row_from source.now file }
 {
@@ -59,7 +59,7 @@ fn row_of(file: AssignedFile, source: &ScriptSource) -> Row
 /// What a worker of a service leaves.
 type Served = WorkerEnd<ScriptSource, NoActivities, NoObserver>;
 
-/// Adds the failed tasks of a file, as the source of its worker tells them.
+/// Adds the failed tasks of a file, as the source of its worker has them.
 #[tactic(auto, using(crate::proofs::Rows::more_failures))]
 fn add_failures(
     file: &AssignedFile,

@@ -41,8 +41,8 @@ fn told<E: Write>(path: Text, listing: Listing, errors: &mut Complaints<'_, E>) 
     Listed { inputs, left_out }
 }
 
-/// The files of a folder that are to be read. What is left out is told, and where there is none,
-/// that.
+/// The files of a folder that are to be read. What is left out is reported, and where there is
+/// none, that.
 pub(crate) fn folder_of<R: Files + AllocGlobal + Clone + Drop, E: Write>(
     rt: &R,
     dir: Text,
@@ -58,7 +58,7 @@ pub(crate) fn folder_of<R: Files + AllocGlobal + Clone + Drop, E: Write>(
     Ok(told(dir, listing, errors))
 }
 
-/// What is to be read at a path. What is left out is told, and where there is nothing, that.
+/// What is to be read at a path. What is left out is reported, and where there is nothing, that.
 fn inputs_of<R: Files + io::Input + AllocGlobal + Clone + Drop, E: Write>(
     rt: &R,
     path: Text,

@@ -10,8 +10,8 @@ use std::thread::Threads;
 use wh_events::OutOfMemory;
 
 /// What is made of files, in their order, whichever is done first, and apart from it what is
-/// told of files, or the fault of the first of which nothing can be made. `rayon` spreads the files
-/// over threads, down to one file each.
+/// reported of files, or the fault of the first of which nothing can be made. `rayon` spreads the
+/// files over threads, down to one file each.
 pub(crate) fn all_made<
     T: Send + Drop,
     U: Send + Drop,

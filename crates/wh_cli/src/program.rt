@@ -141,8 +141,8 @@ where
     obey::<W, R, O, E, F>(rt, plan, live, output, errors)
 }
 
-/// Does what the words of the command line ask for, or tells why there is no full report, and gives
-/// the status.
+/// Does what the words of the command line ask for, or reports why there is no full report, and
+/// gives the status.
 fn answer<
     W: Workflow + Send,
     R: Runtime + AllocGlobal + Threads + Wait + Sync,
@@ -197,7 +197,7 @@ pub fn no_memory<R: Eprint>(rt: &R) -> ExitCode {
 
 /// Runs the program for the workflows of a type: it does what the arguments ask for, writes the
 /// report to the standard output and, where there is no full report, why to the standard error, and
-/// gives the status. Where the one who reads the report closes it, that is not told.
+/// gives the status. Where the one who reads the report closes it, that is not reported.
 ///
 /// Lines on the standard error begin with the name by which the program was called: the last part of
 /// its first word, or `wfhost` where there is none.

@@ -9,7 +9,7 @@ use wh_live::Reporter;
 use wh_poll::{Served, SourceFault};
 use wh_tester::Shown;
 
-/// What the workers have told of their turns, and what was reported last.
+/// What was counted of the workers' turns, and what was reported last.
 #[derive(Clone, Copy)]
 struct Turns {
     completed: u64,
@@ -85,7 +85,7 @@ impl Turns {
         more.saturating_mul(1000).saturating_add(since / 2) / since
     }
 
-    /// What is to be reported. The tasks that ended are those of the host, where it tells them.
+    /// What is to be reported. The tasks that ended are those of the host, where it gives them.
     fn report(&mut self, now: u64, held: Option<Counts>) -> Report {
         let (completed, failed) = match held {
             Some(counts) => (counts.completed, counts.failed),

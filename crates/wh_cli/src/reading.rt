@@ -41,7 +41,7 @@ fn lacks_code<W: Workflow>(file: &ReadFile) -> bool {
     }
 }
 
-/// What is told of a file with these bytes, which was read.
+/// What is reported of a file with these bytes, which was read.
 #[tactic(auto, using(crate::proofs::Faults::of_json, crate::proofs::Faults::of_code))]
 fn fault_in<W: Workflow>(alloc: Global, file: &ReadFile, bytes: &[u8]) -> Option<FileFault>
     ensures { IfSome result (IsFaultOf (IsCauseOf W.program) (string_bytes file.now.name) bytes.now) }
@@ -55,7 +55,7 @@ fn fault_in<W: Workflow>(alloc: Global, file: &ReadFile, bytes: &[u8]) -> Option
     }
 }
 
-/// What was read of a file with these bytes, and beside it what is told of the file.
+/// What was read of a file with these bytes, and beside it what is reported of the file.
 fn told<W: Workflow>(alloc: Global, file: ReadFile, bytes: &[u8]) -> (ReadFile, Option<FileFault>)
     ensures file { result.0 ≡ file }
     ensures told { IfSome result.1 (IsFaultOf (IsCauseOf W.program) (string_bytes file.name) bytes.now) }
@@ -64,7 +64,7 @@ fn told<W: Workflow>(alloc: Global, file: ReadFile, bytes: &[u8]) -> (ReadFile, 
     (file, fault)
 }
 
-/// Parses a file, whose bytes are dropped then. Beside it is what is told of it.
+/// Parses a file, whose bytes are dropped then. Beside it is what is reported of it.
 fn read_file<W: Workflow>(
     alloc: Global,
     file: (String, Vec<u8>),
@@ -99,7 +99,7 @@ pub(crate) fn read_all<W: Workflow + Send, R: Threads + Sync>(
     )?
 }
 
-/// Reads an input and parses it. Its bytes are dropped then. Beside it is what is told of it.
+/// Reads an input and parses it. Its bytes are dropped then. Beside it is what is reported of it.
 fn read_from<W: Workflow, R: ReadsInputs + AllocGlobal>(
     rt: &R,
     input: Input,
@@ -114,10 +114,10 @@ fn read_from<W: Workflow, R: ReadsInputs + AllocGlobal>(
     Ok(made)
 }
 
-/// Reads inputs and parses them, in their order, and tells apart where inputs are no JSON and of
-/// which workflow types there is no code. Each is read in the thread that parses it: so the bytes of
-/// no more files are there at once than there are threads, and only histories are held. The fault is
-/// that of the first that cannot be read.
+/// Reads inputs and parses them, in their order, and gives beside them where inputs are no JSON and
+/// for which workflow types there is no code. Each is read in the thread that parses it: so the
+/// bytes of no more files are there at once than there are threads, and only histories are held.
+/// The fault is that of the first that cannot be read.
 pub(crate) fn read_inputs<W: Workflow + Send, R: ReadsInputs + AllocGlobal + Threads + Sync>(
     rt: &R,
     inputs: Vec<Input>,

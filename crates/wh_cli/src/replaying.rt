@@ -66,7 +66,7 @@ pub(crate) fn report<O: Write>(
     Ok(status_of_noted(noted))
 }
 
-/// What is told of a file with this name, verdict and bytes: where it is no JSON or for which
+/// What is reported of a file with this name, verdict and bytes: where it is no JSON or for which
 /// workflow type there is no code, if that is the verdict.
 #[tactic(auto, using(crate::proofs::Faults::of_json, crate::proofs::Faults::of_code))]
 fn fault_in<W: Workflow>(

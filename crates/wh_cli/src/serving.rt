@@ -82,7 +82,7 @@ fn status_of(service: &Service) -> u8
     }
 }
 
-/// What is told of a service beside its report.
+/// What is reported of a service beside its report.
 #[derive(Drop)]
 pub struct ServiceEnd {
     /// The status: 0 where each file was read, no task failed and no worker has a fault, else 1.
@@ -101,7 +101,7 @@ pub struct ServiceEnd {
     pub file_faults: Vec<FileFault>,
 }
 
-/// Writes the report of a service, and gives what else is told of it.
+/// Writes the report of a service, and gives what else is reported of it.
 fn report<O: Write>(
     service: Service,
     file_faults: Vec<FileFault>,
@@ -134,8 +134,8 @@ fn report<O: Write>(
     }
 }
 
-/// Serves the tasks of files that were read, of some of which a fault is told, and writes the report.
-/// Nothing is written where the answer is `OutOfMemory`.
+/// Serves the tasks of files that were read, of some of which a fault is reported, and writes the
+/// report. Nothing is written where the answer is `OutOfMemory`.
 fn serve_read<F: Fn(Config, Vec<ServiceSetup>) -> Result<ServiceHost, OutOfMemory>, O: Write>(
     alloc: Global,
     read: (Vec<ReadFile>, Vec<FileFault>),

@@ -26,7 +26,7 @@ pub(crate) struct LivePlan {
     pub(crate) options: LiveOptions,
     /// How many of the workers poll for workflow tasks.
     pub(crate) workers: u64,
-    /// After how many seconds each it is told how many tasks were answered, if it is.
+    /// After how many seconds each it is reported how many tasks were answered, if it is.
     pub(crate) stats: Option<u64>,
 }
 
@@ -112,7 +112,7 @@ fn live_status(end: &LiveEnd) -> u8
     if end.tally.faults == 0 { 0 } else { 1 }
 }
 
-/// Serves live tasks as options ask for, tells how they ended, and gives the status.
+/// Serves live tasks as options ask for, reports how they ended, and gives the status.
 pub(crate) fn work<F: FnOnce(LivePlan) -> Result<LiveEnd, Failure>, E: Write>(
     alloc: Global,
     options: WorkOptions,

@@ -192,7 +192,7 @@ fn with_limits<'a>(
     )
 }
 
-/// A subcommand, if there is one, with the options more that say what is told.
+/// A subcommand, if there is one, with the options more that say what is reported.
 fn with_reports<'a>(
     alloc: Global,
     command: Result<Command<'a>, AllocError>,
@@ -224,7 +224,7 @@ pub struct WorkOptions {
     pub task_queue: Text,
     /// The namespace of the Task Queue.
     pub namespace: Text,
-    /// Who the server is told that the host is.
+    /// The name by which the server knows the host.
     pub identity: Text,
     /// How many workers poll for workflow tasks: 1 to 64.
     pub workers: u64,
@@ -242,9 +242,9 @@ pub struct WorkOptions {
     pub activity_attempts: u64,
     /// How many seconds a task waits for the workers that keep its run: 1 to 4,294,967,295.
     pub sticky_timeout: u64,
-    /// Whether more is told on the standard error.
+    /// Whether each task is reported on standard error.
     pub verbose: bool,
-    /// After how many seconds each the counts are told, if they are: 1 to 4,294,967,295.
+    /// After how many seconds each the counts are reported, if they are: 1 to 4,294,967,295.
     pub stats: Option<u64>,
 }
 

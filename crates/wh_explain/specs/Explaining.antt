@@ -45,8 +45,8 @@ stops (Live _) = false
 stops (Recorded pairings) = list_any differs pairings
 
 module _ {S : Type 0} where
-  -- what is explained of a task that is told these jobs: its number, the activation's script, from
-  -- a state and settled versions, and how that ends
+  -- what is explained of a task that is given these jobs: its number, the activation's script, from a state and settled
+  -- versions, and how that ends
   pub record IsTaskAt (program : Program S) (events : List Event) (context : ActivationContext) (jobs : List Job) (at : ℕ)
       (state : S) (settled : Settled) (task : ExplainedTask) : Type 0 where
     pub number : task.at ≡ at

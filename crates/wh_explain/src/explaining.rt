@@ -234,10 +234,10 @@ fn line_of<W: Workflow>(alloc: Global, name: String, bytes: &[u8]) -> Line
 }
 
 /// Explains the replay of a history file, given by name and bytes, with the code of `W`: its tasks
-/// in their order up to the first that has a fault, each with what the workflow was told, what it
-/// gave, and what the record has beside what is sent. There are no tasks where the file can't be
-/// read, where an event is not in place, and where there is no code for the workflow type, which is
-/// named.
+/// in their order up to the first that has a fault, each with the jobs that the workflow was given,
+/// what it gave, and what the record has beside what is sent. There are no tasks where the file
+/// can't be read, where an event is not in place, and where there is no code for the workflow type,
+/// which is named.
 ///
 /// The line is that of the report of replay: the name and the verdict of `wh_tester::verdict`.
 /// `OutOfMemory` where the allocator refused a growth, never for a file that is too long.

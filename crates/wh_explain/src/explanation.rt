@@ -32,7 +32,7 @@ impl Step {
         Step { job, commands }
     }
 
-    /// What the workflow was told.
+    /// The job that the workflow was given.
     pub fn job(&self) -> &Job
         ensures { result.now ≡ self.now.job }
     {

@@ -1,5 +1,5 @@
-//! Explains the replay of one history: what the workflow was told, what it gave, and what the
-//! record has beside it, up to the first difference.
+//! Explains the replay of one history: the jobs that the workflow was given, what it gave, and what
+//! the record has beside it, up to the first difference.
 #![tactic(auto)]
 
 mod differences;

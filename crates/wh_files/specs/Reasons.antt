@@ -17,7 +17,7 @@ reason_of FilesystemLoop = LinkLoop
 reason_of InvalidFilename = LongName
 reason_of _ = Other
 
--- want of memory apart
+-- out of memory apart
 abbrev pub fault_of : ErrorKind → FolderFault
 fault_of NoMemory = OutOfMemory
 fault_of kind = Unreadable (reason_of kind)

@@ -50,7 +50,7 @@ pub enum Reason {
 }
 
 impl Reason {
-    /// What is told of it.
+    /// The words in which it is reported.
     pub fn words(self) -> &'static str
         ensures { result.now ≡ reason_words self }
     {

@@ -269,7 +269,7 @@ impl<W: Workflow, T: Ledger, C: Ledger, F: Ledger> HostState<W, T, C, F> {
         }
     }
 
-    /// Does nothing. Its contract tells a caller what holds of every state.
+    /// Does nothing. Its contract says what holds of every state.
     pub(crate) fn invariant(&self)
         ensures { IsHost W.program self.now }
     {

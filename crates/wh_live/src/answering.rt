@@ -31,7 +31,7 @@ fn is_told(attempt: u64) -> bool
     attempt <= 1
 }
 
-/// The cause that a fault is told under.
+/// The cause under which a fault is sent.
 fn cause_of(fault: &Fault) -> FailedCause
     ensures { result ≡ cause_of fault.now }
 {
@@ -94,7 +94,7 @@ impl<L: Connection> ServiceClient<'_, L> {
         }
     }
 
-    /// Sends an answer to a task. What is lost is told.
+    /// Sends an answer to a task. What is lost is reported.
     fn send(&self, open: &OpenTask, reply: Reply) -> Receipt {
         let Reply { method, params } = reply;
         match ask(self.line, method, params) {
@@ -109,7 +109,7 @@ impl<L: Connection> ServiceClient<'_, L> {
         }
     }
 
-    /// Sends an answer to a task, if there was room for it.
+    /// Sends an answer to a task, if there was memory for it.
     fn send_written(&self, open: &OpenTask, reply: Result<Reply, OutOfMemory>) -> Receipt {
         match reply {
             Ok(reply) => self.send(open, reply),
@@ -117,7 +117,7 @@ impl<L: Connection> ServiceClient<'_, L> {
         }
     }
 
-    /// Fails a workflow task, unless that was done in an earlier attempt. Either is told.
+    /// Fails a workflow task, unless that was done in an earlier attempt. Either is reported.
     fn fail(&self, open: &OpenTask, cause: FailedCause, message: &str) -> Receipt {
         self.tell_of(open, message);
         if !is_told(open.attempt) {
@@ -177,7 +177,7 @@ impl<L: Connection> ServiceClient<'_, L> {
         }
     }
 
-    /// Fails the open task where its history has events that can't be read, and tells any other
+    /// Fails the open task where its history has events that can't be read, and reports any other
     /// fault. Whether it is a fault of the source: the link was open, and no result came that can
     /// be used.
     pub(crate) fn settle_unread(&self, open: &mut Option<OpenTask>, fault: &AskFault) -> bool {
@@ -193,7 +193,7 @@ impl<L: Connection> ServiceClient<'_, L> {
         !matches!(fault, AskFault::Closed | AskFault::History(_))
     }
 
-    /// Answers the open workflow task, if it has this name, and tells how it ended.
+    /// Answers the open workflow task, if it has this name, and reports how it ended.
     fn answer_open(
         &self,
         open: Option<OpenTask>,
@@ -212,7 +212,7 @@ impl<L: Connection> ServiceClient<'_, L> {
         }
     }
 
-    /// Answers the open activity task, if it has this name, and tells how it ended.
+    /// Answers the open activity task, if it has this name, and reports how it ended.
     fn answer_open_activity(
         &self,
         open: Option<OpenTask>,

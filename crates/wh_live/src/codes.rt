@@ -3,7 +3,7 @@
 ghost use Rattle.std.specs.Prelude.{◌≡◌};
 ghost use Rattle.wh_live.specs.Codes.{HasCode, poll_end, refused_answer, is_taken, keeps_run};
 
-/// The status of a refused call, of those that a worker tells apart (gRPC, "Status codes").
+/// The status of a refused call, of those that a worker distinguishes (gRPC, "Status codes").
 #[derive(Clone, Copy, PartialEq, Eq, Debug)]
 pub enum Status {
     /// 1: the call was given up, as a bridge does when it shuts down.

@@ -4,7 +4,7 @@ use serde_json::Value;
 use std::alloc::Global;
 use wh_rpc::{CallFault, Outcome};
 
-/// What a live source works through: calls of the server, and a person who is told. Many workers
+/// What a live source works through: calls of the server, and lines for a person. Many workers
 /// share it. Its calls wait for the server.
 ///
 /// Which results a request may get is what an implementation says of its server: where a pipe lies

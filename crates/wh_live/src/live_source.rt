@@ -15,7 +15,7 @@ use wh_slots::TaskName;
 use wh_tasks::{ActivityAnswer, ActivityTask, Polled, Sent, SourceFault, TaskSource, WorkflowTask};
 
 /// A source whose polls and answers are calls of a Temporal server, for one worker. It delivers
-/// what was read from the results of its polls, and tells what was read from the pages of a run's
+/// what was read from the results of its polls, and fetches what was read from the pages of a run's
 /// history (Temporal documentation, "Workers" and "Sticky Execution").
 ///
 /// An answer counts as taken where the server acknowledged it, where the server wants it no more

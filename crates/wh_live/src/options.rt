@@ -10,12 +10,12 @@ use wh_messages::{ActivityOptions, WorkerNames};
 pub struct LiveOptions {
     /// What they call themselves.
     pub names: WorkerNames,
-    /// What a server is told of each activity that a workflow starts.
+    /// What a server is asked for with each activity that a workflow starts.
     pub activities: ActivityOptions,
     /// How many seconds a task waits in the sticky queue; `None` without a cache, and where one
     /// worker alone serves workflows, since others poll that queue.
     pub sticky: Option<u32>,
-    /// Whether each task is told once it is answered.
+    /// Whether each task is reported once it is answered.
     pub verbose: bool,
 }
 

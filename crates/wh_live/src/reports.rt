@@ -1,4 +1,4 @@
-//! What is told of a host while its workers run, in a thread beside them.
+//! What is reported of a host while its workers run, in a thread beside them.
 
 ghost use Rattle.std.specs.Prelude.{◌≡◌, ◌≤◌, ◌+◌, ◌↔◌, IfOk, OnOk, is_some, vec_len};
 ghost use Rattle.wh_host.specs.Machine.{IsConfig};
@@ -21,7 +21,7 @@ use wh_ledger::Seat;
 use wh_poll::{ActivityHandler, Observer, WorkerSetup};
 use wh_workflow::Workflow;
 
-/// Is told from time to time what a host counts, caches and holds, in a thread beside its workers.
+/// Gets from time to time what a host counts, caches and holds, in a thread beside its workers.
 pub trait Reporter {
     /// How many seconds lie between two reports.
     fn period(&self) -> u64;

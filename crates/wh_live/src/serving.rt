@@ -164,7 +164,7 @@ fn serve_with<
 /// without a cache all poll the first. So one worker of workflows alone polls no queue of its
 /// process: with it `options.sticky` is to be `None`, or the tasks of its runs wait there in vain.
 ///
-/// The reporter, if there is one, is told what the host counts, caches and holds while the workers
+/// The reporter, if there is one, gets what the host counts, caches and holds while the workers
 /// run, in one thread more: the host is opened with a seat for it, which counts nothing, unless the
 /// members of the crew take all that a host may have. What a person has to know is told on standard
 /// error, after the program's name.

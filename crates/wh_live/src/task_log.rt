@@ -40,9 +40,9 @@ fn type_of<'a>(open: &'a OpenTask, held: &'a [Event]) -> &'a str {
 }
 
 impl<L: Connection> ServiceClient<'_, L> {
-    /// Tells how a workflow task ended that was replayed from these events, where tasks are told:
-    /// its run and type, how many events it came with, whether it was a hit of the cache, and how
-    /// many steps replay took.
+    /// Reports how a workflow task ended that was replayed from these events, where tasks are
+    /// reported: its run and type, how many events it came with, whether it was a hit of the cache,
+    /// and how many steps replay took.
     pub(crate) fn log_workflow(
         &self,
         open: &OpenTask,
@@ -66,7 +66,7 @@ impl<L: Connection> ServiceClient<'_, L> {
         }
     }
 
-    /// Tells how an activity task ended, where tasks are told: its run and type.
+    /// Reports how an activity task ended, where tasks are reported: its run and type.
     pub(crate) fn log_activity(&self, open: &OpenTask, answer: &ActivityAnswer, receipt: Receipt) {
         if !self.options.verbose {
             return;

@@ -21,8 +21,8 @@ fn next_wait(wait: u64) -> u64
     }
 }
 
-/// The polls that failed since one that did not. The first of a row of equal ones is told, and then
-/// how many more there were.
+/// The polls that failed since one that did not. The first of a row of equal ones is reported, and
+/// then how many more there were.
 #[derive(Debug, Drop)]
 pub(crate) struct Trouble {
     last: Option<String>,
@@ -40,7 +40,7 @@ impl Trouble {
         }
     }
 
-    /// A poll has failed: tells it, unless it is as the one before, and waits.
+    /// A poll has failed: reports it, unless it is as the one before, and waits.
     pub(crate) fn meet<L: Connection>(&mut self, line: &L, what: String) {
         if self.is_last(what.as_str()) {
             self.more = self.more.saturating_add(1);
@@ -68,7 +68,7 @@ impl Trouble {
         }
     }
 
-    /// Tells how many polls have failed as the one that was told.
+    /// Reports how many polls have failed as the one that was reported.
     fn tell_rest<L: Connection>(&mut self, line: &L) {
         let more = self.more;
         if 0 < more {

@@ -14,7 +14,7 @@ pub struct WorkerNames {
     pub namespace: Text,
     /// The Task Queue that all workers of the application poll.
     pub task_queue: Text,
-    /// What it tells the server of itself. No two processes may have the same.
+    /// The name by which the server knows it. No two processes may have the same.
     pub identity: Text,
     /// Its sticky queue, which no other process polls.
     pub sticky_queue: Text,
@@ -45,8 +45,8 @@ impl WorkerNames {
     }
 }
 
-/// What a server is told of each activity that a workflow starts (Temporal documentation, "Detecting
-/// Activity failures" and "Retry Policies").
+/// What a server is asked for with each activity that a workflow starts (Temporal documentation,
+/// "Detecting Activity failures" and "Retry Policies").
 #[derive(Clone, Copy, Debug)]
 pub struct ActivityOptions {
     /// How many seconds one attempt may take.

@@ -128,7 +128,7 @@ pub fn history(
     Ok(Value::Object(params))
 }
 
-/// The members of each answer that tells who gives it.
+/// The members of each answer that say who gives it.
 fn answer_of(alloc: Global, names: &WorkerNames, token: &str) -> Result<Members, AllocError>
     ensures { IfOk result (λ members. members_view members.entries ≡ spec.answer_of names.now token.now) }
 {
@@ -248,8 +248,8 @@ pub fn workflow_completed(
     Ok(params)
 }
 
-/// The request of `RespondWorkflowTaskFailed`, with what went wrong. `OutOfMemory` where no room was
-/// found for it.
+/// The request of `RespondWorkflowTaskFailed`, with what went wrong. `OutOfMemory` where there was
+/// no memory for it.
 pub fn workflow_failed(
     alloc: Global,
     names: &WorkerNames,
@@ -318,8 +318,8 @@ pub fn activity_failed(
     Ok(Value::Object(members))
 }
 
-/// The request of `ShutdownWorker`, which gives up the sticky queue. `OutOfMemory` where no room was
-/// found for it.
+/// The request of `ShutdownWorker`, which gives up the sticky queue. `OutOfMemory` where there was
+/// no memory for it.
 pub fn shutdown(alloc: Global, names: &WorkerNames) -> Result<Value, OutOfMemory>
     ensures { IfOk result (λ params. view params ≡ spec.shutdown names.now) }
 {

@@ -23,12 +23,12 @@ use wh_workflow::Workflow;
 /// thread may lock it meanwhile, to evict runs or to drain it, and it is closed with the seats that
 /// come back. There is a seat for each setup, in their order.
 ///
-/// The seats and what the workers leave come back in the order of the setups. Each worker leaves its
-/// setup as its turns led to it, with its handler and its observer, which was told of each turn; its
-/// source comes from the one of the setup, delivers and tells the same, and was sent at most as many
-/// answers as the worker took tasks. `OutOfMemory` where there was no memory. Then the seats and the
-/// setups are given up, so the host can't be closed any more, and what workers did until then they
-/// have done.
+/// The seats and what the workers leave come back in the order of the setups. Each worker leaves
+/// its setup as its turns led to it, with its handler and its observer, which was notified of each
+/// turn; its source comes from the one of the setup, with the same `delivers` and `tells`, and was
+/// sent at most as many answers as the worker took tasks. `OutOfMemory` where there was no memory.
+/// Then the seats and the setups are given up, so the host can't be closed any more, and what
+/// workers did until then they have done.
 pub fn run_on_host<
     R: Threads + Wait + Sync,
     W: Workflow + Send,
@@ -74,12 +74,13 @@ pub struct HostEnd<S, A, O> {
 /// Opens a host of these sizes, runs a worker in a thread of its own for each setup, and closes the
 /// host once all have ended. The host has a seat for each setup.
 ///
-/// Each worker leaves its setup as its turns led to it, with its handler and its observer, which was
-/// told of each turn; its source comes from the one of the setup, delivers and tells the same, and
-/// was sent at most as many answers as the worker took tasks. The totals are the sums of what the
-/// workers counted, and the sizes are those that it was opened with. `BadConfig` where a size is
-/// not within its range, or the seats are not as many as the setups; `OutOfMemory` where no room was
-/// found. Then the setups are given up. (Temporal documentation, "Workers": a Worker Process.)
+/// Each worker leaves its setup as its turns led to it, with its handler and its observer, which
+/// was notified of each turn; its source comes from the one of the setup, with the same `delivers`
+/// and `tells`, and was sent at most as many answers as the worker took tasks. The totals are the
+/// sums of what the workers counted, and the sizes are those that it was opened with. `BadConfig`
+/// where a size is not within its range, or the seats are not as many as the setups; `OutOfMemory`
+/// where there was no memory. Then the setups are given up. (Temporal documentation, "Workers": a
+/// Worker Process.)
 pub fn run_host<
     W: Workflow + Send,
     R: Threads + Wait + Sync,

@@ -4,7 +4,7 @@ ghost use Rattle.wh_poll.specs.Steady.{Table, IsTable, Steady, beginning, Move, 
 
 use wh_workflow::Workflow;
 
-/// The cache can't be seen. A source delivers and tells tasks of one table of histories, whose
+/// The cache can't be seen. A source delivers tasks and fetches histories of one table, whose
 /// events are numbered by their places. Whatever the capacity and the bound of the cache, 0 too,
 /// and whatever is used, given back, evicted, finished, reserved and released, in any order: each
 /// task is answered by replay of its history from the first up to the task, and each run that is

@@ -34,8 +34,8 @@ pub struct Worker<T: Ledger, C: Ledger, F: Ledger, S> {
 /// kind that is closed is not served again, and each later turn goes to the other. It ends when
 /// both are closed, when the host drains, or after so many turns. The first fault of the source is
 /// kept, and the work goes on. What comes back is what the turns led to, each of which is one of
-/// `serve_one`. The source comes from the one that was handed in, delivers and tells the same, and
-/// was sent at most as many answers as the seat took tasks.
+/// `serve_one`. The source comes from the one that was handed in, with the same `delivers` and
+/// `tells`, and was sent at most as many answers as the seat took tasks.
 pub fn work<
     R: Wait,
     W: Workflow,

@@ -1,16 +1,16 @@
-//! What is told of the turns of a worker.
+//! Notifications of the turns of a worker.
 
 use crate::serve::Served;
 use wh_tasks::SourceFault;
 
-/// Is told what each turn of its worker did, one for each worker, so that logs and measures have a
-/// place. It is called after the turn, while no lock of the host is held.
+/// Is notified of what each turn of its worker did, one for each worker, so that logs and measures
+/// have a place. It is called after the turn, while no lock of the host is held.
 pub trait Observer {
     ghost use Rattle.std.specs.Prelude.{Result};
     ghost use Rattle.wh_poll.specs.declared.serve.Served.{Served};
     ghost use Rattle.wh_tasks.specs.declared.source.SourceFault.{SourceFault};
 
-    /// What being told of a turn may make of it.
+    /// What the notification of a turn may make of it.
     ghost hears: { Self → Result Served SourceFault → Self → Type 0 };
 
     /// A turn has ended, and did this.

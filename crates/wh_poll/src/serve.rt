@@ -71,11 +71,11 @@ pub enum Served {
 ///
 /// `Workflow` and `Activity` are answered where exactly one answer was sent, under the name of a
 /// task that the source delivers: that of `replay_task` with no run or one of the task's key, and
-/// of the handler. Everything else sends nothing. A task that is answered, repeated or lost to want
-/// of memory is a delivered one of the kind that was asked for. The seat's taken share rises by one
-/// where a task was taken in hand, and its completed or failed share by at most one, as the task's
-/// outcome says. A fault is the source's, after which no slot is left reserved or held by this
-/// turn. (Temporal documentation, "Workers", "Task Queues", "Sticky Execution".)
+/// of the handler. Everything else sends nothing. A task that is answered, repeated or lost where
+/// memory ran out is a delivered one of the kind that was asked for. The seat's taken share rises
+/// by one where a task was taken in hand, and its completed or failed share by at most one, as the
+/// task's outcome says. A fault is the source's, after which no slot is left reserved or held by
+/// this turn. (Temporal documentation, "Workers", "Task Queues", "Sticky Execution".)
 pub fn serve_one<
     R: Wait,
     W: Workflow,
@@ -312,8 +312,9 @@ fn outcome_of(sent: Result<Reply, StepFault>) -> Outcome
     }
 }
 
-/// Takes a workflow task in hand, with the run that is cached for its key, if one is. Where no room
-/// is found for the key, or the host refuses, the permit is released, and the turn has served that.
+/// Takes a workflow task in hand, with the run that is cached for its key, if one is. Where there
+/// is no memory for the key, or the host refuses, the permit is released, and the turn has served
+/// that.
 fn take_workflow<R: Wait, W: Workflow, T: Ledger, C: Ledger, F: Ledger>(
     rt: &R,
     host: &Host<W, T, C, F>,

@@ -10,7 +10,7 @@ pub struct WorkerSetup<S, A, O> {
     pub source: S,
     /// What runs its activities.
     pub handler: A,
-    /// What is told of its turns.
+    /// What is notified of its turns.
     pub observer: O,
     /// How many turns it takes at most.
     pub turns: u64,
@@ -25,7 +25,7 @@ pub struct WorkerEnd<S, A, O> {
     pub source: S,
     /// Its handler.
     pub handler: A,
-    /// Its observer, which was told of each turn.
+    /// Its observer, which was notified of each turn.
     pub observer: O,
     /// The first fault of its source, if there was one.
     pub fault: Option<SourceFault>,

@@ -74,7 +74,7 @@ fn other(kind: SlotKind) -> SlotKind
 
 impl<S: TaskSource, A: ActivityHandler, O: Observer> WorkerEnd<S, A, O> {
     /// Goes on from what the worker would leave by one turn more, with its seat: serves one task of
-    /// the kind, keeps the fault of the source, if it is the first, and tells the observer.
+    /// the kind, keeps the fault of the source, if it is the first, and notifies the observer.
     fn take_turn<R: Wait, W: Workflow, T: Ledger, C: Ledger, F: Ledger, G: Gate>(
         &mut self,
         rt: &R,

@@ -24,8 +24,8 @@ pub fn polls_go_in_rounds()
     ensures polled { PolledAreGiven }
 {}
 
-/// Where numbers tell histories and their events apart, names tell tasks apart: no name is given
-/// twice.
+/// Where histories have different numbers, and their events too, tasks have different names: no
+/// name is given twice.
 pub fn names_are_own()
     ensures tasks { NamesAreOwn }
     ensures given { GivenNamesAreOwn }

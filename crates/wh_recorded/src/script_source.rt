@@ -293,7 +293,7 @@ fn find_later(histories: &[ScriptedHistory], n: usize) -> Option<(usize, usize)>
 /// the file's index times 2^64 plus the number of the started event. There are no activity tasks.
 ///
 /// `whole` gives the events of the first history of the key's name up to the number, and none where
-/// no history has the name or the run id is another. No call fails but for want of memory.
+/// no history has the name or the run id is another. No call fails unless memory runs out.
 #[derive(Drop)]
 pub struct ScriptSource {
     alloc: Global,
@@ -318,7 +318,7 @@ impl Model for ScriptSource {
 
 impl ScriptSource {
     /// A source over histories, each with the index of its file and its name. `OutOfMemory` where
-    /// no room was found for the places of their tasks; the histories are dropped then.
+    /// there was no memory for the places of their tasks; the histories are dropped then.
     pub fn new(
         alloc: Global,
         histories: Vec<(u64, String, Vec<Event>)>,

@@ -18,7 +18,7 @@ use wh_slots::TaskName;
 use wh_tasks::{Sent, SourceFault};
 
 /// Enters the name among those of completed tasks, if the answer completes its task, or the fault
-/// under the name, if the task failed by one. After want of memory nothing is entered.
+/// under the name, if the task failed by one. Where memory ran out nothing is entered.
 fn enter(
     completed: &mut BTreeSet<u128>,
     faults: &mut BTreeMap<u128, Fault>,
@@ -106,7 +106,7 @@ impl SentAnswers {
         self.faults.get(&name.0).copied()
     }
 
-    /// One more answer was sent. After want of memory the answers are as they were.
+    /// One more answer was sent. Where memory ran out the answers are as they were.
     pub(crate) fn store(&mut self, name: TaskName, sent: Sent) -> Result<(), SourceFault>
         ensures sent { OnOk result (self.new ≡ self.old ++ (name, sent) ∷ []) }
         ensures unsent { OnErr result (self.new ≡ self.old) }

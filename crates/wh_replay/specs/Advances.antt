@@ -20,8 +20,8 @@ pub record IsJoined (held new : List Event) : Type 0 where
   pub begins : follows (length held) new ≡ true
 
 module _ {S : Type 0} where
-  -- a history of these events with what their replay gives, or the fault; want of memory only where
-  -- they end in a started task
+  -- a history of these events with what their replay gives, or the fault; out of memory only where they end in a
+  -- started task
   abbrev pub GivesHistory : Program S → List Event → Result HistoryView RunFault → Type 0
   GivesHistory program events (Ok history) = (history.events ≡ events) × IsReplayed program history
   GivesHistory program events (Err (Faulty fault)) = run_of program events ≡ Err fault
@@ -31,8 +31,8 @@ module _ {S : Type 0} where
   abbrev pub Holds : Program S → RunKey → List Event → Held → Type 0
   Holds program key events run = (run.key ≡ key) × (run.events ≡ events) × IsReplayed program (history_of run)
 
-  -- a run of the key that holds the events, or the fault of their replay; want of memory only where
-  -- they end in a started task
+  -- a run of the key that holds the events, or the fault of their replay; out of memory only where they end in a
+  -- started task
   abbrev pub Begins : Program S → RunKey → List Event → Result Held RunFault → Type 0
   Begins program key events (Ok run) = Holds program key events run
   Begins program key events (Err (Faulty fault)) = run_of program events ≡ Err fault

@@ -96,7 +96,7 @@ impl<W: Workflow> ReplayedHistory<W> {
         }
     }
 
-    /// Does nothing. Its contract tells a caller what holds of every replayed history.
+    /// Does nothing. Its contract says what holds of every replayed history.
     pub(crate) fn invariant(&self)
         ensures { IsReplayed W.program self.now }
     {

@@ -17,7 +17,7 @@ use wh_workflow::{Command, Meter, Workflow};
 /// A run of a workflow, as far as its history was replayed: a key, a history that ends in a started
 /// workflow task, and the state, machines, versions and unsent commands that its replay gives.
 /// Contracts see the key, the held events, the machines (each event that opened something with its
-/// status), the settled versions and the unsent commands. `invariant` tells that replay of the held
+/// status), the settled versions and the unsent commands. `invariant` says that replay of the held
 /// events from the first gives them, and `state` that it gives the state.
 #[derive(Drop)]
 pub struct Run<W: Workflow> {
@@ -182,8 +182,8 @@ impl<W: Workflow> Run<W> {
         &self.key
     }
 
-    /// Does nothing. Its contract tells a caller what holds of every run: replay of its held events
-    /// from the first gives its machines, versions and unsent commands.
+    /// Does nothing. Its contract says what holds of every run: replay of its held events from the
+    /// first gives its machines, versions and unsent commands.
     pub fn invariant(&self)
         ensures { IsReplayed W.program (history_of self.now) }
     {

@@ -26,7 +26,7 @@ pub trait Caller {
         params: Value,
     ) -> Result<(u64, Outcome), CallFault>;
 
-    /// As `call`, but `Closed` also once it was told that the other end shuts down.
+    /// As `call`, but `Closed` also once the other end gave notice that it shuts down.
     fn poll<R: Wait>(
         &self,
         rt: &R,

@@ -1,7 +1,8 @@
 //! Calls of JSON-RPC 2.0 by many threads over one pair of streams, one object a line.
 //!
 //! The host sends requests and the bridge answers them, in any order. A response goes to the call
-//! of its id, once. The bridge can tell that it shuts down, and its end is the end of all calls.
+//! of its id, once. The bridge can give notice that it shuts down, and its end is the end of all
+//! calls.
 #![tactic(auto)]
 
 mod bad_line;

@@ -31,8 +31,8 @@ impl<T: Drop> OpenCalls<T> {
     }
 
     /// Opens a call under the next id, which no call had. `Closed` where the table is closed, where
-    /// it drains and the call is a poll, and after 2^64 - 2 calls; `OutOfMemory` where no room was
-    /// found. After an error the table is as it was.
+    /// it drains and the call is a poll, and after 2^64 - 2 calls; `OutOfMemory` where there was no
+    /// memory. After an error the table is as it was.
     pub(crate) fn open(&mut self, is_poll: bool, waiter: T) -> Result<u64, CallFault>
         ensures opens { IfOk result (Opens (table_of self.old) (table_of self.new) is_poll waiter) }
         ensures refuses { (refuses is_poll (table_of self.old) ≡ true) ↔ (result ≡ Err CallFault.Closed) }

@@ -16,7 +16,7 @@ use std::io::{BufRead, Read};
 use std::sync::Wait;
 use thiserror::Error;
 
-/// How many lines that are passed over are told one by one.
+/// How many lines that are passed over are reported one by one.
 const MOST_TOLD: u64 = 100;
 
 /// Why a line is passed over.
@@ -37,8 +37,8 @@ impl PassedOver {
     }
 }
 
-/// Appends the bytes up to and with the next line end, but at most `MAX_LINE + 1` of them, and tells
-/// how many. After an error some of them may be lost.
+/// Appends the bytes up to and with the next line end, but at most `MAX_LINE + 1` of them, and
+/// gives how many. After an error some of them may be lost.
 fn read_part<B: BufRead>(input: &mut B, line: &mut Vec<u8>) -> io::Result<usize>
     ensures bytes { OnOk result (IfSome (B.remaining input.old)
         (λ bytes. line.new.items ≡ line.old.items ++ take_through 10 (take (longest + 1) bytes))) }
@@ -108,14 +108,14 @@ fn take_line<R: Wait, C: Caller>(
     }
 }
 
-/// Tells that a line is passed over, unless many are told.
+/// Reports that a line is passed over, unless many were.
 fn tell<R: Eprint, N: Display>(rt: &R, name: &N, number: u64, passed: u64, why: &PassedOver) {
     if passed < MOST_TOLD {
         let _ = eprintln!(rt; "{name}: line {number} of the bridge is passed over: {why}");
     }
 }
 
-/// Tells how many lines were passed over that were not told one by one.
+/// Reports how many lines were passed over that were not reported one by one.
 fn tell_rest<R: Eprint, N: Display>(rt: &R, name: &N, passed: u64) {
     if MOST_TOLD < passed {
         let more = passed - MOST_TOLD;
@@ -150,10 +150,10 @@ fn take_lines<R: Wait + Eprint, N: Display, B: BufRead, C: Caller>(
 
 /// Reads lines to the end of the input, and gives each response to the call of its id. A line that
 /// says nothing, or whose call is not open, changes nothing: it is told on standard error after the
-/// name, the first hundred of them each with its number and the reason, and at the end how many more
-/// there were. Once the bridge tells that it shuts down, new polls are `Closed`. At the end of the
-/// input, and where it cannot be read or no memory is left for a line of it, each call is `Closed`,
-/// those that wait and new ones.
+/// name, the first hundred of them each with its number and the reason, and at the end how many
+/// more there were. Once the bridge gives notice that it shuts down, new polls are `Closed`. At the
+/// end of the input, and where it cannot be read or no memory is left for a line of it, each call
+/// is `Closed`, those that wait and new ones.
 pub fn read_lines<R: Wait + Eprint, N: Display, B: BufRead + Drop, C: Caller>(
     rt: &R,
     alloc: Global,

@@ -304,7 +304,7 @@ impl Slots {
     }
 
     /// At which place, counted from 0, the right is held, or `None` where it is not one of these. A
-    /// place stays where it is while it is held, so what is told of held places can stand in a list
+    /// place stays where it is while it is held, so what is kept of held places can stand in a list
     /// beside the slots.
     pub fn place_of(&self, held: &Held) -> Option<usize>
         ensures found { IfSome result (IsPlaceOf self.now held.now) }

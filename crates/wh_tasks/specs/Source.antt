@@ -51,7 +51,7 @@ pub record SameTasks (old_delivers : Delivers) (old_tells : Tells)
 abbrev pub KeepsOrigin : {S : Type 0} → (S → S → Type 0) → S → S → Type 0
 KeepsOrigin comes_from old new = (first : _) → comes_from old first → comes_from new first
 
--- what a call keeps of a source: it delivers and tells the same, and comes from what it came from
+-- what a call keeps of a source: it with the same `delivers` and `tells`, and comes from what it came from
 pub record KeepsSource {S : Type 0} (delivers : S → Delivers) (tells : S → Tells) (comes_from : S → S → Type 0)
     (old new : S) : Type 0 where
   pub same : SameTasks (delivers old) (tells old) (delivers new) (tells new)

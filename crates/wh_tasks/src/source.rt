@@ -84,10 +84,10 @@ pub enum SourceFault {
 }
 
 /// A source of tasks, one for each worker: what a worker polls, and what it answers. It has a list
-/// of the answers that it took, a count of its failures, which no call lowers, two relations
-/// that no call changes: which tasks it delivers, and which histories it tells, and one that no
-/// call leads out of: which sources it comes from. That it tells the truth about its histories is
-/// its own promise.
+/// of the answers that it took, a count of its failures, which no call lowers, two relations that
+/// no call changes: which tasks it delivers, and which histories it fetches (`tells`), and one that
+/// no call leads out of: which sources it comes from. That its histories are true is its own
+/// promise.
 pub trait TaskSource {
     ghost use Rattle.wh_slots.specs.declared.TaskName.{TaskName};
     ghost use Rattle.wh_events.specs.declared.event.Event.{Event};

@@ -212,7 +212,7 @@ fn replay_first<W: Workflow>(
     }
 }
 
-/// Replays what the source tells, from the first event.
+/// Replays the history that is fetched from the source, from the first event.
 fn replay_told<W: Workflow, S: TaskSource>(
     alloc: Global,
     key: &RunKey,

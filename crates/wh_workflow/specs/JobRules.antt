@@ -14,7 +14,7 @@ abbrev pub is_signal : EventKind → Bool
 is_signal (WorkflowExecutionSignaled _ _) = true
 is_signal _ = false
 
--- an activity was started, of which the workflow is not told
+-- an activity was started, of which the workflow gets no job
 abbrev pub is_untold : EventKind → Bool
 is_untold (ActivityTaskStarted _) = true
 is_untold _ = false
@@ -30,11 +30,11 @@ pub record TellsOnce (seen : List Event) (kind : EventKind) : Type 0 where
   pub outside : length (outside_job seen kind)
       ≡ one_if (is_outside_class (class_of kind) && not (is_signal kind || is_untold kind))
 
--- each event tells a workflow once what it is told of it
+-- each event gives a workflow its job, once
 abbrev pub EachTellsOnce : Type 0
 EachTellsOnce = (seen : List Event) (kind : EventKind) → TellsOnce seen kind
 
--- in a history in place the start is told at the first cut alone, before which no events have passed
+-- in a history in place the start is given at the first cut alone, before which no events have passed
 abbrev pub StartsOnce : Type 0
 StartsOnce =
     (passed between : List Event) (cut : Event) → InPlace (passed ++ (between ++ cut ∷ [])) → ¬ IsTrue (is_start cut)

@@ -84,7 +84,7 @@ pub(crate) fn reduced<R: Print>(rt: &R, alloc: Global, name: &str) -> Option<()>
     is_marked.then_some(())
 }
 
-/// Asks for what a task is told.
+/// Asks for the jobs of a task.
 pub(crate) fn tell<R: Print>(rt: &R, alloc: Global, name: &str) -> Option<()> {
     let (track, cut) = track_of(alloc, STARTED).zip(EventNo::new(3))?;
     say_track(rt, name, "before", &track);
