@@ -9,7 +9,8 @@ use Rattle.std.proofs.lemmas.Grind.{get_or-set_at}
 use Rattle.std.proofs.lemmas.List.{append-nil, append_assoc, get_or-map, get_or-replicate, get_or-set_other, length-map, length-replicate}
 use Rattle.wh_events.specs.declared.event.Event.{Event}
 use Rattle.wh_recorded.specs.Rounds.{Scripted, Stage, opening_stage}
-use Rattle.wh_cli.specs.Services.{Reading, history_of, hand_from, assigned_to, histories_seen, no_source}
+use Rattle.wh_cli.specs.Services.{Reading, history_of, hand_from, assigned_to, no_source}
+use Rattle.wh_cli.specs.Private.Services.{histories_seen}
 
 -- what a worker is assigned of one more file
 more_dealt : (count worker before : ℕ) (files : List Reading) (file : Reading)

@@ -6,7 +6,8 @@ use Rattle.std.specs.declared.alloc.Global.{Global}
 use Rattle.std.proofs.lemmas.Grind.{flat_map-append}
 use Rattle.std.proofs.lemmas.List.{append-nil, map-append}
 use Rattle.wh_cli.specs.declared.file_faults.FileFault.{FileFault}
-use Rattle.wh_cli.specs.Faults.{AreFaultsOf, AreMade, AreMadeOf, IsMadeOf, MayBeTold, told_of}
+use Rattle.wh_cli.specs.Faults.{AreFaultsOf, MayBeTold, told_of}
+use Rattle.wh_cli.specs.Private.Faults.{AreMade, AreMadeOf, IsMadeOf}
 use Rattle.wh_cli.specs.Services.{File}
 use Rattle.wh_workflow.specs.Law.{Program}
 

@@ -5,8 +5,8 @@ use Rattle.std.specs.Prelude.{Bool, true, false, Option, Result, Ok, Err, OnOk, 
 use Rattle.std.specs.Io.KnownBytes.{Appends}
 use Rattle.wh_cli.specs.declared.complaints.Complaints.{Complaints}
 use Rattle.wh_cli.specs.declared.failures.Failure.{Failure}
-use Rattle.wh_cli.specs.Commands.{end_text, is_unread}
-use Rattle.wh_cli.specs.Complaints.{Reported, failed_text}
+use Rattle.wh_cli.specs.Private.Commands.{end_text, is_unread}
+use Rattle.wh_cli.specs.Private.Complaints.{Reported, failed_text}
 
 -- four parts that are told one after the other
 pub four_told : {X E : Type 0} (answer : Result X E) (a b c d e : Option (List ℕ)) (ps qs rs ss : List ℕ)

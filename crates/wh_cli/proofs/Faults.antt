@@ -5,7 +5,8 @@ use Rattle.wh_workflow.specs.Law.{Program}
 use Rattle.wh_cli.specs.declared.file_faults.Cause.{Cause}
 use Rattle.wh_cli.specs.declared.file_faults.Cause.TheVariants.{NotJson, NoCode}
 use Rattle.wh_cli.specs.declared.file_faults.FileFault.{FileFault}
-use Rattle.wh_cli.specs.Faults.{IsCauseOf, IsFaultOf, IsNoJson, IsUncoded}
+use Rattle.wh_cli.specs.Faults.{IsCauseOf, IsFaultOf}
+use Rattle.wh_cli.specs.Private.Faults.{IsNoJson, IsUncoded}
 
 -- either cause is a cause
 json_cause : {S : Type 0} (program : Program S) (bytes : List ℕ) (cause : Cause) → IsNoJson bytes cause → IsCauseOf program bytes cause

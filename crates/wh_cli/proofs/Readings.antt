@@ -11,9 +11,9 @@ use Rattle.wh_json.specs.declared.fault.ReadFault.TheVariants as faults
 use Rattle.wh_cli.specs.declared.reading.ReadFile.{ReadFile}
 use Rattle.wh_cli.specs.Services.{File, reading_of}
 use Rattle.wh_cli.specs.declared.file_faults.FileFault.{FileFault}
-use Rattle.wh_cli.specs.Faults.{AreMadeOf}
+use Rattle.wh_cli.specs.Private.Faults.{AreMadeOf}
 use Rattle.wh_workflow.specs.Law.{Program}
-use Rattle.wh_cli.specs.Readings.{plain, reading, AreRead, Gives as BytesBy, IsReadAs, IsReading}
+use Rattle.wh_cli.specs.Private.Readings.{plain, reading, AreRead, Gives as BytesBy, IsReadAs, IsReading}
 
 -- where room was found, what was read is the history or its fault
 pub plain_is : (outcome : Result (Vec Event Global) ReadFault) (read : Result (List Event) ReadFault) → outcome ≢ Err faults.OutOfMemory → Gives (λ events. events.items) outcome read → plain outcome ≡ read

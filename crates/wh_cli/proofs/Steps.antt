@@ -13,13 +13,13 @@ use Rattle.wh_cli.specs.declared.replaying.CommandFault.{CommandFault}
 use Rattle.wh_cli.specs.declared.serving.ServiceEnd.{ServiceEnd}
 use Rattle.wh_cli.specs.declared.failures.Failure.{Failure}
 use Rattle.wh_files.specs.Inputs.{IsCalled, IsOf, IsReadFrom, IsSingle}
-use Rattle.wh_cli.specs.Commands.{HasExplained, HasExplainedInput, HasExplainedPath, HasReplayed, HasReplayedPaths, HasServedAll, HasServedFolder}
-use Rattle.wh_cli.specs.Complaints.{Reported, service_told}
-use Rattle.wh_cli.specs.Listings.{AreListed, IsListed, is_by_path}
-use Rattle.wh_cli.specs.Readings.{Gives}
-use Rattle.wh_cli.specs.Served.{HasServedInputs}
+use Rattle.wh_cli.specs.Private.Commands.{HasExplained, HasExplainedInput, HasExplainedPath, HasReplayed, HasReplayedPaths, HasServedAll, HasServedFolder}
+use Rattle.wh_cli.specs.Private.Complaints.{Reported, service_told}
+use Rattle.wh_cli.specs.Private.Listings.{AreListed, IsListed, is_by_path}
+use Rattle.wh_cli.specs.Private.Readings.{Gives}
+use Rattle.wh_cli.specs.Private.Served.{HasServedInputs}
 use Rattle.wh_cli.specs.Services.{HostsBy, IsHosted}
-use Rattle.wh_cli.specs.Statuses.{lacks_files, status_with}
+use Rattle.wh_cli.specs.Private.Statuses.{lacks_files, status_with}
 use Rattle.wh_cli.proofs.Workers.{by_closure, served_by}
 
 -- what was written stays

@@ -12,7 +12,8 @@ use Rattle.wh_cli.specs.declared.service_report.FileFailure.{FileFailure}
 use Rattle.wh_cli.specs.declared.serving.ServiceEnd.{ServiceEnd}
 use Rattle.wh_command_line.specs.declared.options.ServeOptions.{ServeOptions}
 use Rattle.wh_command_line.specs.Options.{config_of}
-use Rattle.wh_cli.specs.Served.{HasServed, sizes_of}
+use Rattle.wh_cli.specs.Served.{HasServed}
+use Rattle.wh_cli.specs.Private.Served.{sizes_of}
 use Rattle.wh_cli.specs.declared.replaying.CommandFault.{CommandFault}
 use Rattle.wh_cli.specs.Services.{rows_from, failures_from, Reading, no_source, assigned_as, assigned_to, HostsBy, ServiceSetup, ServiceHost, IsLongEnough, AreSetups, IsToldService}
 

@@ -1,12 +1,7 @@
 pub mod Commands
-pub mod Complaints
 pub mod Faults
-pub mod Listings
-pub mod Live
-pub mod Noted
-pub mod Outlets
-pub mod Readings
 pub mod Replays
 pub mod Served
 pub mod Services
 pub mod Statuses
+pub mod Private

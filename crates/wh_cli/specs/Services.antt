@@ -16,7 +16,7 @@ use Rattle.wh_poll.specs.Ends.{IsHostEnd}
 use Rattle.wh_events.specs.declared.event.Event.{Event}
 use Rattle.wh_replay.specs.declared.fault.Fault.{Fault}
 use Rattle.wh_replay.specs.declared.fault.Fault.TheVariants.{Workflow as OfCommands}
-use Rattle.wh_recorded.specs.Rounds.{Stage, Scripted, Gives, Recounts, deliveries_of, scripted, opening_stage, tally_of, failed_in, has_last_record}
+use Rattle.wh_recorded.specs.Rounds.{Stage, Scripted, Gives, Recounts, deliveries_of, opening_stage, tally_of, failed_in, has_last_record}
 use Rattle.wh_recorded.specs.Calls.{ComesFrom}
 use Rattle.wh_recorded.specs.declared.failed_task.FailedTask.{FailedTask}
 use Rattle.wh_workflow.specs.Law.{Program}
@@ -73,10 +73,6 @@ hand_from count worker before (reading ∷ rest) =
 abbrev pub assigned_to : (count worker : ℕ) → List Reading → List Scripted
 assigned_to count worker readings = hand_from count worker 0 readings
 
--- a list as contracts see it
-abbrev pub histories_seen : Vec (ℕ × String Global × Vec Event Global) Global → List Scripted
-histories_seen list = map scripted list.items
-
 -- how many tasks of a file its source gave, and how they ended: none, where it has none of its name
 abbrev pub tally_from : Option (ℕ × ℕ × ℕ) → Tally
 tally_from None = record { tasks = 0; completed = 0; failed = 0 }
@@ -131,18 +127,6 @@ ServiceHost = HostEnd Stage NoActivities NoObserver
 -- what a host of some sizes may leave of its setups
 abbrev pub HostsBy : Type 1
 HostsBy = Config → Vec ServiceSetup Global → ServiceHost → Type 0
-
--- what runs a host: it may be called with setups for all seats of a host of good sizes, and what it leaves has a worker
--- for each setup
-pub record IsHost (may : Config → Vec ServiceSetup Global → Type 0) (leaves : HostsBy) : Type 0 where
-  pub runs : (config : Config) (setups : Vec ServiceSetup Global) → IsConfig config → config.seats ≡ vec_len setups
-      → may config setups
-  pub many : (config : Config) (setups : Vec ServiceSetup Global) (end : ServiceHost) → leaves config setups end
-      → vec_len end.workers ≡ vec_len setups
-
--- what is left where a call that runs a host gives it
-abbrev pub leaves : {E : Type 0} → (Config → Vec ServiceSetup Global → Result ServiceHost E → Type 0) → HostsBy
-leaves gives config setups end = gives config setups (Ok end)
 
 -- a host was opened with these sizes, worked by a worker for each setup, and closed: what each worker leaves is what
 -- turns with the program led to from its setup, its source comes from that of the setup by calls, with no more answers

@@ -2,8 +2,9 @@
 
 ghost use Rattle.std.specs.Prelude.{◌≡◌, ◌<◌, ◌++◌, ℕ, [], IfOk, OnOk, get_or, length, map, replicate, vec_len};
 ghost use Rattle.wh_recorded.specs.Rounds.{opening_stage};
-ghost use Rattle.wh_cli.specs.Services.{assigned_as, assigned_to, histories_seen, history_of, no_source};
-ghost use Rattle.wh_cli.specs.Readings.{reading};
+ghost use Rattle.wh_cli.specs.Services.{assigned_as, assigned_to, history_of, no_source};
+ghost use Rattle.wh_cli.specs.Private.Services.{histories_seen};
+ghost use Rattle.wh_cli.specs.Private.Readings.{reading};
 
 use crate::reading::ReadFile;
 use std::alloc::Global;

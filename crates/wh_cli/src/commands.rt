@@ -2,14 +2,15 @@
 
 ghost use Rattle.std.specs.Prelude.{◌≡◌, Err, IfOk, Ok, string_bytes, vec_len};
 ghost use Rattle.std.specs.Io.KnownBytes.{Keeps};
-ghost use Rattle.wh_cli.specs.Commands.{HasExplained, HasExplainedInput, HasExplainedPath};
-ghost use Rattle.wh_cli.specs.Commands.{HasPrinted, HasReplayed, HasReplayedPaths, HasReported};
-ghost use Rattle.wh_cli.specs.Commands.{HasServedAll, HasServedFolder, HasToldOf, Obeys};
-ghost use Rattle.wh_cli.specs.Complaints.{Reported, service_told};
-ghost use Rattle.wh_cli.specs.Live.{MayServe, lives};
-ghost use Rattle.wh_cli.specs.Served.{sizes_of};
-ghost use Rattle.wh_cli.specs.Services.{IsHost, IsHosted, leaves};
-ghost use Rattle.wh_cli.specs.Statuses.{lacks_files, status_with};
+ghost use Rattle.wh_cli.specs.Private.Commands.{HasExplained, HasExplainedInput, HasExplainedPath};
+ghost use Rattle.wh_cli.specs.Private.Commands.{HasPrinted, HasReplayed, HasReplayedPaths, HasReported};
+ghost use Rattle.wh_cli.specs.Private.Commands.{HasServedAll, HasServedFolder, HasToldOf, Obeys};
+ghost use Rattle.wh_cli.specs.Private.Complaints.{Reported, service_told};
+ghost use Rattle.wh_cli.specs.Private.Live.{MayServe, lives};
+ghost use Rattle.wh_cli.specs.Private.Served.{sizes_of};
+ghost use Rattle.wh_cli.specs.Services.{IsHosted};
+ghost use Rattle.wh_cli.specs.Private.Services.{IsHost, leaves};
+ghost use Rattle.wh_cli.specs.Private.Statuses.{lacks_files, status_with};
 ghost use Rattle.wh_cli.specs.declared.serving.ServiceEnd.{ServiceEnd};
 ghost use Rattle.wh_command_line.specs.Options.{IsWithinLimits};
 ghost use Rattle.wh_host.specs.Machine.{IsConfig};

@@ -2,10 +2,12 @@
 
 ghost use Rattle.std.specs.Prelude.{◌≡◌, ◌++◌, OnOk, codes, true};
 ghost use Rattle.std.specs.Io.KnownBytes.{Appends};
-ghost use Rattle.wh_cli.specs.Complaints.{Reported, bad_name_line, bad_name_lines, complaint_text, entry_line, failed_text};
-ghost use Rattle.wh_cli.specs.Complaints.{failure_line, failure_lines, fault_line, fault_lines};
-ghost use Rattle.wh_cli.specs.Complaints.{path_line, reason_line, service_told, told_line, uncompared_told, worker_told};
-ghost use Rattle.wh_cli.specs.Live.{calls_text, live_text};
+ghost use Rattle.wh_cli.specs.Private.Complaints.{Reported, bad_name_line, bad_name_lines, complaint_text};
+ghost use Rattle.wh_cli.specs.Private.Complaints.{entry_line, failed_text};
+ghost use Rattle.wh_cli.specs.Private.Complaints.{failure_line, failure_lines, fault_line, fault_lines};
+ghost use Rattle.wh_cli.specs.Private.Complaints.{path_line, reason_line, service_told, told_line};
+ghost use Rattle.wh_cli.specs.Private.Complaints.{uncompared_told, worker_told};
+ghost use Rattle.wh_cli.specs.Private.Live.{calls_text, live_text};
 
 use crate::failures::Failure;
 use crate::file_faults::FileFault;

@@ -2,7 +2,8 @@
 
 ghost use Rattle.std.specs.Prelude.{◌≡◌, ◌++◌, [], ◌∷◌, IfOk, OnOk, IfSome, Some, map};
 ghost use Rattle.std.specs.List.{flat_map};
-ghost use Rattle.wh_cli.specs.Faults.{IsFaultOf, IsNoJson, IsUncoded, told_of};
+ghost use Rattle.wh_cli.specs.Faults.{IsFaultOf, told_of};
+ghost use Rattle.wh_cli.specs.Private.Faults.{IsNoJson, IsUncoded};
 ghost use Rattle.wh_cli.specs.Services.{cause_text, file_fault_text, mark_text};
 
 use crate::position::{Mark, Position, mark_of, position_of};

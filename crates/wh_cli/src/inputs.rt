@@ -6,7 +6,7 @@ use wh_files::{InputFault, Origin, read_input};
 /// What reads inputs. A function over it knows of no bytes but those that it is given here.
 pub(crate) trait ReadsInputs {
     ghost use Rattle.std.specs.Prelude.{IfOk};
-    ghost use Rattle.wh_cli.specs.Readings.{Gives};
+    ghost use Rattle.wh_cli.specs.Private.Readings.{Gives};
 
     /// Which bytes there may be where an input comes from.
     ghost gives: { Gives };

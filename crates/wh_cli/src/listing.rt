@@ -2,8 +2,8 @@
 
 ghost use Rattle.std.specs.Prelude.{◌≡◌, ◌==◌, ◌||◌, ◌∷◌, [], All, IfOk, false, length, not, true};
 ghost use Rattle.wh_files.specs.Inputs.{IsCalled, IsOf, IsSingle};
-ghost use Rattle.wh_cli.specs.Listings.{AreListed, IsListed, is_by_path, listing_told};
-ghost use Rattle.wh_cli.specs.Complaints.{Reported};
+ghost use Rattle.wh_cli.specs.Private.Listings.{AreListed, IsListed, is_by_path, listing_told};
+ghost use Rattle.wh_cli.specs.Private.Complaints.{Reported};
 
 use crate::complaints::{Complaint, Complaints};
 use crate::failures::{Failure, unreadable};

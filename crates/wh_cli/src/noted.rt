@@ -6,7 +6,7 @@ ghost use Rattle.std.specs.Io.KnownBytes.{Appends};
 ghost use Rattle.wh_tester.specs.Json.{following};
 ghost use Rattle.wh_tester.specs.Report.{all_good, good_count, is_good, line_text, report};
 ghost use Rattle.wh_cli.specs.Faults.{IsCauseOf};
-ghost use Rattle.wh_cli.specs.Noted.{IsNoteOf, lines_in, noted_line, note_members, noted_report};
+ghost use Rattle.wh_cli.specs.Private.Noted.{IsNoteOf, lines_in, noted_line, note_members, noted_report};
 
 use crate::file_faults::{Cause, FileFault};
 use crate::position::Position;

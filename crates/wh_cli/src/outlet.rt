@@ -1,7 +1,7 @@
 //! A writer whose reader may close it.
 
 ghost use Rattle.std.specs.Prelude.{◌≡◌, ◌⊎◌, ◌↔◌, IsTrue, false};
-ghost use Rattle.wh_cli.specs.Outlets.{SaysClosed};
+ghost use Rattle.wh_cli.specs.Private.Outlets.{SaysClosed};
 
 use std::io;
 use std::io::{ErrorKind, Write};

@@ -1,7 +1,7 @@
 //! Files are worked on in threads.
 
 ghost use Rattle.std.specs.Prelude.{Ok, IfOk};
-ghost use Rattle.wh_cli.specs.Faults.{AreMade};
+ghost use Rattle.wh_cli.specs.Private.Faults.{AreMade};
 
 use crate::file_faults::{FileFault, parted};
 use rayon::prelude::*;

@@ -3,8 +3,8 @@
 ghost use Rattle.std.specs.Prelude.{◌≡◌, ◌≢◌, Err, IfOk, map, string_bytes};
 ghost use Rattle.wh_command_line.specs.Options.{IsWithinLimits};
 ghost use Rattle.wh_command_line.specs.Plans.{HasFewSlots, IsAskedBy};
-ghost use Rattle.wh_cli.specs.Commands.{Answers, HasFailed, HasObeyed, called, is_unread, name_of};
-ghost use Rattle.wh_cli.specs.Live.{MayServe, lives};
+ghost use Rattle.wh_cli.specs.Private.Commands.{Answers, HasFailed, HasObeyed, called, is_unread, name_of};
+ghost use Rattle.wh_cli.specs.Private.Live.{MayServe, lives};
 ghost use Rattle.wh_host.specs.Machine.{IsConfig};
 
 use crate::commands::obey;

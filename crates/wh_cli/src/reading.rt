@@ -1,8 +1,9 @@
 //! Files are read, each in the thread that parses it.
 
 ghost use Rattle.std.specs.Prelude.{◌≡◌, IfOk, IfSome, map, string_bytes};
-ghost use Rattle.wh_cli.specs.Faults.{AreFaultsOf, IsCauseOf, IsFaultOf, IsMadeOf, MayBeTold};
-ghost use Rattle.wh_cli.specs.Readings.{AreRead, IsReadAs, IsReading, reading};
+ghost use Rattle.wh_cli.specs.Faults.{AreFaultsOf, IsCauseOf, IsFaultOf, MayBeTold};
+ghost use Rattle.wh_cli.specs.Private.Faults.{IsMadeOf};
+ghost use Rattle.wh_cli.specs.Private.Readings.{AreRead, IsReadAs, IsReading, reading};
 ghost use Rattle.wh_cli.specs.Services.{reading_of};
 
 use crate::file_faults::{FileFault, code_fault, json_fault};

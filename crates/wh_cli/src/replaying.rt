@@ -4,9 +4,10 @@ ghost use Rattle.std.specs.Prelude.{◌≡◌, ◌≢◌, List, Err, IfOk, IfSom
 ghost use Rattle.std.specs.List.{AllZip};
 ghost use Rattle.std.specs.Io.KnownBytes.{Appends};
 ghost use Rattle.wh_tester.specs.Report.{report};
-ghost use Rattle.wh_cli.specs.Faults.{AreMadeOf, IsCauseOf, IsFaultOf, IsMadeOf, MayBeTold};
-ghost use Rattle.wh_cli.specs.Readings.{IsReadAs};
-ghost use Rattle.wh_cli.specs.Noted.{IsNotedOf, lines_in, noted_report};
+ghost use Rattle.wh_cli.specs.Faults.{IsCauseOf, IsFaultOf, MayBeTold};
+ghost use Rattle.wh_cli.specs.Private.Faults.{AreMadeOf, IsMadeOf};
+ghost use Rattle.wh_cli.specs.Private.Readings.{IsReadAs};
+ghost use Rattle.wh_cli.specs.Private.Noted.{IsNotedOf, lines_in, noted_report};
 ghost use Rattle.wh_cli.specs.Statuses.{status_of};
 ghost use Rattle.wh_tester.specs.Verdicts.{IsLineOf};
 ghost use Rattle.wh_tester.specs.declared.line.Line.{Line};

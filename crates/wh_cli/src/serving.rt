@@ -6,9 +6,11 @@ ghost use Rattle.wh_host.specs.Machine.{IsConfig};
 ghost use Rattle.wh_host.specs.declared.reply.Totals.{Totals};
 ghost use Rattle.wh_command_line.specs.Options.{AreWithinLimits, config_of};
 ghost use Rattle.wh_cli.specs.Faults.{AreFaultsOf};
-ghost use Rattle.wh_cli.specs.Readings.{reading};
-ghost use Rattle.wh_cli.specs.Served.{HasServed, HasServedInputs, IsServiceOf, sizes_of};
-ghost use Rattle.wh_cli.specs.Services.{IsHost, IsHosted, IsLongEnough, IsService, leaves};
+ghost use Rattle.wh_cli.specs.Private.Readings.{reading};
+ghost use Rattle.wh_cli.specs.Served.{HasServed};
+ghost use Rattle.wh_cli.specs.Private.Served.{HasServedInputs, IsServiceOf, sizes_of};
+ghost use Rattle.wh_cli.specs.Services.{IsHosted, IsLongEnough, IsService};
+ghost use Rattle.wh_cli.specs.Private.Services.{IsHost, leaves};
 ghost use Rattle.wh_cli.specs.Services.{reading_of, service_text, status_of};
 ghost use Rattle.wh_cli.specs.declared.service_report.Row.{Row};
 

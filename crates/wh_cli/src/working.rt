@@ -3,9 +3,9 @@
 ghost use Rattle.std.specs.Prelude.{◌≡◌, IfOk};
 ghost use Rattle.wh_command_line.specs.Options.{IsWithinWorkLimits};
 ghost use Rattle.wh_host.specs.Machine.{IsConfig};
-ghost use Rattle.wh_cli.specs.Commands.{HasWorked};
-ghost use Rattle.wh_cli.specs.Live.{AreLiveOptions, IsLivePlan, MayServe, keeps_runs};
-ghost use Rattle.wh_cli.specs.Live.{live_config, live_status, lives};
+ghost use Rattle.wh_cli.specs.Private.Commands.{HasWorked};
+ghost use Rattle.wh_cli.specs.Private.Live.{AreLiveOptions, IsLivePlan, MayServe, keeps_runs};
+ghost use Rattle.wh_cli.specs.Private.Live.{live_config, live_status, lives};
 
 use crate::complaints::{Complaint, Complaints};
 use crate::failures::Failure;

@@ -20,8 +20,9 @@ use Rattle.wh_explain.specs.declared.explanation.Ending.TheVariants.{Live, Recor
 use Rattle.wh_explain.specs.declared.explanation.ExplainedTask.{ExplainedTask}
 use Rattle.wh_explain.specs.declared.explanation.Pairing.{Pairing}
 use Rattle.wh_explain.specs.Pairings.{pairings}
-use Rattle.wh_explain.specs.Stepping.{Leaves}
-use Rattle.wh_explain.specs.Explaining.{sent_ending, unless_refused, stops, IsTaskAt, LeavesTask, IsTask, AreTasks, all, stopped, passed}
+use Rattle.wh_explain.specs.Private.Stepping.{Leaves}
+use Rattle.wh_explain.specs.Explaining.{sent_ending, unless_refused, stops, IsTaskAt, IsTask, AreTasks, all, stopped, passed}
+use Rattle.wh_explain.specs.Private.Explaining.{LeavesTask}
 
 -- a task that is not recorded
 pub live_ending : {A : Type 0} (events : List Event) (sent shown : List Command) (fault : Option WorkflowFault) (recorded : Option A) (seen : A → List Event) → fault ≡ None → recorded ≡ None → shown ≡ sent → Live shown ≡ unless_refused fault (sent_ending events sent (option_map seen recorded))

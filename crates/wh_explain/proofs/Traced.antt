@@ -17,7 +17,7 @@ use Rattle.wh_match.specs.declared.fault.ScriptFault.TheVariants.{Workflow, OutO
 use Rattle.wh_replay.specs.Views.{progress}
 use Rattle.wh_replay.proofs.Settling.{settled_less, ok_same}
 use Rattle.wh_replay.specs.Activating.{StopsBy}
-use Rattle.wh_explain.specs.Stepping.{AddsStep, Shows, Leaves}
+use Rattle.wh_explain.specs.Private.Stepping.{AddsStep, Shows, Leaves}
 
 -- the commands up to a place
 pub up_to_place : (given front rest : List Command) (command : Command) (place : ℕ) → given ≡ front ++ command ∷ rest → place ≡ length front + 1 → take place given ≡ front ++ command ∷ []

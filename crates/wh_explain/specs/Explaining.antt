@@ -53,12 +53,6 @@ module _ {S : Type 0} where
     pub steps : IsLongest program context jobs state settled task.steps
     pub ending : task.ending ≡ ending_of events context settled task.steps
 
-  -- where it does not stop, the task leaves this state and these versions
-  abbrev pub LeavesTask : Program S → S → Settled → ExplainedTask → S → Settled → Type 0
-  LeavesTask program state settled task left versions =
-      stops task.ending ≡ false → (left ≡ state_after program state task.steps)
-      × (versions ≡ settled_after settled task.steps)
-
   -- what is explained of the task at the cut of a number of a history, where the cut before has the
   -- other number
   abbrev pub IsTask : Program S → List Event → (last number : ℕ) → S → Settled → ExplainedTask → Type 0

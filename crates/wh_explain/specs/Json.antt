@@ -23,7 +23,6 @@ use Rattle.wh_explain.specs.declared.explanation.Ending.{Ending}
 use Rattle.wh_explain.specs.declared.explanation.Ending.TheVariants.{Refused, Live, Recorded}
 use Rattle.wh_explain.specs.declared.explanation.ExplainedTask.{ExplainedTask}
 use Rattle.wh_explain.specs.declared.explanation.Explanation.{Explanation}
-use Rattle.wh_explain.specs.declared.keys.Keys as code
 use Rattle.wh_explain.specs.Pairings.{differs}
 use Rattle.wh_explain.specs.Phrases.{event_phrase}
 use Rattle.wh_explain.specs.Texts.{last_command}
@@ -35,10 +34,6 @@ use Rattle.wh_explain.specs.Times.{time_text}
 pub record Keys : Type 0 where
   pub id : List ℕ
   pub name : List ℕ
-
--- the keys that the code's are
-abbrev pub keys_seen : code.Keys → Keys
-keys_seen keys = record { id = keys.id.now; name = keys.name.now }
 
 -- these two keys; the second is empty where a phrase has one word, and both where it has none
 abbrev pub keyed : List ℕ → List ℕ → Keys

@@ -2,8 +2,8 @@ pub mod Times
 pub mod Phrases
 pub mod Texts
 pub mod Json
-pub mod Stepping
 pub mod Pairings
 pub mod Differences
 pub mod Explaining
 pub mod Laws
+pub mod Private

@@ -8,7 +8,8 @@ ghost use Rattle.wh_replay.specs.Replays.{workflow_of};
 ghost use Rattle.wh_replay.specs.Views.{context_of};
 ghost use Rattle.wh_replay.specs.Activating.{IsWithin, IsOf};
 ghost use Rattle.wh_tester.specs.Verdicts.{IsVerdict};
-ghost use Rattle.wh_explain.specs.Explaining.{unless_refused, sent_ending, stops, IsTaskAt, LeavesTask};
+ghost use Rattle.wh_explain.specs.Explaining.{unless_refused, sent_ending, stops, IsTaskAt};
+ghost use Rattle.wh_explain.specs.Private.Explaining.{LeavesTask};
 ghost use Rattle.wh_explain.specs.Explaining.{AreTasks, AreTasksPlaced, AreTasksOf, AreTasksIn};
 ghost use Rattle.wh_explain.specs.Explaining.{unknown_placed, unknown_of, unknown_in};
 

@@ -1,7 +1,8 @@
 //! The keys of what is shown of jobs, commands and events in JSON, in Temporal's words.
 
 ghost use Rattle.std.specs.Prelude.{◌≡◌};
-ghost use Rattle.wh_explain.specs.Json.{keys_seen, keyed, job_keys, command_keys, kind_keys};
+ghost use Rattle.wh_explain.specs.Json.{keyed, job_keys, command_keys, kind_keys};
+ghost use Rattle.wh_explain.specs.Private.Json.{keys_seen};
 
 use wh_events::EventKind;
 use wh_workflow::{Command, Job};

@@ -1,7 +1,7 @@
 -- The setups of a crew, as they grow with it.
 use Rattle.std.proofs.Common.{◌≡◌, ◌∙◌, ◌++◌, ◌∷◌, ◌+◌, [], List, ℕ, suc, length, map, ap, arith}
 use Rattle.std.proofs.lemmas.List.{length-append, map-append}
-use Rattle.wh_live.specs.Crews.{role_at, roles_of}
+use Rattle.wh_live.specs.Private.Crews.{role_at, roles_of}
 
 -- what is shown of the setups, with one setup more
 pub shown_more : {X Y : Type 0} (show : X → Y) (setups new : List X) (setup : X) (before : List Y) → new ≡ setups ++ setup ∷ [] → map show setups ≡ before → map show new ≡ before ++ show setup ∷ []

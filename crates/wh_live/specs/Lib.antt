@@ -1,11 +1,6 @@
-pub mod Answering
 pub mod Calls
 pub mod Codes
-pub mod Crews
 pub mod Deliveries
-pub mod Opening
 pub mod Pages
-pub mod Polls
-pub mod Replies
 pub mod Roles
-pub mod Spares
+pub mod Private

@@ -3,7 +3,7 @@
 ghost use Rattle.std.specs.Prelude.{◌≡◌, ◌++◌, ◌∷◌, [], nat_le, OnOk, OnErr};
 ghost use Rattle.wh_tasks.specs.declared.source.Sent.TheVariants.{Workflow as OfWorkflow, Activity as OfActivity};
 ghost use Rattle.wh_tasks.specs.Source.{FailsOnly};
-ghost use Rattle.wh_live.specs.Answering.{cause_of, receipt_of};
+ghost use Rattle.wh_live.specs.Private.Answering.{cause_of, receipt_of};
 ghost use Rattle.wh_live.specs.Codes.{keeps_run};
 
 use crate::asking::{AskFault, ask, fault_text, history_text};

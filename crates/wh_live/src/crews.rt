@@ -1,7 +1,7 @@
 //! The workers of a host.
 
 ghost use Rattle.std.specs.Prelude.{◌≡◌, ◌≤◌, ◌<◌, true, IfOk, Some, is_some, map, vec_len};
-ghost use Rattle.wh_live.specs.Crews.{normal_workers, role_at, roles_of};
+ghost use Rattle.wh_live.specs.Private.Crews.{normal_workers, role_at, roles_of};
 
 use crate::connection::Connection;
 use crate::live_source::LiveSource;

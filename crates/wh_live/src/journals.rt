@@ -1,7 +1,7 @@
 //! What a source keeps of its polls.
 
 ghost use Rattle.std.specs.Prelude.{◌≡◌, Ok, IfOk};
-ghost use Rattle.wh_live.specs.Polls.{end_of, EndsPoll, polled_of};
+ghost use Rattle.wh_live.specs.Private.Polls.{end_of, EndsPoll, polled_of};
 ghost use Rattle.wh_tasks.specs.Source.{FailsOnly, IfTask};
 ghost use Rattle.wh_live.specs.declared.tasks.Brought.TheVariants.{Task};
 

@@ -6,7 +6,7 @@ ghost use Rattle.wh_messages.specs.Responses.{task_seen};
 ghost use Rattle.wh_tasks.specs.Source.{FailsOnly, IfTask};
 ghost use Rattle.wh_live.specs.Deliveries.{FromActivities, FromQueue, IsActivityOf, IsActivityTask, IsOpened};
 ghost use Rattle.wh_live.specs.Deliveries.{IsTaskOf, IsWorkflowTask, OnTask, ReadsEvents, Recounts};
-ghost use Rattle.wh_live.specs.Opening.{Opens, OpensActivity, StaysOpen};
+ghost use Rattle.wh_live.specs.Private.Opening.{Opens, OpensActivity, StaysOpen};
 ghost use Rattle.wh_live.specs.Roles.{polls_sticky};
 
 use crate::asking::AskFault;

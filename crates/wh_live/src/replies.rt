@@ -2,7 +2,7 @@
 
 ghost use Rattle.std.specs.Prelude.{IfOk, codes};
 ghost use Rattle.wh_messages.specs.Requests.{workflow_completed, workflow_failed};
-ghost use Rattle.wh_live.specs.Replies.{IsActivityReply, IsReply, Replies};
+ghost use Rattle.wh_live.specs.Private.Replies.{IsActivityReply, IsReply, Replies};
 
 use crate::connection::Connection;
 use crate::service_client::ServiceClient;

@@ -2,7 +2,7 @@
 
 ghost use Rattle.std.specs.Prelude.{◌≡◌, ◌≤◌, ◌+◌, ◌↔◌, IfOk, OnOk, is_some, vec_len};
 ghost use Rattle.wh_host.specs.Machine.{IsConfig};
-ghost use Rattle.wh_live.specs.Spares.{spare_count, with_spare};
+ghost use Rattle.wh_live.specs.Private.Spares.{spare_count, with_spare};
 ghost use denote.Param.Send.{IsSend};
 
 use crate::connection::Connection;

@@ -6,7 +6,7 @@ use Rattle.wh_events.specs.declared.event.Event.{Event}
 use Rattle.wh_events.specs.Machines.{or_else, closes, starts, closed_by, is_started, cancelled_after, status_of}
 use Rattle.wh_events.specs.Places.{place_fault, fault_after}
 use Rattle.wh_machines.proofs.Histories.{number_if, fault_after-push, place_none, later_none}
-use Rattle.wh_machines.specs.Openings.{first_by, closes_test, starts_test, cancels_test, up_to, status_up_to, opening_with}
+use Rattle.wh_machines.specs.Private.Openings.{first_by, closes_test, starts_test, cancels_test, up_to, status_up_to, opening_with}
 use Rattle.wh_machines.proofs.Placed.{NumberedFrom}
 
 module _ (test : List Event → Event → Bool) where

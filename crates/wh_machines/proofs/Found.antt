@@ -14,9 +14,9 @@ use Rattle.wh_events.specs.Machines.{closed_by, opened_thing, open_named, last_n
 use Rattle.wh_events.specs.Places.{fault_after, is_named}
 use Rattle.wh_machines.specs.Lookups.{thing_of, last_at, with_status}
 use Rattle.wh_machines.specs.declared.opening.Opening.{Opening}
-use Rattle.wh_machines.specs.Openings.{named_of, opening_with, opened_by, opening_of, status_up_to}
+use Rattle.wh_machines.specs.Private.Openings.{named_of, opening_with, opened_by, opening_of, status_up_to}
 use Rattle.wh_machines.specs.declared.jumps.Jump.{Jump}
-use Rattle.wh_machines.specs.Jumps.{jump_at, back_by, IsAlike, JumpsBack}
+use Rattle.wh_machines.specs.Private.Jumps.{jump_at, back_by, IsAlike, JumpsBack}
 use Rattle.wh_machines.proofs.Chain.{IsLastWithin}
 use Rattle.wh_machines.proofs.Placed.{NumberedFrom, numbered_after, numbered_take}
 use Rattle.wh_machines.proofs.Firsts.{closed_by-first, status_up_to_is}

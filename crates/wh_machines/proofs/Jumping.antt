@@ -13,7 +13,7 @@ use Rattle.wh_events.specs.Kinds.{Role, role_of}
 use Rattle.wh_events.specs.Kinds.Role.{Opens}
 use Rattle.wh_events.specs.Machines.{or_else, same_thing, opens, opens_under, last_named, role_at, role_in}
 use Rattle.wh_machines.specs.declared.jumps.Jump.{Jump}
-use Rattle.wh_machines.specs.Jumps.{target_of, jump_at, IsShort, IsAlike, JumpsBack}
+use Rattle.wh_machines.specs.Private.Jumps.{target_of, jump_at, IsShort, IsAlike, JumpsBack}
 use Rattle.wh_machines.proofs.Histories.{number_if}
 use Rattle.wh_machines.proofs.Placed.{NumberedFrom}
 

@@ -9,8 +9,8 @@ use Rattle.slab.specs.Slab as slab
 use Rattle.wh_machines.specs.declared.opening.Opening.{Opening}
 use Rattle.wh_events.specs.declared.kind.Effect.{Effect}
 use Rattle.wh_events.specs.declared.kind.Effect.TheVariants.{Starts, Cancels, Closes}
-use Rattle.wh_machines.specs.Changes.{with_effect}
-use Rattle.wh_machines.specs.Tables.{IsKeyed, has_number}
+use Rattle.wh_machines.specs.Private.Changes.{with_effect}
+use Rattle.wh_machines.specs.Private.Tables.{IsKeyed, has_number}
 
 -- a test by `cmp` is one by `==`
 pub is_at-eqb : (a b : ℕ) → is_at (nat_cmp a) b ≡ eqb a b

@@ -22,12 +22,12 @@ use Rattle.wh_machines.proofs.Histories.{last_named-push, fault_after-push}
 use Rattle.wh_machines.specs.declared.opening.Opening.{Opening}
 use Rattle.wh_machines.specs.declared.openings.Openings.{Openings}
 use Rattle.wh_machines.specs.declared.names.Names.{Names}
-use Rattle.wh_machines.specs.Openings.{closes_test, starts_test, cancels_test, named_of, opening_with, opened_by, opening_of}
-use Rattle.wh_machines.specs.Changes.{new_opening, with_effect, things_after, names_after}
-use Rattle.wh_machines.specs.Tables.{IsTracked, IsSound, opening_in, named_in}
+use Rattle.wh_machines.specs.Private.Openings.{closes_test, starts_test, cancels_test, named_of, opening_with, opened_by, opening_of}
+use Rattle.wh_machines.specs.Private.Changes.{new_opening, with_effect, things_after, names_after}
+use Rattle.wh_machines.specs.Private.Tables.{IsTracked, IsSound, opening_in, named_in}
 use Rattle.wh_machines.proofs.Placed.{accepted, reference_there, child_there, numbered_after}
 use Rattle.wh_machines.specs.declared.jumps.Jump.{Jump}
-use Rattle.wh_machines.specs.Jumps.{IsAlike}
+use Rattle.wh_machines.specs.Private.Jumps.{IsAlike}
 use Rattle.wh_machines.proofs.Jumping.{slice_get-append_left, slice_get_end, jumps_back-push}
 use Rattle.wh_machines.proofs.Firsts.{first_by-push, first_by_none}
 use Rattle.wh_machines.proofs.Named.{same_thing-is, both_left, last_named_role}

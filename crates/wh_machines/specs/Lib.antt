@@ -1,5 +1,2 @@
 pub mod Lookups
-pub mod Openings
-pub mod Changes
-pub mod Jumps
-pub mod Tables
+pub mod Private

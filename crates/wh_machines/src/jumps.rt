@@ -1,7 +1,7 @@
 //! Short ways back over the things of one kind and id.
 
 ghost use Rattle.std.specs.Prelude.{◌≡◌, IfSome, IsSome};
-ghost use Rattle.wh_machines.specs.Jumps.{jump_at, back_by, IsShort};
+ghost use Rattle.wh_machines.specs.Private.Jumps.{jump_at, back_by, IsShort};
 
 use wh_events::EventNo;
 

@@ -4,7 +4,7 @@ ghost use Rattle.std.specs.Prelude.{◌≡◌, ℕ, List, None, OnOk, OnErr, str
 ghost use Rattle.std.specs.BTreeMap.{get_by_text};
 ghost use Rattle.std.specs.Map.{update};
 ghost use Rattle.std.specs.Str.{bytes_eq};
-ghost use Rattle.wh_machines.specs.Changes.{with_name};
+ghost use Rattle.wh_machines.specs.Private.Changes.{with_name};
 
 use std::alloc::Global;
 use std::collections::BTreeMap;
@@ -34,7 +34,7 @@ fn put(
 }
 
 impl Names {
-    ghost use Rattle.wh_machines.specs.Tables.{named_in};
+    ghost use Rattle.wh_machines.specs.Private.Tables.{named_in};
 
     /// No thing has an id yet. It takes no memory.
     pub(crate) fn new(alloc: Global) -> Self

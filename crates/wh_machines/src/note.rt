@@ -2,8 +2,8 @@
 
 ghost use Rattle.std.specs.Prelude.{◌≡◌, ℕ, List, None, OnOk, OnErr};
 ghost use Rattle.wh_events.specs.Kinds.{role_seen};
-ghost use Rattle.wh_machines.specs.Changes.{things_after, names_after};
-ghost use Rattle.wh_machines.specs.Tables.{IsSound, opening_in, named_in};
+ghost use Rattle.wh_machines.specs.Private.Changes.{things_after, names_after};
+ghost use Rattle.wh_machines.specs.Private.Tables.{IsSound, opening_in, named_in};
 
 use crate::names::Names;
 use crate::opening::Opening;

@@ -1,8 +1,8 @@
 //! A thing that was opened, and what changed it.
 
 ghost use Rattle.std.specs.Prelude.{◌≡◌};
-ghost use Rattle.wh_machines.specs.Changes.{new_opening, with_effect};
-ghost use Rattle.wh_machines.specs.Openings.{status_up_to, up_to};
+ghost use Rattle.wh_machines.specs.Private.Changes.{new_opening, with_effect};
+ghost use Rattle.wh_machines.specs.Private.Openings.{status_up_to, up_to};
 
 use wh_events::{Effect, EventNo, Status};
 

@@ -1,7 +1,7 @@
 //! The table of the things that were opened.
 
 ghost use Rattle.std.specs.Prelude.{◌≡◌, ℕ, Some, None, Option, IfSome, OnOk, OnErr, eqb, if◌then◌else◌};
-ghost use Rattle.wh_machines.specs.Changes.{with_opening, with_mark};
+ghost use Rattle.wh_machines.specs.Private.Changes.{with_opening, with_mark};
 
 use crate::opening::Opening;
 use slab::Slab;
@@ -17,7 +17,7 @@ pub(crate) struct Openings {
 }
 
 impl Openings {
-    ghost use Rattle.wh_machines.specs.Tables.{IsSound, opening_in};
+    ghost use Rattle.wh_machines.specs.Private.Tables.{IsSound, opening_in};
 
     /// Nothing is opened yet. It takes no memory.
     pub(crate) fn new(alloc: Global) -> Self

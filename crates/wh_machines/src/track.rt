@@ -8,10 +8,10 @@ ghost use Rattle.wh_events.specs.Kinds.{role_of, role_seen};
 ghost use Rattle.wh_events.specs.Machines as machines;
 ghost use Rattle.wh_events.specs.Places as places;
 ghost use Rattle.wh_events.specs.declared.place.PlaceFault.{PlaceFault};
-ghost use Rattle.wh_machines.specs.Changes.{things_after, names_after};
-ghost use Rattle.wh_machines.specs.Jumps.{IsAlike};
+ghost use Rattle.wh_machines.specs.Private.Changes.{things_after, names_after};
+ghost use Rattle.wh_machines.specs.Private.Jumps.{IsAlike};
 ghost use Rattle.wh_machines.specs.Lookups.{thing_of, last_at, events_between};
-ghost use Rattle.wh_machines.specs.Tables.{IsSound, opening_in, named_in};
+ghost use Rattle.wh_machines.specs.Private.Tables.{IsSound, opening_in, named_in};
 
 use crate::fault::PushFault;
 use crate::jumps::{Jump, NO_JUMP, jump_to, step_back};
@@ -41,7 +41,7 @@ pub struct Track {
 impl Model for Track {
     ghost use Rattle.std.specs.Prelude.{List};
     ghost use Rattle.wh_events.specs.declared.event.Event.{Event};
-    ghost use Rattle.wh_machines.specs.Tables.{IsTracked};
+    ghost use Rattle.wh_machines.specs.Private.Tables.{IsTracked};
 
     ghost Value = { List Event };
 

@@ -12,7 +12,7 @@ use Rattle.wh_machines.proofs.Found.{is_named_kind}
 use Rattle.wh_workflow.specs.Scripts.{ActivationContext, cancels_open, closer_of, has_outside}
 use Rattle.wh_match.specs.declared.standing.Standing.{Standing}
 use Rattle.wh_match.specs.Issuing.{context_at}
-use Rattle.wh_match.specs.Standings.{standing_of, standing_by}
+use Rattle.wh_match.specs.Private.Standings.{standing_of, standing_by}
 
 -- the first events of a history in place are in place
 pub first_placed : (count : ℕ) (before events : List Event) → fault_after before events ≡ None → fault_after before (take count events) ≡ None

@@ -9,7 +9,7 @@ use Rattle.wh_workflow.specs.declared.fault.WorkflowFault.{WorkflowFault}
 use Rattle.wh_workflow.specs.declared.fault.WorkflowFault.TheVariants.{AfterClosing, TooManyCommands}
 use Rattle.wh_workflow.specs.Law.{is_marker}
 use Rattle.wh_workflow.specs.Scripts.{ActivationContext, Settled, act_of, act_closes, some_act, fault_if, given, most_commands, act_fault, command_fault}
-use Rattle.wh_match.specs.Faults.{early_fault}
+use Rattle.wh_match.specs.Private.Faults.{early_fault}
 use Rattle.wh_match.proofs.Judged.{fault_in_parts}
 
 not_faulty : (b : Bool) (fault : WorkflowFault) → fault_if b fault ≡ None → b ≡ false

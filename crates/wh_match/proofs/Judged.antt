@@ -9,7 +9,7 @@ use Rattle.wh_workflow.specs.declared.fault.WorkflowFault.{WorkflowFault}
 use Rattle.wh_workflow.specs.declared.fault.WorkflowFault.TheVariants.{AfterClosing, TooManyCommands}
 use Rattle.wh_workflow.specs.Law.{is_ask}
 use Rattle.wh_workflow.specs.Scripts.{ActivationContext, Settled, act_of, act_closes, some_act, fault_if, given, most_commands, Choice, choice_of, opening_fault, cancel_fault, ask_fault, act_fault, command_fault}
-use Rattle.wh_match.specs.Faults.{early_fault, range_fault}
+use Rattle.wh_match.specs.Private.Faults.{early_fault, range_fault}
 use Rattle.wh_match.specs.Issuing.{context_at}
 
 pub fault_in_parts : (context : ActivationContext) (settled : Settled) (earlier : List Command) (command : Command) → command_fault context settled earlier command ≡ or_else (early_fault earlier) (act_fault context settled earlier (act_of command))

@@ -7,7 +7,7 @@ use Rattle.wh_events.specs.Places.{fault_after}
 use Rattle.wh_machines.specs.Lookups.{events_between}
 use Rattle.wh_machines.proofs.Placed.{NumberedFrom, numbered_after}
 use Rattle.wh_workflow.specs.Scripts.{has_outside}
-use Rattle.wh_match.specs.Standings.{is_outside_in}
+use Rattle.wh_match.specs.Private.Standings.{is_outside_in}
 
 not_alone : (b : Bool) → (b && false) ≡ false
 not_alone true = refl

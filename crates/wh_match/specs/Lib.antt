@@ -1,4 +1,4 @@
 pub mod Issuing
 pub mod Faults
-pub mod Standings
 pub mod Calls
+pub mod Private

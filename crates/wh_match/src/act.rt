@@ -2,7 +2,7 @@
 ghost use Rattle.std.specs.Prelude.{◌≡◌};
 ghost use Rattle.wh_machines.specs.Lookups.{thing_of};
 ghost use Rattle.wh_workflow.specs.Scripts.{act_of, act_opens, act_cancels, act_closes, some_act, left_open, withdrawn};
-ghost use Rattle.wh_match.specs.Standings.{act_seen};
+ghost use Rattle.wh_match.specs.Private.Standings.{act_seen};
 
 use wh_events::OpenKind;
 use wh_workflow::Command;

@@ -2,7 +2,8 @@
 ghost use Rattle.std.specs.Prelude.{◌≡◌, IfOk};
 ghost use Rattle.std.specs.Result.{result_err};
 ghost use Rattle.wh_machines.specs.Lookups.{thing_of};
-ghost use Rattle.wh_match.specs.Faults.{still_open_by, is_late_by, is_cancelled_by, opening_fault_by, cancel_fault_by};
+ghost use Rattle.wh_match.specs.Private.Faults.{still_open_by, is_late_by, is_cancelled_by, opening_fault_by};
+ghost use Rattle.wh_match.specs.Private.Faults.{cancel_fault_by};
 
 use crate::act::{left_open, some_cancels, some_opens, withdrawn};
 use crate::standing::Standing;

@@ -11,10 +11,11 @@ ghost use Rattle.std.specs.Vec.{vec_capacity};
 ghost use Rattle.wh_machines.specs.Lookups.{thing_of};
 ghost use Rattle.wh_workflow.specs.Law.{is_ask, is_marker};
 ghost use Rattle.wh_workflow.specs.Scripts.{ActivationContext, Settled, act_of, act_fault, command_fault, with_version};
-ghost use Rattle.wh_match.specs.Faults.{early_fault, range_fault, workflow_fault};
+ghost use Rattle.wh_match.specs.Faults.{workflow_fault};
+ghost use Rattle.wh_match.specs.Private.Faults.{early_fault, range_fault};
 ghost use Rattle.wh_match.specs.Issuing.{context_in, is_late_act, with_issued, with_asked};
 ghost use Rattle.wh_match.specs.Issuing.{choice_in, unmarked_if, reduced_by};
-ghost use Rattle.wh_match.specs.Standings.{standing_of};
+ghost use Rattle.wh_match.specs.Private.Standings.{standing_of};
 
 use crate::act::{Act, closes, read_act};
 use crate::choosing::{Chosen, Question, choose};

@@ -4,7 +4,7 @@ ghost use Rattle.wh_events.specs.Places.{fault_after};
 ghost use Rattle.wh_machines.specs.Lookups.{thing_of, events_between};
 ghost use Rattle.wh_workflow.specs.Scripts.{has_outside};
 ghost use Rattle.wh_match.specs.Issuing.{context_at};
-ghost use Rattle.wh_match.specs.Standings.{standing_of, standing_by, is_outside_in};
+ghost use Rattle.wh_match.specs.Private.Standings.{standing_of, standing_by, is_outside_in};
 
 use wh_events::{Class, Event, EventNo, OpenKind, Status};
 use wh_machines::Track;

@@ -21,7 +21,8 @@ use Rattle.wh_tasks.specs.declared.source.Sent.TheVariants.{Workflow as OfWorkfl
 use Rattle.wh_tasks.specs.Source.{Answerable, Delivers, Tells, Answers, Workflow, SameTelling, FailsOnly, KeepsSource, RoseIfFailed, SameMay}
 use Rattle.wh_tasks.specs.Tasks.{Basis, Own, Nothing, Joined, Told, basis_of, StepsFrom, FailsOnlySource}
 use Rattle.wh_host.specs.Machine.{with_taken}
-use Rattle.wh_poll.specs.Serve.{Sends, ServesWorkflow, Counts, MayCount, ended, served_workflow}
+use Rattle.wh_poll.specs.Serve.{ServesWorkflow, Counts, MayCount}
+use Rattle.wh_poll.specs.Private.Serve.{Sends, ended, served_workflow}
 use Rattle.wh_slots.specs.declared.SlotKind.{SlotKind}
 use Rattle.wh_poll.specs.declared.workers.Rota.{Rota}
 use Rattle.wh_poll.specs.Workers.{first_fault, is_last, next_rota}

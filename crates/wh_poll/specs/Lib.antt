@@ -4,3 +4,4 @@ pub mod Turns
 pub mod Ends
 pub mod Lists
 pub mod Steady
+pub mod Private

@@ -2,7 +2,8 @@
 ghost use Rattle.std.specs.Prelude.{◌≡◌, Err, IfOk, IfSome};
 ghost use Rattle.wh_tasks.specs.Source.{KeepsSource, SameMay};
 ghost use Rattle.wh_tasks.specs.Tasks.{IsAnswer, HasAnswer, FailsOnlySource};
-ghost use Rattle.wh_poll.specs.Serve.{outcome_of, activity_outcome, held_by, Sends, SendsAnswer, SendsActivity};
+ghost use Rattle.wh_poll.specs.Serve.{outcome_of, activity_outcome};
+ghost use Rattle.wh_poll.specs.Private.Serve.{held_by, Sends, SendsAnswer, SendsActivity};
 
 use std::alloc::Global;
 use wh_events::{Event, OutOfMemory};

@@ -3,10 +3,13 @@ ghost use Rattle.std.specs.Prelude.{◌≡◌, ◌≤◌, IfErr, IfOk, IfSome, M
 ghost use Rattle.wh_tasks.specs.Source.{KeepsSource, SameMay, FailsOnly};
 ghost use Rattle.wh_tasks.specs.Source.{Workflow as WorkflowDelivery, Activity as ActivityDelivery};
 ghost use Rattle.wh_tasks.specs.Tasks.{FailsOnlySource};
-ghost use Rattle.wh_poll.specs.Serve.{Serves, ServesWorkflow, ServesActivity, Sends};
+ghost use Rattle.wh_poll.specs.Serve.{Serves, ServesWorkflow, ServesActivity};
+ghost use Rattle.wh_poll.specs.Private.Serve.{Sends};
 ghost use Rattle.wh_host.specs.Machine.{with_taken};
-ghost use Rattle.wh_poll.specs.Serve.{Counts, MayCount, ended, unanswered};
-ghost use Rattle.wh_poll.specs.Serve.{served_workflow, served_activity, unreserved, HasNoTask, IsRefused};
+ghost use Rattle.wh_poll.specs.Serve.{Counts, MayCount};
+ghost use Rattle.wh_poll.specs.Private.Serve.{ended, unanswered};
+ghost use Rattle.wh_poll.specs.Private.Serve.{served_workflow, served_activity, unreserved, HasNoTask};
+ghost use Rattle.wh_poll.specs.Private.Serve.{IsRefused};
 
 use crate::answer::{Answered, Reply, answer_by_handler, answer_by_replay};
 use std::alloc::Global;

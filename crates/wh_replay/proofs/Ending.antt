@@ -16,14 +16,15 @@ use Rattle.wh_workflow.specs.Activations.{and_then}
 use Rattle.wh_replay.specs.declared.fault.Fault.{Fault}
 use Rattle.wh_replay.specs.declared.fault.Fault.TheVariants.{NotATask}
 use Rattle.wh_replay.specs.Replays.{ReplayResult, Replayed, with_machines, replay, replay_tasks, ends_in_task}
-use Rattle.wh_replay.specs.Runs.{Gives, IsRun, Shows, IsReplayed, run_of, advance_steps, advanced}
-use Rattle.wh_replay.specs.Views.{view_of}
+use Rattle.wh_replay.specs.Runs.{Shows, IsReplayed, run_of, advance_steps}
+use Rattle.wh_replay.specs.Private.Runs.{Gives, IsRun, advanced}
+use Rattle.wh_replay.specs.Private.Views.{view_of}
 use Rattle.wh_replay.proofs.Raising.{top}
 use Rattle.wh_replay.specs.declared.fault.RunFault.{RunFault}
 use Rattle.wh_replay.specs.declared.fault.RunFault.TheVariants.{Fault as Faulty, OutOfMemory}
 use Rattle.wh_replay.specs.Checks.{Answers}
 use Rattle.wh_replay.specs.Tracking.{joined}
-use Rattle.wh_replay.specs.Advances.{GivesHistory}
+use Rattle.wh_replay.specs.Private.Advances.{GivesHistory}
 use Rattle.wh_replay.proofs.Resuming.{taken_parts, run_replay, replay_parts, replayed_gives, replayed_fault, misplaced, advanced_gives, advanced_counts, advanced_fault}
 use Rattle.wh_events.proofs.Standing.{no_fault_where_in_place}
 use Rattle.wh_workflow.specs.Counting.{risen}

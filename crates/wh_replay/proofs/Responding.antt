@@ -23,7 +23,8 @@ use Rattle.wh_replay.specs.Replays.{reached, close_task, unless_mismatch}
 use Rattle.wh_replay.specs.declared.activation.IssueFault.{IssueFault}
 use Rattle.wh_replay.specs.declared.cut.Cut.{Cut}
 use Rattle.wh_replay.specs.Views.{context_of, script}
-use Rattle.wh_replay.specs.Activating.{Gives, StopsBy, StopsAt, IsPlain, IsOf, fault_alone}
+use Rattle.wh_replay.specs.Activating.{Gives, StopsBy, StopsAt, IsOf, fault_alone}
+use Rattle.wh_replay.specs.Private.Activating.{IsPlain}
 use Rattle.wh_replay.proofs.Confirming.{and_parts}
 use Rattle.wh_replay.proofs.Settling.{issued_all}
 use Rattle.wh_replay.proofs.Stepping.{slice_get-seam}

@@ -11,7 +11,8 @@ use Rattle.wh_workflow.specs.Law.{Program}
 use Rattle.wh_workflow.specs.Scripts.{Settled}
 use Rattle.wh_events.proofs.Standing.{no_fault_where_in_place}
 use Rattle.wh_replay.specs.Replays.{replay_tasks}
-use Rattle.wh_replay.specs.Runs.{IsRun, status_in}
+use Rattle.wh_replay.specs.Runs.{status_in}
+use Rattle.wh_replay.specs.Private.Runs.{IsRun}
 use Rattle.wh_replay.proofs.Joining.{if_true, if_false}
 use Rattle.wh_replay.proofs.Resuming.{run_replay, replay_parts}
 

@@ -18,7 +18,8 @@ use Rattle.wh_workflow.specs.Activations.{and_then, activate}
 use Rattle.wh_replay.specs.declared.fault.Fault.{Fault}
 use Rattle.wh_replay.specs.Replays.{ReplayResult, task, task_after, begin_at, replay_after}
 use Rattle.wh_replay.specs.declared.cut.Cut.{Cut}
-use Rattle.wh_replay.specs.Views.{context_of, context_after, task_of}
+use Rattle.wh_replay.specs.Views.{context_of, context_after}
+use Rattle.wh_replay.specs.Private.Views.{task_of}
 use Rattle.wh_replay.specs.Activating.{IsCutAfter}
 use Rattle.wh_replay.specs.Checks.{ends_live}
 

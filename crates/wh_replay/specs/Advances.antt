@@ -12,7 +12,7 @@ use Rattle.wh_replay.specs.declared.run.AdvanceFault.TheVariants.{NotATask as No
 use Rattle.wh_replay.specs.declared.run.Answer.{Answer}
 use Rattle.wh_replay.specs.declared.run.Answer.TheVariants.{Complete, Fail}
 use Rattle.wh_replay.specs.Replays.{Replayed, ends_in_task}
-use Rattle.wh_replay.specs.Runs.{HistoryView, Held, history_of, IsReplayed, follows, run_of, advance_steps}
+use Rattle.wh_replay.specs.Runs.{Held, history_of, IsReplayed, follows, run_of, advance_steps}
 
 -- the new events are joined to the held ones: they end in a started task and begin after them
 pub record IsJoined (held new : List Event) : Type 0 where
@@ -20,13 +20,6 @@ pub record IsJoined (held new : List Event) : Type 0 where
   pub begins : follows (length held) new ≡ true
 
 module _ {S : Type 0} where
-  -- a history of these events with what their replay gives, or the fault; out of memory only where they end in a
-  -- started task
-  abbrev pub GivesHistory : Program S → List Event → Result HistoryView RunFault → Type 0
-  GivesHistory program events (Ok history) = (history.events ≡ events) × IsReplayed program history
-  GivesHistory program events (Err (Faulty fault)) = run_of program events ≡ Err fault
-  GivesHistory program events (Err OutOfMemory) = ends_in_task events ≡ true
-
   -- the run has the key, holds the events, and shows what their replay gives
   abbrev pub Holds : Program S → RunKey → List Event → Held → Type 0
   Holds program key events run = (run.key ≡ key) × (run.events ≡ events) × IsReplayed program (history_of run)
@@ -56,11 +49,6 @@ module _ {S : Type 0} where
   Counts program run new before after (Err (NoTaskEnds back)) = after ≡ before
   Counts program run new before after (Err (Gap back)) = after ≡ before
   Counts program run new before after (Err _) = Unit {0}
-
-  -- the fault of a replay that spent the run
-  abbrev pub spent : {W : Type 0} → RunFault → AdvanceFault W S
-  spent (Faulty fault) = AdvanceFaulty fault
-  spent OutOfMemory = NoMemory
 
   -- what is answered for a replay
   abbrev pub answered : Result (Replayed S) Fault → Answer

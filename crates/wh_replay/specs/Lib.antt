@@ -7,3 +7,4 @@ pub mod Tracking
 pub mod Advances
 pub mod Laws
 pub mod Wholes
+pub mod Private

@@ -1,12 +1,12 @@
 -- A run: a history that ends in a started task, with what its replay gives. How a run begins, and
 -- how new events advance it.
-use Rattle.std.specs.Prelude.{◌≡◌, ℕ, ◌+◌, ◌≤◌, Bool, true, false, ◌&&◌, List, [], ◌∷◌, ◌++◌, length, Option, Some, None, Result, Ok, Err, IsOkAnd, if◌then◌else◌, eqb, is_none}
+use Rattle.std.specs.Prelude.{◌≡◌, ℕ, ◌+◌, ◌≤◌, Bool, false, ◌&&◌, List, [], ◌∷◌, ◌++◌, length, Option, Some, None, Result, Ok, Err, IsOkAnd, if◌then◌else◌, eqb, is_none}
 use Rattle.wh_events.specs.declared.event.Event.{Event}
 use Rattle.wh_events.specs.declared.key.RunKey.{RunKey}
 use Rattle.wh_events.specs.declared.place.Status.{Status}
 use Rattle.wh_events.specs.Machines.{Machine}
 use Rattle.wh_events.specs.Cuts.{is_recorded, record_of}
-use Rattle.wh_events.specs.Places.{most_events, history_fault}
+use Rattle.wh_events.specs.Places.{most_events}
 use Rattle.wh_workflow.specs.declared.command.Command.{Command}
 use Rattle.wh_workflow.specs.Law.{Program}
 use Rattle.wh_workflow.specs.Names.{mismatch}
@@ -14,7 +14,7 @@ use Rattle.wh_workflow.specs.Scripts.{Settled}
 use Rattle.wh_workflow.specs.Activations.{and_then}
 use Rattle.wh_replay.specs.declared.fault.Fault.{Fault}
 use Rattle.wh_replay.specs.declared.fault.Fault.TheVariants.{NotATask}
-use Rattle.wh_replay.specs.Replays.{ReplayResult, Replayed, replay, replay_tasks, replay_after, replay_placed, ends_in_task}
+use Rattle.wh_replay.specs.Replays.{ReplayResult, Replayed, replay, replay_tasks, replay_after, ends_in_task}
 
 -- what contracts see of a replayed history: its events, and what their replay gives but the state,
 -- which has a type of each workflow's own
@@ -58,17 +58,6 @@ follows held [] = false
 follows held (event ∷ _) = eqb event.number (held + 1)
 
 module _ {S : Type 0} where
-  -- the tasks leave this state, these versions and these unsent commands
-  abbrev pub Gives : Result (ReplayResult S) Fault → S → Settled → List Command → Type 0
-  Gives (Ok left) state settled unsent = (left.state ≡ state) × (left.settled ≡ settled) × (left.unsent ≡ unsent)
-  Gives (Err fault) state settled unsent = ⊥
-
-  -- a history that ends in a started task, and what its tasks leave
-  pub record IsRun (program : Program S) (events : List Event) (state : S) (settled : Settled)
-      (unsent : List Command) : Type 0 where
-    pub ends : ends_in_task events ≡ true
-    pub gives : Gives (replay_tasks program events 0) state settled unsent
-
   -- replay of a history that has to end in a started task
   abbrev pub run_of : Program S → List Event → Result (Replayed S) Fault
   run_of program events = if ends_in_task events then replay program events 0 else Err NotATask
@@ -115,11 +104,3 @@ module _ {S : Type 0} where
   abbrev pub advance_steps : Program S → List Event → List Event → ℕ
   advance_steps program held new =
       if confirms program held new then new_steps program held new else steps program (held ++ new)
-
-  -- what advancing gives, on this meter
-  abbrev pub advanced : Program S → List Event → List Event → ℕ → Result (ReplayResult S) Fault
-  advanced program held new meter =
-      if confirms program held new
-      then replay_placed (history_fault (held ++ new))
-      (and_then (replay_tasks program held 0) (going_on program held new meter))
-      else replay_tasks program (held ++ new) meter

@@ -4,7 +4,7 @@ ghost use Rattle.wh_workflow.specs.Counting.{risen};
 ghost use Rattle.wh_workflow.specs.Scripts.{lookup_version};
 ghost use Rattle.wh_replay.specs.Replays.{ends_in_task};
 ghost use Rattle.wh_replay.specs.Runs.{IsReplayed, run_of, steps, advance_steps, status_in};
-ghost use Rattle.wh_replay.specs.Advances.{GivesHistory};
+ghost use Rattle.wh_replay.specs.Private.Advances.{GivesHistory};
 
 use crate::checking::replay;
 use crate::continuing::{ends_in_task, replay_joined};
@@ -28,7 +28,7 @@ pub struct ReplayedHistory<W: Workflow> {
 
 impl<W: Workflow> Model for ReplayedHistory<W> {
     ghost use Rattle.wh_replay.specs.Runs.{HistoryView};
-    ghost use Rattle.wh_replay.specs.Views.{IsRunOf, view_of};
+    ghost use Rattle.wh_replay.specs.Private.Views.{IsRunOf, view_of};
 
     ghost Value = { HistoryView };
 

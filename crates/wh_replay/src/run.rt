@@ -2,7 +2,8 @@
 ghost use Rattle.std.specs.Prelude.{◌≡◌, ◌-◌, ◌≤◌, length, slice_get, option_map, IfOk, IsOkAnd, OnOk};
 ghost use Rattle.wh_workflow.specs.Scripts.{lookup_version};
 ghost use Rattle.wh_replay.specs.Runs.{history_of, run_under, status_in, IsReplayed, run_of, steps};
-ghost use Rattle.wh_replay.specs.Advances.{IsJoined, Begins, Advances, Counts, spent};
+ghost use Rattle.wh_replay.specs.Advances.{IsJoined, Begins, Advances, Counts};
+ghost use Rattle.wh_replay.specs.Private.Advances.{spent};
 ghost use Rattle.wh_replay.specs.declared.run.Answer.TheVariants.{Complete};
 ghost use Rattle.wh_workflow.specs.Counting.{risen};
 

@@ -6,7 +6,7 @@ use Rattle.std.specs.Io.Take.{take_limit, take_inner, take_remaining}
 use Rattle.std.specs.declared.io.traits.Take.{Take}
 use Rattle.std.proofs.lemmas.Bool.{lt-ltb}
 use Rattle.wh_rpc.specs.Responses.{longest}
-use Rattle.wh_rpc.specs.Input.{before_end, next_of}
+use Rattle.wh_rpc.specs.Private.Input.{before_end, next_of}
 
 -- ---- What is taken up to a line end
 

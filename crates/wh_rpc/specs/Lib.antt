@@ -1,7 +1,6 @@
 pub mod Requests
 pub mod Responses
 pub mod Tables
-pub mod OpenTables
 pub mod Steps
 pub mod WrittenLines
-pub mod Input
+pub mod Private

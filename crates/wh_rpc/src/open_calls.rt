@@ -2,7 +2,7 @@
 
 ghost use Rattle.std.specs.Prelude.{◌≡◌, ◌↔◌, true, IfOk, OnErr};
 ghost use Rattle.wh_rpc.specs.Tables.{IsFirst, Opens, Takes, Drains, Closes, refuses};
-ghost use Rattle.wh_rpc.specs.OpenTables.{table_of};
+ghost use Rattle.wh_rpc.specs.Private.OpenTables.{table_of};
 
 use crate::call_fault::CallFault;
 use std::alloc::Global;

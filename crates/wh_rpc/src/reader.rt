@@ -4,7 +4,7 @@ ghost use Rattle.std.specs.Prelude.{◌≡◌, ◌+◌, ◌++◌, OnOk, IfOk, If
 ghost use Rattle.std.specs.Io.BufRead.{take_through, strip_last};
 ghost use Rattle.std.specs.Io.KnownBytes.{IsAtEnd};
 ghost use Rattle.wh_rpc.specs.Responses.{longest};
-ghost use Rattle.wh_rpc.specs.Input.{next_of};
+ghost use Rattle.wh_rpc.specs.Private.Input.{next_of};
 
 use crate::bad_line::BadLine;
 use crate::calls::Caller;

@@ -68,11 +68,6 @@ verdict_members (verdicts.Faulty fault) =
     ∷ (subject_members fault ++ text_member (codes "fault") (replay_fault_text fault) ∷ [])
 verdict_members verdicts.OutOfMemory = text_member (codes "verdict") (codes "out of memory") ∷ []
 
--- the line of a file: its name, shown as in the report in words, its verdict, and members after these
-abbrev pub json_line_with : Line → List (List ℕ) → List ℕ
-json_line_with line more =
-    object (text_member (codes "file") (shown line.name)) (verdict_members line.verdict ++ more)
-
 -- the line of a file without others
 abbrev pub json_line : Line → List ℕ
 json_line line = object (text_member (codes "file") (shown line.name)) (verdict_members line.verdict)

@@ -2,8 +2,9 @@ use Rattle.std.proofs.Common.{◌≡◌, ◌∙◌, ◌<◌, ◌++◌, ◌∷◌
 use Rattle.std.specs.Prelude.{◌%◌, get_or}
 use Rattle.std.proofs.Math.Nat.{mod-lt}
 use Rattle.std.proofs.lemmas.List.{get_or-map, length-map, length-set, map-append, map-set}
-use Rattle.wh_cli.specs.Services.{assigned_as, assigned_to, histories_seen, history_of}
-use Rattle.wh_cli.specs.Readings.{reading}
+use Rattle.wh_cli.specs.Services.{assigned_as, assigned_to, history_of}
+use Rattle.wh_cli.specs.Private.Services.{histories_seen}
+use Rattle.wh_cli.specs.Private.Readings.{reading}
 use Rattle.wh_cli.proofs.Assigned.{dealt_push}
 use Rattle.wh_cli.proofs.assigning.assign_files.Goals as goal
 

@@ -1,7 +1,8 @@
 use Rattle.std.proofs.Common.{◌≡◌, ◌<◌, ◌++◌, ℕ, [], map, length}
 use Rattle.std.specs.Prelude.{get_or}
-use Rattle.wh_cli.specs.Services.{assigned_as, assigned_to, histories_seen}
-use Rattle.wh_cli.specs.Readings.{reading}
+use Rattle.wh_cli.specs.Services.{assigned_as, assigned_to}
+use Rattle.wh_cli.specs.Private.Services.{histories_seen}
+use Rattle.wh_cli.specs.Private.Readings.{reading}
 use Rattle.wh_cli.proofs.assigning.assign_files.Given as goal
 
 abbrev pub invariant-loop-file : goal.invariant-loop-file

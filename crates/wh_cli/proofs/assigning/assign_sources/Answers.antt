@@ -1,8 +1,8 @@
 use Rattle.std.proofs.Common.{◌≡◌, ◌∙◌, ap, length, map, rules}
 use Rattle.wh_host.proofs.Marks.{written}
 use Rattle.wh_recorded.specs.Rounds.{opening_stage}
-use Rattle.wh_cli.specs.Services.{histories_seen}
-use Rattle.wh_cli.specs.Readings.{reading}
+use Rattle.wh_cli.specs.Private.Services.{histories_seen}
+use Rattle.wh_cli.specs.Private.Readings.{reading}
 use Rattle.wh_cli.proofs.Assigned.{sources_are}
 use Rattle.wh_cli.proofs.assigning.assign_sources.Goals as goal
 

@@ -1,6 +1,6 @@
 use Rattle.std.proofs.Common.{◌≡◌, map}
 use Rattle.wh_recorded.specs.Rounds.{opening_stage}
-use Rattle.wh_cli.specs.Services.{histories_seen}
+use Rattle.wh_cli.specs.Private.Services.{histories_seen}
 use Rattle.wh_cli.proofs.assigning.sources_of.Given as goal
 
 abbrev pub invariant-loop-list : goal.invariant-loop-list

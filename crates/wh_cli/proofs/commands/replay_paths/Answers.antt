@@ -1,5 +1,5 @@
 use Rattle.std.proofs.Common.{ap, ◌∙◌}
-use Rattle.wh_cli.specs.Statuses.{lacks_files}
+use Rattle.wh_cli.specs.Private.Statuses.{lacks_files}
 use Rattle.wh_cli.proofs.Steps.{replayed_paths}
 use Rattle.wh_cli.proofs.commands.replay_paths.Goals as goal
 

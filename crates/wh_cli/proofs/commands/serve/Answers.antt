@@ -1,5 +1,5 @@
 use Rattle.std.specs.Prelude.{Ok}
-use Rattle.wh_cli.specs.Served.{sizes_of}
+use Rattle.wh_cli.specs.Private.Served.{sizes_of}
 use Rattle.wh_cli.specs.Services.{HostsBy}
 use Rattle.wh_cli.proofs.Steps.{served_all}
 use Rattle.wh_cli.proofs.commands.serve.Goals as goal

@@ -1,6 +1,6 @@
 use Rattle.std.proofs.Common.{ap, ◌∙◌}
-use Rattle.wh_cli.specs.Served.{sizes_of}
-use Rattle.wh_cli.specs.Statuses.{lacks_files}
+use Rattle.wh_cli.specs.Private.Served.{sizes_of}
+use Rattle.wh_cli.specs.Private.Statuses.{lacks_files}
 use Rattle.wh_cli.proofs.Steps.{served_folder}
 use Rattle.wh_cli.proofs.commands.serve_folder.Goals as goal
 

@@ -1,7 +1,7 @@
 use Rattle.std.proofs.Common.{codes, subst}
 use Rattle.std.specs.Prelude.{OnOk}
 use Rattle.std.specs.Io.KnownBytes.{Appends}
-use Rattle.wh_cli.specs.Complaints.{entry_line}
+use Rattle.wh_cli.specs.Private.Complaints.{entry_line}
 use Rattle.wh_cli.proofs.complaints.tell_bad_name.Goals as goal
 
 -- the line is of the entry's name

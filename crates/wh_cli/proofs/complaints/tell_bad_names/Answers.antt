@@ -4,7 +4,7 @@ use Rattle.std.proofs.lemmas.Grind.{flat_map-append}
 use Rattle.std.specs.List.{flat_map}
 use Rattle.std.specs.Prelude.{String}
 use Rattle.std.specs.declared.alloc.Global.{Global}
-use Rattle.wh_cli.specs.Complaints.{bad_name_line}
+use Rattle.wh_cli.specs.Private.Complaints.{bad_name_line}
 use Rattle.wh_cli.proofs.complaints.tell_bad_names.Goals as goal
 
 -- the line of one more stands after those before it

@@ -1,5 +1,5 @@
 use Rattle.std.specs.Io.KnownBytes.{Appends}
-use Rattle.wh_cli.specs.Complaints.{bad_name_lines}
+use Rattle.wh_cli.specs.Private.Complaints.{bad_name_lines}
 use Rattle.wh_cli.proofs.complaints.tell_bad_names.Given as goal
 
 -- the lines so far have been written

@@ -1,5 +1,5 @@
 use Rattle.std.specs.Io.KnownBytes.{Appends}
-use Rattle.wh_cli.specs.Complaints.{failure_lines}
+use Rattle.wh_cli.specs.Private.Complaints.{failure_lines}
 use Rattle.wh_cli.proofs.complaints.tell_failures.Given as goal
 
 -- the lines so far have been written

@@ -1,5 +1,5 @@
 use Rattle.std.specs.Io.KnownBytes.{Appends}
-use Rattle.wh_cli.specs.Complaints.{fault_lines}
+use Rattle.wh_cli.specs.Private.Complaints.{fault_lines}
 use Rattle.wh_cli.proofs.complaints.tell_faults.Given as goal
 
 -- the lines so far have been written

@@ -1,4 +1,4 @@
-use Rattle.wh_cli.specs.Complaints.{failure_lines, fault_lines, uncompared_told, worker_told}
+use Rattle.wh_cli.specs.Private.Complaints.{failure_lines, fault_lines, uncompared_told, worker_told}
 use Rattle.wh_cli.proofs.Endings.{four_told}
 use Rattle.wh_cli.proofs.complaints.tell_service.Goals as goal
 

@@ -1,6 +1,6 @@
 use Rattle.std.proofs.Common.{ap, codes, sym, ◌++◌, ◌∙◌}
 use Rattle.std.specs.Prelude.{string_bytes}
-use Rattle.wh_cli.specs.Complaints.{entry_line, path_line, reason_line, told_line}
+use Rattle.wh_cli.specs.Private.Complaints.{entry_line, path_line, reason_line, told_line}
 use Rattle.wh_cli.proofs.Steps.{something_more}
 use Rattle.wh_cli.proofs.complaints.tell_unreadable.Goals as goal
 

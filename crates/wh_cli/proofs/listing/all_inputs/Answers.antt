@@ -3,7 +3,7 @@ use Rattle.std.specs.Prelude.{◌==◌, not}
 use Rattle.std.proofs.lemmas.Iterator.Adapters.{YieldsList-from_vec}
 use Rattle.std.proofs.lemmas.Iterator.Consumers.{YieldsList-end}
 use Rattle.std.proofs.lemmas.List.{map-id}
-use Rattle.wh_cli.specs.Listings.{AreListed, is_by_path}
+use Rattle.wh_cli.specs.Private.Listings.{AreListed, is_by_path}
 use Rattle.wh_cli.proofs.Steps.{listed_one, listed_push}
 use Rattle.wh_cli.proofs.listing.all_inputs.Goals as goal
 

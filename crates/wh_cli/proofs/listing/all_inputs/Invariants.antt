@@ -1,5 +1,5 @@
 use Rattle.std.proofs.Common.{◌∷◌}
-use Rattle.wh_cli.specs.Listings.{AreListed}
+use Rattle.wh_cli.specs.Private.Listings.{AreListed}
 use Rattle.wh_cli.proofs.listing.all_inputs.Given as goal
 
 -- the inputs so far are those of the paths so far

@@ -3,7 +3,7 @@ use Rattle.std.specs.Prelude.{OnOk}
 use Rattle.std.specs.Io.KnownBytes.{Appends}
 use Rattle.std.proofs.KnownBytes.{Appends-trans}
 use Rattle.std.proofs.lemmas.Result.{on_ok_weaker}
-use Rattle.wh_cli.specs.Noted.{noted_report}
+use Rattle.wh_cli.specs.Private.Noted.{noted_report}
 use Rattle.wh_cli.proofs.NotedLines.{text_of_lines}
 use Rattle.wh_cli.proofs.noted.write_noted.Goals as goal
 

@@ -1,7 +1,7 @@
 use Rattle.std.proofs.Common.{take}
 use Rattle.std.specs.List.{flat_map}
 use Rattle.std.specs.Io.KnownBytes.{Appends}
-use Rattle.wh_cli.specs.Noted.{noted_line}
+use Rattle.wh_cli.specs.Private.Noted.{noted_line}
 use Rattle.wh_cli.proofs.noted.write_objects.Given as goal
 
 -- the lines so far have been written

@@ -1,4 +1,4 @@
-use Rattle.wh_cli.specs.Readings.{IsReading}
+use Rattle.wh_cli.specs.Private.Readings.{IsReading}
 use Rattle.wh_cli.proofs.Collected.{all_ok, made_of_each, told_of_each}
 use Rattle.wh_cli.proofs.Readings.{readings_are}
 use Rattle.wh_cli.proofs.reading.read_all.Goals as goal

@@ -1,4 +1,4 @@
-use Rattle.wh_cli.specs.Readings.{IsReadAs, IsReading}
+use Rattle.wh_cli.specs.Private.Readings.{IsReadAs, IsReading}
 use Rattle.wh_cli.proofs.Collected.{all_ok, of_files}
 use Rattle.wh_cli.proofs.Readings.{are_read}
 use Rattle.wh_cli.proofs.reading.read_inputs.Goals as goal

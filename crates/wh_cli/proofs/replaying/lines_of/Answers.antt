@@ -1,5 +1,5 @@
-use Rattle.wh_cli.specs.Noted.{IsNotedOf}
-use Rattle.wh_cli.specs.Readings.{IsReadAs}
+use Rattle.wh_cli.specs.Private.Noted.{IsNotedOf}
+use Rattle.wh_cli.specs.Private.Readings.{IsReadAs}
 use Rattle.wh_cli.proofs.Collected.{all_ok, of_files}
 use Rattle.wh_cli.proofs.replaying.lines_of.Goals as goal
 

@@ -1,8 +1,8 @@
 use Rattle.std.proofs.Common.{◌≡◌, length, map, subst, rules}
 use Rattle.std.specs.Prelude.{IfOk, Ok}
 use Rattle.wh_cli.specs.Services.{rows_from, failures_from, HostsBy}
-use Rattle.wh_cli.specs.Readings.{reading}
-use Rattle.wh_cli.specs.Served.{IsServiceOf}
+use Rattle.wh_cli.specs.Private.Readings.{reading}
+use Rattle.wh_cli.specs.Private.Served.{IsServiceOf}
 use Rattle.wh_cli.proofs.Workers.{all_five, setups_are, service_is}
 use Rattle.wh_cli.proofs.serving.serve_all.Goals as goal
 

@@ -1,7 +1,7 @@
 use Rattle.std.proofs.Common.{map}
 use Rattle.wh_command_line.specs.Options.{config_of}
-use Rattle.wh_cli.specs.Readings.{reading}
-use Rattle.wh_cli.specs.Served.{sizes_of}
+use Rattle.wh_cli.specs.Private.Readings.{reading}
+use Rattle.wh_cli.specs.Private.Served.{sizes_of}
 use Rattle.wh_cli.specs.Services.{IsHosted, reading_of}
 use Rattle.wh_cli.proofs.Workers.{same_sizes, served_as}
 use Rattle.wh_cli.proofs.serving.serve_with_failures.Goals as goal

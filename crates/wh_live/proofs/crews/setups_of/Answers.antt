@@ -2,7 +2,7 @@ use Rattle.std.proofs.Common.{◌≡◌, ◌∙◌, ◌++◌, ◌∷◌, [], ap,
 use Rattle.std.proofs.lemmas.Iterator.Adapters.{YieldsList-from_vec}
 use Rattle.std.proofs.lemmas.Iterator.Consumers.{YieldsList-end}
 use Rattle.std.proofs.lemmas.List.{map-id}
-use Rattle.wh_live.specs.Crews.{normal_workers, role_at, roles_of}
+use Rattle.wh_live.specs.Private.Crews.{normal_workers, role_at, roles_of}
 use Rattle.wh_live.proofs.Setups.{count_more, roles_more, shown_more}
 use Rattle.wh_live.proofs.crews.setups_of.Goals as goal
 

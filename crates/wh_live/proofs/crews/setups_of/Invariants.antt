@@ -1,5 +1,5 @@
 use Rattle.std.proofs.Common.{◌≡◌, length, map, vec_len}
-use Rattle.wh_live.specs.Crews.{roles_of}
+use Rattle.wh_live.specs.Private.Crews.{roles_of}
 use Rattle.wh_live.proofs.crews.setups_of.Given as goal
 
 abbrev pub invariant-loop-handler : goal.invariant-loop-handler

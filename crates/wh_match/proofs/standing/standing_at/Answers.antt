@@ -1,6 +1,6 @@
 use Rattle.std.proofs.Common.{ap, ◌∙◌}
 use Rattle.wh_machines.specs.Lookups.{events_between}
-use Rattle.wh_match.specs.Standings.{standing_by}
+use Rattle.wh_match.specs.Private.Standings.{standing_by}
 use Rattle.wh_match.proofs.AtCut.{standing_absent, standing_told}
 use Rattle.wh_match.proofs.standing.standing_at.Goals as goal
 

@@ -2,7 +2,7 @@ use Rattle.std.proofs.Common.{◌≡◌, ◌∷◌, ◌++◌, ◌∙◌, [], len
 use Rattle.std.specs.Vec.Iter.{into_iter_items}
 use Rattle.wh_workflow.specs.Activations.{issue_all}
 use Rattle.wh_replay.specs.Views.{context_of, script}
-use Rattle.wh_replay.specs.Activating.{IsPlain}
+use Rattle.wh_replay.specs.Private.Activating.{IsPlain}
 use Rattle.wh_replay.proofs.Responding.{issued_one, stands_one, stops_by}
 use Rattle.wh_replay.proofs.activation.issue_all.Goals as goal
 

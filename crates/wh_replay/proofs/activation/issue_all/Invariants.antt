@@ -4,7 +4,8 @@ use Rattle.wh_workflow.specs.Scripts.{Settled}
 use Rattle.wh_workflow.specs.Activations.{issue_all}
 use Rattle.wh_workflow.specs.ActivationScripts.{first_fault}
 use Rattle.wh_replay.specs.Views.{context_of, script}
-use Rattle.wh_replay.specs.Activating.{IsPlain, IsOf}
+use Rattle.wh_replay.specs.Activating.{IsOf}
+use Rattle.wh_replay.specs.Private.Activating.{IsPlain}
 use Rattle.wh_replay.proofs.activation.issue_all.Given as goal
 
 -- what is left to issue gives what the whole does, and those before it stand

@@ -1,7 +1,8 @@
 use Rattle.std.proofs.Common.{◌∙◌, sym, ap}
 use Rattle.wh_workflow.specs.Activations.{activate}
 use Rattle.wh_replay.specs.Replays.{begin_at, task_after}
-use Rattle.wh_replay.specs.Views.{context_of, replay_result_of, task_of}
+use Rattle.wh_replay.specs.Views.{context_of, replay_result_of}
+use Rattle.wh_replay.specs.Private.Views.{task_of}
 use Rattle.wh_replay.proofs.Resuming.{answers_along}
 use Rattle.wh_replay.proofs.checking.run_task.Goals as goal
 

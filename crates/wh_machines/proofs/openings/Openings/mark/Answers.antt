@@ -1,6 +1,6 @@
 use Rattle.std.proofs.Common.{◌≡◌, Some, sym, ap, ◌∙◌}
-use Rattle.wh_machines.specs.Changes.{with_effect}
-use Rattle.wh_machines.specs.Tables.{key_of, entry_at}
+use Rattle.wh_machines.specs.Private.Changes.{with_effect}
+use Rattle.wh_machines.specs.Private.Tables.{key_of, entry_at}
 use Rattle.wh_machines.proofs.Keys.{change_sound, change_found, value_written, others_kept, marked-number}
 use Rattle.wh_machines.proofs.openings.Openings.mark.Goals as goal
 use Rattle.slab.specs.Slab as slab

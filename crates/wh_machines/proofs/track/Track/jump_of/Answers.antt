@@ -4,8 +4,8 @@ use Rattle.wh_events.specs.declared.event.Event.{Event}
 use Rattle.wh_events.specs.Kinds.{Role, role_seen}
 use Rattle.wh_events.specs.Kinds.Role.{Opens}
 use Rattle.wh_machines.specs.declared.jumps.Jump.{Jump}
-use Rattle.wh_machines.specs.Jumps.{IsShort, IsAlike}
-use Rattle.wh_machines.specs.Openings.{named_of}
+use Rattle.wh_machines.specs.Private.Jumps.{IsShort, IsAlike}
+use Rattle.wh_machines.specs.Private.Openings.{named_of}
 use Rattle.wh_machines.proofs.Jumping.{each_short}
 use Rattle.wh_machines.proofs.Found.{last_alike}
 use Rattle.wh_machines.proofs.track.Track.jump_of.Goals as goal

@@ -1,8 +1,8 @@
 use Rattle.std.proofs.Common.{◌≡◌, ◌<◌, Some, None, take, unwrap_or, sym, ap, ◌∙◌, arith}
-use Rattle.wh_machines.specs.Jumps.{jump_at, back_by}
+use Rattle.wh_machines.specs.Private.Jumps.{jump_at, back_by}
 use Rattle.wh_machines.specs.Lookups.{thing_of, last_at, with_status}
-use Rattle.wh_machines.specs.Openings.{opening_of, status_up_to}
-use Rattle.wh_machines.specs.Tables.{opening_in}
+use Rattle.wh_machines.specs.Private.Openings.{opening_of, status_up_to}
+use Rattle.wh_machines.specs.Private.Tables.{opening_in}
 use Rattle.wh_machines.proofs.Found.{is_named_kind, walk_opened, walk_on, walk_end, walk_status, walk_smaller}
 use Rattle.wh_machines.proofs.track.Track.last_at.Goals as goal
 

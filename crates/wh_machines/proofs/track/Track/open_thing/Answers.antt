@@ -1,7 +1,7 @@
 use Rattle.std.proofs.Common.{◌≡◌, Some, None, sym, ap, ◌∙◌, arith}
 use Rattle.wh_events.specs.Machines.{last_named}
-use Rattle.wh_machines.specs.Openings.{opening_of}
-use Rattle.wh_machines.specs.Tables.{opening_in}
+use Rattle.wh_machines.specs.Private.Openings.{opening_of}
+use Rattle.wh_machines.specs.Private.Tables.{opening_in}
 use Rattle.wh_machines.proofs.Found.{none_open, last_open, last_kept, last_opened}
 use Rattle.wh_machines.proofs.track.Track.open_thing.Goals as goal
 

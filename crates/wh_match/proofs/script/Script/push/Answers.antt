@@ -1,6 +1,6 @@
 use Rattle.std.proofs.Common.{◌≡◌, ◌<◌, ◌++◌, ◌∷◌, [], None, length, sym, ap, ◌∙◌, arith}
 use Rattle.wh_workflow.specs.Scripts.{given}
-use Rattle.wh_match.specs.Faults.{early_fault}
+use Rattle.wh_match.specs.Private.Faults.{early_fault}
 use Rattle.wh_match.specs.Issuing.{Issuing}
 use Rattle.wh_match.proofs.Counts.{still_few, not_ended, count_more, ended_more, each_more}
 use Rattle.wh_match.proofs.script.Script.push.Goals as goal

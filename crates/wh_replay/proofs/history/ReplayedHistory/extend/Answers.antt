@@ -1,9 +1,11 @@
 use Rattle.std.proofs.Common.{◌∙◌, refl, sym, ap, subst, arith, List, ◌++◌, Err, rules}
 use Rattle.wh_events.specs.declared.event.Event.{Event}
 use Rattle.wh_workflow.specs.Counting.{risen}
-use Rattle.wh_replay.specs.Runs.{HistoryView, IsRun, IsReplayed, advance_steps}
-use Rattle.wh_replay.specs.Advances.{GivesHistory}
-use Rattle.wh_replay.specs.Views.{replay_result_of, view_of}
+use Rattle.wh_replay.specs.Runs.{HistoryView, IsReplayed, advance_steps}
+use Rattle.wh_replay.specs.Private.Runs.{IsRun}
+use Rattle.wh_replay.specs.Private.Advances.{GivesHistory}
+use Rattle.wh_replay.specs.Views.{replay_result_of}
+use Rattle.wh_replay.specs.Private.Views.{view_of}
 use Rattle.wh_replay.proofs.Ending.{is_replayed, refused_err, is_longer, longer_within, kept_run, longer_run, longer_counts, longer_err}
 use Rattle.wh_replay.proofs.history.ReplayedHistory.extend.Goals as goal
 

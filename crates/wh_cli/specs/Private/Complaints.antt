@@ -14,7 +14,7 @@ use Rattle.wh_cli.specs.declared.failures.Failure.TheVariants.{BadLine, BadArgum
 use Rattle.wh_cli.specs.declared.file_faults.FileFault.{FileFault}
 use Rattle.wh_cli.specs.declared.service_report.FileFailure.{FileFailure}
 use Rattle.wh_cli.specs.declared.serving.ServiceEnd.{ServiceEnd}
-use Rattle.wh_cli.specs.Live.{live_text}
+use Rattle.wh_cli.specs.Private.Live.{live_text}
 use Rattle.wh_cli.specs.Services.{failure_text, file_fault_text}
 
 -- `<name>: <text>`, under the name that the program is called by

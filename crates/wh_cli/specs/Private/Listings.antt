@@ -5,7 +5,7 @@ use Rattle.wh_files.specs.Inputs.{IsCalled, IsOf}
 use Rattle.wh_files.specs.Names.{IsBadName}
 use Rattle.wh_files.specs.declared.Input.{Input}
 use Rattle.wh_cli.specs.declared.complaints.Complaints.{Complaints}
-use Rattle.wh_cli.specs.Complaints.{Reported, bad_name_lines, told_line}
+use Rattle.wh_cli.specs.Private.Complaints.{Reported, bad_name_lines, told_line}
 
 -- files are called by their paths where there is more than one path
 abbrev pub is_by_path : List (List ℕ) → Bool

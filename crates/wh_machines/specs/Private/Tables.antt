@@ -11,8 +11,8 @@ use Rattle.wh_machines.specs.declared.opening.Opening.{Opening}
 use Rattle.wh_machines.specs.declared.openings.Openings.{Openings}
 use Rattle.wh_machines.specs.declared.names.Names.{Names}
 use Rattle.wh_machines.specs.declared.jumps.Jump.{Jump}
-use Rattle.wh_machines.specs.Openings.{opening_of, named_of}
-use Rattle.wh_machines.specs.Jumps.{JumpsBack}
+use Rattle.wh_machines.specs.Private.Openings.{opening_of, named_of}
+use Rattle.wh_machines.specs.Private.Jumps.{JumpsBack}
 
 -- the key under which the opening of a number is kept
 abbrev pub key_of : Openings → ℕ → Option ℕ

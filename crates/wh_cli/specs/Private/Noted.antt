@@ -3,7 +3,8 @@ use Rattle.std.specs.Prelude.{ℕ, List, [], ◌∷◌, ◌++◌, map, codes, de
 use Rattle.std.specs.List.{flat_map}
 use Rattle.wh_explain.specs.Differences.{IsDifferenceIn}
 use Rattle.wh_explain.specs.Json.{pairing_members}
-use Rattle.wh_tester.specs.Json.{json_line_with, json_totals, plain_member, text_member}
+use Rattle.wh_tester.specs.Json.{json_totals, plain_member, text_member}
+use Rattle.wh_tester.specs.Private.Json.{json_line_with}
 use Rattle.wh_tester.specs.Report.{report, shown}
 use Rattle.wh_tester.specs.Verdicts.{IsLineOf}
 use Rattle.wh_tester.specs.declared.line.Line.{Line}

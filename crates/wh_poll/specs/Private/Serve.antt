@@ -1,0 +1,96 @@
+-- Of Serve: what only contracts of private functions cite.
+use Rattle.std.specs.Prelude.{◌≡◌, List, [], ◌∷◌, ◌++◌, Option, Some, None, Result, Ok, Err}
+use Rattle.wh_slots.specs.declared.TaskName.{TaskName}
+use Rattle.wh_slots.specs.declared.ReserveFault.{ReserveFault}
+use Rattle.wh_slots.specs.declared.ReserveFault.TheVariants.{NoSlot as NoSlotIsFree, Draining as HostDrains, NumbersSpent as NoNumberIsLeft}
+use Rattle.wh_events.specs.declared.event.Event.{Event}
+use Rattle.wh_replay.specs.declared.fault.Fault.{Fault}
+use Rattle.wh_replay.specs.declared.run.Answer.{Answer}
+use Rattle.wh_workflow.specs.Law.{Program}
+use Rattle.wh_replay.specs.Runs.{Held}
+use Rattle.wh_host.specs.declared.reply.Outcome.{Outcome}
+use Rattle.wh_host.specs.declared.reply.Outcome.TheVariants.{Failed}
+use Rattle.wh_tasks.specs.declared.source.SourceFault.{SourceFault}
+use Rattle.wh_tasks.specs.declared.source.WorkflowTask.{WorkflowTask}
+use Rattle.wh_tasks.specs.declared.source.ActivityTask.{ActivityTask}
+use Rattle.wh_tasks.specs.declared.source.ActivityAnswer.{ActivityAnswer}
+use Rattle.wh_tasks.specs.declared.task.StepFault.{StepFault}
+use Rattle.wh_tasks.specs.declared.task.StepFault.TheVariants.{Source, OutOfMemory}
+use Rattle.wh_poll.specs.declared.answer.Reply.{Reply}
+use Rattle.wh_poll.specs.declared.serve.Served.{Served}
+use Rattle.wh_poll.specs.declared.serve.Served.TheVariants.{Workflow, Activity, NoMemory, Repeated, Idle, Closed, NoSlot, Draining, NumbersSpent}
+use Rattle.wh_tasks.specs.declared.source.Sent.TheVariants.{Workflow as OfWorkflow, Activity as OfActivity}
+use Rattle.wh_tasks.specs.Source.{Tells, Answerable, Answers}
+use Rattle.wh_tasks.specs.Tasks.{IsAnswer}
+use Rattle.wh_poll.specs.Serve.{outcome_of, activity_outcome, IsReply}
+
+-- the events that a run holds, and none where there is no run
+abbrev pub held_by : Option Held → List Event
+held_by None = []
+held_by (Some run) = run.events
+
+-- a workflow task to which nothing was sent is failed
+abbrev pub ended : Result Reply StepFault → Outcome
+ended (Ok reply) = reply.outcome
+ended (Err fault) = Failed
+
+-- what a turn has served that got no slot
+abbrev pub unreserved : ReserveFault → Served
+unreserved NoSlotIsFree = NoSlot
+unreserved HostDrains = Draining
+unreserved NoNumberIsLeft = NumbersSpent
+
+-- what a turn has served whose poll gave no task
+abbrev pub HasNoTask : Result Served SourceFault → Type 0
+HasNoTask (Ok Idle) = Unit {0}
+HasNoTask (Ok Closed) = Unit {0}
+HasNoTask (Ok _) = ⊥
+HasNoTask (Err fault) = Unit {0}
+
+-- what a turn has served whose task of the name was not taken in hand
+abbrev pub IsRefused : TaskName → Served → Type 0
+IsRefused name (NoMemory own) = own ≡ name
+IsRefused name (Repeated own) = own ≡ name
+IsRefused name _ = ⊥
+
+-- the one answer to a task, or none
+abbrev pub Sends : {S : Type 0} → Program S → Tells → Option Held → WorkflowTask → Answers → Answers
+    → Result Reply StepFault → Type 0
+Sends program tells run task old new (Ok reply) =
+    (answer : Answer)
+    × IsReply program tells run task.run task.events reply.hit reply.steps reply.outcome answer
+    × (new ≡ old ++ (task.name, OfWorkflow answer) ∷ [])
+Sends program tells run task old new (Err fault) = new ≡ old
+
+-- the one answer to a task that was replayed, or none
+abbrev pub SendsAnswer : Option Held → Option Fault → TaskName → Answers → Answers → Result Outcome StepFault → Type 0
+SendsAnswer stepped fault name old new (Ok outcome) =
+    (answer : Answer)
+    × IsAnswer stepped fault answer
+    × (outcome_of answer ≡ outcome)
+    × (new ≡ old ++ (name, OfWorkflow answer) ∷ [])
+SendsAnswer stepped fault name old new (Err unsent) = new ≡ old
+
+-- the one answer to an activity task, which the handler may give, or none
+abbrev pub SendsActivity : Answerable → ActivityTask → Answers → Answers → Result Outcome StepFault → Type 0
+SendsActivity may task old new (Ok outcome) =
+    (answer : ActivityAnswer)
+    × may task answer
+    × (activity_outcome answer ≡ outcome)
+    × (new ≡ old ++ (task.name, OfActivity answer) ∷ [])
+SendsActivity may task old new (Err fault) = new ≡ old
+
+-- a task that got no answer, by why
+abbrev pub unanswered : TaskName → StepFault → Result Served SourceFault
+unanswered name OutOfMemory = Ok (NoMemory name)
+unanswered name (Source fault) = Err fault
+
+-- what serving a workflow task answers, by what was sent
+abbrev pub served_workflow : TaskName → Result Reply StepFault → Result Served SourceFault
+served_workflow name (Ok reply) = Ok (Workflow name reply.hit reply.steps reply.outcome)
+served_workflow name (Err fault) = unanswered name fault
+
+-- what serving an activity task answers, by what was sent
+abbrev pub served_activity : TaskName → Result Outcome StepFault → Result Served SourceFault
+served_activity name (Ok outcome) = Ok (Activity name outcome)
+served_activity name (Err fault) = unanswered name fault
