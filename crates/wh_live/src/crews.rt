@@ -14,7 +14,7 @@ use std::thread::Threads;
 use wh_events::OutOfMemory;
 use wh_host::Host;
 use wh_ledger::Seat;
-use wh_poll::{ActivityHandler, WorkerEnd, Observer, OpenGate, WorkerSetup, run_on_host};
+use wh_poll::{ActivityHandler, Observer, OpenGate, WorkerEnd, WorkerSetup, run_on_host};
 use wh_workflow::Workflow;
 
 /// How many of the workflow workers poll the queue that all workers poll: one in five and at least

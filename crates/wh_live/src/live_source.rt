@@ -3,9 +3,9 @@
 ghost use Rattle.std.specs.Prelude.{◌≡◌, []};
 
 use crate::connection::Connection;
-use crate::service_client::ServiceClient;
 use crate::journals::Journal;
 use crate::options::{LiveOptions, Role};
+use crate::service_client::ServiceClient;
 use crate::tallies::Tally;
 use crate::tasks::OpenTask;
 use wh_events::{Event, RunKey};
@@ -90,8 +90,15 @@ impl<L: Connection> TaskSource for LiveSource<'_, L> {
 
     fn answer_workflow(&mut self, name: TaskName, answer: &Answer) -> Result<(), SourceFault> {
         let open = self.open.take();
-        self.client
-            .answer_workflow(&mut self.journal, &mut self.taken, open, name, answer, &[], 0)
+        self.client.answer_workflow(
+            &mut self.journal,
+            &mut self.taken,
+            open,
+            name,
+            answer,
+            &[],
+            0,
+        )
     }
 
     fn answer_replayed(

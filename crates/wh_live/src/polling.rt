@@ -11,9 +11,9 @@ ghost use Rattle.wh_live.specs.Roles.{polls_sticky};
 
 use crate::asking::AskFault;
 use crate::connection::Connection;
-use crate::service_client::{ServiceClient, read_history};
 use crate::journals::Journal;
 use crate::options::Role;
+use crate::service_client::{ServiceClient, read_history};
 use crate::tasks::{Brought, OpenTask};
 use serde_json::Value;
 use wh_events::{Event, Items, RunKey};
