@@ -27,7 +27,7 @@ type OrderSetup = WorkerSetup<Inbox, Till, NoObserver>;
 type OrderEnd = HostEnd<Inbox, Till, NoObserver>;
 
 /// What the worker of a place begins with: every second order is for it.
-fn post_at(alloc: Global, place: usize) -> Result<OrderSetup, OutOfMemory> {
+fn setup_at(alloc: Global, place: usize) -> Result<OrderSetup, OutOfMemory> {
     let mut source = Inbox::new(alloc);
     for order in 1..=ORDERS {
         if order % WORKERS as u64 == place as u64 {
@@ -47,7 +47,7 @@ fn post_at(alloc: Global, place: usize) -> Result<OrderSetup, OutOfMemory> {
 fn setups(alloc: Global) -> Result<Vec<OrderSetup>, OutOfMemory> {
     let mut setups = Vec::new(alloc);
     for place in 0..WORKERS {
-        setups.push(post_at(alloc, place)?)?;
+        setups.push(setup_at(alloc, place)?)?;
     }
     Ok(setups)
 }
