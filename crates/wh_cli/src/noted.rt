@@ -177,7 +177,8 @@ fn write_objects<O: Write>(noted: &[NotedLine], writer: &mut O) -> io::Result<()
     Ok(())
 }
 
-/// Writes the report of the lines, as JSON with their notes, or as text. After an error some of the report may have been written.
+/// Writes the report of the lines, as JSON with their notes, or as text. After an error some of the
+/// report may have been written.
 pub(crate) fn write_noted<O: Write>(
     noted: &[NotedLine],
     json: bool,
