@@ -6,11 +6,10 @@ use Rattle.std.proofs.lemmas.Grind.{flat_map-append}
 use Rattle.std.proofs.lemmas.List.{length-map}
 use Rattle.std.proofs.lemmas.List.Folds.{flat_map-map, fold-map, list_all-map}
 use Rattle.wh_tester.specs.Json.{following, open_line, text_member, verdict_members}
-use Rattle.wh_tester.specs.Private.Json.{json_line_with}
 use Rattle.wh_tester.specs.Report.{good_count, line_text, report, shown, totals_line}
 use Rattle.wh_tester.specs.declared.line.Line.{Line}
 use Rattle.wh_cli.specs.declared.noted.NotedLine.{NotedLine}
-use Rattle.wh_cli.specs.Private.Noted.{lines_in}
+use Rattle.wh_cli.specs.Private.Noted.{lines_in, json_line_with}
 
 -- how many values pass, of what is made of others
 pub count_by_map : {A B : Type 0} (p : B → Bool) (f : A → B) (xs : List A) → count_by p (map f xs) ≡ count_by (λ x. p (f x)) xs

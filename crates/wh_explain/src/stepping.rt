@@ -3,8 +3,7 @@ ghost use Rattle.std.specs.Prelude.{◌≡◌, [], None, IfOk, OnOk};
 ghost use Rattle.wh_activation.specs.Cutting.{jobs_at};
 ghost use Rattle.wh_workflow.specs.Activations.{turn};
 ghost use Rattle.wh_workflow.specs.ActivationScripts.{IsLongest};
-ghost use Rattle.wh_replay.specs.Views.{context_of, progress_of};
-ghost use Rattle.wh_replay.specs.Private.Views.{turn_of};
+ghost use Rattle.wh_replay.specs.Views.{context_of, progress_of, turn_of};
 ghost use Rattle.wh_replay.specs.Activating.{Gives, IsWithin, IsOf};
 ghost use Rattle.wh_explain.specs.Private.Stepping.{AddsStep, Shows, Leaves};
 

@@ -3,8 +3,7 @@ use Rattle.std.specs.Prelude.{ℕ, List, [], ◌∷◌, ◌++◌, map, codes, de
 use Rattle.std.specs.List.{flat_map}
 use Rattle.wh_explain.specs.Differences.{IsDifferenceIn}
 use Rattle.wh_explain.specs.Json.{pairing_members}
-use Rattle.wh_tester.specs.Json.{json_totals, plain_member, text_member}
-use Rattle.wh_tester.specs.Private.Json.{json_line_with}
+use Rattle.wh_tester.specs.Json.{json_totals, object, plain_member, text_member, verdict_members}
 use Rattle.wh_tester.specs.Report.{report, shown}
 use Rattle.wh_tester.specs.Verdicts.{IsLineOf}
 use Rattle.wh_tester.specs.declared.line.Line.{Line}
@@ -34,6 +33,11 @@ note_members (Some (Caused (NotJson position mark))) =
     plain_member (codes "line") (decimal position.line) ∷ plain_member (codes "column") (decimal position.column) ∷ []
 note_members (Some (Caused (NoCode kind))) = text_member (codes "workflowType") (shown kind) ∷ []
 note_members (Some (Differs pairing)) = pairing_members pairing ∷ []
+
+-- the line of a file: its name, shown as in the report in words, its verdict, and members after these
+abbrev pub json_line_with : Line → List (List ℕ) → List ℕ
+json_line_with line more =
+    object (text_member (codes "file") (shown line.name)) (verdict_members line.verdict ++ more)
 
 -- the line of a file as JSON, with its note after the text of its fault
 abbrev pub noted_line : NotedLine → List ℕ

@@ -1,25 +1,19 @@
 -- Of Views: what only contracts of private functions cite.
-use Rattle.std.specs.Prelude.{ℕ, List, Option, Result}
+use Rattle.std.specs.Prelude.{List, Result}
 use Rattle.wh_events.specs.declared.event.Event.{Event}
 use Rattle.wh_events.specs.Machines.{machines_of}
 use Rattle.wh_workflow.specs.declared.command.Command.{Command}
 use Rattle.wh_workflow.specs.Scripts.{Settled}
-use Rattle.wh_workflow.specs.Activations.{Turn, activate}
-use Rattle.wh_workflow.specs.declared.job.Job.{Job}
+use Rattle.wh_workflow.specs.Activations.{activate}
 use Rattle.wh_workflow.specs.Law.{Program}
 use Rattle.wh_activation.specs.Cutting.{jobs_at}
-use Rattle.wh_replay.specs.declared.activation.Activation.{Activation}
 use Rattle.wh_replay.specs.declared.state.ReplayState.{ReplayState}
 use Rattle.wh_replay.specs.declared.fault.Fault.{Fault}
 use Rattle.wh_replay.specs.Replays.{ReplayResult, begin_at, task_after}
 use Rattle.wh_replay.specs.Runs.{HistoryView}
 use Rattle.wh_replay.specs.Private.Runs.{IsRun}
 use Rattle.wh_replay.specs.declared.cut.Cut.{Cut}
-use Rattle.wh_replay.specs.Views.{context_of, progress, progress_of}
-
--- such a progress, and the version job that has to be next
-abbrev pub turn_of : {W S : Type 0} → Activation W S → ℕ → Option Job → Turn S
-turn_of activation meter next = record { progress = progress_of activation meter; next = next }
+use Rattle.wh_replay.specs.Views.{context_of}
 
 -- what contracts see of these events and of what their tasks leave
 abbrev pub view_of : List Event → Settled → List Command → HistoryView

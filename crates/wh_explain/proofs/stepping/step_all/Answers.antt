@@ -5,8 +5,7 @@ use Rattle.wh_workflow.specs.declared.job.Job.{Job}
 use Rattle.wh_workflow.specs.declared.fault.WorkflowFault.{WorkflowFault}
 use Rattle.wh_workflow.specs.ActivationScripts.{Step}
 use Rattle.wh_workflow.proofs.Following.{no_versions, IsTraced}
-use Rattle.wh_replay.specs.Views.{context_of, progress, progress_of}
-use Rattle.wh_replay.specs.Private.Views.{turn_of}
+use Rattle.wh_replay.specs.Views.{context_of, progress, progress_of, turn_of}
 use Rattle.wh_explain.specs.Private.Stepping.{Leaves}
 use Rattle.wh_explain.proofs.Tasks.{told_plain}
 use Rattle.wh_explain.proofs.Traced.{begins, goes_on, ends_faulty, ends_well, is_longest, leaves, less_room, none_left}
