@@ -23,6 +23,7 @@ use Rattle.wh_replay.specs.declared.fault.Fault.TheVariants.{Mismatch as Mismatc
 use Rattle.wh_replay.specs.Checks.{checked, ends_live}
 use Rattle.wh_replay.specs.Replays.{ReplayResult, replay, replay_after, replay_known, replay_placed, replay_tasks, start, with_machines, workflow_of}
 use Rattle.wh_replay.specs.Views.{context_after}
+use Rattle.wh_replay.specs.Tracking.{in_place}
 use Rattle.wh_tester.specs.declared.line.Verdict.TheVariants.{Faulty}
 use Rattle.wh_tester.specs.Verdicts.{judged, read_and_judged, verdict_on}
 use Rattle.wh_explain.specs.declared.explanation.Ending.{Ending}
@@ -32,7 +33,7 @@ use Rattle.wh_explain.specs.declared.explanation.RecordedEvent.{RecordedEvent}
 use Rattle.wh_explain.specs.declared.explanation.Pairing.{Pairing}
 use Rattle.wh_explain.specs.declared.explanation.Pairing.TheVariants.{Alike, Different, CommandMissing, CommandExtra}
 use Rattle.wh_explain.specs.Differences.{IsDifferenceIn, StopsAtDifference, difference_at, difference_of, if_differs, last_difference, last_of}
-use Rattle.wh_explain.specs.Explaining.{sent_ending, unless_refused, IsTask, AreTasks, all, stopped, passed, AreTasksOf, AreTasksIn, AreTasksPlaced, AreTasksIf, in_place}
+use Rattle.wh_explain.specs.Explaining.{sent_ending, unless_refused, IsTask, AreTasks, all, stopped, passed, AreTasksOf, AreTasksIn, AreTasksPlaced, AreTasksIf}
 use Rattle.wh_explain.specs.Laws.{EndAs, EndsDifferent}
 use Rattle.wh_explain.specs.Pairings.{pairings, recorded_event, differs, difference_from}
 use Rattle.wh_explain.proofs.Agreeing.{ends_as_replay}
