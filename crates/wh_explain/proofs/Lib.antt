@@ -8,3 +8,4 @@ pub mod Calendar
 pub mod TimesRead
 pub mod Popped
 pub mod Found
+pub mod Judging

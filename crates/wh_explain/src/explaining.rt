@@ -9,7 +9,7 @@ ghost use Rattle.wh_replay.specs.Views.{context_of};
 ghost use Rattle.wh_replay.specs.Activating.{IsWithin, IsOf};
 ghost use Rattle.wh_tester.specs.Verdicts.{IsVerdict};
 ghost use Rattle.wh_explain.specs.Explaining.{unless_refused, sent_ending, stops, IsTaskAt};
-ghost use Rattle.wh_explain.specs.Private.Explaining.{LeavesTask};
+ghost use Rattle.wh_explain.specs.Private.Explaining.{IsJudged, LeavesTask};
 ghost use Rattle.wh_explain.specs.Explaining.{AreTasks, AreTasksPlaced, AreTasksOf, AreTasksIn};
 ghost use Rattle.wh_explain.specs.Explaining.{unknown_placed, unknown_of, unknown_in};
 
@@ -24,7 +24,7 @@ use wh_machines::Track;
 use wh_replay::{
     Activation, Cut, ReplayState, RunFault, cut_after, sent_state, start, track_of, workflow_of,
 };
-use wh_tester::{Line, verdict};
+use wh_tester::{Line, Verdict, history_verdict};
 use wh_workflow::{Command, Workflow, WorkflowFault};
 
 /// What is explained of a history.
@@ -223,14 +223,44 @@ pub(crate) fn explain_bytes<W: Workflow>(
     }
 }
 
-/// The line of a file in the report of replay.
-fn line_of<W: Workflow>(alloc: Global, name: String, bytes: &[u8]) -> Line
-    ensures name { result.name ≡ string_bytes name }
-    ensures verdict { IsVerdict W.program bytes.now result.verdict }
+/// Explains a history, and gives the verdict on it. Its events are taken once, and then replayed
+/// for each.
+#[tactic(auto, using(crate::proofs::Judging::place_checked))]
+fn explain_judged<W: Workflow>(
+    alloc: Global,
+    events: Vec<Event>,
+) -> Result<(ExplainedHistory, Verdict), OutOfMemory>
+    ensures tasks { IfOk result (λ both. AreTasksOf W.program events.items both.0.tasks.items) }
+    ensures unknown { IfOk result (λ both. both.0.unknown ≡ unknown_of W.program events.items) }
+    ensures verdict { IfOk result (λ both. IsJudged W.program events.items both.1) }
 {
-    Line {
-        name: Text::new(name),
-        verdict: verdict::<W>(alloc, bytes),
+    match track_of(alloc, events) {
+        Ok(track) => {
+            let explained = explain_track::<W>(alloc, &track)?;
+            let verdict = history_verdict::<W>(alloc, track.into_events());
+            Ok((explained, verdict))
+        }
+        Err(RunFault::OutOfMemory) => Err(OutOfMemory),
+        Err(RunFault::Fault(fault)) => Ok((nothing(alloc), Verdict::Faulty(fault))),
+    }
+}
+
+/// Explains a file, of which there is nothing where it can't be read, and gives the verdict on it.
+/// Its bytes are parsed once.
+#[tactic(auto, unfolding(wh_tester::specs::Verdicts::verdict_on), using(wh_tester::proofs::Reading::read_within))]
+fn explain_file<W: Workflow>(
+    alloc: Global,
+    bytes: &[u8],
+) -> Result<(ExplainedHistory, Verdict), OutOfMemory>
+    ensures tasks { IfOk result (λ both. AreTasksIn W.program (history bytes.now) both.0.tasks.items) }
+    ensures unknown { IfOk result (λ both. both.0.unknown ≡ unknown_in W.program (history bytes.now)) }
+    ensures verdict { IfOk result (λ both. IsVerdict W.program bytes.now both.1) }
+    ensures memory { IfErr result (λ _. length bytes.now ≤ longest) }
+{
+    match read_events(alloc, bytes) {
+        Ok(events) => explain_judged::<W>(alloc, events),
+        Err(ReadFault::OutOfMemory) => Err(OutOfMemory),
+        Err(fault) => Ok((nothing(alloc), Verdict::Unreadable(fault))),
     }
 }
 
@@ -253,10 +283,14 @@ pub fn explain<W: Workflow>(
     ensures verdict { IfOk result (λ explained. IsVerdict W.program bytes.now explained.line.verdict) }
     ensures memory { IfErr result (λ _. length bytes.now ≤ longest) }
 {
-    let ExplainedHistory { unknown, tasks } = explain_bytes::<W>(alloc, bytes)?;
+    let (explained, verdict) = explain_file::<W>(alloc, bytes)?;
+    let ExplainedHistory { unknown, tasks } = explained;
     Ok(Explanation {
         unknown,
         tasks: Items::new(tasks),
-        line: line_of::<W>(alloc, name, bytes),
+        line: Line {
+            name: Text::new(name),
+            verdict,
+        },
     })
 }
