@@ -26,7 +26,7 @@ use wh_workflow::{
 ///
 /// | State | Job | Gives | Then |
 /// |---|---|---|---|
-/// | charging | `Start` with an input | `StartActivity{charge, ChargeCard}` with it | charging, with the id ID of its child |
+/// | charging | `Start` with an input | `StartActivity{charge, ChargeCard}` with it | charging, ID known |
 /// | charging | `Activity` `charge`, `Completed` | `StartTimer{hold, 86400}` | held |
 /// | charging | `Activity` `charge`, another end | `Fail{charge}` | closed |
 /// | held | `Signal` `cancel` | `CancelTimer{hold}`, `Complete` without a result | closed |
