@@ -1,4 +1,3 @@
-pub mod Keeping
 pub mod Paging
 pub mod Setups
 pub mod Statuses
