@@ -1,12 +1,12 @@
 -- What is collected of answers that may be faults.
-use Rattle.std.proofs.Common.{◌≡◌, ◌∙◌, List, [], ◌∷◌, ◌++◌, ap, map, sym, subst}
+use Rattle.std.proofs.Common.{◌≡◌, ◌∙◌, List, [], ◌∷◌, ◌++◌, ap, map, refl, sym, subst}
 use Rattle.std.specs.Prelude.{Vec, Option, Result, Ok, Err, IfOk, MatchResult, Contains}
 use Rattle.std.specs.List.{AllZip, flat_map}
 use Rattle.std.specs.declared.alloc.Global.{Global}
 use Rattle.std.proofs.lemmas.Grind.{flat_map-append}
 use Rattle.std.proofs.lemmas.List.{append-nil, map-append}
 use Rattle.wh_cli.specs.declared.file_faults.FileFault.{FileFault}
-use Rattle.wh_cli.specs.Faults.{AreFaultsOf, MayBeTold, told_of}
+use Rattle.wh_cli.specs.Faults.{MayBeTold, told_of}
 use Rattle.wh_cli.specs.Private.Faults.{AreMade, AreMadeOf, IsMadeOf}
 use Rattle.wh_cli.specs.Services.{File}
 use Rattle.wh_workflow.specs.Law.{Program}
@@ -62,29 +62,12 @@ of_files program Reads Gives inputs made faults h =
       told = record { told = map (λ one. one.1) h.both; each = own.3; all = h.told };
     }
 
--- what was made of files, of each beside what may be told of it
-beside : {S U : Type 0} (program : Program S) (Gives : File → U → Type 0) (files : List File) (both : List (U × Option FileFault))
-    → AllZip (λ file one. Gives file one.0 × MayBeTold program file one.1) files both
-    → AllZip Gives files (map (λ one. one.0) both) × AllZip (MayBeTold program) files (map (λ one. one.1) both)
-beside program Gives [] [] h = (tt, tt)
-beside program Gives (file ∷ files) (one ∷ both) h =
-    let rest = beside program Gives files both h.1 in
-    ((h.0.0, rest.0), (h.0.1, rest.1))
-beside program Gives [] (one ∷ both) h = absurd h
-beside program Gives (file ∷ files) [] h = absurd h
-
--- what was made of files is theirs, and so is what is told of them
-pub made_of_each : {S U : Type 0} (program : Program S) (Gives : File → U → Type 0) (files : List File) (made : List U) (faults : List FileFault)
-    → AreMade (λ file one. Gives file one.0 × MayBeTold program file one.1) files made faults
-    → AllZip Gives files made
-made_of_each program Gives files made faults h =
-    subst (λ l. AllZip Gives files l) (sym h.ones) (beside program Gives files h.both h.each).0
-
-pub told_of_each : {S U : Type 0} (program : Program S) (Gives : File → U → Type 0) (files : List File) (made : List U) (faults : List FileFault)
-    → AreMade (λ file one. Gives file one.0 × MayBeTold program file one.1) files made faults
-    → AreFaultsOf program files faults
-told_of_each program Gives files made faults h =
-    record { told = map (λ one. one.1) h.both; each = (beside program Gives files h.both h.each).1; all = h.told }
+-- files that were read as they are
+pub as_they_are : {A : Type 0} (inputs files : List A) → AllZip (λ input file. file ≡ input) inputs files → files ≡ inputs
+as_they_are [] [] h = refl
+as_they_are (input ∷ inputs) (file ∷ files) h = rw (h.0, as_they_are inputs files h.1) refl
+as_they_are [] (file ∷ files) h = absurd h
+as_they_are (input ∷ inputs) [] h = absurd h
 
 -- what follows of the value
 pub all_ok : {X E : Type 0} {P Q : X → Type 0} (r : Result X E) → ((x : X) → P x → Q x) → IfOk r P → IfOk r Q

@@ -1,24 +1,34 @@
 -- Files that were read.
 use Rattle.std.proofs.Common.{◌≡◌, List, [], ◌∷◌, map, refl, ap, sym}
-use Rattle.std.specs.Prelude.{◌≢◌, Result, Ok, Err, Vec}
+use Rattle.std.specs.Prelude.{◌≢◌, IfOk, Option, Result, Ok, Err, Vec}
 use Rattle.std.specs.List.{AllZip}
 use Rattle.std.specs.declared.alloc.Global.{Global}
 use Rattle.wh_events.specs.declared.event.Event.{Event}
-use Rattle.wh_files.specs.declared.Input.{Input}
 use Rattle.wh_json.specs.Outcome.{Gives}
 use Rattle.wh_json.specs.declared.fault.ReadFault.{ReadFault}
 use Rattle.wh_json.specs.declared.fault.ReadFault.TheVariants as faults
 use Rattle.wh_cli.specs.declared.reading.ReadFile.{ReadFile}
 use Rattle.wh_cli.specs.Services.{File, reading_of}
 use Rattle.wh_cli.specs.declared.file_faults.FileFault.{FileFault}
-use Rattle.wh_cli.specs.Private.Faults.{AreMadeOf}
+use Rattle.wh_cli.specs.Faults.{MayBeTold}
+use Rattle.wh_cli.specs.Private.Faults.{AreMadeOf, IsMadeOf}
+use Rattle.wh_files.specs.declared.InputFault.{InputFault}
 use Rattle.wh_workflow.specs.Law.{Program}
-use Rattle.wh_cli.specs.Private.Readings.{plain, reading, AreRead, Gives as BytesBy, IsReadAs, IsReading}
+use Rattle.wh_cli.specs.Private.Readings.{plain, reading, AreRead, IsReading}
 
 -- where room was found, what was read is the history or its fault
 pub plain_is : (outcome : Result (Vec Event Global) ReadFault) (read : Result (List Event) ReadFault) → outcome ≢ Err faults.OutOfMemory → Gives (λ events. events.items) outcome read → plain outcome ≡ read
 plain_is (Ok events) read room gives = sym gives
 plain_is (Err fault) read room gives = sym (gives (λ e. room (ap Err e)))
+
+-- what was made of a file, and is told of it, was made of the input that was read as it
+pub made_of_file : {S T : Type 0} (program : Program S) (Reads : T → File → Type 0) (input : T) (file : File) (answer : Result (ReadFile × Option FileFault) InputFault)
+    → Reads input file
+    → IfOk answer (λ made. IsReading file made.0)
+    → IfOk answer (λ made. MayBeTold program file made.1)
+    → IfOk answer (IsMadeOf program Reads IsReading input)
+made_of_file program Reads input file (Ok made) read reading told = record { file = file; read = read; gives = reading; told = told }
+made_of_file program Reads input file (Err fault) read reading told = tt
 
 -- so it is with all files
 pub readings_are : (files : List File) (read : List ReadFile) → AllZip IsReading files read → map reading read ≡ map reading_of files
@@ -28,8 +38,8 @@ readings_are [] (r ∷ rs) zip = absurd zip
 readings_are (f ∷ fs) [] zip = absurd zip
 
 -- and with all inputs
-pub are_read : {S : Type 0} (gives : BytesBy) (program : Program S) (inputs : List Input) (read : List ReadFile) (faults : List FileFault) → AreMadeOf program (IsReadAs gives) IsReading inputs read faults → AreRead gives program inputs read faults
-are_read gives program inputs read faults made = record {
+pub are_read : {S T : Type 0} (Reads : T → File → Type 0) (program : Program S) (inputs : List T) (read : List ReadFile) (faults : List FileFault) → AreMadeOf program Reads IsReading inputs read faults → AreRead Reads program inputs read faults
+are_read Reads program inputs read faults made = record {
   files = made.files;
   from = made.read;
   readings = readings_are made.files read made.gives;

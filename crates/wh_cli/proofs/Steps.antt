@@ -1,7 +1,6 @@
 -- What commands wrote and told, one step after the other.
 use Rattle.std.proofs.Common.{◌≡◌, ◌∙◌, ℕ, List, [], ◌∷◌, ◌++◌, None, Some, refl, sym, ap, subst}
-use Rattle.std.specs.Prelude.{◌||◌, Bool, false, true, Option, Result, Ok, Err, IfOk, OnOk, Vec, string_bytes}
-use Rattle.std.specs.declared.alloc.Global.{Global}
+use Rattle.std.specs.Prelude.{◌||◌, Bool, false, true, Option, Result, Ok, Err, IfOk, OnOk, string_bytes}
 use Rattle.std.specs.Io.KnownBytes.{Appends, Keeps}
 use Rattle.std.proofs.KnownBytes.{Appends-trans}
 use Rattle.std.proofs.lemmas.List.{append-nil, append_assoc}
@@ -16,9 +15,9 @@ use Rattle.wh_files.specs.Inputs.{IsCalled, IsOf, IsReadFrom, IsSingle}
 use Rattle.wh_cli.specs.Private.Commands.{HasExplained, HasExplainedInput, HasExplainedPath, HasReplayed, HasReplayedPaths, HasServedAll, HasServedFolder}
 use Rattle.wh_cli.specs.Private.Complaints.{Reported, service_told}
 use Rattle.wh_cli.specs.Private.Listings.{AreListed, IsListed, is_by_path}
-use Rattle.wh_cli.specs.Private.Readings.{Gives}
+use Rattle.wh_cli.specs.Private.Readings.{Gives, IsReadAs}
 use Rattle.wh_cli.specs.Private.Served.{HasServedInputs}
-use Rattle.wh_cli.specs.Services.{HostsBy, IsHosted}
+use Rattle.wh_cli.specs.Services.{File, HostsBy, IsHosted}
 use Rattle.wh_cli.specs.Private.Statuses.{lacks_files, status_with}
 use Rattle.wh_cli.proofs.Workers.{by_closure, served_by}
 
@@ -67,16 +66,16 @@ listed_push contents by_path (p ∷ ps) path inputs own left_out own_left old be
     (are.0, are.1 ++ own, are.2, are.3 || own_left, are.4, inputs_same, left_same, are.7, rest)
 
 -- an input that was read as a file was explained
-pub explained_input : {S E : Type 0} (gives : Gives) (program : Program S) (input : Input) (bytes : Vec ℕ Global) (seen : List ℕ) (json : Bool) (old new : Option (List ℕ)) (contents : E → Option (List ℕ)) (before after : Complaints E) (answer : Result ℕ Failure)
-    → gives input.origin bytes → seen ≡ bytes.items
-    → IfOk answer (HasExplained program (string_bytes input.name) seen json old new contents before after)
+pub explained_input : {S E : Type 0} (gives : Gives) (program : Program S) (input : Input) (file : File) (seen : List ℕ) (json : Bool) (old new : Option (List ℕ)) (contents : E → Option (List ℕ)) (before after : Complaints E) (answer : Result ℕ Failure)
+    → IsReadAs gives input file → seen ≡ file.1.items
+    → IfOk answer (HasExplained program (string_bytes file.0) seen json old new contents before after)
     → IfOk answer (HasExplainedInput gives program input json old new contents before after)
-explained_input gives program input bytes seen json old new contents before after (Ok status) given same h = record {
-  file = (input.name, bytes);
-  read = record { named = refl; bytes = given };
-  explained = subst (λ l. HasExplained program (string_bytes input.name) l json old new contents before after status) same h;
+explained_input gives program input file seen json old new contents before after (Ok status) read same h = record {
+  file = file;
+  read = read;
+  explained = subst (λ l. HasExplained program (string_bytes file.0) l json old new contents before after status) same h;
 }
-explained_input gives program input bytes seen json old new contents before after (Err failure) given same h = tt
+explained_input gives program input file seen json old new contents before after (Err failure) read same h = tt
 
 -- an input of a path was explained
 pub explained_path : {S E : Type 0} (program : Program S) (path : List ℕ) (input : Input) (json : Bool) (old new : Option (List ℕ)) (contents : E → Option (List ℕ)) (before after : Complaints E) (answer : Result ℕ Failure)
@@ -104,9 +103,9 @@ replayed_paths program first more json required left_out lacks inputs old new co
 replayed_paths program first more json required left_out lacks inputs old new contents before between after (Err failure) listed same h = tt
 
 -- what was written of a service stays
-pub served_kept : {S : Type 0} (gives : Gives) (program : Program S) (hosts : HostsBy) (config : Config) (inputs : List Input) (old mid new : Option (List ℕ)) (end : ServiceEnd)
-    → HasServedInputs gives program hosts config inputs old mid end → Keeps mid new → HasServedInputs gives program hosts config inputs old new end
-served_kept gives program hosts config inputs old mid new end h kept = record {
+pub served_kept : {S T : Type 0} (Reads : T → File → Type 0) (program : Program S) (hosts : HostsBy) (config : Config) (inputs : List T) (old mid new : Option (List ℕ)) (end : ServiceEnd)
+    → HasServedInputs Reads program hosts config inputs old mid end → Keeps mid new → HasServedInputs Reads program hosts config inputs old new end
+served_kept Reads program hosts config inputs old mid new end h kept = record {
   files = h.files;
   from = h.from;
   served = record {
@@ -121,13 +120,13 @@ served_kept gives program hosts config inputs old mid new end h kept = record {
 
 -- inputs were served, and then the rest was told
 pub served_all : {S E : Type 0} (gives : Gives) (program : Program S) (hosts : HostsBy) (config : Config) (inputs : List Input) (lacks : Bool) (old mid new : Option (List ℕ)) (contents : E → Option (List ℕ)) (before after : Complaints E) (answer : Result ServiceEnd CommandFault) (result : Result ℕ Failure)
-    → IfOk answer (HasServedInputs gives program hosts config inputs old mid)
+    → IfOk answer (HasServedInputs (IsReadAs gives) program hosts config inputs old mid)
     → Keeps mid new
     → IfOk result (λ status. (end : ServiceEnd) × (answer ≡ Ok end) × (status ≡ status_with lacks end.status) × Reported contents before after (service_told end))
     → IfOk result (HasServedAll gives program hosts config inputs lacks old new contents before after)
 served_all gives program hosts config inputs lacks old mid new contents before after answer (Ok status) report kept h = record {
   end = h.0;
-  served = served_kept gives program hosts config inputs old mid new h.0 (subst (λ a. IfOk a (HasServedInputs gives program hosts config inputs old mid)) h.1 report) kept;
+  served = served_kept (IsReadAs gives) program hosts config inputs old mid new h.0 (subst (λ a. IfOk a (HasServedInputs (IsReadAs gives) program hosts config inputs old mid)) h.1 report) kept;
   told = h.3;
   ends = h.2;
 }

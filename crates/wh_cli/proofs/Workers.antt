@@ -13,9 +13,12 @@ use Rattle.wh_cli.specs.declared.serving.ServiceEnd.{ServiceEnd}
 use Rattle.wh_command_line.specs.declared.options.ServeOptions.{ServeOptions}
 use Rattle.wh_command_line.specs.Options.{config_of}
 use Rattle.wh_cli.specs.Served.{HasServed}
-use Rattle.wh_cli.specs.Private.Served.{sizes_of}
+use Rattle.wh_workflow.specs.Law.{Program}
+use Rattle.wh_cli.specs.Faults.{AreFaultsOf}
+use Rattle.wh_cli.specs.Private.Served.{HasServedInputs, sizes_of}
+use Rattle.wh_cli.proofs.Collected.{as_they_are}
 use Rattle.wh_cli.specs.declared.replaying.CommandFault.{CommandFault}
-use Rattle.wh_cli.specs.Services.{rows_from, failures_from, Reading, no_source, assigned_as, assigned_to, HostsBy, ServiceSetup, ServiceHost, IsLongEnough, AreSetups, IsToldService}
+use Rattle.wh_cli.specs.Services.{File, reading_of, rows_from, failures_from, Reading, no_source, assigned_as, assigned_to, HostsBy, ServiceSetup, ServiceHost, IsLongEnough, AreSetups, IsToldService}
 
 -- what follows of five facts of a value
 pub all_five : {X E : Type 0} {P Q R S T U : X → Type 0} (r : Result X E) → ((x : X) → P x → Q x → R x → S x → T x → U x) → IfOk r P → IfOk r Q → IfOk r R → IfOk r S → IfOk r T → IfOk r U
@@ -111,3 +114,19 @@ served_as hosts config sizes readings files old new (Ok end) same read h =
     subst (λ l. HasServed hosts sizes l old new end) read (subst (λ n. HasServed hosts n readings old new end) same
     (served_by (by_closure hosts) hosts config readings old new end (λ setups left hosted. hosted.2) h))
 served_as hosts config sizes readings files old new (Err fault) same read h = tt
+
+-- a service by a closure of files that were read as they are
+pub served_files : {S : Type 0} (program : Program S) (hosts : HostsBy) (config sizes : Config) (files : List File) (old new : Option (List ℕ)) (answer : Result ServiceEnd CommandFault)
+    → config ≡ sizes
+    → IfOk answer (HasServedInputs (λ input file. file ≡ input) program (by_closure hosts) config files old new)
+    → IfOk answer (HasServed hosts sizes (map reading_of files) old new)
+served_files program hosts config sizes files old new (Ok end) same h =
+    served_as hosts config sizes (map reading_of h.files) (map reading_of files) old new (Ok end) same (ap (λ l. map reading_of l) (as_they_are files h.files h.from)) h.served
+served_files program hosts config sizes files old new (Err fault) same h = tt
+
+pub told_files : {S : Type 0} (program : Program S) (hosts : HostsBy) (config : Config) (files : List File) (old new : Option (List ℕ)) (answer : Result ServiceEnd CommandFault)
+    → IfOk answer (HasServedInputs (λ input file. file ≡ input) program hosts config files old new)
+    → IfOk answer (λ end. AreFaultsOf program files end.file_faults.items)
+told_files program hosts config files old new (Ok end) h =
+    subst (λ l. AreFaultsOf program l end.file_faults.items) (as_they_are files h.files h.from) h.faults
+told_files program hosts config files old new (Err fault) h = tt

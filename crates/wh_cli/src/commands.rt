@@ -7,6 +7,7 @@ ghost use Rattle.wh_cli.specs.Private.Commands.{HasPrinted, HasReplayed, HasRepl
 ghost use Rattle.wh_cli.specs.Private.Commands.{HasServedAll, HasServedFolder, HasToldOf, Obeys};
 ghost use Rattle.wh_cli.specs.Private.Complaints.{Reported, service_told};
 ghost use Rattle.wh_cli.specs.Private.Live.{MayServe, lives};
+ghost use Rattle.wh_cli.specs.Private.Readings.{IsReadAs};
 ghost use Rattle.wh_cli.specs.Private.Served.{sizes_of};
 ghost use Rattle.wh_cli.specs.Services.{IsHosted};
 ghost use Rattle.wh_cli.specs.Private.Services.{IsHost, leaves};
@@ -20,7 +21,7 @@ use crate::explaining::explain_file;
 use crate::failures::Failure;
 use crate::file_faults::{FileFault, unread_fault};
 use crate::hosts::{ServiceHost, ServiceSetup, host_of};
-use crate::inputs::ReadsInputs;
+use crate::inputs::{ReadsInputs, file_from};
 use crate::listing::{all_inputs, folder_of, input_of};
 use crate::noted::NotedLine;
 use crate::replaying::{CommandFault, lines_of, report, status_of};
@@ -34,7 +35,7 @@ use std::sync::Wait;
 use std::thread::Threads;
 use wh_command_line::{Plan, ServeOptions};
 use wh_events::{OutOfMemory, Text};
-use wh_files::Input;
+use wh_files::{Input, InputFault};
 use wh_host::Config;
 use wh_live::LiveEnd;
 use wh_tester::Line;
@@ -114,7 +115,14 @@ fn replay<W: Workflow + Send, R: ReadsInputs + AllocGlobal + Threads + Sync, O: 
     ensures { IfOk result (HasReplayed R.gives W.program inputs.items json lacks
         (O.contents output.old) (O.contents output.new) E.contents errors.old errors.new) }
 {
-    let (lines, faults) = lines_of::<W, R>(rt, inputs)?;
+    let (lines, faults) = lines_of::<W, R, _, _>(
+        rt,
+        rt.alloc(),
+        inputs,
+        |input: Input| -> Result<(String, Vec<u8>), InputFault>
+            ensures { IfOk result (IsReadAs R.gives input) }
+        { file_from(rt, input) },
+    )?;
     tell_report(lines, faults, json, lacks, output, errors)
 }
 
@@ -160,8 +168,7 @@ fn explain_input<W: Workflow, R: ReadsInputs + AllocGlobal, O: Write, E: Write>(
     ensures { IfOk result (HasExplainedInput R.gives W.program input json
         (O.contents output.old) (O.contents output.new) E.contents errors.old errors.new) }
 {
-    let Input { name, origin } = input;
-    let bytes = rt.read(origin)?;
+    let (name, bytes) = file_from(rt, input)?;
     explain::<W, O, E>(rt.alloc(), name, bytes.as_slice(), json, output, errors)
 }
 
@@ -208,7 +215,17 @@ where
     ensures { IfOk result (HasServedAll R.gives W.program (leaves (F.post host)) (sizes_of options) inputs.items lacks
         (O.contents output.old) (O.contents output.new) E.contents errors.old errors.new) }
 {
-    let answer = serve_inputs::<W, R, F, O>(rt, inputs, options, output, host)?;
+    let answer = serve_inputs::<W, R, _, _, F, O>(
+        rt,
+        rt.alloc(),
+        inputs,
+        |input: Input| -> Result<(String, Vec<u8>), InputFault>
+            ensures { IfOk result (IsReadAs R.gives input) }
+        { file_from(rt, input) },
+        options,
+        output,
+        host,
+    )?;
     served(answer, lacks, output, errors)
 }
 

@@ -1,7 +1,10 @@
 //! What is read of inputs.
 
+ghost use Rattle.std.specs.Prelude.{IfOk};
+ghost use Rattle.wh_cli.specs.Private.Readings.{IsReadAs};
+
 use std::rt::Files;
-use wh_files::{InputFault, Origin, read_input};
+use wh_files::{Input, InputFault, Origin, read_input};
 
 /// What reads inputs. A function over it knows of no bytes but those that it is given here.
 pub(crate) trait ReadsInputs {
@@ -24,4 +27,16 @@ impl<R: Files + AllocGlobal> ReadsInputs for R {
     fn read(&self, origin: Origin) -> Result<Vec<u8>, InputFault> {
         read_input(self, origin)
     }
+}
+
+/// An input as a file: its name, and the bytes that are read of it.
+pub(crate) fn file_from<R: ReadsInputs>(
+    rt: &R,
+    input: Input,
+) -> Result<(String, Vec<u8>), InputFault>
+    ensures { IfOk result (IsReadAs R.gives input) }
+{
+    let Input { name, origin } = input;
+    let bytes = rt.read(origin)?;
+    Ok((name, bytes))
 }

@@ -1,18 +1,16 @@
 //! Files are read, each in the thread that parses it.
 
-ghost use Rattle.std.specs.Prelude.{◌≡◌, IfOk, IfSome, map, string_bytes};
-ghost use Rattle.wh_cli.specs.Faults.{AreFaultsOf, IsCauseOf, IsFaultOf, MayBeTold};
+ghost use Rattle.std.specs.Prelude.{◌≡◌, IfOk, IfSome, Ok, string_bytes};
+ghost use Rattle.wh_cli.specs.Faults.{IsCauseOf, IsFaultOf, MayBeTold};
 ghost use Rattle.wh_cli.specs.Private.Faults.{IsMadeOf};
-ghost use Rattle.wh_cli.specs.Private.Readings.{AreRead, IsReadAs, IsReading, reading};
-ghost use Rattle.wh_cli.specs.Services.{reading_of};
+ghost use Rattle.wh_cli.specs.Private.Readings.{AreRead, IsReading};
 
 use crate::file_faults::{FileFault, code_fault, json_fault};
-use crate::inputs::ReadsInputs;
 use crate::parallel::all_made;
 use std::alloc::Global;
 use std::thread::Threads;
-use wh_events::{Event, EventKind, OutOfMemory};
-use wh_files::{Input, InputFault};
+use wh_events::{Event, EventKind};
+use wh_files::InputFault;
 use wh_json::{ReadFault, read_events};
 use wh_workflow::Workflow;
 
@@ -69,69 +67,47 @@ fn told<W: Workflow>(alloc: Global, file: ReadFile, bytes: &[u8]) -> (ReadFile, 
 fn read_file<W: Workflow>(
     alloc: Global,
     file: (String, Vec<u8>),
-) -> Result<(ReadFile, Option<FileFault>), OutOfMemory>
+) -> Result<(ReadFile, Option<FileFault>), InputFault>
     ensures reading { IfOk result (λ made. IsReading file made.0) }
     ensures told { IfOk result (λ made. MayBeTold W.program file made.1) }
 {
     let (name, bytes) = file;
     match read_events(alloc, bytes.as_slice()) {
-        Err(ReadFault::OutOfMemory) => Err(OutOfMemory),
+        Err(ReadFault::OutOfMemory) => Err(InputFault::OutOfMemory),
         outcome => Ok(told::<W>(alloc, ReadFile { name, outcome }, bytes.as_slice())),
     }
-}
-
-/// What was read of the files, each parsed in a thread, in their order, and apart from it where
-/// files are no JSON and of which workflow types there is no code.
-pub(crate) fn read_all<W: Workflow + Send, R: Threads + Sync>(
-    rt: &R,
-    alloc: Global,
-    files: Vec<(String, Vec<u8>)>,
-) -> Result<(Vec<ReadFile>, Vec<FileFault>), OutOfMemory>
-    ensures readings { IfOk result (λ parts. map reading parts.0.items ≡ map reading_of files.items) }
-    ensures told { IfOk result (λ parts. AreFaultsOf W.program files.items parts.1.items) }
-{
-    all_made(
-        rt,
-        alloc,
-        files,
-        |file: (String, Vec<u8>)| -> Result<(ReadFile, Option<FileFault>), OutOfMemory>
-            ensures { IfOk result (λ made. IsReading file made.0 × MayBeTold W.program file made.1) }
-        { read_file::<W>(alloc, file) },
-    )?
-}
-
-/// Reads an input and parses it. Its bytes are dropped then. Beside it is what is reported of it.
-fn read_from<W: Workflow, R: ReadsInputs + AllocGlobal>(
-    rt: &R,
-    input: Input,
-) -> Result<(ReadFile, Option<FileFault>), InputFault>
-    ensures { IfOk result (IsMadeOf W.program (IsReadAs R.gives) IsReading input) }
-{
-    let Input { name, origin } = input;
-    let bytes = rt.read(origin)?;
-    let Ok(made) = read_file::<W>(rt.alloc(), (name, bytes)) else {
-        return Err(InputFault::OutOfMemory);
-    };
-    Ok(made)
 }
 
 /// Reads inputs and parses them, in their order, and gives beside them where inputs are no JSON and
 /// for which workflow types there is no code. Each is read in the thread that parses it: so the
 /// bytes of no more files are there at once than there are threads, and only histories are held.
 /// The fault is that of the first that cannot be read.
-pub(crate) fn read_inputs<W: Workflow + Send, R: ReadsInputs + AllocGlobal + Threads + Sync>(
+pub(crate) fn read_all<
+    W: Workflow + Send,
+    R: Threads + Sync,
+    T: Send + Drop,
+    F: Fn(T) -> Result<(String, Vec<u8>), InputFault> + Copy + Send + Sync,
+>(
     rt: &R,
-    inputs: Vec<Input>,
+    alloc: Global,
+    inputs: Vec<T>,
+    read: F,
 ) -> Result<(Vec<ReadFile>, Vec<FileFault>), InputFault>
-    ensures { IfOk result (λ parts. AreRead R.gives W.program inputs.items parts.0.items parts.1.items) }
+    requires { F.IsAlwaysCallable read }
+    ensures { IfOk result (λ parts. AreRead (λ input file. F.post read input (Ok file)) W.program
+        inputs.items parts.0.items parts.1.items) }
 {
     let Ok(parts) = all_made(
         rt,
-        rt.alloc(),
+        alloc,
         inputs,
-        |input: Input| -> Result<(ReadFile, Option<FileFault>), InputFault>
-            ensures { IfOk result (IsMadeOf W.program (IsReadAs R.gives) IsReading input) }
-        { read_from::<W, R>(rt, input) },
+        |input: T| -> Result<(ReadFile, Option<FileFault>), InputFault>
+            requires { F.IsAlwaysCallable read }
+            ensures { IfOk result (IsMadeOf W.program (λ input file. F.post read input (Ok file)) IsReading input) }
+        {
+            let file = read(input)?;
+            read_file::<W>(alloc, file)
+        },
     ) else {
         return Err(InputFault::OutOfMemory);
     };

@@ -1,19 +1,17 @@
 //! The command `replay`.
 
-ghost use Rattle.std.specs.Prelude.{◌≡◌, ◌≢◌, List, Err, IfOk, IfSome, OnOk};
+ghost use Rattle.std.specs.Prelude.{◌≡◌, ◌≢◌, List, Ok, Err, IfOk, IfSome, OnOk};
 ghost use Rattle.std.specs.List.{AllZip};
 ghost use Rattle.std.specs.Io.KnownBytes.{Appends};
 ghost use Rattle.wh_tester.specs.Report.{report};
 ghost use Rattle.wh_cli.specs.Faults.{IsCauseOf, IsFaultOf, MayBeTold};
 ghost use Rattle.wh_cli.specs.Private.Faults.{AreMadeOf, IsMadeOf};
-ghost use Rattle.wh_cli.specs.Private.Readings.{IsReadAs};
 ghost use Rattle.wh_cli.specs.Private.Noted.{IsNotedOf, lines_in, noted_report};
 ghost use Rattle.wh_cli.specs.Statuses.{status_of};
 ghost use Rattle.wh_tester.specs.Verdicts.{IsLineOf};
 ghost use Rattle.wh_tester.specs.declared.line.Line.{Line};
 
 use crate::file_faults::{FileFault, code_fault, unread_fault};
-use crate::inputs::ReadsInputs;
 use crate::noted::{NotedLine, all_good as all_noted_good, note_of, write_noted};
 use crate::parallel::all_made;
 use std::alloc::Global;
@@ -21,9 +19,9 @@ use std::io::Write;
 use std::thread::Threads;
 use thiserror::Error;
 use wh_events::Text;
-use wh_files::{Input, InputFault};
+use wh_files::InputFault;
 use wh_replay::Fault;
-use wh_tester::{Line, Verdict, all_good, check_all, verdict, write_report};
+use wh_tester::{Line, Verdict, all_good, verdict};
 use wh_workflow::{Workflow, WorkflowFault};
 
 /// Why a command has no status.
@@ -60,6 +58,7 @@ pub(crate) fn report<O: Write>(
 ) -> Result<u8, CommandFault>
     ensures written { OnOk result (Appends (O.contents writer.old) (O.contents writer.new) (noted_report json noted.now)) }
     ensures status { IfOk result (λ status. status ≡ status_of (lines_in noted.now)) }
+    ensures output { result ≢ Err CommandFault.OutOfMemory }
 {
     let Ok(()) = write_noted(noted, json, writer) else {
         return Err(CommandFault::Output);
@@ -105,36 +104,37 @@ fn line_of<W: Workflow>(alloc: Global, file: (String, Vec<u8>)) -> (NotedLine, O
     (NotedLine { line, note }, fault)
 }
 
-/// Reads an input, and gives the line of its name and of the bytes that were read.
-fn line_from<W: Workflow, R: ReadsInputs + AllocGlobal>(
-    rt: &R,
-    input: Input,
-) -> Result<(NotedLine, Option<FileFault>), InputFault>
-    ensures { IfOk result (IsMadeOf W.program (IsReadAs R.gives) (IsNotedOf W.program) input) }
-{
-    let Input { name, origin } = input;
-    let bytes = rt.read(origin)?;
-    Ok(line_of::<W>(rt.alloc(), (name, bytes)))
-}
-
 /// The lines of inputs that are replayed with the code of `W`, in their order, with their notes, and
 /// apart from these where inputs are no JSON and for which workflow types there is no code. Each is
 /// read in the thread that replays it: so the bytes of no more files are there at once than there
 /// are threads. The fault is that of the first that cannot be read.
-pub(crate) fn lines_of<W: Workflow + Send, R: ReadsInputs + AllocGlobal + Threads + Sync>(
+pub(crate) fn lines_of<
+    W: Workflow + Send,
+    R: Threads + Sync,
+    T: Send + Drop,
+    F: Fn(T) -> Result<(String, Vec<u8>), InputFault> + Copy + Send + Sync,
+>(
     rt: &R,
-    inputs: Vec<Input>,
+    alloc: Global,
+    inputs: Vec<T>,
+    read: F,
 ) -> Result<(Vec<NotedLine>, Vec<FileFault>), InputFault>
-    ensures { IfOk result (λ told.
-        AreMadeOf W.program (IsReadAs R.gives) (IsNotedOf W.program) inputs.items told.0.items told.1.items) }
+    requires { F.IsAlwaysCallable read }
+    ensures { IfOk result (λ told. AreMadeOf W.program (λ input file. F.post read input (Ok file))
+        (IsNotedOf W.program) inputs.items told.0.items told.1.items) }
 {
     let Ok(told) = all_made(
         rt,
-        rt.alloc(),
+        alloc,
         inputs,
-        |input: Input| -> Result<(NotedLine, Option<FileFault>), InputFault>
-            ensures { IfOk result (IsMadeOf W.program (IsReadAs R.gives) (IsNotedOf W.program) input) }
-        { line_from::<W, R>(rt, input) },
+        |input: T| -> Result<(NotedLine, Option<FileFault>), InputFault>
+            requires { F.IsAlwaysCallable read }
+            ensures { IfOk result
+                (IsMadeOf W.program (λ input file. F.post read input (Ok file)) (IsNotedOf W.program) input) }
+        {
+            let file = read(input)?;
+            Ok(line_of::<W>(alloc, file))
+        },
     ) else {
         return Err(InputFault::OutOfMemory);
     };
@@ -154,11 +154,15 @@ pub fn replay_command<W: Workflow + Send, R: Threads + Sync, O: Write>(
         × (status ≡ status_of lines)) }
     ensures unwritten { result ≡ Err CommandFault.OutOfMemory → writer.new ≡ writer.old }
 {
-    let Ok(lines) = check_all::<W>(rt, alloc, files) else {
+    let Ok((lines, _)) = lines_of::<W, _, _, _>(
+        rt,
+        alloc,
+        files,
+        |file: (String, Vec<u8>)| -> Result<(String, Vec<u8>), InputFault>
+            ensures { IfOk result (λ own. own ≡ file) }
+        { Ok(file) },
+    ) else {
         return Err(CommandFault::OutOfMemory);
     };
-    let Ok(()) = write_report(lines.as_slice(), writer) else {
-        return Err(CommandFault::Output);
-    };
-    Ok(status_of(lines.as_slice()))
+    report(lines.as_slice(), false, writer)
 }

@@ -18,8 +18,7 @@ use crate::assigning::assign_sources;
 use crate::file_faults::FileFault;
 use crate::gathering::{Service, gather};
 use crate::hosts::{ServiceHost, ServiceSetup, host_of};
-use crate::inputs::ReadsInputs;
-use crate::reading::{ReadFile, read_all, read_inputs};
+use crate::reading::{ReadFile, read_all};
 use crate::replaying::CommandFault;
 use crate::service_report::{FileFailure, all_served, write_service};
 use std::alloc::Global;
@@ -28,7 +27,7 @@ use std::sync::Wait;
 use std::thread::Threads;
 use wh_command_line::ServeOptions;
 use wh_events::OutOfMemory;
-use wh_files::{Input, InputFault};
+use wh_files::InputFault;
 use wh_host::Config;
 use wh_poll::{NoActivities, NoObserver, WorkerSetup};
 use wh_recorded::ScriptSource;
@@ -160,6 +159,37 @@ where
     report(service, file_faults, writer)
 }
 
+/// Reads inputs, serves their tasks by a host and writes the report. Nothing is written where an
+/// input cannot be read.
+pub(crate) fn serve_inputs<
+    W: Workflow + Send,
+    R: Threads + Sync,
+    T: Send + Drop,
+    G: Fn(T) -> Result<(String, Vec<u8>), InputFault> + Copy + Send + Sync,
+    F: Fn(Config, Vec<ServiceSetup>) -> Result<ServiceHost, OutOfMemory>,
+    O: Write,
+>(
+    rt: &R,
+    alloc: Global,
+    inputs: Vec<T>,
+    read: G,
+    options: ServeOptions,
+    writer: &mut O,
+    host: F,
+) -> Result<Result<ServiceEnd, CommandFault>, InputFault>
+where
+    F: Drop,
+    requires reads { G.IsAlwaysCallable read }
+    requires runs { IsHost (F.pre host) (leaves (F.post host)) }
+    ensures report { IfOk result (λ answer. IfOk answer (HasServedInputs (λ input file. G.post read input (Ok file))
+        W.program (leaves (F.post host)) (sizes_of options) inputs.items (O.contents writer.old) (O.contents writer.new))) }
+    ensures unread { OnErr result (writer.new ≡ writer.old) }
+    ensures unwritten { result ≡ Ok (Err CommandFault.OutOfMemory) → writer.new ≡ writer.old }
+{
+    let read = read_all::<W, R, T, G>(rt, alloc, inputs, read)?;
+    Ok(serve_read(alloc, read, options, writer, host))
+}
+
 /// Serves the tasks of the files by workers with a thread each, and writes the report: a line for
 /// each file in their order, then the totals. File by file the workers are assigned the histories in
 /// turn. The status is 0 where each file can be read, no task failed and no worker has a fault, and
@@ -182,12 +212,13 @@ pub fn serve_with_failures<W: Workflow + Send, R: Threads + Wait + Sync, O: Writ
     ensures unwritten { result ≡ Err CommandFault.OutOfMemory → writer.new ≡ writer.old }
 {
     let options = ServeOptions::new(workers, cache, cache_events, slots);
-    let Ok(read) = read_all::<W, R>(rt, alloc, files) else {
-        return Err(CommandFault::OutOfMemory);
-    };
-    serve_read(
+    let Ok(answer) = serve_inputs::<W, R, _, _, _, O>(
+        rt,
         alloc,
-        read,
+        files,
+        |file: (String, Vec<u8>)| -> Result<(String, Vec<u8>), InputFault>
+            ensures { IfOk result (λ own. own ≡ file) }
+        { Ok(file) },
         options,
         writer,
         |config: Config, setups: Vec<ServiceSetup>| -> Result<ServiceHost, OutOfMemory>
@@ -195,33 +226,10 @@ pub fn serve_with_failures<W: Workflow + Send, R: Threads + Wait + Sync, O: Writ
             requires seats { config.seats ≡ vec_len setups }
             ensures { IfOk result (IsHosted W.program config setups) }
         { host_of::<W, R>(rt, alloc, config, setups) },
-    )
-}
-
-/// Reads inputs, serves their tasks and writes the report, as `serve_with_failures` does with files
-/// that are there already. Nothing is written where an input cannot be read.
-pub(crate) fn serve_inputs<
-    W: Workflow + Send,
-    R: ReadsInputs + AllocGlobal + Threads + Sync,
-    F: Fn(Config, Vec<ServiceSetup>) -> Result<ServiceHost, OutOfMemory>,
-    O: Write,
->(
-    rt: &R,
-    inputs: Vec<Input>,
-    options: ServeOptions,
-    writer: &mut O,
-    host: F,
-) -> Result<Result<ServiceEnd, CommandFault>, InputFault>
-where
-    F: Drop,
-    requires { IsHost (F.pre host) (leaves (F.post host)) }
-    ensures report { IfOk result (λ answer. IfOk answer (HasServedInputs R.gives W.program
-        (leaves (F.post host)) (sizes_of options) inputs.items (O.contents writer.old) (O.contents writer.new))) }
-    ensures unread { OnErr result (writer.new ≡ writer.old) }
-    ensures unwritten { result ≡ Ok (Err CommandFault.OutOfMemory) → writer.new ≡ writer.old }
-{
-    let read = read_inputs::<W, R>(rt, inputs)?;
-    Ok(serve_read(rt.alloc(), read, options, writer, host))
+    ) else {
+        return Err(CommandFault::OutOfMemory);
+    };
+    answer
 }
 
 /// Serves the tasks of the files and writes the report, as `serve_with_failures` does, and gives

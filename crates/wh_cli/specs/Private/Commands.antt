@@ -82,7 +82,7 @@ pub record HasServedAll {S E : Type 0} (gives : Gives) (program : Program S) (ho
     (inputs : List Input) (lacks : Bool) (old new : Option (List ℕ)) (contents : E → Option (List ℕ)) (before after : Complaints E)
     (status : ℕ) : Type 0 where
   pub end : ServiceEnd
-  pub served : HasServedInputs gives program hosts config inputs old new end
+  pub served : HasServedInputs (IsReadAs gives) program hosts config inputs old new end
   pub told : Reported contents before after (service_told end)
   pub ends : status ≡ status_with lacks end.status
 

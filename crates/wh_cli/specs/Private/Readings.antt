@@ -35,9 +35,9 @@ pub record IsReadAs (gives : Gives) (input : Input) (file : File) : Type 0 where
   pub bytes : gives input.origin file.1
 
 -- what was read of inputs: each as a file, in their order, the readings of these files, and what is told of them
-pub record AreRead {S : Type 0} (gives : Gives) (program : Program S) (inputs : List Input) (read : List ReadFile)
-    (faults : List FileFault) : Type 0 where
+pub record AreRead {S T : Type 0} (Reads : T → File → Type 0) (program : Program S) (inputs : List T)
+    (read : List ReadFile) (faults : List FileFault) : Type 0 where
   pub files : List File
-  pub from : AllZip (IsReadAs gives) inputs files
+  pub from : AllZip Reads inputs files
   pub readings : map reading read ≡ map reading_of files
   pub told : AreFaultsOf program files faults

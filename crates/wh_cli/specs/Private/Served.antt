@@ -3,13 +3,11 @@ use Rattle.std.specs.Prelude.{ℕ, List, map, Option}
 use Rattle.std.specs.List.{AllZip}
 use Rattle.wh_command_line.specs.declared.options.ServeOptions.{ServeOptions}
 use Rattle.wh_command_line.specs.Options.{config_of}
-use Rattle.wh_files.specs.declared.Input.{Input}
 use Rattle.wh_host.specs.declared.config.Config.{Config}
 use Rattle.wh_workflow.specs.Law.{Program}
 use Rattle.wh_cli.specs.declared.gathering.Service.{Service}
 use Rattle.wh_cli.specs.declared.serving.ServiceEnd.{ServiceEnd}
 use Rattle.wh_cli.specs.Faults.{AreFaultsOf}
-use Rattle.wh_cli.specs.Private.Readings.{Gives, IsReadAs}
 use Rattle.wh_cli.specs.Services.{File, HostsBy, IsToldService, Reading, reading_of}
 use Rattle.wh_cli.specs.Served.{HasServed}
 
@@ -25,9 +23,9 @@ IsServiceOf hosts config readings service =
 
 -- a service of inputs has ended: each was read as a file, in their order, and the service is of these files, as is what
 -- is told of them
-pub record HasServedInputs {S : Type 0} (gives : Gives) (program : Program S) (hosts : HostsBy) (config : Config)
-    (inputs : List Input) (old new : Option (List ℕ)) (end : ServiceEnd) : Type 0 where
+pub record HasServedInputs {S T : Type 0} (Reads : T → File → Type 0) (program : Program S) (hosts : HostsBy)
+    (config : Config) (inputs : List T) (old new : Option (List ℕ)) (end : ServiceEnd) : Type 0 where
   pub files : List File
-  pub from : AllZip (IsReadAs gives) inputs files
+  pub from : AllZip Reads inputs files
   pub served : HasServed hosts config (map reading_of files) old new end
   pub faults : AreFaultsOf program files end.file_faults.items
