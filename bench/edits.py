@@ -1,9 +1,10 @@
 #!/usr/bin/env python3
 """Tries the must-fail edits that the gate leaves out, since they are the dearest: those of the folders
-crates/*/must-fail-apart. It runs `rt must-fail` for each of their crates, side by side, on a copy of this repository in
-which these folders are those that it reads. What `./wfhost` or another run of rt has proved below these crates is taken
-as it is, so it is best run after one; the crates themselves are proved once more. From nothing it takes an hour and
-more. The last line, `N passed, M failed`, counts the edits, and the status is 0 where nothing failed."""
+crates/*/must-fail-apart, or those of the crates that are named. It runs `rt must-fail` for each of these crates, one a
+processor, on a copy of this repository in which these folders are those that it reads. What `./wfhost` or another run
+of rt has proved below these crates is taken as it is, so it is best run after one; the crates themselves are proved
+once more. From nothing it takes an hour and more. The last line, `N passed, M failed`, counts the edits, and the status
+is 0 where nothing failed."""
 
 import os
 import re
@@ -11,6 +12,7 @@ import shutil
 import subprocess
 import sys
 import tempfile
+from concurrent.futures import ThreadPoolExecutor
 from pathlib import Path
 
 TOP = Path(__file__).resolve().parent.parent
@@ -34,33 +36,36 @@ def link(source, target):
 
 
 def tried(crate, copy):
-    """Starts `rt must-fail` for a crate of the copy."""
+    """Tries the edits of a crate of the copy, says what `rt` says of them, and counts how many it refuses, and the others."""
+    edits = len(list((copy / "crates" / crate / "must-fail").glob("*.edit")))
     words = ["rt", "must-fail", crate]
-    return subprocess.Popen(words, cwd=copy, stdout=subprocess.PIPE, stderr=subprocess.STDOUT, text=True)
+    ran = subprocess.run(words, cwd=copy, stdout=subprocess.PIPE, stderr=subprocess.STDOUT, text=True)
+    refused, wrong = len(REFUSED.findall(ran.stdout)), len(FAILED.findall(ran.stdout))
+    print(ran.stdout, end="", flush=True)
+    if refused + wrong != edits or bool(ran.returncode) != bool(wrong):
+        print(f"edits: {crate}: {refused} of {edits} edits refused, status {ran.returncode}", file=sys.stderr)
+        wrong = max(edits - refused, 1)
+    return refused, wrong
 
 
 def main():
-    if sys.argv[1:]:
-        sys.exit(__doc__ if sys.argv[1] in ("-h", "--help") else "edits: it takes no words")
+    if sys.argv[1:2] in (["-h"], ["--help"]):
+        sys.exit(__doc__)
     kept = TOP / "crates/wfhost/out"
     kept.mkdir(exist_ok=True)
-    passed = failed = 0
     with tempfile.TemporaryDirectory(dir=kept, prefix="edits.") as room:
         copy = Path(room, "copy")
         shutil.copytree(TOP, copy, symlinks=True, copy_function=link, ignore=left_out)
-        folders = sorted(copy.glob(f"crates/*/{APART}"))
-        for folder in folders:
+        folders = {folder.parent.name: folder for folder in sorted(copy.glob(f"crates/*/{APART}"))}
+        crates = sys.argv[1:] or [*folders]
+        for crate in crates:
+            if crate not in folders:
+                sys.exit(f"edits: no crates/{crate}/{APART}")
+        for folder in folders.values():
             folder.rename(folder.with_name("must-fail"))
-        counts = {folder.parent.name: len(list((folder.parent / "must-fail").glob("*.edit"))) for folder in folders}
-        running = {crate: tried(crate, copy) for crate in counts}
-        for crate, process in running.items():
-            said, _ = process.communicate()
-            print(said, end="", flush=True)
-            refused, wrong = len(REFUSED.findall(said)), len(FAILED.findall(said))
-            if process.returncode and not wrong or refused + wrong != counts[crate]:
-                print(f"edits: {crate}: {counts[crate]} edits, {refused} refused, status {process.returncode}", file=sys.stderr)
-                wrong = max(wrong, counts[crate] - refused, 1)
-            passed, failed = passed + refused, failed + wrong
+        with ThreadPoolExecutor(os.cpu_count()) as pool:
+            counts = [*pool.map(lambda crate: tried(crate, copy), crates)]
+    passed, failed = (sum(count) for count in zip(*counts))
     print(f"{passed} passed, {failed} failed")
     return 1 if failed or not passed else 0
 
