@@ -1,5 +1,5 @@
 //! Makes calls of the libraries, each by its name on fixed histories, and prints for each what
-//! stands before it, what it answers and what stands after it. bench/refusals.py refuses requests
+//! stands before it, what it answers and what stands after it. tests/refusals.py refuses requests
 //! for memory between the first of these lines and the second.
 
 mod files;

@@ -3,7 +3,7 @@
 //! time. Of `Run::advance` the steps and the time of calls on a long run are told, and by the peak
 //! of the process's memory whether a call steps its task alone. bench/growths.py counts the growths
 //! of memory and the instructions of one call, and refuses single growths. Calls of the libraries
-//! are made by their names, for bench/refusals.py. A host is soaked, for bench/soak.py.
+//! are made by their names, for tests/refusals.py. A host is soaked, for bench/soak.py.
 #![tactic(auto)]
 
 mod blink;

@@ -4,9 +4,9 @@ trouble, and checks each answer as a server does. In the end each run has to be 
 `ok`, the stand-in must have nothing to say against an answer, and the reports of the workers have to agree with what the
 stand-in has counted. Each loop prints a line; the last line is `N tried, M wrong`, and the status is 1 where one is wrong.
 
-    bench/loops.py --runs 2000 --samples --workers 1,4,16 --cache 0,10,1000 --trouble all
-    bench/loops.py --runs 2000 --orders --trouble all --kill
-    bench/loops.py --runs 200 --samples --trouble all --grpc
+    tests/loops.py --runs 2000 --samples --workers 1,4,16 --cache 0,10,1000 --trouble all
+    tests/loops.py --runs 2000 --orders --trouble all --kill
+    tests/loops.py --runs 200 --samples --trouble all --grpc
 
 The loops of a seed are not the same twice, since the workers' threads are not. Whoever looks for the cause of a wrong one
 finds its histories and what its workers said in the folder that is named by --keep.

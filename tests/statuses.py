@@ -4,7 +4,7 @@ docs/USAGE.md and docs/DEFINITIONS.md say: which files are read and in which ord
 sizes, links and pipes, streams that fail, and whether the options of `serve` reach the host. It is a part of `./test`:
 its last line is `N tried, M wrong`, and its status is 1 where something is wrong.
 
-    bench/statuses.py [PROGRAM [GROUP..]]"""
+    tests/statuses.py [PROGRAM [GROUP..]]"""
 
 import json
 import os
