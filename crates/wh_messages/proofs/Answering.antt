@@ -11,7 +11,8 @@ use Rattle.wh_messages.specs.declared.fault.RequestFault.{RequestFault}
 use Rattle.wh_messages.specs.declared.names.ActivityOptions.{ActivityOptions}
 use Rattle.wh_messages.specs.declared.names.WorkerNames.{WorkerNames}
 use Rattle.wh_messages.specs.declared.request.FailedCause.{FailedCause}
-use Rattle.wh_messages.specs.declared.request.FailedCause.TheVariants.{Nondeterministic, Unhandled}
+use Rattle.wh_messages.specs.declared.request.FailedCause.TheVariants.{Nondeterministic, TooLarge, Unhandled}
+use Rattle.wh_messages.specs.CarryingOver.{Carried}
 use Rattle.wh_messages.specs.Commands.{written, written_after}
 use Rattle.wh_messages.specs.Outcome.{on_written}
 use Rattle.wh_messages.specs.Requests.{activity_completed, activity_failed, completed_with, workflow_completed, workflow_failed, cause_name}
@@ -44,12 +45,12 @@ somes_same (c ∷ cs) [] e = cc
 somes_same (c ∷ cs) (x ∷ es) e =
     cons_same c x cs es (heads_same c x (map Some cs) (map Some es) e) (somes_same cs es (tails_same c x (map Some cs) (map Some es) e))
 
-module _ (names : WorkerNames) (options : ActivityOptions) (events : List Event) (history : IsHistory events) where
+module _ (names : WorkerNames) (options : ActivityOptions) (carried : Carried) (events : List Event) (history : IsHistory events) where
   lists_same : (r : Result (List Data) RequestFault) (a b : List Data) → r ≡ Ok a → r ≡ Ok b → a ≡ b
   lists_same r a b e f = cc
 
   abbrev write : Command → Result Data RequestFault
-  write = written names options events
+  write = written names options carried events
 
   abbrev reads : List Data → List (Option Command)
   reads = map (command_in events)
@@ -61,7 +62,7 @@ module _ (names : WorkerNames) (options : ActivityOptions) (events : List Event)
   after_one c cs before ds sent others (Err fault) e is = cc
   after_one c cs before ds sent others (Ok d) e is =
       others (before ++ d ∷ []) is
-      ∙ ap (λ xs. xs ++ map Some cs) (map_append (command_in events) before (d ∷ []) ∙ ap (λ x. reads before ++ x ∷ []) (command_back names options events c d history sent e))
+      ∙ ap (λ xs. xs ++ map Some cs) (map_append (command_in events) before (d ∷ []) ∙ ap (λ x. reads before ++ x ∷ []) (command_back names options carried events c d history sent e))
       ∙ append_assoc (reads before) (Some c ∷ []) (map Some cs)
 
   -- commands that were written after others are read after them
@@ -89,11 +90,11 @@ module _ (names : WorkerNames) (options : ActivityOptions) (events : List Event)
   answers_same r a b e f = cc
 
   completion_back : (token : List ℕ) (cs : List Command) (queries : List (List ℕ)) (sticky : Option ℕ) (d : Data) → AreSent cs
-      → workflow_completed names token cs events queries sticky options ≡ Ok d
+      → workflow_completed names token cs events queries sticky options carried ≡ Ok d
       → (text_at (codes "taskToken") d ≡ Some token) × (listed d ≡ Some (map Some cs))
-  completion_back token cs queries sticky d sent is = by (written_after (written names options events) [] cs) refl is
+  completion_back token cs queries sticky d sent is = by (written_after (written names options carried events) [] cs) refl is
     where
-      by : (r : Result (List Data) RequestFault) → written_after (written names options events) [] cs ≡ r
+      by : (r : Result (List Data) RequestFault) → written_after (written names options carried events) [] cs ≡ r
           → on_written r (λ ds. Ok (completed_with names token queries sticky ds)) ≡ Ok d
           → (text_at (codes "taskToken") d ≡ Some token) × (listed d ≡ Some (map Some cs))
       by (Err fault) e is = cc
@@ -106,8 +107,8 @@ module _ (names : WorkerNames) (options : ActivityOptions) (events : List Event)
 
   pub completions_differ : (token other_token : List ℕ) (cs es : List Command) (queries other_queries : List (List ℕ)) (sticky other_sticky : Option ℕ)
       (d : Data) → AreSent cs → AreSent es
-      → workflow_completed names token cs events queries sticky options ≡ Ok d
-      → workflow_completed names other_token es events other_queries other_sticky options ≡ Ok d
+      → workflow_completed names token cs events queries sticky options carried ≡ Ok d
+      → workflow_completed names other_token es events other_queries other_sticky options carried ≡ Ok d
       → (token ≡ other_token) × (cs ≡ es)
   completions_differ token other_token cs es queries other_queries sticky other_sticky d sent other is other_is =
       let one = completion_back token cs queries sticky d sent is in
@@ -123,8 +124,13 @@ failure_text d = option_and_then (text_at (codes "message")) (get (codes "failur
 
 causes_same : (cause other : FailedCause) → length (cause_name cause) ≡ length (cause_name other) → cause ≡ other
 causes_same Nondeterministic Nondeterministic e = refl
+causes_same Nondeterministic TooLarge e = absurd (omega (arith, e))
 causes_same Nondeterministic Unhandled e = absurd (omega (arith, e))
+causes_same TooLarge Nondeterministic e = absurd (omega (arith, e))
+causes_same TooLarge TooLarge e = refl
+causes_same TooLarge Unhandled e = absurd (omega (arith, e))
 causes_same Unhandled Nondeterministic e = absurd (omega (arith, e))
+causes_same Unhandled TooLarge e = absurd (omega (arith, e))
 causes_same Unhandled Unhandled e = refl
 
 pub failures_differ : (names : WorkerNames) (token other_token : List ℕ) (cause other_cause : FailedCause) (message other_message : List ℕ)

@@ -1,13 +1,12 @@
 -- What is read of a written command is the command.
-use Rattle.std.proofs.Common.{◌≡◌, ◌≢◌, ℕ, ◌-◌, ◌<◌, ◌≤◌, ◌^◌, ℤ, pos, negsuc, List, [], ◌∷◌, ◌++◌, length, take, map, codes, decimal, Bool, true, false, cond, nat_lt, Option, Some, None, option_and_then, option_map, Result, Ok, Err, IsUtf8, refl, sym, ap, subst, ◌∙◌, arith, append-nil, lt-ltb}
+use Rattle.std.proofs.Common.{◌≡◌, ◌≢◌, ◌==◌, ℕ, ◌-◌, ◌<◌, ◌≤◌, ◌^◌, ℤ, pos, negsuc, List, [], ◌∷◌, ◌++◌, length, map, codes, decimal, Bool, true, false, cond, nat_lt, Option, Some, None, option_and_then, option_map, Result, Ok, Err, IsUtf8, refl, sym, ap, subst, ◌∙◌, arith, append-nil, lt-ltb}
 use Rattle.std.proofs.lemmas.Fmt.{decimal_is_IsNumeral, IsAscii-decimal, IsAscii-signed}
-use Rattle.std.proofs.lemmas.List.{length-append}
 use Rattle.std.proofs.lemmas.Option.{slice_get_within}
 use Rattle.std.proofs.lemmas.Str.{IsUtf8-from_ascii, is_utf8-from_IsUtf8}
-use Rattle.std.proofs.Math.Seq.{take-append_seam}
 use Rattle.std.specs.Fmt.{signed_decimal}
 use Rattle.std.specs.Result.{result_ok}
-use Rattle.std.specs.Str.Parse.{digits_value}
+use Rattle.std.specs.Char.{digit_value}
+use Rattle.std.specs.Str.Parse.{AllDigits, digits_value}
 use Rattle.base64.specs.Engines.{standard}
 use Rattle.base64.specs.GeneralPurpose.{IsBytes}
 use Rattle.base64.proofs.EngineFacts.{decode_of-encode_of}
@@ -45,11 +44,12 @@ use Rattle.wh_workflow.specs.Jobs.{id_at}
 use Rattle.wh_messages.specs.declared.fault.RequestFault.{RequestFault}
 use Rattle.wh_messages.specs.declared.names.ActivityOptions.{ActivityOptions}
 use Rattle.wh_messages.specs.declared.names.WorkerNames.{WorkerNames}
+use Rattle.wh_messages.specs.CarryingOver.{Carried}
 use Rattle.wh_messages.specs.Commands as spec
-use Rattle.wh_messages.specs.Commands.{duration_text, longest_duration, written, cancel_scheduled}
+use Rattle.wh_messages.specs.Commands.{delay_text, duration_text, longest_duration, written, cancel_scheduled}
 use Rattle.wh_messages.specs.Objects.{object_of}
 use Rattle.wh_messages.specs.Payloads.{base64_text, json_payloads, payload_written, payloads_written}
-use Rattle.wh_messages.specs.ReadBack.{seconds_of, command_in, IsSent, IsHistory, HaveBytes}
+use Rattle.wh_messages.specs.ReadBack.{leading_digits, seconds_of, command_in, IsSent, IsHistory, HaveBytes}
 use Rattle.wh_messages.proofs.Bytes.{bytes_utf8}
 
 -- ---- JSON texts
@@ -133,11 +133,32 @@ from_written : (events : List Event) (c : Command) (r : Result Data RequestFault
     → command_in events a ≡ Some c → command_in events d ≡ Some c
 from_written events c r a d is is_too found = subst (λ x. command_in events x ≡ Some c) (written_once r a d is is_too) found
 
+leading_step : (b : Bool) (c : ℕ) (cs : List ℕ) → b ≡ true → cond b (c ∷ cs) [] ≡ c ∷ cs
+leading_step b c cs is = ap (λ b. cond b (c ∷ cs) []) is
+
+-- digits before the letter of seconds are the first ones
+leading_digits-seconds : (ds : List ℕ) → AllDigits 10 ds → leading_digits (ds ++ 115 ∷ []) ≡ ds
+leading_digits-seconds [] are = refl
+leading_digits-seconds (c ∷ cs) are =
+    leading_step (nat_lt (digit_value c) 10) c (leading_digits (cs ++ 115 ∷ [])) (lt-ltb (digit_value c) 10 are.0)
+    ∙ ap (λ ds. c ∷ ds) (leading_digits-seconds cs are.1)
+
 seconds_of-duration : (n : ℕ) → n < 2 ^ 64 → seconds_of (duration_text n) ≡ n
 unfolding seconds_of
 seconds_of-duration n small =
-    let long : length (decimal n ++ 115 ∷ []) - 1 ≡ length (decimal n) = omega (arith, length-append (decimal n) (115 ∷ [])) in
-    ap (digits_value 10) (ap (λ k. take k (duration_text n)) long ∙ take-append_seam (decimal n) (115 ∷ [])) ∙ (decimal_is_IsNumeral n small).1
+    let is = decimal_is_IsNumeral n small in
+    ap (digits_value 10) (leading_digits-seconds (decimal n) is.0.1) ∙ is.1
+
+seconds_of-least : seconds_of (codes "0.001s") ≡ 0
+unfolding seconds_of
+seconds_of-least = refl
+
+seconds_of-delay : (n : ℕ) → n < 2 ^ 64 → seconds_of (delay_text n) ≡ n
+seconds_of-delay n small = by (n == 0) refl
+  where
+    by : (b : Bool) → (n == 0) ≡ b → seconds_of (cond b (codes "0.001s") (duration_text n)) ≡ n
+    by true e = grind (arith, e, seconds_of-least)
+    by false e = seconds_of-duration n small
 
 timer_back : (events : List Event) (id : List ℕ) (n : ℕ) (d : Data) → spec.start_timer_within id n ≡ Ok d
     → command_in events d ≡ Some (commands.StartTimer id n)
@@ -148,7 +169,7 @@ timer_back events id n d is = by (nat_lt longest_duration n) refl is
     by true e is = cc
     by false e is =
         from_written events (commands.StartTimer id n) (Ok (spec.start_timer id n)) (spec.start_timer id n) d refl is
-        (ap (λ k. Some (commands.StartTimer id k)) (seconds_of-duration n (grind (arith, e))))
+        (ap (λ k. Some (commands.StartTimer id k)) (seconds_of-delay n (grind (arith, e))))
 
 -- the event that scheduled an activity is found by its number
 id_of_last : (events : List Event) (id : List ℕ) (n : ℕ) → InPlace events → last_named events Activity id ≡ Some n
@@ -223,37 +244,58 @@ mark_back id v some text is =
 
 -- ---- All commands
 
-pub command_back : (names : WorkerNames) (options : ActivityOptions) (events : List Event) (command : Command) (d : Data)
-    → IsHistory events → IsSent command → written names options events command ≡ Ok d → command_in events d ≡ Some command
-command_back names options events (commands.StartActivity id activity input) d history sent is =
+continued : (workflow : List ℕ) (input : List Payload) → HaveBytes input
+    → option_map (commands.ContinueAsNew workflow) (result_ok (payloads_at 0 (Some (payloads_written input)))) ≡ Some (commands.ContinueAsNew workflow input)
+continued workflow input sent = ap (λ r. option_map (commands.ContinueAsNew workflow) (result_ok r)) (payloads_back input sent)
+
+-- what the run hands on stands beside type and input
+continue_with : (names : WorkerNames) (memo attributes policy : Option Data) (events : List Event) (workflow : List ℕ) (input : List Payload) → HaveBytes input
+    → command_in events (spec.continue_as_new names (record { memo = memo; search_attributes = attributes; retry_policy = policy }) workflow input) ≡ Some (commands.ContinueAsNew workflow input)
+continue_with names None None None events workflow input sent = continued workflow input sent
+continue_with names None None (Some p) events workflow input sent = continued workflow input sent
+continue_with names None (Some a) None events workflow input sent = continued workflow input sent
+continue_with names None (Some a) (Some p) events workflow input sent = continued workflow input sent
+continue_with names (Some m) None None events workflow input sent = continued workflow input sent
+continue_with names (Some m) None (Some p) events workflow input sent = continued workflow input sent
+continue_with names (Some m) (Some a) None events workflow input sent = continued workflow input sent
+continue_with names (Some m) (Some a) (Some p) events workflow input sent = continued workflow input sent
+
+continue_back : (names : WorkerNames) (carried : Carried) (events : List Event) (workflow : List ℕ) (input : List Payload) → HaveBytes input
+    → command_in events (spec.continue_as_new names carried workflow input) ≡ Some (commands.ContinueAsNew workflow input)
+continue_back names carried events workflow input sent =
+    continue_with names carried.memo carried.search_attributes carried.retry_policy events workflow input sent
+
+pub command_back : (names : WorkerNames) (options : ActivityOptions) (carried : Carried) (events : List Event) (command : Command) (d : Data)
+    → IsHistory events → IsSent command → written names options carried events command ≡ Ok d → command_in events d ≡ Some command
+command_back names options carried events (commands.StartActivity id activity input) d history sent is =
     from_written events _ (Ok (spec.start_activity names options id activity input)) (spec.start_activity names options id activity input) d refl is
     (ap (λ r. option_map (commands.StartActivity id activity) (result_ok r)) (payloads_back input sent))
-command_back names options events (commands.CancelActivity id) d history sent is = cancel_back events id d history is
-command_back names options events (commands.StartTimer id seconds) d history sent is = timer_back events id seconds d is
-command_back names options events (commands.CancelTimer id) d history sent is = from_written events _ (Ok (spec.cancel_timer id)) (spec.cancel_timer id) d refl is refl
-command_back names options events (commands.StartChild workflow_id workflow input) d history sent is =
+command_back names options carried events (commands.CancelActivity id) d history sent is = cancel_back events id d history is
+command_back names options carried events (commands.StartTimer id seconds) d history sent is = timer_back events id seconds d is
+command_back names options carried events (commands.CancelTimer id) d history sent is = from_written events _ (Ok (spec.cancel_timer id)) (spec.cancel_timer id) d refl is refl
+command_back names options carried events (commands.StartChild workflow_id workflow input) d history sent is =
     from_written events _ (Ok (spec.start_child names workflow_id workflow input)) (spec.start_child names workflow_id workflow input) d refl is
     (ap (λ r. option_map (commands.StartChild workflow_id workflow) (result_ok r)) (payloads_back input sent))
-command_back names options events (commands.CancelChild workflow_id) d history sent is = from_written events _ (Ok (spec.cancel_child names workflow_id)) (spec.cancel_child names workflow_id) d refl is refl
-command_back names options events (commands.SignalExternal workflow_id signal input) d history sent is =
+command_back names options carried events (commands.CancelChild workflow_id) d history sent is = from_written events _ (Ok (spec.cancel_child names workflow_id)) (spec.cancel_child names workflow_id) d refl is refl
+command_back names options carried events (commands.SignalExternal workflow_id signal input) d history sent is =
     from_written events _ (Ok (spec.signal_external names workflow_id signal input)) (spec.signal_external names workflow_id signal input) d refl is
     (ap (λ r. option_map (commands.SignalExternal workflow_id signal) (result_ok r)) (payloads_back input sent))
-command_back names options events (commands.Ask change_id min max) d history sent is = cc
-command_back names options events (commands.Marker change_id version) d history sent is =
+command_back names options carried events (commands.Ask change_id min max) d history sent is = cc
+command_back names options carried events (commands.Marker change_id version) d history sent is =
     from_written events _ (Ok (spec.marker change_id version)) (spec.marker change_id version) d refl is
     (ap (λ r. option_map (λ mark. commands.Marker mark.0 mark.1) (result_ok r)) (mark_back change_id version sent.0 sent.1 sent.2))
-command_back names options events (commands.Complete outcome) d history sent is =
+command_back names options carried events (commands.Complete outcome) d history sent is =
     from_written events _ (Ok (spec.complete outcome)) (spec.complete outcome) d refl is (ap (λ r. option_map commands.Complete (result_ok r)) (payloads_back outcome sent))
-command_back names options events (commands.Fail message) d history sent is = from_written events _ (Ok (spec.fail message)) (spec.fail message) d refl is refl
-command_back names options events commands.Cancel d history sent is = from_written events _ (Ok spec.cancel) spec.cancel d refl is refl
-command_back names options events (commands.ContinueAsNew workflow input) d history sent is =
-    from_written events _ (Ok (spec.continue_as_new names workflow input)) (spec.continue_as_new names workflow input) d refl is
-    (ap (λ r. option_map (commands.ContinueAsNew workflow) (result_ok r)) (payloads_back input sent))
+command_back names options carried events (commands.Fail message) d history sent is = from_written events _ (Ok (spec.fail message)) (spec.fail message) d refl is refl
+command_back names options carried events commands.Cancel d history sent is = from_written events _ (Ok spec.cancel) spec.cancel d refl is refl
+command_back names options carried events (commands.ContinueAsNew workflow input) d history sent is =
+    from_written events _ (Ok (spec.continue_as_new names carried workflow input)) (spec.continue_as_new names carried workflow input) d refl is
+    (continue_back names carried events workflow input sent)
 
 some_same : {A : Type 0} (a b : A) → Some a ≡ Some b → a ≡ b
 some_same a b e = cc
 
-pub commands_differ : (names : WorkerNames) (options : ActivityOptions) (events : List Event) (c e : Command) (d : Data)
-    → IsHistory events → IsSent c → IsSent e → written names options events c ≡ Ok d → written names options events e ≡ Ok d → c ≡ e
-commands_differ names options events c e d history sent other is_c is_e =
-    some_same c e (sym (command_back names options events c d history sent is_c) ∙ command_back names options events e d history other is_e)
+pub commands_differ : (names : WorkerNames) (options : ActivityOptions) (carried : Carried) (events : List Event) (c e : Command) (d : Data)
+    → IsHistory events → IsSent c → IsSent e → written names options carried events c ≡ Ok d → written names options carried events e ≡ Ok d → c ≡ e
+commands_differ names options carried events c e d history sent other is_c is_e =
+    some_same c e (sym (command_back names options carried events c d history sent is_c) ∙ command_back names options carried events e d history other is_e)

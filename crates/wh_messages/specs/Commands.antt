@@ -1,6 +1,6 @@
 -- How commands are written.
-use Rattle.std.specs.Prelude.{ℕ, ℤ, List, [], ◌∷◌, ◌++◌, codes, decimal, nat_lt, true, Option, Some, None, Result, Ok, Err, if◌then◌else◌}
-use Rattle.serde_json.specs.Data.{Data, boolean, number, string, unsigned}
+use Rattle.std.specs.Prelude.{ℕ, ℤ, List, [], ◌∷◌, ◌++◌, codes, decimal, nat_lt, true, ◌==◌, Option, Some, None, Result, Ok, Err, if◌then◌else◌}
+use Rattle.serde_json.specs.Data.{Data, Members, no_members, boolean, number, object, string, unsigned}
 use Rattle.serde_json.specs.Find.{of_integer}
 use Rattle.wh_events.specs.declared.event.Event.{Event}
 use Rattle.wh_events.specs.declared.event.Payload.{Payload}
@@ -12,7 +12,8 @@ use Rattle.wh_messages.specs.declared.names.ActivityOptions.{ActivityOptions}
 use Rattle.wh_messages.specs.declared.names.WorkerNames.{WorkerNames}
 use Rattle.wh_messages.specs.declared.fault.RequestFault.{RequestFault}
 use Rattle.wh_messages.specs.declared.fault.RequestFault.TheVariants.{TooLong, NotScheduled, NeverSent}
-use Rattle.wh_messages.specs.Objects.{object_of}
+use Rattle.wh_messages.specs.CarryingOver.{Carried}
+use Rattle.wh_messages.specs.Objects.{object_of, put_all, with_member}
 use Rattle.wh_messages.specs.Outcome.{on_written}
 use Rattle.wh_messages.specs.Payloads.{payloads_written, json_payloads}
 
@@ -29,6 +30,10 @@ longest_duration = 315576000000
 -- the text of a duration of whole seconds
 abbrev pub duration_text : ℕ → List ℕ
 duration_text seconds = decimal seconds ++ codes "s"
+
+-- after how long a timer of whole seconds fires; one of none fires after a millisecond
+abbrev pub delay_text : ℕ → List ℕ
+delay_text seconds = if seconds == 0 then codes "0.001s" else duration_text seconds
 
 -- how often an activity is tried, 0 for without end
 abbrev pub retry_policy : ℕ → Data
@@ -67,7 +72,7 @@ cancel_activity scheduled =
 abbrev pub start_timer : List ℕ → ℕ → Data
 start_timer id seconds =
     command_form (codes "COMMAND_TYPE_START_TIMER") (codes "startTimerCommandAttributes")
-    (object_of ((codes "timerId", string id) ∷ (codes "startToFireTimeout", string (duration_text seconds)) ∷ []))
+    (object_of ((codes "timerId", string id) ∷ (codes "startToFireTimeout", string (delay_text seconds)) ∷ []))
 
 abbrev pub cancel_timer : List ℕ → Data
 cancel_timer id =
@@ -126,13 +131,19 @@ cancel =
     command_form (codes "COMMAND_TYPE_CANCEL_WORKFLOW_EXECUTION") (codes "cancelWorkflowExecutionCommandAttributes")
     (object_of [])
 
-abbrev pub continue_as_new : WorkerNames → List ℕ → List Payload → Data
-continue_as_new names workflow input =
+-- with what the run hands on
+abbrev pub with_carried : Carried → Members → Members
+with_carried carried members =
+    with_member (codes "retryPolicy") carried.retry_policy
+    (with_member (codes "searchAttributes") carried.search_attributes (with_member (codes "memo") carried.memo members))
+
+abbrev pub continue_as_new : WorkerNames → Carried → List ℕ → List Payload → Data
+continue_as_new names carried workflow input =
     command_form (codes "COMMAND_TYPE_CONTINUE_AS_NEW_WORKFLOW_EXECUTION")
     (codes "continueAsNewWorkflowExecutionCommandAttributes")
-    (object_of (
+    (object (with_carried carried (put_all (
     (codes "workflowType", named workflow) ∷ (codes "taskQueue", named names.task_queue)
-    ∷ (codes "input", payloads_written input) ∷ []))
+    ∷ (codes "input", payloads_written input) ∷ []) no_members)))
 
 -- a cancel of the activity of an id, by the number of the event that scheduled it, if there is one
 abbrev pub cancel_scheduled : List ℕ → Option ℕ → Result Data RequestFault
@@ -144,24 +155,24 @@ abbrev pub start_timer_within : List ℕ → ℕ → Result Data RequestFault
 start_timer_within id seconds =
     if nat_lt longest_duration seconds then Err (TooLong id) else Ok (start_timer id seconds)
 
--- how a command is written after the events that were seen, or why it can't be
-abbrev pub written : WorkerNames → ActivityOptions → List Event → Command → Result Data RequestFault
-written names options events (commands.StartActivity id activity input) =
+-- how a command is written after the events that were seen, by a run that hands this on; or why it can't be
+abbrev pub written : WorkerNames → ActivityOptions → Carried → List Event → Command → Result Data RequestFault
+written names options carried events (commands.StartActivity id activity input) =
     Ok (start_activity names options id activity input)
-written names options events (commands.CancelActivity id) = cancel_scheduled id (last_named events Activity id)
-written names options events (commands.StartTimer id seconds) = start_timer_within id seconds
-written names options events (commands.CancelTimer id) = Ok (cancel_timer id)
-written names options events (commands.StartChild workflow_id workflow input) =
+written names options carried events (commands.CancelActivity id) = cancel_scheduled id (last_named events Activity id)
+written names options carried events (commands.StartTimer id seconds) = start_timer_within id seconds
+written names options carried events (commands.CancelTimer id) = Ok (cancel_timer id)
+written names options carried events (commands.StartChild workflow_id workflow input) =
     Ok (start_child names workflow_id workflow input)
-written names options events (commands.CancelChild workflow_id) = Ok (cancel_child names workflow_id)
-written names options events (commands.SignalExternal workflow_id signal input) =
+written names options carried events (commands.CancelChild workflow_id) = Ok (cancel_child names workflow_id)
+written names options carried events (commands.SignalExternal workflow_id signal input) =
     Ok (signal_external names workflow_id signal input)
-written names options events (commands.Ask change_id min max) = Err (NeverSent change_id)
-written names options events (commands.Marker change_id version) = Ok (marker change_id version)
-written names options events (commands.Complete result) = Ok (complete result)
-written names options events (commands.Fail message) = Ok (fail message)
-written names options events commands.Cancel = Ok cancel
-written names options events (commands.ContinueAsNew workflow input) = Ok (continue_as_new names workflow input)
+written names options carried events (commands.Ask change_id min max) = Err (NeverSent change_id)
+written names options carried events (commands.Marker change_id version) = Ok (marker change_id version)
+written names options carried events (commands.Complete result) = Ok (complete result)
+written names options carried events (commands.Fail message) = Ok (fail message)
+written names options carried events commands.Cancel = Ok cancel
+written names options carried events (commands.ContinueAsNew workflow input) = Ok (continue_as_new names carried workflow input)
 
 -- these, and how the commands after them are written, one after another; or the first fault
 abbrev pub written_after : (Command → Result Data RequestFault) → List Data → List Command → Result (List Data) RequestFault

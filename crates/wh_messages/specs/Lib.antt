@@ -2,6 +2,7 @@ pub mod Objects
 pub mod Options
 pub mod Outcome
 pub mod Payloads
+pub mod CarryingOver
 pub mod Commands
 pub mod Requests
 pub mod Responses

@@ -1,6 +1,7 @@
 -- What is read of a written command, and that no two are written alike.
-use Rattle.std.specs.Prelude.{◌≡◌, ◌≢◌, ◌≤◌, ◌-◌, ℕ, List, [], ◌∷◌, length, take, codes, Option, Some, None, option_map, Ok, bytes_eq, if◌then◌else◌, IsUtf8, ⊤}
+use Rattle.std.specs.Prelude.{◌≡◌, ◌≢◌, ◌≤◌, ℕ, List, [], ◌∷◌, length, codes, nat_lt, Option, Some, None, option_map, Ok, bytes_eq, if◌then◌else◌, IsUtf8, ⊤}
 use Rattle.std.specs.Result.{result_ok}
+use Rattle.std.specs.Char.{digit_value}
 use Rattle.std.specs.Str.Parse.{digits_value}
 use Rattle.base64.specs.GeneralPurpose.{IsBytes}
 use Rattle.serde_json.specs.Data.{Data}
@@ -16,6 +17,7 @@ use Rattle.wh_workflow.specs.declared.command.Command.TheVariants as commands
 use Rattle.wh_workflow.specs.Jobs.{id_at}
 use Rattle.wh_messages.specs.declared.names.ActivityOptions.{ActivityOptions}
 use Rattle.wh_messages.specs.declared.names.WorkerNames.{WorkerNames}
+use Rattle.wh_messages.specs.CarryingOver.{Carried}
 use Rattle.wh_messages.specs.Commands.{written}
 use Rattle.wh_messages.specs.Options.{◌>>=◌}
 use Rattle.wh_messages.specs.declared.request.FailedCause.{FailedCause}
@@ -30,9 +32,14 @@ text_at name d = get name d >>= as_str
 abbrev pub number_at : List ℕ → Data → Option ℕ
 number_at name d = option_map (digits_value 10) (text_at name d)
 
--- the seconds of a duration, whose text ends in a letter
+-- the digits that a text begins with
+abbrev pub leading_digits : List ℕ → List ℕ
+leading_digits [] = []
+leading_digits (c ∷ cs) = if nat_lt (digit_value c) 10 then c ∷ leading_digits cs else []
+
+-- the whole seconds of a duration
 unfoldable pub seconds_of : List ℕ → ℕ
-seconds_of text = digits_value 10 (take (length text - 1) text)
+seconds_of text = digits_value 10 (leading_digits text)
 
 -- the name of a type
 abbrev pub name_at : List ℕ → Data → Option (List ℕ)
@@ -154,15 +161,15 @@ IsHistory events = InPlace events × (length events ≤ most_events)
 
 -- a command that is written after the events of a history is read back
 abbrev pub ReadsBack : Type 0
-ReadsBack = (names : WorkerNames) (options : ActivityOptions) (events : List Event) (command : Command) (d : Data)
-    → IsHistory events → IsSent command → written names options events command ≡ Ok d
+ReadsBack = (names : WorkerNames) (options : ActivityOptions) (carried : Carried) (events : List Event) (command : Command) (d : Data)
+    → IsHistory events → IsSent command → written names options carried events command ≡ Ok d
     → command_in events d ≡ Some command
 
 -- two commands are never written alike
 abbrev pub CommandsDiffer : Type 0
-CommandsDiffer = (names : WorkerNames) (options : ActivityOptions) (events : List Event) (c e : Command) (d : Data)
+CommandsDiffer = (names : WorkerNames) (options : ActivityOptions) (carried : Carried) (events : List Event) (c e : Command) (d : Data)
     → IsHistory events → IsSent c → IsSent e
-    → written names options events c ≡ Ok d → written names options events e ≡ Ok d → c ≡ e
+    → written names options carried events c ≡ Ok d → written names options carried events e ≡ Ok d → c ≡ e
 
 -- ---- Answers
 
@@ -173,11 +180,11 @@ AreSent (command ∷ commands) = IsSent command × AreSent commands
 
 -- two completions of workflow tasks are never written alike
 abbrev pub CompletionsDiffer : Type 0
-CompletionsDiffer = (names : WorkerNames) (options : ActivityOptions) (events : List Event)
+CompletionsDiffer = (names : WorkerNames) (options : ActivityOptions) (carried : Carried) (events : List Event)
     (token other_token : List ℕ) (cs es : List Command) (queries other_queries : List (List ℕ)) (sticky other_sticky : Option ℕ)
     (d : Data) → IsHistory events → AreSent cs → AreSent es
-    → workflow_completed names token cs events queries sticky options ≡ Ok d
-    → workflow_completed names other_token es events other_queries other_sticky options ≡ Ok d
+    → workflow_completed names token cs events queries sticky options carried ≡ Ok d
+    → workflow_completed names other_token es events other_queries other_sticky options carried ≡ Ok d
     → (token ≡ other_token) × (cs ≡ es)
 
 -- two failures of workflow tasks are never written alike

@@ -9,7 +9,8 @@ use Rattle.wh_messages.specs.declared.fault.RequestFault.{RequestFault}
 use Rattle.wh_messages.specs.declared.names.ActivityOptions.{ActivityOptions}
 use Rattle.wh_messages.specs.declared.names.WorkerNames.{WorkerNames}
 use Rattle.wh_messages.specs.declared.request.FailedCause.{FailedCause}
-use Rattle.wh_messages.specs.declared.request.FailedCause.TheVariants.{Nondeterministic, Unhandled}
+use Rattle.wh_messages.specs.declared.request.FailedCause.TheVariants.{Nondeterministic, TooLarge, Unhandled}
+use Rattle.wh_messages.specs.CarryingOver.{Carried}
 use Rattle.wh_messages.specs.Commands.{duration_text, failure, written, written_after}
 use Rattle.wh_messages.specs.Objects.{object_of, put_all}
 use Rattle.wh_messages.specs.Outcome.{on_written}
@@ -100,13 +101,14 @@ completed_with names token queries sticky commands = object (with_sticky names s
     (answer_of names token)))
 
 -- a workflow task, completed with commands; or the fault of the first command that can't be written
-abbrev pub workflow_completed : WorkerNames → List ℕ → List Command → List Event → List (List ℕ) → Option ℕ → ActivityOptions → Result Data RequestFault
-workflow_completed names token commands events queries sticky options =
-    on_written (written_after (written names options events) [] commands)
+abbrev pub workflow_completed : WorkerNames → List ℕ → List Command → List Event → List (List ℕ) → Option ℕ → ActivityOptions → Carried → Result Data RequestFault
+workflow_completed names token commands events queries sticky options carried =
+    on_written (written_after (written names options carried events) [] commands)
     (λ values. Ok (completed_with names token queries sticky values))
 
 abbrev pub cause_name : FailedCause → List ℕ
 cause_name Nondeterministic = codes "WORKFLOW_TASK_FAILED_CAUSE_NON_DETERMINISTIC_ERROR"
+cause_name TooLarge = codes "WORKFLOW_TASK_FAILED_CAUSE_GRPC_MESSAGE_TOO_LARGE"
 cause_name Unhandled = codes "WORKFLOW_TASK_FAILED_CAUSE_WORKFLOW_WORKER_UNHANDLED_FAILURE"
 
 -- a workflow task that failed

@@ -1,17 +1,21 @@
 //! Writes commands.
 
-ghost use Rattle.std.specs.Prelude.{◌≡◌, ◌≢◌, [], IfOk, Ok};
-ghost use Rattle.serde_json.specs.Data.{object};
+ghost use Rattle.std.specs.Prelude.{◌≡◌, ◌≢◌, [], IfOk, OnOk, Ok, codes};
+ghost use Rattle.serde_json.specs.Data.{object, put, string};
 ghost use Rattle.serde_json.specs.View.{view, members_view};
 ghost use Rattle.wh_events.specs.Machines.{last_named, opens};
 ghost use Rattle.wh_messages.specs.Outcome.{Writes, WritesAll};
 ghost use Rattle.wh_messages.specs.Commands as spec;
-ghost use Rattle.wh_messages.specs.Commands.{cancel_scheduled, command_form, retry_policy, start_timer_within};
-ghost use Rattle.wh_messages.specs.Commands.{written, written_after};
+ghost use Rattle.wh_messages.specs.Commands.{cancel_scheduled, command_form, delay_text, retry_policy};
+ghost use Rattle.wh_messages.specs.Commands.{start_timer_within, with_carried, written, written_after};
+ghost use Rattle.wh_messages.specs.CarryingOver.{carried_seen};
 
+use crate::carrying::CarriedOver;
 use crate::fault::RequestFault;
 use crate::names::{ActivityOptions, WorkerNames};
-use crate::object::{Members, put_duration, put_failure, put_named, put_payloads, put_text};
+use crate::object::{
+    Members, put_copy, put_duration, put_failure, put_named, put_payloads, put_text,
+};
 use crate::payload::json_payloads;
 use serde_json::{Map, Value, json, put};
 use std::alloc::{AllocError, Global};
@@ -138,6 +142,21 @@ fn cancel_activity(alloc: Global, events: &[Event], id: &Text) -> Result<Value, 
     cancel_scheduled(alloc, scheduled)
 }
 
+/// The duration of a timer of 0 seconds, a millisecond: servers refuse a timer without a duration,
+/// and some take 0 for none.
+const LEAST_DELAY: &str = "0.001s";
+
+/// Puts the time after which a timer fires.
+fn put_delay(members: &mut Members, alloc: Global, seconds: u64) -> Result<(), AllocError>
+    ensures { OnOk result (members_view members.new.entries
+        ≡ put (codes "startToFireTimeout") (string (delay_text seconds)) (members_view members.old.entries)) }
+{
+    if seconds == 0 {
+        return put_text(members, alloc, "startToFireTimeout", LEAST_DELAY);
+    }
+    put_duration(members, alloc, "startToFireTimeout", seconds)
+}
+
 /// Starts a timer.
 fn start_timer(alloc: Global, id: &Text, seconds: u64) -> Result<Value, RequestFault>
     ensures { Writes result (start_timer_within id.now seconds) }
@@ -149,7 +168,7 @@ fn start_timer(alloc: Global, id: &Text, seconds: u64) -> Result<Value, RequestF
     }
     let mut attributes = Map::new(alloc);
     put_text(&mut attributes, alloc, "timerId", id.get())?;
-    put_duration(&mut attributes, alloc, "startToFireTimeout", seconds)?;
+    put_delay(&mut attributes, alloc, seconds)?;
     command_form(
         alloc,
         "COMMAND_TYPE_START_TIMER",
@@ -338,19 +357,40 @@ fn cancel(alloc: Global) -> Result<Value, RequestFault>
     )
 }
 
+/// Puts what a run hands on to the one that continues it.
+fn put_carried(
+    members: &mut Members,
+    alloc: Global,
+    carried: &CarriedOver,
+) -> Result<(), AllocError>
+    ensures { OnOk result (members_view members.new.entries
+        ≡ with_carried (carried_seen carried.now) (members_view members.old.entries)) }
+{
+    put_copy(members, alloc, "memo", &carried.memo)?;
+    put_copy(
+        members,
+        alloc,
+        "searchAttributes",
+        &carried.search_attributes,
+    )?;
+    put_copy(members, alloc, "retryPolicy", &carried.retry_policy)
+}
+
 /// Closes the run and starts a new one.
 fn continue_as_new(
     alloc: Global,
     names: &WorkerNames,
+    carried: &CarriedOver,
     workflow: &Text,
     input: &Items<Payload>,
 ) -> Result<Value, RequestFault>
-    ensures { Writes result (Ok (spec.continue_as_new names.now workflow.now input.now)) }
+    ensures { Writes result (Ok (spec.continue_as_new names.now (carried_seen carried.now) workflow.now input.now)) }
 {
     let mut attributes = Map::new(alloc);
     put_named(&mut attributes, alloc, "workflowType", workflow.get())?;
     put_named(&mut attributes, alloc, "taskQueue", names.task_queue.get())?;
     put_payloads(&mut attributes, alloc, "input", input.get())?;
+    put_carried(&mut attributes, alloc, carried)?;
     command_form(
         alloc,
         "COMMAND_TYPE_CONTINUE_AS_NEW_WORKFLOW_EXECUTION",
@@ -374,10 +414,11 @@ fn command_value(
     alloc: Global,
     names: &WorkerNames,
     options: ActivityOptions,
+    carried: &CarriedOver,
     events: &[Event],
     command: &Command,
 ) -> Result<Value, RequestFault>
-    ensures { Writes result (written names.now options events.now command.now) }
+    ensures { Writes result (written names.now options (carried_seen carried.now) events.now command.now) }
 {
     match command {
         Command::StartActivity {
@@ -405,7 +446,7 @@ fn command_value(
         Command::Fail { message } => fail(alloc, message),
         Command::Cancel => cancel(alloc),
         Command::ContinueAsNew { workflow, input } => continue_as_new(
-            alloc, names, workflow, input,
+            alloc, names, carried, workflow, input,
         ),
     }
 }
@@ -415,14 +456,16 @@ pub(crate) fn commands_value(
     alloc: Global,
     names: &WorkerNames,
     options: ActivityOptions,
+    carried: &CarriedOver,
     events: &[Event],
     commands: &[Command],
 ) -> Result<Vec<Value>, RequestFault>
-    ensures { WritesAll result (written_after (written names.now options events.now) [] commands.now) }
+    ensures { WritesAll result
+        (written_after (written names.now options (carried_seen carried.now) events.now) [] commands.now) }
 {
     let mut values = Vec::new(alloc);
     for command in commands {
-        let value = command_value(alloc, names, options, events, command)?;
+        let value = command_value(alloc, names, options, carried, events, command)?;
         values.push(value)?;
     }
     Ok(values)

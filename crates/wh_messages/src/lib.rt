@@ -6,6 +6,7 @@
 //! as the texts that they come in.
 #![tactic(auto)]
 
+mod carrying;
 mod command;
 mod fault;
 pub mod laws;
@@ -15,6 +16,7 @@ mod payload;
 mod request;
 mod response;
 
+pub use carrying::{CarriedOver, carried_over, continues_as_new};
 pub use fault::RequestFault;
 pub use names::{ActivityOptions, WorkerNames};
 pub use request::{

@@ -1,9 +1,10 @@
 //! Builds objects, member by member.
 
-ghost use Rattle.std.specs.Prelude.{◌≡◌, IfOk, OnOk, codes};
+ghost use Rattle.std.specs.Prelude.{◌≡◌, IfOk, OnOk, codes, option_map};
 ghost use Rattle.serde_json.specs.Data.{string, put};
 ghost use Rattle.serde_json.specs.View.{view, members_view};
 ghost use Rattle.wh_messages.specs.Commands.{duration_text, failure, named};
+ghost use Rattle.wh_messages.specs.Objects.{with_member};
 ghost use Rattle.wh_messages.specs.Payloads.{payloads_written};
 
 use crate::payload::payloads_value;
@@ -26,6 +27,22 @@ pub(crate) fn put_text(
 {
     let text = Value::try_from_str(alloc, text)?;
     put(members, alloc, name, text)
+}
+
+/// Puts a copy of a value at a name, if there is one.
+pub(crate) fn put_copy(
+    members: &mut Members,
+    alloc: Global,
+    name: &str,
+    value: &Option<Value>,
+) -> Result<(), AllocError>
+    ensures { OnOk result (members_view members.new.entries
+        ≡ with_member name.now (option_map view value.now) (members_view members.old.entries)) }
+{
+    let Some(value) = value else {
+        return Ok(());
+    };
+    put(members, alloc, name, value.clone()?)
 }
 
 /// Puts a type or a queue at a name, by its own name.

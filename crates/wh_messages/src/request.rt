@@ -2,9 +2,11 @@
 
 ghost use Rattle.std.specs.Prelude.{◌≡◌, IfOk, OnOk, map};
 ghost use Rattle.serde_json.specs.View.{view, members_view};
+ghost use Rattle.wh_messages.specs.CarryingOver.{carried_seen};
 ghost use Rattle.wh_messages.specs.Outcome.{Writes};
 ghost use Rattle.wh_messages.specs.Requests as spec;
 
+use crate::carrying::CarriedOver;
 use crate::command::commands_value;
 use crate::fault::RequestFault;
 use crate::names::{ActivityOptions, WorkerNames};
@@ -19,6 +21,8 @@ use wh_workflow::Command;
 pub enum FailedCause {
     /// The commands of its workflow are not those of its history.
     Nondeterministic,
+    /// The server refuses the answer, since it is longer than a message may be.
+    TooLarge,
     /// Any other fault of the worker.
     Unhandled,
 }
@@ -30,6 +34,7 @@ impl FailedCause {
     {
         match self {
             FailedCause::Nondeterministic => "WORKFLOW_TASK_FAILED_CAUSE_NON_DETERMINISTIC_ERROR",
+            FailedCause::TooLarge => "WORKFLOW_TASK_FAILED_CAUSE_GRPC_MESSAGE_TOO_LARGE",
             FailedCause::Unhandled =>
                 "WORKFLOW_TASK_FAILED_CAUSE_WORKFLOW_WORKER_UNHANDLED_FAILURE",
         }
@@ -226,7 +231,7 @@ fn completed_with(
 /// The request of `RespondWorkflowTaskCompleted`: the commands after the events that they were
 /// replayed from, and the names of the queries that came with the task, none of which is answered.
 /// With a number of seconds in `sticky` the run is kept for its next task, which waits that long in
-/// the sticky queue.
+/// the sticky queue. What the run hands on stands in a Continue-As-New alone.
 ///
 /// The fault is that of the first command that can't be written: `TooLong` for a timer, `NotScheduled`
 /// for the cancel of an activity, `NeverSent` for an ask. `OutOfMemory` can come in place of each.
@@ -239,11 +244,13 @@ pub fn workflow_completed(
     queries: &[Text],
     sticky: Option<u32>,
     options: ActivityOptions,
+    carried: &CarriedOver,
 ) -> Result<Value, RequestFault>
     ensures { Writes result
-        (spec.workflow_completed names.now token.now commands.now events.now queries.now sticky options) }
+        (spec.workflow_completed names.now token.now commands.now events.now queries.now sticky options
+        (carried_seen carried.now)) }
 {
-    let commands = commands_value(alloc, names, options, events, commands)?;
+    let commands = commands_value(alloc, names, options, carried, events, commands)?;
     let params = completed_with(alloc, names, token, queries, sticky, commands)?;
     Ok(params)
 }
