@@ -4,3 +4,4 @@ pub mod Lists
 pub mod Reading
 pub mod Serving
 pub mod Tasks
+pub mod ServerReading

@@ -143,7 +143,7 @@ leading_digits-seconds (c ∷ cs) are =
     leading_step (nat_lt (digit_value c) 10) c (leading_digits (cs ++ 115 ∷ [])) (lt-ltb (digit_value c) 10 are.0)
     ∙ ap (λ ds. c ∷ ds) (leading_digits-seconds cs are.1)
 
-seconds_of-duration : (n : ℕ) → n < 2 ^ 64 → seconds_of (duration_text n) ≡ n
+pub seconds_of-duration : (n : ℕ) → n < 2 ^ 64 → seconds_of (duration_text n) ≡ n
 unfolding seconds_of
 seconds_of-duration n small =
     let is = decimal_is_IsNumeral n small in

@@ -8,3 +8,4 @@ pub mod Requests
 pub mod Responses
 pub mod ReadBack
 pub mod Served
+pub mod ServerReads

@@ -1,6 +1,8 @@
 //! What holds of all commands and answers, each law as the contract of a function that does nothing.
 ghost use Rattle.wh_messages.specs.ReadBack.{ReadsBack, CommandsDiffer, CompletionsDiffer, FailuresDiffer};
 ghost use Rattle.wh_messages.specs.ReadBack.{ResultsDiffer, ActivityFailuresDiffer, FailureIsNoResult};
+ghost use Rattle.wh_messages.specs.ServerReads.{CommandsAreRead, CompletionIsRead, EndIsRead, FailuresAreRead};
+ghost use Rattle.wh_messages.specs.ServerReads.{HistoryIsRead, PollsAreRead, QueryFailedIsRead};
 ghost use Rattle.wh_messages.specs.Served.{PageIsRead, TaskIsRead, ActivityIsRead, EmptyIsNothing};
 
 /// What is read of a written command is the command, after the same events of a history in place. So
@@ -32,4 +34,28 @@ pub fn results_are_read()
     ensures task { TaskIsRead }
     ensures activity { ActivityIsRead }
     ensures empty { EmptyIsNothing }
+{}
+
+/// What a server reads of a poll, of a request of a history and of a worker's end, by the names of
+/// their fields: the namespace and the identity of the worker, the queue with its kind, the run and
+/// the page.
+pub fn requests_are_read()
+    ensures polls { PollsAreRead }
+    ensures history { HistoryIsRead }
+    ensures end { EndIsRead }
+{}
+
+/// What a server reads of an answer: who gives it, to which task, whether the run is kept in the
+/// process's own queue and for how long, and that no query is answered.
+pub fn answers_are_read()
+    ensures completed { CompletionIsRead }
+    ensures others { FailuresAreRead }
+    ensures query { QueryFailedIsRead }
+{}
+
+/// What a server reads of a command beside what its workflow gave: namespace and queue, the timeout
+/// and the attempts of an activity, that a timer fires after some time, and what a run hands on to
+/// the one that continues it.
+pub fn commands_are_read()
+    ensures { CommandsAreRead }
 {}

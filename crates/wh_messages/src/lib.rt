@@ -13,12 +13,14 @@ pub mod laws;
 mod names;
 mod object;
 mod payload;
+mod refusals;
 mod request;
 mod response;
 
 pub use carrying::{CarriedOver, carried_over, continues_as_new};
 pub use fault::RequestFault;
 pub use names::{ActivityOptions, WorkerNames};
+pub use refusals::is_too_large;
 pub use request::{
     FailedCause, NO_QUERIES, activity_completed, activity_failed, history, poll_activity,
     poll_workflow, query_failed, shutdown, workflow_completed, workflow_failed,

@@ -2,3 +2,4 @@ pub mod OneLine
 pub mod Listing
 pub mod ReadBack
 pub mod LineEnds
+pub mod Parts

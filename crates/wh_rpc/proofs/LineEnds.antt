@@ -1,5 +1,5 @@
 -- A line is read up to its end, but not too far.
-use Rattle.std.proofs.Common.{◌≡◌, ℕ, zero, suc, ◌+◌, ◌-◌, ◌<◌, ◌==◌, Bool, true, false, cond, List, [], ◌∷◌, length, take, nat_lt, Option, Some, None, Result, Ok, Err, IfSome, OnOk, option_map, refl, ap, subst, ◌∙◌, arith}
+use Rattle.std.proofs.Common.{◌≡◌, ℕ, zero, suc, ◌+◌, ◌-◌, ◌<◌, ◌==◌, Bool, true, false, cond, List, [], ◌∷◌, length, take, nat_lt, Option, Some, None, Result, Ok, Err, IfSome, OnOk, option_map, refl, sym, ap, subst, ◌∙◌, arith}
 use Rattle.std.specs.Prelude.{slice_index}
 use Rattle.std.specs.Io.BufRead.{take_through, strip_last}
 use Rattle.std.specs.Io.Take.{take_limit, take_inner, take_remaining}
@@ -57,23 +57,23 @@ pub line_is_next : (line read xs : List ℕ) → line ≡ strip_last 10 read →
 line_is_next line read [] is of some = absurd (omega (arith, some, ap length of))
 line_is_next line read (x ∷ xs) is of some = ap Some (is ∙ ap (strip_last 10) of ∙ stripped (longest + 1) (x ∷ xs))
 
+some_read : (n x : ℕ) (xs : List ℕ) → 0 < length (take_through 10 (take (suc n) (x ∷ xs)))
+some_read n x xs = by (x == 10)
+  where
+    by : (b : Bool) → 0 < length (cond b (x ∷ []) (x ∷ take_through 10 (take n xs)))
+    by true = omega arith
+    by false = omega arith
+
+read_nothing : (n : ℕ) (read xs : List ℕ) → length read ≡ 0 → read ≡ take_through 10 (take (suc n) xs) → xs ≡ []
+read_nothing n read [] none of = refl
+read_nothing n read (x ∷ xs) none of = absurd (omega (arith, none, ap length of, some_read n x xs))
+
+-- where nothing is read there is no line
+pub nothing_next : (read xs : List ℕ) → length read ≡ 0 → read ≡ take_through 10 (take (longest + 1) xs) → None ≡ next_of xs
+nothing_next read xs none of = subst (λ bytes. None ≡ next_of bytes) (sym (read_nothing longest read xs none of)) refl
+
 -- ---- Facts of what may be there
 
 pub if_some : {X : Type 0} (o : Option X) {P Q : X → Type 0} → ((x : X) → P x → Q x) → IfSome o P → IfSome o Q
 if_some None step h = h
 if_some (Some x) step h = step x h
-
-pub on_ok : {X E : Type 0} (r : Result X E) {A B : Type 0} → (A → B) → OnOk r A → OnOk r B
-on_ok (Ok x) step h = step h
-on_ok (Err e) step h = h
-
-in_part : {X Y : Type 0} (f : X → Y) (o : Option X) (P : Y → Type 0) → IfSome (option_map f o) P → IfSome o (λ x. P (f x))
-in_part f None P h = h
-in_part f (Some x) P h = h
-
--- what holds of the bytes of a part holds of the beginning of the bytes
-pub limited : {R : Type 0} (remaining : R → Option (List ℕ)) (t : Take R) (r : R) (n : ℕ) (P : List ℕ → Type 0) → take_limit t ≡ n → take_inner t ≡ r
-    → IfSome (take_remaining remaining t) P → IfSome (remaining r) (λ bytes. P (take n bytes))
-limited remaining t r n P limit inner h =
-    subst (λ m. IfSome (remaining r) (λ bytes. P (take m bytes))) limit
-    (subst (λ s. IfSome (remaining s) (λ bytes. P (take (take_limit t) bytes))) inner (in_part (take (take_limit t)) (remaining (take_inner t)) P h))

@@ -1,3 +1,4 @@
 -- What no contract of a public item cites: only those of private functions, and what types keep over private fields.
 pub mod Input
 pub mod OpenTables
+pub mod Losses

@@ -8,6 +8,7 @@
 mod bad_line;
 mod call_fault;
 mod calls;
+mod input;
 pub mod laws;
 mod open_calls;
 mod output;

@@ -1,84 +1,54 @@
 //! The reading of what the bridge writes.
 
-ghost use Rattle.std.specs.Prelude.{◌≡◌, ◌+◌, ◌++◌, OnOk, IfOk, IfSome, option_map, take, vec_len};
-ghost use Rattle.std.specs.Io.BufRead.{take_through, strip_last};
-ghost use Rattle.std.specs.Io.KnownBytes.{IsAtEnd};
-ghost use Rattle.wh_rpc.specs.Responses.{longest};
-ghost use Rattle.wh_rpc.specs.Private.Input.{next_of};
+ghost use Rattle.std.specs.Prelude.{◌≡◌, true, IfSome};
+ghost use Rattle.wh_rpc.specs.Private.Losses.{EndsAtLoss, IsFollowed, may_be_response};
 
 use crate::bad_line::BadLine;
 use crate::calls::Caller;
-use crate::response::{Line, MAX_LINE, read_line};
+use crate::input::next_line;
+use crate::response::{Line, read_line};
 use std::alloc::Global;
 use std::fmt::Display;
-use std::io;
-use std::io::{BufRead, Read};
+use std::io::BufRead;
 use std::sync::Wait;
 use thiserror::Error;
 
-/// How many lines that are passed over are reported one by one.
-const MOST_TOLD: u64 = 100;
+/// How many lines that reach no call are reported one by one.
+const MOST_REPORTED: u64 = 100;
 
-/// Why a line is passed over.
+/// Why a line reaches no call, and what follows.
 #[derive(Debug, Drop, Error)]
-enum PassedOver {
+enum Unused {
     /// It says nothing.
-    #[error("{0}")]
+    #[error("is passed over: {0}")]
     Unread(BadLine),
     /// No call of its id is open.
-    #[error("no call waits for id {id}")]
+    #[error("is passed over: no call waits for id {id}")]
     NotOpen { id: u64 },
+    /// It can't be read, and may have been a response.
+    #[error("ends the connection: {0}")]
+    Lost(BadLine),
 }
 
-impl PassedOver {
-    /// Whether the line may be a response that is lost, so that its call would wait for ever.
-    fn is_loss(&self) -> bool {
-        matches!(self, PassedOver::Unread(BadLine::OutOfMemory))
-    }
-}
-
-/// Appends the bytes up to and with the next line end, but at most `MAX_LINE + 1` of them, and
-/// gives how many. After an error some of them may be lost.
-fn read_part<B: BufRead>(input: &mut B, line: &mut Vec<u8>) -> io::Result<usize>
-    ensures bytes { OnOk result (IfSome (B.remaining input.old)
-        (λ bytes. line.new.items ≡ line.old.items ++ take_through 10 (take (longest + 1) bytes))) }
-    ensures end { IfOk result (λ count. count ≡ 0 → IsAtEnd (B.remaining input.old)) }
-    ensures count { IfOk result (λ count. vec_len line.new ≡ vec_len line.old + count) }
+/// Whether a line that says nothing may have been a response, whose call would wait for ever: it is
+/// too long, there was no memory for it, or it begins as an object of JSON and can't be read.
+fn may_be_response(fault: BadLine, bytes: &[u8]) -> bool
+    ensures { result ≡ may_be_response fault bytes.now }
 {
-    let mut part = input.take(MAX_LINE as u64 + 1);
-    part.read_until(b'\n', line)
-}
-
-/// The line without its end, if it has one.
-fn without_end(mut line: Vec<u8>) -> Vec<u8>
-    ensures { result.items ≡ strip_last 10 line.items }
-{
-    if line.last() == Some(&b'\n') {
-        line.pop();
+    match fault {
+        BadLine::TooLong | BadLine::OutOfMemory => true,
+        BadLine::NotUtf8 | BadLine::NotJson => bytes.first() == Some(&b'{'),
+        BadLine::NotObject
+        | BadLine::NotResponse
+        | BadLine::TwoOutcomes
+        | BadLine::BadId
+        | BadLine::NoOutcome
+        | BadLine::BadError => false,
     }
-    line
-}
-
-/// The next line without its end, or `None` at the end of the input. Of a line with more than
-/// `MAX_LINE` bytes it gives the first `MAX_LINE + 1`, and passes over the rest. After an error some
-/// of the input may be lost.
-fn next_line<B: BufRead>(alloc: Global, input: &mut B) -> io::Result<Option<Vec<u8>>>
-    ensures { IfOk result (λ line. IfSome (B.remaining input.old)
-        (λ bytes. option_map (λ line. line.items) line ≡ next_of bytes)) }
-{
-    let mut line = Vec::new(alloc);
-    if read_part(input, &mut line)? == 0 {
-        return Ok(None);
-    }
-    let line = without_end(line);
-    if MAX_LINE < line.len() {
-        input.skip_until(b'\n')?;
-    }
-    Ok(Some(line))
 }
 
 /// Does what a line says.
-fn obey<R: Wait, C: Caller>(rt: &R, calls: &C, line: Line) -> Result<(), PassedOver> {
+fn act_on<R: Wait, C: Caller>(rt: &R, calls: &C, line: Line) -> Result<(), Unused> {
     match line {
         Line::Shutdown => {
             calls.shut_down(rt);
@@ -89,9 +59,20 @@ fn obey<R: Wait, C: Caller>(rt: &R, calls: &C, line: Line) -> Result<(), PassedO
             if calls.deliver(rt, response) {
                 Ok(())
             } else {
-                Err(PassedOver::NotOpen { id })
+                Err(Unused::NotOpen { id })
             }
         }
+    }
+}
+
+/// Why a line that says nothing is not used.
+fn unusable(fault: BadLine, bytes: &[u8]) -> Unused
+    ensures { may_be_response fault bytes.now ≡ true → result ≡ Unused.Lost fault }
+{
+    if may_be_response(fault, bytes) {
+        Unused::Lost(fault)
+    } else {
+        Unused::Unread(fault)
     }
 }
 
@@ -101,59 +82,72 @@ fn take_line<R: Wait, C: Caller>(
     alloc: Global,
     calls: &C,
     bytes: &[u8],
-) -> Result<(), PassedOver> {
+) -> Result<(), Unused>
+    ensures { EndsAtLoss bytes.now result }
+{
     match read_line(alloc, bytes) {
-        Ok(line) => obey(rt, calls, line),
-        Err(fault) => Err(PassedOver::Unread(fault)),
+        Ok(line) => act_on(rt, calls, line),
+        Err(fault) => Err(unusable(fault, bytes)),
     }
 }
 
-/// Reports that a line is passed over, unless many were.
-fn tell<R: Eprint, N: Display>(rt: &R, name: &N, number: u64, passed: u64, why: &PassedOver) {
-    if passed < MOST_TOLD {
-        let _ = eprintln!(rt; "{name}: line {number} of the bridge is passed over: {why}");
+/// How many lines were read, and how many of them reached no call.
+#[derive(Drop)]
+struct Counts {
+    lines: u64,
+    unused: u64,
+}
+
+/// Reports why a line reaches no call, unless many did, and counts it.
+fn report<R: Eprint, N: Display>(rt: &R, name: &N, counts: &mut Counts, why: &Unused) {
+    if counts.unused < MOST_REPORTED {
+        let number = counts.lines;
+        let _ = eprintln!(rt; "{name}: line {number} of the bridge {why}");
     }
+    counts.unused = counts.unused.saturating_add(1);
 }
 
 /// Reports how many lines were passed over that were not reported one by one.
-fn tell_rest<R: Eprint, N: Display>(rt: &R, name: &N, passed: u64) {
-    if MOST_TOLD < passed {
-        let more = passed - MOST_TOLD;
+fn report_rest<R: Eprint, N: Display>(rt: &R, name: &N, counts: &Counts) {
+    if MOST_REPORTED < counts.unused {
+        let more = counts.unused - MOST_REPORTED;
         let _ = eprintln!(rt; "{name}: {more} more lines of the bridge were passed over");
     }
 }
 
-/// Takes the lines of the input, up to its end or to one for which no memory is left. How many were
-/// passed over.
-fn take_lines<R: Wait + Eprint, N: Display, B: BufRead, C: Caller>(
+/// Takes the next line of the input. Whether another one may follow: not at the end of the input, nor
+/// after a line that may have been a response and is lost.
+fn take_next<R: Wait + Eprint, N: Display, B: BufRead, C: Caller>(
     rt: &R,
     alloc: Global,
     name: &N,
     input: &mut B,
     calls: &C,
-) -> u64 {
-    let mut passed = 0u64;
-    for number in 1..u64::MAX {
-        let Ok(Some(line)) = next_line(alloc, input) else {
-            break;
-        };
-        if let Err(why) = take_line(rt, alloc, calls, line.as_slice()) {
-            tell(rt, name, number, passed, &why);
-            passed = passed.saturating_add(1);
-            if why.is_loss() {
-                break;
-            }
+    counts: &mut Counts,
+) -> bool
+    ensures { result ≡ true → IfSome (B.remaining input.old) (λ bytes. IsFollowed bytes (B.remaining input.new)) }
+{
+    let Ok(Some(line)) = next_line(alloc, input) else {
+        return false;
+    };
+    counts.lines = counts.lines.saturating_add(1);
+    match take_line(rt, alloc, calls, line.as_slice()) {
+        Ok(()) => true,
+        Err(why) => {
+            report(rt, name, counts, &why);
+            !matches!(why, Unused::Lost(_))
         }
     }
-    passed
 }
 
 /// Reads lines to the end of the input, and gives each response to the call of its id. A line that
-/// says nothing, or whose call is not open, changes nothing: it is told on standard error after the
-/// name, the first hundred of them each with its number and the reason, and at the end how many
+/// says nothing, or whose call is not open, changes nothing: it is reported on standard error after
+/// the name, the first hundred of them each with its number and the reason, and at the end how many
 /// more there were. Once the bridge gives notice that it shuts down, new polls are `Closed`. At the
-/// end of the input, and where it cannot be read or no memory is left for a line of it, each call
-/// is `Closed`, those that wait and new ones.
+/// end of the input, and where it cannot be read, each call is `Closed`, those that wait and new
+/// ones. So it is after a line that may have been a response and is lost, which is reported too: one
+/// of more than `MAX_LINE` bytes, one for which there was no memory, one that begins with `{` and is
+/// no JSON. Nothing after such a line is read.
 pub fn read_lines<R: Wait + Eprint, N: Display, B: BufRead + Drop, C: Caller>(
     rt: &R,
     alloc: Global,
@@ -161,7 +155,15 @@ pub fn read_lines<R: Wait + Eprint, N: Display, B: BufRead + Drop, C: Caller>(
     mut input: B,
     calls: &C,
 ) {
-    let passed = take_lines(rt, alloc, name, &mut input, calls);
+    let mut counts = Counts {
+        lines: 0,
+        unused: 0,
+    };
+    for _ in 1..u64::MAX {
+        if !take_next(rt, alloc, name, &mut input, calls, &mut counts) {
+            break;
+        }
+    }
     calls.close(rt);
-    tell_rest(rt, name, passed);
+    report_rest(rt, name, &counts);
 }

@@ -1,5 +1,7 @@
 -- The lines of an input.
-use Rattle.std.specs.Prelude.{ℕ, ◌+◌, ◌==◌, List, [], ◌∷◌, take, Option, Some, None, if◌then◌else◌}
+use Rattle.std.specs.Prelude.{◌≡◌, ◌≢◌, ℕ, ◌+◌, ◌-◌, ◌<◌, ◌==◌, ◌||◌, List, [], ◌∷◌, ◌++◌, Bool, true, false, length, take, drop, Option, Some, None, Result, Ok, Err, IfSome, if◌then◌else◌, ⊤}
+use Rattle.std.specs.Io.BufRead.{take_through}
+use Rattle.std.specs.Io.KnownBytes.{Consumes}
 use Rattle.wh_rpc.specs.Responses.{longest}
 
 -- the bytes before the first line end
@@ -7,7 +9,29 @@ abbrev pub before_end : List ℕ → List ℕ
 before_end [] = []
 before_end (byte ∷ bytes) = if byte == 10 then [] else byte ∷ before_end bytes
 
+-- whether there is a line end
+abbrev pub has_end : List ℕ → Bool
+has_end [] = false
+has_end (byte ∷ bytes) = (byte == 10) || has_end bytes
+
 -- the next line, but at most one byte more of it than a line may have
 abbrev pub next_of : List ℕ → Option (List ℕ)
 next_of [] = None
 next_of (byte ∷ bytes) = Some (take (longest + 1) (before_end (byte ∷ bytes)))
+
+-- the bytes that are taken for the next line: up to and with its end, but at most one more than a line may have
+abbrev pub read_of : List ℕ → List ℕ
+read_of bytes = take_through 10 (take (longest + 1) bytes)
+
+-- what is left after them
+abbrev pub after_read : List ℕ → List ℕ
+after_read bytes = drop (length (read_of bytes)) bytes
+
+-- a part of a line was taken out of the input and appended to what was read of the line before; done where the
+-- line is read
+pub record ReadsOn (old new : Option (List ℕ)) (before after : List ℕ) (done : Bool) : Type 0 where
+  pub part : List ℕ
+  pub appended : after ≡ before ++ part
+  pub taken : Consumes old new part
+  pub last : done ≡ true → IfSome old (λ bytes. part ≡ take_through 10 (take (longest + 1 - length before) bytes))
+  pub open_still : done ≡ false → (has_end part ≡ false) × (length part < longest + 1 - length before)

@@ -1,4 +1,4 @@
-use Rattle.std.proofs.Common.{◌≡◌, Some, ap, codes, option_map, ◌∙◌}
+use Rattle.std.proofs.Common.{Some, ap, codes, option_map, ◌∙◌}
 use Rattle.wh_json.specs.Fields.{field}
 use Rattle.wh_messages.specs.CarryingOver.{carried_by}
 use Rattle.wh_messages.proofs.carrying.carried_over.Goals as goal
