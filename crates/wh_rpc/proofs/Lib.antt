@@ -3,3 +3,5 @@ pub mod Listing
 pub mod ReadBack
 pub mod LineEnds
 pub mod Parts
+pub mod Reasoning
+pub mod Printing

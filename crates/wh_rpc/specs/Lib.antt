@@ -1,5 +1,6 @@
 pub mod Requests
 pub mod Responses
+pub mod Reasons
 pub mod Tables
 pub mod Steps
 pub mod WrittenLines

@@ -2,6 +2,7 @@
 //! table of open calls, each law as the contract of a function that does nothing. `T` is what waits
 //! for a response.
 
+ghost use Rattle.wh_rpc.specs.Reasons.{MeaningsHaveNoFault, ReasonsComeInOrder};
 ghost use Rattle.wh_rpc.specs.Steps.{IdsRunUpwards, ResponsesFindTheirCalls};
 ghost use Rattle.wh_rpc.specs.Steps.{ResponsesAreGivenOnce, EndedCallsStayEnded, PollsEndAtShutdown};
 ghost use Rattle.wh_rpc.specs.WrittenLines.{WrittenLinesReadBack};
@@ -9,6 +10,13 @@ ghost use Rattle.wh_rpc.specs.WrittenLines.{WrittenLinesReadBack};
 /// A line that is a written response, or a written shutdown, is read as it was written.
 pub fn written_lines_read_back()
     ensures { WrittenLinesReadBack }
+{}
+
+/// A line says nothing for a reason exactly where this is the first that applies to it, in the order
+/// of `BadLine`. To a line that says something no reason applies.
+pub fn reasons_come_in_order()
+    ensures first { ReasonsComeInOrder }
+    ensures none { MeaningsHaveNoFault }
 {}
 
 /// Ids are given one after the other, and none twice.

@@ -17,10 +17,9 @@ fn request_value(alloc: Global, id: u64, method: &str, params: Value) -> Result<
     json!(in alloc; {"id": id, "jsonrpc": "2.0", "method": method, "params": params})
 }
 
-/// The text of a request, without a line end. Of parameters that hold no float it is compact and
-/// one line: no byte in it is below 32. It reads as the request, unless the parameters nest deeper
-/// than 126. An error where there was no memory for it.
-#[tactic(auto, using(crate::proofs::OneLine::compact_is_one_line))]
+/// The text of a request, without a line end. It is one line: no byte in it is below 32. Of parameters
+/// that hold no float it is compact. It reads as the request, unless the parameters nest deeper than
+/// 126. An error where there was no memory for it.
 pub fn request_text(
     alloc: Global,
     id: u64,
@@ -29,7 +28,7 @@ pub fn request_text(
 ) -> Result<String, AllocError>
     ensures text { IfOk result (λ text. has_float (view params) ≡ false
         → string_bytes text ≡ compact_text (request_data id method.now (view params))) }
-    ensures one_line { IfOk result (λ text. has_float (view params) ≡ false → IsOneLine (string_bytes text)) }
+    ensures one_line { IfOk result (λ text. IsOneLine (string_bytes text)) }
     ensures reads_back { IfOk result (λ text. depth (view params) < max_depth
         → read (string_bytes text) ≡ Some (request_data id method.now (view params))) }
 {

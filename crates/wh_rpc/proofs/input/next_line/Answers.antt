@@ -1,4 +1,4 @@
-use Rattle.std.proofs.Common.{◌≡◌, ◌<◌, [], length, sym, ap, ◌∙◌, arith}
+use Rattle.std.proofs.Common.{◌≡◌, ◌<◌, length, arith}
 use Rattle.wh_rpc.proofs.LineEnds.{if_some, line_is_next, nothing_next}
 use Rattle.wh_rpc.proofs.Parts.{left_after}
 use Rattle.wh_rpc.proofs.input.next_line.Goals as goal

@@ -1,4 +1,4 @@
-use Rattle.std.proofs.Common.{◌≡◌, ◌-◌, ◌==◌, ◌||◌, length, ap, subst, sym, ◌∙◌, rules}
+use Rattle.std.proofs.Common.{subst, sym, rules}
 use Rattle.std.specs.Io.BufRead.{FillKeeps}
 use Rattle.wh_rpc.specs.Private.Input.{ReadsOn}
 use Rattle.wh_rpc.proofs.Parts.{part_read}

@@ -1,0 +1,64 @@
+-- Why a line says nothing: each reason by itself, and their order.
+use Rattle.std.specs.Prelude.{◌≡◌, ◌≢◌, ◌↔◌, ◌<◌, ◌⊎◌, ℕ, List, length, codes, Some, None, Ok, Err, IsUtf8}
+use Rattle.serde_json.specs.Data.{Data}
+use Rattle.serde_json.specs.Find.{get, as_object, as_str}
+use Rattle.serde_json.specs.Read.{read}
+use Rattle.wh_rpc.specs.declared.bad_line.BadLine.{BadLine}
+use Rattle.wh_rpc.specs.declared.bad_line.BadLine.TheVariants as bad
+use Rattle.wh_rpc.specs.Responses.{Meaning, code_of, id_of, message_of, longest, meaning}
+
+-- without a method it has to be a response
+abbrev pub HasNoMethod : Data → Type 0
+HasNoMethod d = get (codes "method") d ≡ None
+
+-- the reason lies in the value of the line
+abbrev pub IsFaulty : BadLine → Data → Type 0
+IsFaulty bad.TooLong d = ⊥
+IsFaulty bad.NotUtf8 d = ⊥
+IsFaulty bad.NotJson d = ⊥
+IsFaulty bad.NotObject d = as_object d ≡ None
+IsFaulty bad.NotResponse d =
+    (method : Data) × (get (codes "method") d ≡ Some method) × (as_str method ≢ Some (codes "shutdown"))
+IsFaulty bad.TwoOutcomes d = HasNoMethod d × (get (codes "result") d ≢ None) × (get (codes "error") d ≢ None)
+IsFaulty bad.BadId d = HasNoMethod d × (id_of d ≡ None)
+IsFaulty bad.NoOutcome d = HasNoMethod d × (get (codes "result") d ≡ None) × (get (codes "error") d ≡ None)
+IsFaulty bad.BadError d = HasNoMethod d
+    × ((error : Data) × (get (codes "error") d ≡ Some error) × ((code_of error ≡ None) ⊎ (message_of error ≡ None)))
+IsFaulty bad.OutOfMemory d = ⊥
+
+-- the line has a value, in which the reason lies
+abbrev pub HasFault : BadLine → List ℕ → Type 0
+HasFault reason bytes = (d : Data) × (read bytes ≡ Some d) × IsFaulty reason d
+
+-- the reason applies to the line, whatever others do
+abbrev pub Applies : BadLine → List ℕ → Type 0
+Applies bad.TooLong bytes = longest < length bytes
+Applies bad.NotUtf8 bytes = ¬ IsUtf8 bytes
+Applies bad.NotJson bytes = read bytes ≡ None
+Applies reason bytes = HasFault reason bytes
+
+-- the order of the reasons
+abbrev pub rank : BadLine → ℕ
+rank bad.TooLong = 0
+rank bad.NotUtf8 = 1
+rank bad.NotJson = 2
+rank bad.NotObject = 3
+rank bad.NotResponse = 4
+rank bad.TwoOutcomes = 5
+rank bad.BadId = 6
+rank bad.NoOutcome = 7
+rank bad.BadError = 8
+rank bad.OutOfMemory = 9
+
+-- the reason applies, and none that comes before it
+pub record IsFirst (reason : BadLine) (bytes : List ℕ) : Type 0 where
+  pub applies : Applies reason bytes
+  pub first : (other : BadLine) → rank other < rank reason → ¬ Applies other bytes
+
+-- a line says nothing for the first reason that applies to it
+abbrev pub ReasonsComeInOrder : Type 0
+ReasonsComeInOrder = (bytes : List ℕ) (reason : BadLine) → (meaning bytes ≡ Err reason) ↔ IsFirst reason bytes
+
+-- to a line that says something no reason applies
+abbrev pub MeaningsHaveNoFault : Type 0
+MeaningsHaveNoFault = (bytes : List ℕ) (said : Meaning) (reason : BadLine) → meaning bytes ≡ Ok said → ¬ Applies reason bytes
