@@ -26,7 +26,7 @@ HOSTILE = [
     b'{"jsonrpc":"2.0","id":%d,"error":{"code":"5","message":"letters"}}',
     b'{"jsonrpc":"2.0","id":%d,"error":5}',
     b'{"jsonrpc":"2.0","method":"restart"}',
-    b'{"jsonrpc":"2.0","id":%d,"result":{"taskToken":"\xff\xfe"}}',
+    b'[{"jsonrpc":"2.0","id":%d,"result":{"taskToken":"\xff\xfe"}}]',
     b"[" * 1000,
 ]
 

@@ -3,7 +3,7 @@ use Rattle.std.specs.Prelude.{◌≡◌, ◌≢◌, ◌⊎◌, ℕ, ◌+◌, ◌
 use Rattle.wh_rpc.specs.Tables.{Table, IsFirst, Opens, Takes, Drains, Closes, refuses, is_id}
 
 -- what happened: a call, or a poll, was opened under an id; a response came for an id, and was given
--- to what waited under it; the other end shut down; all calls ended
+-- to what waited under it; the bridge shut down; all calls ended
 pub data Step (T : Type 0) : Type 0 where
   opened : Bool → T → ℕ → Step T
   answered : ℕ → Option T → Step T
@@ -102,7 +102,7 @@ EndedCallsStayEnded T =
     → Closes first middle → DoesAll middle steps last
     → (ids_given steps ≡ []) × (refuses is_poll last ≡ true)
 
--- after the other end has told that it shuts down no poll is opened, and each one that is asked for
+-- after the bridge gave notice that it shuts down no poll is opened, and each one that is asked for
 -- is refused
 abbrev pub PollsEndAtShutdown : Type 0 → Type 0
 PollsEndAtShutdown T =

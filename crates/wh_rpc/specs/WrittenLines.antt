@@ -1,4 +1,4 @@
--- How JSON-RPC 2.0 writes what the other end says.
+-- How JSON-RPC 2.0 writes what the bridge says.
 use Rattle.std.specs.Prelude.{◌≡◌, ℕ, ◌<◌, ◌≤◌, ◌^◌, ℤ, pos, negsuc, List, length, codes, Some, Ok, ⊤, IsUtf8}
 use Rattle.serde_json.specs.Data.{Data, number, unsigned, string, object, member, no_members}
 use Rattle.serde_json.specs.Find.{of_integer}

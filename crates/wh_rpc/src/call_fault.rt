@@ -9,8 +9,8 @@ use thiserror::Error;
 /// Why a call has no outcome.
 #[derive(Clone, Copy, PartialEq, Eq, Debug, Error)]
 pub enum CallFault {
-    /// There are no more responses: the other end has closed, or what was written to it before was
-    /// lost. For a poll also: the other end shuts down.
+    /// There are no more responses: the bridge has closed the connection, or what was written to it
+    /// before was lost. For a poll also: the bridge shuts down.
     #[error("the bridge has closed")]
     Closed,
     /// The request could not be written. Part of it may be written, so no later one is.

@@ -1,4 +1,4 @@
-//! Calls by many threads over one pair of streams.
+//! Calls by many threads over one connection.
 
 use crate::call_fault::CallFault;
 use crate::open_calls::OpenCalls;
@@ -26,7 +26,7 @@ pub trait Caller {
         params: Value,
     ) -> Result<(u64, Outcome), CallFault>;
 
-    /// As `call`, but `Closed` also once the other end gave notice that it shuts down.
+    /// As `call`, but `Closed` also once the bridge gave notice that it shuts down.
     fn poll<R: Wait>(
         &self,
         rt: &R,
@@ -45,7 +45,7 @@ pub trait Caller {
     fn close<R: Wait>(&self, rt: &R);
 }
 
-/// The calls over one pair of streams: requests go to the writer, a line each.
+/// The calls over one connection: requests go to the writer, a line each.
 #[derive(Drop)]
 pub struct Calls<W> {
     alloc: Global,

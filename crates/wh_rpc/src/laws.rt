@@ -31,7 +31,7 @@ pub fn responses_find_their_calls<T>()
     ensures once { ResponsesAreGivenOnce T }
 {}
 
-/// After the calls have ended none is opened. After the other end gave notice that it shuts down no
+/// After the calls have ended none is opened. After the bridge gave notice that it shuts down no
 /// poll is.
 pub fn ended_calls_stay_ended<T>()
     ensures ended { EndedCallsStayEnded T }

@@ -1,4 +1,4 @@
-//! Calls of JSON-RPC 2.0 by many threads over one pair of streams, one object a line.
+//! Calls of JSON-RPC 2.0 by many threads over one connection, one object a line.
 //!
 //! The host sends requests and the bridge answers them, in any order. A response goes to the call
 //! of its id, once. The bridge can give notice that it shuts down, and its end is the end of all

@@ -17,7 +17,7 @@ use std::alloc::Global;
 /// The most bytes of a line: 128 MiB.
 pub const MAX_LINE: usize = 134_217_728;
 
-/// What the other end says to a call.
+/// What the bridge says to a call.
 #[derive(Debug, Drop)]
 pub enum Outcome {
     /// The call was done, with this result.
@@ -31,7 +31,7 @@ pub enum Outcome {
     },
 }
 
-/// What the other end says to the call of this id.
+/// What the bridge says to the call of this id.
 #[derive(Debug, Drop)]
 pub struct Response {
     /// The id of the call.
