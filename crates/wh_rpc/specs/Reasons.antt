@@ -61,4 +61,5 @@ ReasonsComeInOrder = (bytes : List ℕ) (reason : BadLine) → (meaning bytes �
 
 -- to a line that says something no reason applies
 abbrev pub MeaningsHaveNoFault : Type 0
-MeaningsHaveNoFault = (bytes : List ℕ) (said : Meaning) (reason : BadLine) → meaning bytes ≡ Ok said → ¬ Applies reason bytes
+MeaningsHaveNoFault =
+    (bytes : List ℕ) (said : Meaning) (reason : BadLine) → meaning bytes ≡ Ok said → ¬ Applies reason bytes

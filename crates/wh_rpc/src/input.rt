@@ -1,6 +1,7 @@
 //! The lines of an input.
 
-ghost use Rattle.std.specs.Prelude.{◌≡◌, ◌≤◌, ◌==◌, ◌||◌, IfOk, IfSome, OnErr, OnOk, Some, option_map, take, length, min};
+ghost use Rattle.std.specs.Prelude.{◌≡◌, ◌≤◌, ◌==◌, ◌||◌, IfOk, IfSome, OnOk, Some};
+ghost use Rattle.std.specs.Prelude.{length, min, option_map, take};
 ghost use Rattle.std.specs.Io.BufRead.{take_through, strip_last};
 ghost use Rattle.std.specs.Io.KnownBytes.{Consumes};
 ghost use Rattle.wh_rpc.specs.Responses.{longest};
