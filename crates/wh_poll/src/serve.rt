@@ -182,7 +182,7 @@ fn polled_workflow<S: TaskSource>(
 }
 
 /// Answers a workflow task from the run that was cached, if one was, and gives the run to the
-/// cache, unless the source keeps it from there.
+/// cache where the source lets the run of this task be cached.
 fn answer_held<R: Wait, W: Workflow, T: Ledger, C: Ledger, F: Ledger, S: TaskSource>(
     rt: &R,
     alloc: Global,
@@ -199,17 +199,8 @@ fn answer_held<R: Wait, W: Workflow, T: Ledger, C: Ledger, F: Ledger, S: TaskSou
     ensures keeps { KeepsSource S.delivers S.tells S.comes_from source.old source.new }
 {
     let Answered { run, sent } = answer_by_replay(alloc, cached, task, source);
-    give_back(rt, host, held, kept(source, run));
+    give_back(rt, host, held, run);
     sent
-}
-
-/// The run, where the source lets it be cached.
-fn kept<W: Workflow, S: TaskSource>(source: &S, run: Option<Run<W>>) -> Option<Run<W>> {
-    if !source.keeps_run() {
-        drop(run);
-        return None;
-    }
-    run
 }
 
 /// Serves an activity task under the permit.

@@ -34,6 +34,11 @@ abbrev pub ended : Result Reply StepFault → Outcome
 ended (Ok reply) = reply.outcome
 ended (Err fault) = Failed
 
+-- the outcome of a task whose answer the source took, else why it did not
+abbrev pub outcome_if_sent : {A : Type 0} → Result A SourceFault → Outcome → Result Outcome StepFault
+outcome_if_sent (Ok x) outcome = Ok outcome
+outcome_if_sent (Err fault) outcome = Err (Source fault)
+
 -- what a turn has served that got no slot
 abbrev pub unreserved : ReserveFault → Served
 unreserved NoSlotIsFree = NoSlot
