@@ -55,6 +55,11 @@ UNTAKEN = r"Counts \{ taken: 0, completed: 0, failed: 0, in_hand: 0, cached: 0, 
 # The run is given to the cache also where its answer could not be sent.
 FAILED = r"Counts \{ taken: 1, completed: 0, failed: 1, in_hand: 0, cached: (0, cached_events: 0|1, cached_events: 3), " + FREE
 UNCACHED = r"Counts \{ taken: 1, completed: 1, failed: 0, in_hand: 0, cached: 0, cached_events: 0, " + FREE
+# The second task of a run whose first answer was taken, over a source that caches only runs whose answers it took.
+NEXT_UNANSWERED = r"Err\(OutOfMemory\)|Ok\(NoMemory \{ name: TaskName\(8\) \}\)"
+NEXT_ANSWERED = r"Ok\(Workflow \{ name: TaskName\(8\), hit: true, steps: 2, outcome: Completed \}\)"
+NEXT_FAILED = r"Counts \{ taken: 2, completed: 1, failed: 1, in_hand: 0, cached: 0, cached_events: 0, " + FREE
+NEXT_UNCACHED = r"Counts \{ taken: 2, completed: 2, failed: 0, in_hand: 0, cached: 0, cached_events: 0, " + FREE
 # The calls of bench_trials, and the ways in which each may want memory: an answer, and what stands after it (SAME: what stood before).
 CALLS = {
     "read_events": [(NO_MEMORY, SAME)],
@@ -82,7 +87,13 @@ CALLS = {
     "HostState::open without workflow slots": [],
     "Host::open": [("OutOfMemory", NOTHING)],
     "serve_one": [(UNANSWERED, UNTAKEN), (UNANSWERED, FAILED), (ANSWERED, UNCACHED)],
+    "serve_one of the next task": [(NEXT_UNANSWERED, SAME), (NEXT_UNANSWERED, NEXT_FAILED), (NEXT_ANSWERED, NEXT_UNCACHED)],
     "check_all": [(NO_MEMORY, NOTHING), (CHECKED, NOTHING)],
+}
+# Of the calls that take a task: how its counts begin then, and what a run has to end in that is out of memory after that.
+TAKEN = {
+    "serve_one": ("taken: 1", "Ok(NoMemory { name: TaskName(3) })", FAILED),
+    "serve_one of the next task": ("taken: 2", "Ok(NoMemory { name: TaskName(8) })", NEXT_FAILED),
 }
 
 
@@ -206,17 +217,18 @@ def try_call(refusals, name):
     wants = sum(ran != ample for _, ran in runs)
     if CALLS[name] and not wants:
         wrong.append((0, "no run wanted memory"))
-    if name == "serve_one":
-        wrong += after_use(runs)
+    if name in TAKEN:
+        wrong += after_use(name, runs)
     return tell(f"{name}, {asked} requests", len(runs), wrong, f", {wants} out of memory")
 
 
-def after_use(runs):
+def after_use(name, runs):
     """What is wrong with the first run of `serve_one` whose task was taken before the refusal, if anything is: it has to fail."""
+    taken, unanswered, failed = TAKEN[name]
     for number, ran in runs:
-        _, answer, after = parts_of("serve_one", ran[1])
-        if "taken: 1" in after:
-            is_right = answer == "Ok(NoMemory { name: TaskName(3) })" and re.fullmatch(FAILED, after)
+        _, answer, after = parts_of(name, ran[1])
+        if taken in after:
+            is_right = answer == unanswered and re.fullmatch(failed, after)
             return [] if is_right else [(number, f"the first growth after the use: {ran}")]
     return [(0, "no run took the task")]
 

@@ -6,6 +6,7 @@ mod files;
 mod hosts;
 mod runs;
 mod saying;
+mod strict_source;
 mod tracks;
 
 use std::alloc::Global;
@@ -42,16 +43,17 @@ enum Call {
     OpenHost,
     GiveRun,
     ServeOne,
+    ServeNext,
 }
 
 /// All calls, in the order in which they are made.
 #[rattlefmt::skip]
-const CALLS: [Call; 26] = [
+const CALLS: [Call; 27] = [
     Call::ReadEvents, Call::CheckAll, Call::Push, Call::Issue, Call::Ask, Call::Reduced, Call::Jobs,
     Call::Step, Call::FromFirst, Call::Check, Call::Answer, Call::Advance, Call::AdvanceByGap,
     Call::ReplayTask, Call::ReplayTaskFromFirst, Call::ReplayTaskAsTold, Call::Put, Call::PutOfLonger,
     Call::OpenBooks, Call::OpenSlots, Call::OpenSticky, Call::OpenState, Call::OpenStateWithoutSlots,
-    Call::OpenHost, Call::GiveRun, Call::ServeOne,
+    Call::OpenHost, Call::GiveRun, Call::ServeOne, Call::ServeNext,
 ];
 
 impl Call {
@@ -84,6 +86,7 @@ impl Call {
             Call::OpenHost => "Host::open",
             Call::GiveRun => "give_run",
             Call::ServeOne => "serve_one",
+            Call::ServeNext => "serve_one of the next task",
         }
     }
 }

@@ -4,7 +4,9 @@ ghost use Rattle.order_worker.specs.Inbox.{events_up_to, told};
 
 use std::alloc::Global;
 use wh_events::{Event, OutOfMemory, RunKey};
-use wh_poll::{ActivityAnswer, ActivityTask, Polled, Sent, SourceFault, TaskSource, WorkflowTask};
+use wh_poll::{
+    ActivityAnswer, ActivityTask, Polled, RunUse, Sent, SourceFault, TaskSource, WorkflowTask,
+};
 use wh_replay::Answer;
 use wh_slots::TaskName;
 
@@ -128,6 +130,9 @@ impl TaskSource for Inbox {
 
     ghost comes_from = { λ later first. Unit {0} };
 
+    // No history goes on otherwise than the tasks that were put in.
+    ghost caches = { λ inbox name. Unit {0} };
+
     fn poll_workflow(&mut self) -> Result<Polled<WorkflowTask>, SourceFault> {
         let Some(task) = self.workflow_tasks.get(self.next_workflow) else {
             return Ok(Polled::Closed);
@@ -165,6 +170,10 @@ impl TaskSource for Inbox {
             Ok(()) => Ok(()),
             Err(_) => Err(SourceFault::OutOfMemory),
         }
+    }
+
+    fn without_answer(&self) -> RunUse {
+        RunUse::Cache
     }
 
     fn answer_activity(

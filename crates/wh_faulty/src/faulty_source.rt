@@ -1,6 +1,7 @@
 //! A source of which one call fails.
 ghost use Rattle.std.specs.Prelude.{◌≡◌, ◌+◌, ◌-◌, ◌++◌, ◌∷◌, [], cond, eqb, IfOk, OnOk, OnErr};
-ghost use Rattle.wh_tasks.specs.Source.{Delivery, FailsOnly, IfTask, KeepsSource};
+ghost use Rattle.wh_tasks.specs.Source.{CachesAll, CachesNoMore, Delivery, FailsOnly, IfTask, KeepsSource};
+ghost use Rattle.wh_tasks.specs.declared.source.RunUse.{RunUse};
 ghost use Rattle.wh_tasks.specs.declared.source.Sent.{Sent};
 ghost use Rattle.wh_faulty.specs.Failing.{Counts, spent, failures_of};
 
@@ -8,13 +9,17 @@ use std::marker::Model;
 use wh_events::{Event, RunKey};
 use wh_replay::Answer;
 use wh_slots::TaskName;
-use wh_tasks::{ActivityAnswer, ActivityTask, Polled, SourceFault, TaskSource, WorkflowTask};
+use wh_tasks::{
+    Acceptance, ActivityAnswer, ActivityTask, Polled, RunUse, SourceFault, TaskSource, WorkflowTask,
+};
 
 /// Another source, of which one call fails and does not reach it. Every other call is the other
-/// source's, and so is what polls and `whole` may give.
+/// source's, and so is what polls and `whole` may give and of which tasks the runs may be cached.
 ///
-/// A failing call answers `Source`, and the count of failures rises with it. Contracts see the
-/// other source and which of the calls to come fails, counted from 1: 0 where none does any more.
+/// A failing call answers `Source`, and the count of failures rises with it. The answer of such a
+/// call was never sent to the other source, which says by that what becomes of the run. Contracts
+/// see the other source and which of the calls to come fails, counted from 1: 0 where none does any
+/// more.
 #[derive(Drop)]
 pub struct FaultySource<S> {
     inner: S,
@@ -30,8 +35,8 @@ impl<S> Model for FaultySource<S> {
 }
 
 impl<S> FaultySource<S> {
-    /// The source whose call number `fail_at` fails. All five calls are counted together, from 1.
-    /// With 0 no call fails. It takes no memory.
+    /// The source whose call number `fail_at` fails. Polls, questions for a history and answers are
+    /// counted together, from 1. With 0 no call fails. It takes no memory.
     pub fn new(inner: S, fail_at: u64) -> FaultySource<S>
         ensures { result ≡ (inner, fail_at) }
     {
@@ -68,11 +73,14 @@ impl<S: TaskSource> TaskSource for FaultySource<S> {
 
     ghost comes_from = { λ later first. S.comes_from later.0 first.0 };
 
+    ghost caches = { λ source. S.caches source.0 };
+
     fn poll_workflow(&mut self) -> Result<Polled<WorkflowTask>, SourceFault>
         ensures counted { Counts self.old result self.new }
 
         // What every source ensures, of this one.
         ensures task { IfOk result (IfTask (λ task. S.delivers self.old.0 (Delivery.Workflow task))) }
+        ensures run { IfOk result (IfTask (λ task. S.caches self.new.0 task.name → CachesAll S.caches self.new.0)) }
         ensures answers { S.answers self.new.0 ≡ S.answers self.old.0 }
         ensures failures { FailsOnly result (failures_of S.failures self.old) (failures_of S.failures self.new) }
         ensures keeps { KeepsSource S.delivers S.tells S.comes_from self.old.0 self.new.0 }
@@ -103,6 +111,7 @@ impl<S: TaskSource> TaskSource for FaultySource<S> {
 
         // What every source ensures, of this one.
         ensures told { IfOk result (λ history. S.tells self.old.0 key.now up_to history.items) }
+        ensures runs { CachesNoMore S.caches self.old.0 self.new.0 }
         ensures answers { S.answers self.new.0 ≡ S.answers self.old.0 }
         ensures failures { FailsOnly result (failures_of S.failures self.old) (failures_of S.failures self.new) }
         ensures keeps { KeepsSource S.delivers S.tells S.comes_from self.old.0 self.new.0 }
@@ -127,6 +136,36 @@ impl<S: TaskSource> TaskSource for FaultySource<S> {
             return Err(SourceFault::Source);
         }
         self.inner.answer_workflow(name, answer)
+    }
+
+    fn answer_replayed(
+        &mut self,
+        name: TaskName,
+        answer: &Answer,
+        events: &[Event],
+        steps: u64,
+    ) -> Acceptance
+        ensures counted { Counts self.old result.sent self.new }
+
+        // What every source ensures, of this one.
+        ensures sent { OnOk result.sent
+            (S.answers self.new.0 ≡ S.answers self.old.0 ++ (name, Sent.Workflow answer.now) ∷ []) }
+        ensures unsent { OnErr result.sent (S.answers self.new.0 ≡ S.answers self.old.0) }
+        ensures run { result.run ≡ RunUse.Cache → S.caches self.new.0 name }
+        ensures failures { FailsOnly result.sent (failures_of S.failures self.old) (failures_of S.failures self.new) }
+        ensures keeps { KeepsSource S.delivers S.tells S.comes_from self.old.0 self.new.0 }
+    {
+        if is_due(&mut self.left) {
+            return Acceptance {
+                sent: Err(SourceFault::Source),
+                run: self.inner.without_answer(),
+            };
+        }
+        self.inner.answer_replayed(name, answer, events, steps)
+    }
+
+    fn without_answer(&self) -> RunUse {
+        self.inner.without_answer()
     }
 
     fn answer_activity(

@@ -28,8 +28,8 @@ pub struct Config {
 }
 
 impl Config {
-    /// Whether each size is within its range.
-    pub(crate) fn is_within(&self) -> bool
+    /// Whether each size is within its range, so that a host of these sizes may be opened.
+    pub fn is_within(&self) -> bool
         ensures { IsTrue result ↔ IsConfig self.now }
     {
         0 < self.workflow_slots

@@ -1,2 +1,3 @@
 -- What no contract of a public item cites: only those of private functions, and what types keep over private fields.
 pub mod Serve
+pub mod Spares

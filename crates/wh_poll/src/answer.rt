@@ -1,9 +1,10 @@
 //! Answers to tasks: a task is replayed or run, and its answer is sent.
-ghost use Rattle.std.specs.Prelude.{◌≡◌, Err, IfOk, IfSome};
+ghost use Rattle.std.specs.Prelude.{◌≡◌, None, Err, IfOk, IfSome};
 ghost use Rattle.wh_tasks.specs.Source.{KeepsSource, SameMay};
 ghost use Rattle.wh_tasks.specs.Tasks.{IsAnswer, HasAnswer, FailsOnlySource};
+ghost use Rattle.wh_tasks.specs.declared.source.RunUse.{RunUse};
 ghost use Rattle.wh_poll.specs.Serve.{outcome_of, activity_outcome};
-ghost use Rattle.wh_poll.specs.Private.Serve.{held_by, Sends, SendsAnswer, SendsActivity};
+ghost use Rattle.wh_poll.specs.Private.Serve.{held_by, outcome_if_sent, Sends, SendsAnswer, SendsActivity};
 
 use std::alloc::Global;
 use wh_events::{Event, OutOfMemory};
@@ -11,8 +12,8 @@ use wh_host::Outcome;
 use wh_replay::{Answer, Fault, Run};
 use wh_slots::TaskName;
 use wh_tasks::{
-    ActivityAnswer, ActivityHandler, ActivityTask, StepFault, Stepped, TaskSource, WorkflowTask,
-    replay_task,
+    ActivityAnswer, ActivityHandler, ActivityTask, RunUse, SourceFault, StepFault, Stepped,
+    TaskSource, WorkflowTask, replay_task,
 };
 use wh_workflow::{Meter, Workflow};
 
@@ -24,15 +25,22 @@ pub(crate) struct Reply {
     pub(crate) outcome: Outcome,
 }
 
-/// The run that replay gave, and what was sent.
+/// The run that may be cached, if there is one, and what was sent.
 #[derive(Drop)]
 pub(crate) struct Answered<W: Workflow> {
     pub(crate) run: Option<Run<W>>,
     pub(crate) sent: Result<Reply, StepFault>,
 }
 
-/// Replays a workflow task over a new meter, and sends the answer. Also where sending fails the run
-/// comes back.
+/// How a workflow task ends whose answer was to be sent, and what becomes of its run.
+#[derive(Clone, Copy)]
+struct TaskEnd {
+    outcome: Result<Outcome, StepFault>,
+    run: RunUse,
+}
+
+/// Replays a workflow task over a new meter, and sends the answer. The run that replay gave comes
+/// back where the source lets the run of this task be cached, also where sending fails.
 pub(crate) fn answer_by_replay<W: Workflow, S: TaskSource>(
     alloc: Global,
     run: Option<Run<W>>,
@@ -42,6 +50,7 @@ pub(crate) fn answer_by_replay<W: Workflow, S: TaskSource>(
     requires { IfSome run (λ run. run.key ≡ task.run) }
     ensures sends { Sends W.program (S.tells source.old) run task
         (S.answers source.old) (S.answers source.new) result.sent }
+    ensures run { IfSome result.run (λ _. S.caches source.new task.name) }
     ensures failures { FailsOnlySource result.sent (S.failures source.old) (S.failures source.new) }
     ensures keeps { KeepsSource S.delivers S.tells S.comes_from source.old source.new }
 {
@@ -62,7 +71,8 @@ pub(crate) fn answer_by_replay<W: Workflow, S: TaskSource>(
         Err(fault) => return not_answered(fault),
     };
     let steps = meter.count();
-    let sent = match send_answer(alloc, name, &run, fault, steps, source) {
+    let end = send_answer(alloc, name, &run, fault, steps, source);
+    let sent = match end.outcome {
         Ok(outcome) => Ok(Reply {
             hit,
             steps,
@@ -70,12 +80,25 @@ pub(crate) fn answer_by_replay<W: Workflow, S: TaskSource>(
         }),
         Err(fault) => Err(fault),
     };
+    let run = used(run, end.run);
     Answered { run, sent }
+}
+
+/// The run, where it may be cached.
+fn used<W: Workflow>(run: Option<Run<W>>, run_use: RunUse) -> Option<Run<W>>
+    ensures kept { IfSome result (λ _. run_use ≡ RunUse.Cache) }
+    ensures same { run_use ≡ RunUse.Cache → result ≡ run }
+{
+    match run_use {
+        RunUse::Cache => run,
+        RunUse::Discard => None,
+    }
 }
 
 /// Nothing was sent, and no run comes back.
 fn not_answered<W: Workflow>(fault: StepFault) -> Answered<W>
-    ensures { result.sent ≡ Err fault }
+    ensures sent { result.sent ≡ Err fault }
+    ensures run { result.run ≡ None }
 {
     Answered {
         run: None,
@@ -83,7 +106,8 @@ fn not_answered<W: Workflow>(fault: StepFault) -> Answered<W>
     }
 }
 
-/// Sends the answer to a workflow task that was replayed in so many steps.
+/// Sends the answer to a workflow task that was replayed in so many steps. Where there is no memory
+/// for it, the source says what becomes of a run without an answer.
 fn send_answer<W: Workflow, S: TaskSource>(
     alloc: Global,
     name: TaskName,
@@ -91,16 +115,32 @@ fn send_answer<W: Workflow, S: TaskSource>(
     fault: Option<Fault>,
     steps: u64,
     source: &mut S,
-) -> Result<Outcome, StepFault>
+) -> TaskEnd
     requires { HasAnswer run.now fault }
-    ensures sends { SendsAnswer run.now fault name (S.answers source.old) (S.answers source.new) result }
-    ensures failures { FailsOnlySource result (S.failures source.old) (S.failures source.new) }
+    ensures sends { SendsAnswer run.now fault name (S.answers source.old) (S.answers source.new) result.outcome }
+    ensures run { result.run ≡ RunUse.Cache → S.caches source.new name }
+    ensures failures { FailsOnlySource result.outcome (S.failures source.old) (S.failures source.new) }
     ensures keeps { KeepsSource S.delivers S.tells S.comes_from source.old source.new }
 {
-    let answer = answer_of(alloc, run, fault)?;
+    let Ok(answer) = answer_of(alloc, run, fault) else {
+        return TaskEnd {
+            outcome: Err(StepFault::OutOfMemory),
+            run: source.without_answer(),
+        };
+    };
     let outcome = outcome_of(&answer);
-    let sent = source.answer_replayed(name, &answer, events_of(run), steps);
+    let acceptance = source.answer_replayed(name, &answer, events_of(run), steps);
     drop(answer);
+    TaskEnd {
+        outcome: outcome_if_sent(acceptance.sent, outcome),
+        run: acceptance.run,
+    }
+}
+
+/// The outcome of a task whose answer the source took, else why it did not.
+fn outcome_if_sent(sent: Result<(), SourceFault>, outcome: Outcome) -> Result<Outcome, StepFault>
+    ensures { result ≡ outcome_if_sent sent outcome }
+{
     match sent {
         Ok(()) => Ok(outcome),
         Err(fault) => Err(StepFault::Source(fault)),
@@ -161,10 +201,7 @@ pub(crate) fn answer_by_handler<S: TaskSource, A: ActivityHandler>(
     let outcome = activity_outcome(&answer);
     let sent = source.answer_activity(task.name, &answer);
     drop(answer);
-    match sent {
-        Ok(()) => Ok(outcome),
-        Err(fault) => Err(StepFault::Source(fault)),
-    }
+    outcome_if_sent(sent, outcome)
 }
 
 /// How an activity task ends with this answer.

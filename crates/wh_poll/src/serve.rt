@@ -9,7 +9,7 @@ ghost use Rattle.wh_host.specs.Machine.{with_taken};
 ghost use Rattle.wh_poll.specs.Serve.{Counts, MayCount};
 ghost use Rattle.wh_poll.specs.Private.Serve.{ended, unanswered};
 ghost use Rattle.wh_poll.specs.Private.Serve.{served_workflow, served_activity, unreserved, HasNoTask};
-ghost use Rattle.wh_poll.specs.Private.Serve.{IsRefused};
+ghost use Rattle.wh_poll.specs.Private.Serve.{IsRefused, Starts};
 
 use crate::answer::{Answered, Reply, answer_by_handler, answer_by_replay};
 use std::alloc::Global;
@@ -65,6 +65,15 @@ pub enum Served {
     Draining,
     /// All numbers of slots were given out, and the source was not polled.
     NumbersSpent,
+}
+
+/// How a turn starts once it has polled.
+#[derive(Drop)]
+enum TurnStart<T> {
+    /// With a task.
+    Task(T),
+    /// It is over: there is no task, and this was served.
+    Over(Result<Served, SourceFault>),
 }
 
 /// Serves one task of the kind, if there is one: reserves a slot, polls the source, takes the task
@@ -144,9 +153,9 @@ fn serve_workflow<R: Wait, W: Workflow, T: Ledger, C: Ledger, F: Ledger, S: Task
     ensures failures { FailsOnly result (S.failures source.old) (S.failures source.new) }
     ensures keeps { KeepsSource S.delivers S.tells S.comes_from source.old source.new }
 {
-    let task = match polled_workflow(source) {
-        Ok(task) => task,
-        Err(served) => return released(rt, host, permit, served),
+    let task = match start_workflow(source) {
+        TurnStart::Task(task) => task,
+        TurnStart::Over(served) => return released(rt, host, permit, served),
     };
     let name = task.name;
     let (held, cached) = match take_workflow(rt, host, permit, &task, seat) {
@@ -163,26 +172,23 @@ fn serve_workflow<R: Wait, W: Workflow, T: Ledger, C: Ledger, F: Ledger, S: Task
 }
 
 /// Polls a workflow task. Without one the turn has served what the poll says.
-fn polled_workflow<S: TaskSource>(
-    source: &mut S,
-) -> Result<WorkflowTask, Result<Served, SourceFault>>
-    ensures task { IfOk result (λ task. S.delivers source.old (WorkflowDelivery task)) }
-    ensures none { IfErr result HasNoTask }
+fn start_workflow<S: TaskSource>(source: &mut S) -> TurnStart<WorkflowTask>
+    ensures task { Starts (λ task. S.delivers source.old (WorkflowDelivery task)) HasNoTask result }
     ensures answers { S.answers source.new ≡ S.answers source.old }
-    ensures failures { MatchResult result (λ _. S.failures source.old ≤ S.failures source.new)
-        (λ served. FailsOnly served (S.failures source.old) (S.failures source.new)) }
+    ensures failures { Starts (λ _. S.failures source.old ≤ S.failures source.new)
+        (λ served. FailsOnly served (S.failures source.old) (S.failures source.new)) result }
     ensures keeps { KeepsSource S.delivers S.tells S.comes_from source.old source.new }
 {
     match source.poll_workflow() {
-        Ok(Polled::Task(task)) => Ok(task),
-        Ok(Polled::Nothing) => Err(Ok(Served::Idle)),
-        Ok(Polled::Closed) => Err(Ok(Served::Closed)),
-        Err(fault) => Err(Err(fault)),
+        Ok(Polled::Task(task)) => TurnStart::Task(task),
+        Ok(Polled::Nothing) => TurnStart::Over(Ok(Served::Idle)),
+        Ok(Polled::Closed) => TurnStart::Over(Ok(Served::Closed)),
+        Err(fault) => TurnStart::Over(Err(fault)),
     }
 }
 
 /// Answers a workflow task from the run that was cached, if one was, and gives the run to the
-/// cache, unless the source keeps it from there.
+/// cache where the source lets the run of this task be cached.
 fn answer_held<R: Wait, W: Workflow, T: Ledger, C: Ledger, F: Ledger, S: TaskSource>(
     rt: &R,
     alloc: Global,
@@ -199,17 +205,8 @@ fn answer_held<R: Wait, W: Workflow, T: Ledger, C: Ledger, F: Ledger, S: TaskSou
     ensures keeps { KeepsSource S.delivers S.tells S.comes_from source.old source.new }
 {
     let Answered { run, sent } = answer_by_replay(alloc, cached, task, source);
-    give_back(rt, host, held, kept(source, run));
+    give_back(rt, host, held, run);
     sent
-}
-
-/// The run, where the source lets it be cached.
-fn kept<W: Workflow, S: TaskSource>(source: &S, run: Option<Run<W>>) -> Option<Run<W>> {
-    if !source.keeps_run() {
-        drop(run);
-        return None;
-    }
-    run
 }
 
 /// Serves an activity task under the permit.
@@ -236,9 +233,9 @@ fn serve_activity<
     ensures keeps { KeepsSource S.delivers S.tells S.comes_from source.old source.new }
     ensures may { SameMay (A.may handler.old) (A.may handler.new) }
 {
-    let task = match polled_activity(source) {
-        Ok(task) => task,
-        Err(served) => return released(rt, host, permit, served),
+    let task = match start_activity(source) {
+        TurnStart::Task(task) => task,
+        TurnStart::Over(served) => return released(rt, host, permit, served),
     };
     let name = task.name;
     let Some(held) = take_activity(rt, host, permit, name, seat) else {
@@ -252,21 +249,18 @@ fn serve_activity<
 }
 
 /// Polls an activity task. Without one the turn has served what the poll says.
-fn polled_activity<S: TaskSource>(
-    source: &mut S,
-) -> Result<ActivityTask, Result<Served, SourceFault>>
-    ensures task { IfOk result (λ task. S.delivers source.old (ActivityDelivery task)) }
-    ensures none { IfErr result HasNoTask }
-    ensures failures { MatchResult result (λ _. S.failures source.old ≤ S.failures source.new)
-        (λ served. FailsOnly served (S.failures source.old) (S.failures source.new)) }
-    ensures keeps { KeepsSource S.delivers S.tells S.comes_from source.old source.new }
+fn start_activity<S: TaskSource>(source: &mut S) -> TurnStart<ActivityTask>
+    ensures task { Starts (λ task. S.delivers source.old (ActivityDelivery task)) HasNoTask result }
     ensures answers { S.answers source.new ≡ S.answers source.old }
+    ensures failures { Starts (λ _. S.failures source.old ≤ S.failures source.new)
+        (λ served. FailsOnly served (S.failures source.old) (S.failures source.new)) result }
+    ensures keeps { KeepsSource S.delivers S.tells S.comes_from source.old source.new }
 {
     match source.poll_activity() {
-        Ok(Polled::Task(task)) => Ok(task),
-        Ok(Polled::Nothing) => Err(Ok(Served::Idle)),
-        Ok(Polled::Closed) => Err(Ok(Served::Closed)),
-        Err(fault) => Err(Err(fault)),
+        Ok(Polled::Task(task)) => TurnStart::Task(task),
+        Ok(Polled::Nothing) => TurnStart::Over(Ok(Served::Idle)),
+        Ok(Polled::Closed) => TurnStart::Over(Ok(Served::Closed)),
+        Err(fault) => TurnStart::Over(Err(fault)),
     }
 }
 

@@ -10,6 +10,7 @@ ghost use Rattle.wh_recorded.specs.Calls.{ComesFrom};
 ghost use Rattle.wh_tasks.specs.Numbers.{last_number};
 ghost use Rattle.wh_tasks.specs.Source.{Delivery, FailsOnly, IfTask, KeepsOrigin, KeepsSource};
 ghost use Rattle.wh_tasks.specs.declared.source.Polled.{Polled};
+ghost use Rattle.wh_tasks.specs.declared.source.RunUse.{RunUse};
 ghost use Rattle.wh_tasks.specs.declared.source.Sent.{Sent};
 ghost use Rattle.wh_tasks.specs.declared.source.SourceFault.{SourceFault};
 
@@ -21,7 +22,8 @@ use wh_events::{Event, EventKind, Items, OutOfMemory, RunKey, Text};
 use wh_replay::Answer;
 use wh_slots::TaskName;
 use wh_tasks::{
-    ActivityAnswer, ActivityTask, Polled, Sent, SourceFault, TaskSource, WorkflowTask, last_number,
+    ActivityAnswer, ActivityTask, Polled, RunUse, Sent, SourceFault, TaskSource, WorkflowTask,
+    last_number,
 };
 
 /// The run id of each history's key.
@@ -444,6 +446,9 @@ impl TaskSource for ScriptSource {
 
     ghost comes_from = { ComesFrom };
 
+    // Its histories are given, and whatever is answered they go on as they stand.
+    ghost caches = { λ source name. Unit {0} };
+
     fn poll_workflow(&mut self) -> Result<Polled<WorkflowTask>, SourceFault>
         ensures next { IfOk result (λ polled. Polls self.old polled self.new) }
         ensures memory { IfErr result (λ fault. fault ≡ SourceFault.OutOfMemory) }
@@ -501,6 +506,12 @@ impl TaskSource for ScriptSource {
             return Err(SourceFault::OutOfMemory);
         };
         self.answers.store(name, Sent::Workflow(copy))
+    }
+
+    fn without_answer(&self) -> RunUse
+        ensures { result ≡ RunUse.Cache }
+    {
+        RunUse::Cache
     }
 
     fn answer_activity(

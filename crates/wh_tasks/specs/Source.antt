@@ -57,6 +57,14 @@ pub record KeepsSource {S : Type 0} (delivers : S → Delivers) (tells : S → T
   pub same : SameTasks (delivers old) (tells old) (delivers new) (tells new)
   pub origin : KeepsOrigin comes_from old new
 
+-- the runs of all tasks may be cached
+abbrev pub CachesAll : {S : Type 0} → (S → TaskName → Type 0) → S → Type 0
+CachesAll caches source = (name : TaskName) → caches source name
+
+-- no run may be cached that might not be before
+abbrev pub CachesNoMore : {S : Type 0} → (S → TaskName → Type 0) → S → S → Type 0
+CachesNoMore caches old new = (name : TaskName) → caches new name → caches old name
+
 -- both let the same answers be given
 abbrev pub SameMay : Answerable → Answerable → Type 0
 SameMay p q = (task : ActivityTask) (answer : ActivityAnswer) → p task answer ↔ q task answer

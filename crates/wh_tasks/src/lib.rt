@@ -8,6 +8,7 @@ mod task;
 
 pub use handler::{ActivityHandler, Gate, NoActivities, OpenGate};
 pub use source::{
-    ActivityAnswer, ActivityTask, Polled, Sent, SourceFault, TaskSource, WorkflowTask,
+    Acceptance, ActivityAnswer, ActivityTask, Polled, RunUse, Sent, SourceFault, TaskSource,
+    WorkflowTask,
 };
 pub use task::{StepFault, Stepped, last_number, replay_task};

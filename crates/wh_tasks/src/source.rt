@@ -83,18 +83,40 @@ pub enum SourceFault {
     OutOfMemory,
 }
 
+/// What becomes of the run that a workflow task was replayed to (Temporal documentation, "Sticky
+/// Execution").
+#[derive(Clone, Copy, PartialEq, Eq, Debug)]
+pub enum RunUse {
+    /// It may be cached, and a later task go on from it.
+    Cache,
+    /// It is dropped: the history may go on otherwise.
+    Discard,
+}
+
+/// What came of sending the answer to a workflow task.
+#[derive(Clone, Copy, PartialEq, Eq, Debug)]
+pub struct Acceptance {
+    /// Whether the source took the answer. After a fault nothing was taken.
+    pub sent: Result<(), SourceFault>,
+    /// What becomes of the run of the task.
+    pub run: RunUse,
+}
+
 /// A source of tasks, one for each worker: what a worker polls, and what it answers. It has a list
 /// of the answers that it took, a count of its failures, which no call lowers, two relations that
-/// no call changes: which tasks it delivers, and which histories it fetches (`tells`), and one that
-/// no call leads out of: which sources it comes from. That its histories are true is its own
-/// promise.
+/// no call changes: which tasks it delivers, and which histories it fetches (`tells`), one that no
+/// call leads out of: which sources it comes from, and one that holds of no task that was just
+/// polled unless it holds of all: of which tasks the runs may be cached. That its histories are
+/// true is its own promise.
 pub trait TaskSource {
     ghost use Rattle.wh_slots.specs.declared.TaskName.{TaskName};
     ghost use Rattle.wh_events.specs.declared.event.Event.{Event};
     ghost use Rattle.wh_events.specs.declared.key.RunKey.{RunKey};
     ghost use Rattle.wh_tasks.specs.declared.source.Sent.{Sent};
+    ghost use Rattle.wh_tasks.specs.declared.source.RunUse.{RunUse};
     ghost use Rattle.wh_tasks.specs.declared.source.Sent.TheVariants.{Workflow as OfWorkflow, Activity as OfActivity};
     ghost use Rattle.wh_tasks.specs.Source.{Delivery, Workflow, Activity, IfTask, FailsOnly, KeepsSource};
+    ghost use Rattle.wh_tasks.specs.Source.{CachesAll, CachesNoMore};
 
     /// The answers that were taken, with their tasks' names.
     ghost answers: { Self → List (TaskName × Sent) };
@@ -112,9 +134,14 @@ pub trait TaskSource {
     /// them, so a source says by it what its calls keep.
     ghost comes_from: { Self → Self → Type 0 };
 
-    /// The next workflow task, if there is one. A fault gives none, and sends nothing.
+    /// Of which tasks the runs may be cached.
+    ghost caches: { Self → TaskName → Type 0 };
+
+    /// The next workflow task, if there is one. Its run may not be cached before it is answered,
+    /// unless all may. A fault gives none, and sends nothing.
     fn poll_workflow(&mut self) -> Result<Polled<WorkflowTask>, SourceFault>
         ensures task { IfOk result (IfTask (λ task. delivers self.old (Workflow task))) }
+        ensures run { IfOk result (IfTask (λ task. caches self.new task.name → CachesAll caches self.new)) }
         ensures answers { answers self.new ≡ answers self.old }
         ensures failures { FailsOnly result (failures self.old) (failures self.new) }
         ensures keeps { KeepsSource delivers tells comes_from self.old self.new };
@@ -126,10 +153,11 @@ pub trait TaskSource {
         ensures failures { FailsOnly result (failures self.old) (failures self.new) }
         ensures keeps { KeepsSource delivers tells comes_from self.old self.new };
 
-    /// The history of a run from its first event up to the one of a number. A fault gives none, and
-    /// sends nothing.
+    /// The history of a run from its first event up to the one of a number. No run more may be
+    /// cached afterwards. A fault gives none, and sends nothing.
     fn whole(&mut self, key: &RunKey, up_to: u64) -> Result<Vec<Event>, SourceFault>
         ensures told { IfOk result (λ history. tells self.old key.now up_to history.items) }
+        ensures runs { CachesNoMore caches self.old self.new }
         ensures answers { answers self.new ≡ answers self.old }
         ensures failures { FailsOnly result (failures self.old) (failures self.new) }
         ensures keeps { KeepsSource delivers tells comes_from self.old self.new };
@@ -143,29 +171,34 @@ pub trait TaskSource {
 
     /// Sends the answer to the workflow task of a name, and shows the events that it was replayed
     /// from, those of the run that replay gave and none where it gave no run, and how many steps
-    /// replay took. A source that has to know the events, as for the number of the one that a
-    /// cancelled activity was scheduled by, or that logs the steps, answers here; for every other
-    /// one this is `answer_workflow`.
+    /// replay took. It says whether the run may be cached, also where sending failed: a source says
+    /// no where the answer does not count, so that the run may differ from the history that goes
+    /// on. A source that has to know the events, as for the number of the one that a cancelled
+    /// activity was scheduled by, that logs the steps, or that lets some runs alone be cached,
+    /// answers here. For every other one this is `answer_workflow`, and the run is used as one
+    /// without an answer.
     fn answer_replayed(
         &mut self,
         name: TaskName,
         answer: &Answer,
         _events: &[Event],
         _steps: u64,
-    ) -> Result<(), SourceFault>
-        ensures sent { OnOk result (answers self.new ≡ answers self.old ++ (name, OfWorkflow answer.now) ∷ []) }
-        ensures unsent { OnErr result (answers self.new ≡ answers self.old) }
-        ensures failures { FailsOnly result (failures self.old) (failures self.new) }
+    ) -> Acceptance
+        ensures sent { OnOk result.sent (answers self.new ≡ answers self.old ++ (name, OfWorkflow answer.now) ∷ []) }
+        ensures unsent { OnErr result.sent (answers self.new ≡ answers self.old) }
+        ensures run { result.run ≡ RunUse.Cache → caches self.new name }
+        ensures failures { FailsOnly result.sent (failures self.old) (failures self.new) }
         ensures keeps { KeepsSource delivers tells comes_from self.old self.new }
     {
-        self.answer_workflow(name, answer)
+        let sent = self.answer_workflow(name, answer);
+        let run = self.without_answer();
+        Acceptance { sent, run }
     }
 
-    /// Whether the run of the workflow task that was answered last may be cached. A source says no
-    /// where the answer does not count, so that the run may differ from the history that goes on.
-    fn keeps_run(&self) -> bool {
-        true
-    }
+    /// What becomes of the run of a workflow task whose answer was never sent, as where there was
+    /// no memory for it: `Cache` only where the runs of all tasks may be cached.
+    fn without_answer(&self) -> RunUse
+        ensures { result ≡ RunUse.Cache → CachesAll caches self.now };
 
     /// Sends the answer to the activity task of a name. After a fault nothing was taken.
     fn answer_activity(

@@ -5,6 +5,7 @@ ghost use Rattle.std.specs.Prelude.{◌≡◌};
 use crate::calls::Call;
 use crate::calls::runs::{ID, put_seen, source_of};
 use crate::calls::saying::{run_of, say, say_answer, say_nothing};
+use crate::calls::strict_source::StrictSource;
 use std::alloc::Global;
 use std::io::Print;
 use std::marker::Brand;
@@ -14,7 +15,7 @@ use wh_cache::Sticky;
 use wh_histories::key;
 use wh_host::{Config, Given, Host, HostState, OpenFault};
 use wh_ledger::{Books, Seat};
-use wh_poll::{NoActivities, OpenGate, serve_one};
+use wh_poll::{NoActivities, OpenGate, Served, SourceFault, TaskSource, serve_one};
 use wh_sample_workflows::Nap;
 use wh_slots::{Held, SlotKind, Slots, TaskName};
 
@@ -55,17 +56,22 @@ pub(crate) fn open_cache<R: Print>(rt: &R, alloc: Global, name: &str) -> Option<
     Some(())
 }
 
+/// Whether a call is made on what was opened before it.
+fn is_on_open(call: Call) -> bool {
+    matches!(call, Call::GiveRun | Call::ServeOne | Call::ServeNext)
+}
+
 /// Prints what stands before or after a call that opens something, which is nothing. No line about
 /// another call.
 fn say_beside<R: Print>(rt: &R, call: Call, part: &str) {
-    if !matches!(call, Call::GiveRun | Call::ServeOne) {
+    if !is_on_open(call) {
         say_nothing(rt, call.name(), part);
     }
 }
 
 /// Prints why nothing could be opened. `None` where that was to be called.
 fn say_fault<R: Print>(rt: &R, call: Call, fault: OpenFault) -> Option<()> {
-    if matches!(call, Call::GiveRun | Call::ServeOne) {
+    if is_on_open(call) {
         return None;
     }
     say(rt, call.name(), "answer", &fault);
@@ -222,6 +228,34 @@ fn call_state<R: Print, T: Ledger, C: Ledger, F: Ledger>(
     called
 }
 
+/// Serves a workflow task of a source, without activities.
+fn serve<R: Wait, T: Ledger, C: Ledger, F: Ledger, S: TaskSource>(
+    rt: &R,
+    alloc: Global,
+    host: &Host<Nap, T, C, F>,
+    seat: &mut Seat<T, C, F>,
+    source: &mut S,
+) -> Result<Served, SourceFault> {
+    let mut handler = NoActivities { alloc };
+    let kind = SlotKind::Workflow;
+    serve_one(rt, alloc, host, seat, source, &mut handler, &OpenGate, kind)
+}
+
+/// Serves the next task of a source, and prints what it answers and what is counted.
+fn say_served<R: Print + Wait, T: Ledger, C: Ledger, F: Ledger, S: TaskSource>(
+    rt: &R,
+    alloc: Global,
+    name: &str,
+    host: &Host<Nap, T, C, F>,
+    seat: &mut Seat<T, C, F>,
+    source: &mut S,
+) {
+    say_shared(rt, name, "before", host, seat);
+    let served = serve(rt, alloc, host, seat, source);
+    say_answer(rt, name, served);
+    say_shared(rt, name, "after", host, seat);
+}
+
 /// Serves the first task of a nap.
 fn serve_nap<R: Print + Wait, T: Ledger, C: Ledger, F: Ledger>(
     rt: &R,
@@ -231,21 +265,27 @@ fn serve_nap<R: Print + Wait, T: Ledger, C: Ledger, F: Ledger>(
     seat: &mut Seat<T, C, F>,
 ) -> Option<()> {
     let mut source = source_of(alloc, "nap/3")?;
-    say_shared(rt, name, "before", host, seat);
-    let served = serve_one(
-        rt,
-        alloc,
-        host,
-        seat,
-        &mut source,
-        &mut NoActivities { alloc },
-        &OpenGate,
-        SlotKind::Workflow,
-    );
-    say_answer(rt, name, served);
-    say_shared(rt, name, "after", host, seat);
+    say_served(rt, alloc, name, host, seat, &mut source);
     drop(source);
     Some(())
+}
+
+/// Serves the second task of a nap, once the answer to the first one was taken, over a source that
+/// lets a run be cached only where the answer to its task was.
+fn serve_next<R: Print + Wait, T: Ledger, C: Ledger, F: Ledger>(
+    rt: &R,
+    alloc: Global,
+    name: &str,
+    host: &Host<Nap, T, C, F>,
+    seat: &mut Seat<T, C, F>,
+) -> Option<()> {
+    let mut source = StrictSource::new(source_of(alloc, "nap/8")?);
+    let first = serve(rt, alloc, host, seat, &mut source).ok();
+    if first.is_some() {
+        say_served(rt, alloc, name, host, seat, &mut source);
+    }
+    drop(source);
+    first.map(|_| ())
 }
 
 /// Makes a call on a host: serves a task on it, or tells what it has counted.
@@ -258,6 +298,7 @@ fn on_host<R: Print + Wait, T: Ledger, C: Ledger, F: Ledger>(
 ) -> Option<()> {
     match call {
         Call::ServeOne => serve_nap(rt, alloc, call.name(), host, seat),
+        Call::ServeNext => serve_next(rt, alloc, call.name(), host, seat),
         _ => Some(say_shared(rt, call.name(), "answer", host, seat)),
     }
 }
@@ -316,7 +357,7 @@ fn call_over<R: Print + Wait, T: Ledger, C: Ledger, F: Ledger>(
 {
     match call {
         Call::OpenBooks => open_books::<R, T, C, F>(rt, alloc, call, taken, completed, failed),
-        Call::OpenHost | Call::ServeOne => {
+        Call::OpenHost | Call::ServeOne | Call::ServeNext => {
             call_host::<R, T, C, F>(rt, alloc, call, taken, completed, failed)
         }
         _ => call_state::<R, T, C, F>(rt, alloc, call, taken, completed, failed),

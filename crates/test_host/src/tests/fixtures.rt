@@ -12,8 +12,8 @@ use wh_events::{Event, Items, OutOfMemory, Payload, RunKey};
 use wh_histories::{events_after, key};
 use wh_host::Host;
 use wh_poll::{
-    ActivityAnswer, ActivityHandler, ActivityTask, Gate, Polled, SourceFault, TaskSource,
-    WorkflowTask, last_number,
+    Acceptance, ActivityAnswer, ActivityHandler, ActivityTask, Gate, Polled, RunUse, SourceFault,
+    TaskSource, WorkflowTask, last_number,
 };
 use wh_recorded::ScriptSource;
 use wh_replay::Answer;
@@ -51,7 +51,8 @@ pub(crate) struct Notebook<'r, 'h, R: Wait + Abort, T: Ledger, C: Ledger, F: Led
     pub(crate) rt: &'r R,
     pub(crate) alloc: Global,
     pub(crate) host: &'h Host<Workflows, T, C, F>,
-    /// What is done when tasks enter, each after the call that it follows.
+    /// What is done when tasks enter, and of which answers the runs are discarded, each after the
+    /// call that it follows.
     deeds: &'static str,
     calls: Mutex<String>,
 }
@@ -117,6 +118,27 @@ impl<'r, 'h, R: Wait + Abort, T: Ledger, C: Ledger, F: Ledger> Notebook<'r, 'h, 
         let answer = self.host.lock(self.rt).evict(&key);
         let call = format!(in self.alloc; "evict {run} {answer:?}, ").expect(self.rt, "memory");
         self.note(call.as_str());
+    }
+
+    /// What becomes of a run: it is cached, unless this deed is there.
+    fn run_use(&self, deed: &str) -> RunUse {
+        if self.deeds.contains(deed) {
+            RunUse::Discard
+        } else {
+            RunUse::Cache
+        }
+    }
+
+    /// What becomes of the run of a task. Where it is discarded, that is noted, with the numbers of
+    /// the events that it holds and of the steps that it took.
+    fn run_after(&self, name: TaskName, events: usize, steps: u64) -> RunUse {
+        let deed = format!(in self.alloc; "answer {}, discard", name.0).expect(self.rt, "memory");
+        let run = self.run_use(deed.as_str());
+        if run == RunUse::Discard {
+            let call = format!(in self.alloc; "discard {events} after {steps}, ");
+            self.note(call.expect(self.rt, "memory").as_str());
+        }
+        run
     }
 
     /// Does a deed: it waits for a call, evicts a run, or drains the host.
@@ -199,6 +221,8 @@ impl<'b, 'r, 'h, R: Wait + Abort, T: Ledger, C: Ledger, F: Ledger> TaskSource
 
     ghost comes_from = { λ later first. Unit {0} };
 
+    ghost caches = { λ source name. Unit {0} };
+
     fn poll_workflow(&mut self) -> Result<Polled<WorkflowTask>, SourceFault> {
         self.book.note("poll, ");
         match cut(&mut self.workflow_polls, "; ") {
@@ -229,6 +253,22 @@ impl<'b, 'r, 'h, R: Wait + Abort, T: Ledger, C: Ledger, F: Ledger> TaskSource
     fn answer_workflow(&mut self, name: TaskName, answer: &Answer) -> Result<(), SourceFault> {
         self.book.note_answer(name, answer);
         self.script.answer_workflow(name, answer)
+    }
+
+    fn answer_replayed(
+        &mut self,
+        name: TaskName,
+        answer: &Answer,
+        events: &[Event],
+        steps: u64,
+    ) -> Acceptance {
+        let sent = self.answer_workflow(name, answer);
+        let run = self.book.run_after(name, events.len(), steps);
+        Acceptance { sent, run }
+    }
+
+    fn without_answer(&self) -> RunUse {
+        self.book.run_use("no answer, discard")
     }
 
     fn answer_activity(

@@ -19,8 +19,8 @@ use wh_replay::Run;
 use wh_slots::{Held, Permit, SlotKind, TaskName};
 
 /// What a host and its source are: the sizes, which of the source's calls fails, its script and the
-/// words of its polls, and what is done when tasks enter. Then come the steps that are taken, and
-/// how many turns a worker does.
+/// words of its polls, what is done when tasks enter, and which runs are discarded. Then come the
+/// steps that are taken, and how many turns a worker does.
 #[derive(Drop)]
 pub(crate) struct Day {
     pub(crate) config: Config,
@@ -35,8 +35,8 @@ pub(crate) struct Day {
 
 /// Days of a host. The first line says what a day shows. The second one has its setting: the sizes
 /// of the host and which call fails, how many turns a worker does at the end, and after `|` the
-/// script, the words of the polls of both kinds, and what is done when tasks enter. Then come
-/// steps, each with the calls that it makes and its answer. The end tells the calls of the worker,
+/// script, the words of the polls of both kinds, and what is done when tasks enter, with the
+/// answers whose runs are discarded. Then come steps, each with the calls that it makes and its answer. The end tells the calls of the worker,
 /// the first fault of its source, and what is counted.
 ///
 /// The names of the tasks of file 1 begin at 2^64, those of file 2 at 2^65.
@@ -92,6 +92,26 @@ workflow => poll, enter 3, Err(Source)
 counts => Counts taken: 1, completed: 0, failed: 1, in_hand: 0, cached: 1, cached_events: 3, workflow: SlotCount free: 2, reserved: 0, held: 0, activity: SlotCount free: 1, reserved: 0, held: 0
 workflow => poll, enter 8, answer 8 Complete([Complete result: []]), Ok(Workflow name: TaskName(8), hit: true, steps: 2, outcome: Completed)
 workflow => poll, Ok(Closed)
+end => None, Counts taken: 2, completed: 1, failed: 1, in_hand: 0, cached: 1, cached_events: 8, workflow: SlotCount free: 2, reserved: 0, held: 0, activity: SlotCount free: 1, reserved: 0, held: 0
+
+A run whose answer does not count is discarded, and the next task asks for the whole history.
+2 1 1 0 1 0 0 | 0 nap => nap | next | next | answer 3, discard
+workflow => poll, enter 3, answer 3 Complete([StartTimer id: nap, seconds: 60]), discard 3 after 2, Ok(Workflow name: TaskName(3), hit: false, steps: 2, outcome: Completed)
+counts => Counts taken: 1, completed: 1, failed: 0, in_hand: 0, cached: 0, cached_events: 0, workflow: SlotCount free: 2, reserved: 0, held: 0, activity: SlotCount free: 1, reserved: 0, held: 0
+workflow => poll, enter 8, whole nap 8, answer 8 Complete([Complete result: []]), Ok(Workflow name: TaskName(8), hit: false, steps: 4, outcome: Completed)
+end => None, Counts taken: 2, completed: 2, failed: 0, in_hand: 0, cached: 1, cached_events: 8, workflow: SlotCount free: 2, reserved: 0, held: 0, activity: SlotCount free: 1, reserved: 0, held: 0
+
+A run that was cached is discarded where the answer to its next task does not count.
+2 1 1 0 1 0 0 | 0 nap => nap | next | next | answer 8, discard
+workflow => poll, enter 3, answer 3 Complete([StartTimer id: nap, seconds: 60]), Ok(Workflow name: TaskName(3), hit: false, steps: 2, outcome: Completed)
+workflow => poll, enter 8, answer 8 Complete([Complete result: []]), discard 8 after 2, Ok(Workflow name: TaskName(8), hit: true, steps: 2, outcome: Completed)
+end => None, Counts taken: 2, completed: 2, failed: 0, in_hand: 0, cached: 0, cached_events: 0, workflow: SlotCount free: 2, reserved: 0, held: 0, activity: SlotCount free: 1, reserved: 0, held: 0
+
+An answer that is not sent, of a source that caches no run without an answer.
+2 1 1 0 1 2 0 | 0 nap => nap | next | next | no answer, discard
+workflow => poll, enter 3, Err(Source)
+counts => Counts taken: 1, completed: 0, failed: 1, in_hand: 0, cached: 0, cached_events: 0, workflow: SlotCount free: 2, reserved: 0, held: 0, activity: SlotCount free: 1, reserved: 0, held: 0
+workflow => poll, enter 8, whole nap 8, answer 8 Complete([Complete result: []]), Ok(Workflow name: TaskName(8), hit: false, steps: 4, outcome: Completed)
 end => None, Counts taken: 2, completed: 1, failed: 1, in_hand: 0, cached: 1, cached_events: 8, workflow: SlotCount free: 2, reserved: 0, held: 0, activity: SlotCount free: 1, reserved: 0, held: 0
 
 A task that is in hand comes again.

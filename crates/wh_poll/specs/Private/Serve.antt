@@ -19,6 +19,8 @@ use Rattle.wh_tasks.specs.declared.task.StepFault.TheVariants.{Source, OutOfMemo
 use Rattle.wh_poll.specs.declared.answer.Reply.{Reply}
 use Rattle.wh_poll.specs.declared.serve.Served.{Served}
 use Rattle.wh_poll.specs.declared.serve.Served.TheVariants.{Workflow, Activity, NoMemory, Repeated, Idle, Closed, NoSlot, Draining, NumbersSpent}
+use Rattle.wh_poll.specs.declared.serve.TurnStart.{TurnStart}
+use Rattle.wh_poll.specs.declared.serve.TurnStart.TheVariants.{Task, Over}
 use Rattle.wh_tasks.specs.declared.source.Sent.TheVariants.{Workflow as OfWorkflow, Activity as OfActivity}
 use Rattle.wh_tasks.specs.Source.{Tells, Answerable, Answers}
 use Rattle.wh_tasks.specs.Tasks.{IsAnswer}
@@ -34,6 +36,11 @@ abbrev pub ended : Result Reply StepFault → Outcome
 ended (Ok reply) = reply.outcome
 ended (Err fault) = Failed
 
+-- the outcome of a task whose answer the source took, else why it did not
+abbrev pub outcome_if_sent : {A : Type 0} → Result A SourceFault → Outcome → Result Outcome StepFault
+outcome_if_sent (Ok x) outcome = Ok outcome
+outcome_if_sent (Err fault) outcome = Err (Source fault)
+
 -- what a turn has served that got no slot
 abbrev pub unreserved : ReserveFault → Served
 unreserved NoSlotIsFree = NoSlot
@@ -46,6 +53,11 @@ HasNoTask (Ok Idle) = Unit {0}
 HasNoTask (Ok Closed) = Unit {0}
 HasNoTask (Ok _) = ⊥
 HasNoTask (Err fault) = Unit {0}
+
+-- it holds of the task that a turn starts with, or of what the turn has served without one
+abbrev pub Starts : {A : Type 0} → (A → Type 0) → (Result Served SourceFault → Type 0) → TurnStart A → Type 0
+Starts with_task over (Task task) = with_task task
+Starts with_task over (Over served) = over served
 
 -- what a turn has served whose task of the name was not taken in hand
 abbrev pub IsRefused : TaskName → Served → Type 0

@@ -7,8 +7,8 @@ pub returns-clause-serves : goal.returns-clause-serves
 returns-clause-serves g c =
     let tells = g.S.TaskSource.tells in
     let answers = g.S.TaskSource.answers in
-    let polled = c.polled_workflow.new.source in
+    let polled = c.start_workflow.new.source in
     let served = serves_sent g.W.Workflow.program (tells c.args.source.now) (tells polled) (g.S.TaskSource.delivers c.args.source.now)
-    (answers c.args.source.now) (answers polled) (answers c.answer_held-sent.new.source) c.in-Ok.task c.in-Ok-take_workflow.taken.1 c.answer_held-sent.result
-    c.in-Ok.ensures.task c.polled_workflow.ensures.answers c.polled_workflow.ensures.keeps.same.tells c.answer_held-sent.ensures.sends in
+    (answers c.args.source.now) (answers polled) (answers c.answer_held-sent.new.source) c.in-Task.task c.in-Ok.taken.1 c.answer_held-sent.result
+    c.in-Task.ensures.task c.start_workflow.ensures.answers c.start_workflow.ensures.keeps.same.tells c.answer_held-sent.ensures.sends in
     search (rules, served)
