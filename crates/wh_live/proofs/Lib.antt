@@ -1,3 +1,3 @@
-pub mod Paging
-pub mod Setups
-pub mod Statuses
+pub mod Faults
+pub mod Later
+pub mod Waiting

@@ -1,53 +1,28 @@
--- Which tasks a live source delivers, and which histories it tells.
-use Rattle.std.specs.Prelude.{◌≡◌, ◌⊎◌, ℕ, ◌≤◌, ◌++◌, Bool, List, [], codes, take, Option, Some, None, Result, Ok, Err}
+-- Which tasks a live source delivers, and which histories it fetches.
+use Rattle.std.specs.Prelude.{◌≡◌, ◌⊎◌, ℕ, ◌≤◌, ◌+◌, ◌==◌, ◌++◌, Bool, List, [], take, drop, position, Option, Some, None, if◌then◌else◌}
 use Rattle.serde_json.specs.Data.{Data}
+use Rattle.wh_client.specs.Calls.{Gives}
+use Rattle.wh_client.specs.Histories.{HasAllMembers, IsWhole, ReadsEvents}
+use Rattle.wh_client.specs.Polls.{IsActivityPoll, IsWorkflowPoll}
+use Rattle.wh_client.specs.Roles.{polls_sticky}
+use Rattle.wh_client.specs.declared.options.Role.{Role}
+use Rattle.wh_client.specs.declared.options.Role.TheVariants.{Normal, Sticky, Activities}
 use Rattle.wh_events.specs.declared.event.Event.{Event}
 use Rattle.wh_events.specs.declared.key.RunKey.{RunKey}
-use Rattle.wh_json.specs.Events.{members_from}
-use Rattle.wh_json.specs.Outcome.{all_of}
+use Rattle.wh_events.specs.Keys.{same_key}
+use Rattle.wh_live.specs.declared.tallies.Tally.{Tally}
+use Rattle.wh_live.specs.Tallies.{no_counts}
 use Rattle.wh_messages.specs.declared.names.WorkerNames.{WorkerNames}
-use Rattle.wh_messages.specs.declared.response.ActivityPoll.{ActivityPoll}
 use Rattle.wh_messages.specs.declared.response.ActivityPoll.TheVariants.{Task}
 use Rattle.wh_messages.specs.declared.response.PolledActivity.{PolledActivity}
-use Rattle.wh_messages.specs.Requests.{poll_workflow, poll_activity}
 use Rattle.wh_messages.specs.Responses as read
-use Rattle.wh_messages.specs.Responses.{Poll, workflow_poll, activity_poll}
 use Rattle.wh_tasks.specs.declared.source.WorkflowTask.{WorkflowTask}
 use Rattle.wh_tasks.specs.declared.source.ActivityTask.{ActivityTask}
-use Rattle.wh_tasks.specs.declared.source.Polled.{Polled}
-use Rattle.wh_tasks.specs.declared.source.Polled.TheVariants as polled
-use Rattle.wh_tasks.specs.declared.source.SourceFault.{SourceFault}
+use Rattle.wh_tasks.specs.Numbers.{last_number}
+use Rattle.wh_slots.specs.declared.TaskName.{TaskName}
 use Rattle.wh_tasks.specs.Source.{Answers, Delivery, Workflow, Activity}
-use Rattle.wh_live.specs.Calls.{Gives}
-use Rattle.wh_live.specs.Pages.{ReadsOn}
-use Rattle.wh_live.specs.Roles.{polls_sticky}
-use Rattle.wh_live.specs.declared.options.Role.{Role}
-use Rattle.wh_live.specs.declared.options.Role.TheVariants.{Normal, Sticky, Activities}
-use Rattle.wh_live.specs.declared.tasks.Brought.{Brought}
-use Rattle.wh_live.specs.declared.tasks.Brought.TheVariants as brought
-
--- the members of a history are read as these events
-abbrev pub ReadsEvents : List Data → List Event → Type 0
-ReadsEvents members events = all_of (members_from 1 None members) ≡ Ok events
-
--- it holds of the task, where the poll brought one
-abbrev pub OnTask : {A : Type 0} → (A → Type 0) → Brought A → Type 0
-OnTask p (brought.Task task) = p task
-OnTask p brought.Empty = Unit {0}
-OnTask p brought.Settled = Unit {0}
 
 -- ---- Workflow tasks
-
--- the server gives a result of this meaning for a poll of a queue
-pub record IsWorkflowPoll (gives : Gives) (names : WorkerNames) (sticky : Bool) (poll : Poll) : Type 0 where
-  pub result : Data
-  pub given : gives (codes "PollWorkflowTaskQueue") (poll_workflow names sticky) result
-  pub read : poll ≡ workflow_poll result
-
--- all members are those before, and those of the pages after the token, if there is one
-abbrev pub HasAllMembers : Gives → WorkerNames → RunKey → List ℕ → List Data → List Data → Type 0
-HasAllMembers gives names run token members all =
-    ((token ≡ []) × (all ≡ members)) ⊎ ReadsOn gives names run token members all
 
 -- the task is what a poll gave, with the events of all its pages
 pub record IsTaskOf (gives : Gives) (names : WorkerNames) (polled : read.Task) (task : WorkflowTask) : Type 0 where
@@ -63,12 +38,6 @@ pub record IsWorkflowTask (gives : Gives) (names : WorkerNames) (sticky : Bool) 
   pub is : IsTaskOf gives names polled task
 
 -- ---- Activity tasks
-
--- the server gives a result of this meaning for a poll of activities
-pub record IsActivityPoll (gives : Gives) (names : WorkerNames) (poll : ActivityPoll) : Type 0 where
-  pub result : Data
-  pub given : gives (codes "PollActivityTaskQueue") (poll_activity names) result
-  pub read : poll ≡ activity_poll result
 
 -- the task is what a poll gave
 pub record IsActivityOf (polled : PolledActivity) (task : ActivityTask) : Type 0 where
@@ -101,30 +70,80 @@ abbrev pub Delivers : Gives → WorkerNames → Role → Delivery → Type 0
 Delivers gives names role (Workflow task) = FromQueue gives names (polls_sticky role) task
 Delivers gives names role (Activity task) = FromActivities gives names role task
 
--- a source tells the first events of a history that was read from all pages of the run's history
-pub record Recounts (gives : Gives) (names : WorkerNames) (run : RunKey) (up_to : ℕ)
+-- ---- Histories
+
+-- the events from a place on, if there is one
+abbrev pub from_place : Option ℕ → List Event → List Event
+from_place None events = []
+from_place (Some place) events = drop place events
+
+-- of the later events of a run those that go on where its history ends: from the one with the next number on
+abbrev pub going_on : List Event → List Event → List Event
+going_on history later = from_place (position (λ event. event.number == last_number history + 1) later) later
+
+-- a history with those of the later events that go on where it ends
+abbrev pub continued : List Event → List Event → List Event
+continued history later = history ++ going_on history later
+
+-- the history of a run, read from all pages of it and continued by later events, up to a number
+pub record IsFetched (gives : Gives) (names : WorkerNames) (run : RunKey) (later : List Event) (up_to : ℕ)
     (history : List Event) : Type 0 where
   pub members : List Data
-  pub all : ReadsOn gives names run [] [] members
+  pub whole : IsWhole gives names run members
   pub events : List Event
   pub are : ReadsEvents members events
-  pub cut : history ≡ take up_to events
+  pub cut : history ≡ take up_to (continued events later)
 
--- ---- Polls
+-- later events of a run: none, or those of a task of it that a queue gives. A task that the server has not written
+-- into the history yet (an update makes one) has events that no page has
+abbrev pub AreLater : Gives → WorkerNames → Option Bool → RunKey → List Event → Type 0
+AreLater gives names queue run later =
+    (later ≡ []) ⊎ ((task : WorkflowTask) × FromQueue gives names queue task × (task.run ≡ run) × (task.events ≡ later))
 
--- where a task was given with what it is to be answered by, it is given
-abbrev pub IsOpened : {O A : Type 0} → Result (Polled (O × A)) SourceFault → Result (Polled A) SourceFault → Type 0
-IsOpened (Ok (polled.Task pair)) result = result ≡ Ok (polled.Task pair.1)
-IsOpened (Ok polled.Nothing) result = result ≡ Ok polled.Nothing
-IsOpened (Ok polled.Closed) result = result ≡ Ok polled.Closed
-IsOpened (Err fault) result = result ≡ Err fault
+-- the source of a role fetches the history of a run, continued by the events of its own task
+abbrev pub Fetches : Gives → WorkerNames → Role → RunKey → ℕ → List Event → Type 0
+Fetches gives names role run up_to history =
+    (later : List Event) × AreLater gives names (polls_sticky role) run later × IsFetched gives names run later up_to history
+
+-- the later events that a source keeps of the task that is to be answered, if that is one of this run
+abbrev pub later_in : Option (RunKey × List Event) → RunKey → List Event
+later_in None run = []
+later_in (Some kept) run = if same_key kept.0 run then kept.1 else []
+
+-- what is kept of a task that a queue gave are later events of its run
+abbrev pub HasKept : Gives → WorkerNames → Option Bool → Option (RunKey × List Event) → Type 0
+HasKept gives names queue None = Unit {0}
+HasKept gives names queue (Some kept) = AreLater gives names queue kept.0 kept.1
+
+-- ---- What a source is
+
+-- a source as its callers see it: what it polls and for which names, which of its answers were taken, what it has
+-- counted, the task whose answer the server acknowledged since the last poll, and the later events of the task that
+-- is to be answered, with its run
+pub record LiveView : Type 0 where
+  pub role : Role
+  pub names : WorkerNames
+  pub answers : Answers
+  pub tally : Tally
+  pub acknowledged : Option TaskName
+  pub later : Option (RunKey × List Event)
+
+-- a source that has polled nothing
+abbrev pub fresh : Role → WorkerNames → LiveView
+fresh role names = record {
+  role = role;
+  names = names;
+  answers = [];
+  tally = no_counts;
+  acknowledged = None;
+  later = None;
+}
 
 -- a source comes from another one: it polls the same for the same names, it has first the answers that the other one
 -- had, and at least as many failures
-pub record ComesFrom (later_role first_role : Role) (later_names first_names : WorkerNames)
-    (later first : Answers) (later_failures first_failures : ℕ) : Type 0 where
-  pub role : later_role ≡ first_role
-  pub names : later_names ≡ first_names
+pub record ComesFrom (later first : LiveView) : Type 0 where
+  pub role : later.role ≡ first.role
+  pub names : later.names ≡ first.names
   pub more : Answers
-  pub answers : later ≡ first ++ more
-  pub failures : first_failures ≤ later_failures
+  pub answers : later.answers ≡ first.answers ++ more
+  pub failures : first.tally.failures ≤ later.tally.failures

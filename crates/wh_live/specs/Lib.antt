@@ -1,6 +1,5 @@
-pub mod Calls
-pub mod Codes
+pub mod Answers
 pub mod Deliveries
-pub mod Pages
-pub mod Roles
+pub mod Tallies
+pub mod Waits
 pub mod Private

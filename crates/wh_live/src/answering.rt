@@ -1,32 +1,38 @@
 //! Answers to tasks.
 
-ghost use Rattle.std.specs.Prelude.{◌≡◌, ◌++◌, ◌∷◌, [], nat_le, OnOk, OnErr};
+ghost use Rattle.std.specs.Prelude.{◌≡◌, ◌≢◌, ◌≤◌, ◌<◌, ◌↔◌, ◌++◌, ◌∷◌, [], true, None, IsTrue, IsOk};
+ghost use Rattle.std.specs.Prelude.{IfOk, IsOkAnd, OnOk, OnErr};
+ghost use Rattle.wh_client.specs.Codes.{is_taken};
+ghost use Rattle.wh_client.specs.Requests.{IsAcknowledged};
+ghost use Rattle.wh_client.specs.declared.codes.Receipt.TheVariants.{Acknowledged, Withheld};
+ghost use Rattle.wh_messages.specs.CarryingOver.{carried_seen};
 ghost use Rattle.wh_tasks.specs.declared.source.Sent.TheVariants.{Workflow as OfWorkflow, Activity as OfActivity};
 ghost use Rattle.wh_tasks.specs.Source.{FailsOnly};
-ghost use Rattle.wh_live.specs.Private.Answering.{cause_of, receipt_of};
-ghost use Rattle.wh_live.specs.Codes.{keeps_run};
+ghost use Rattle.wh_live.specs.Answers.{cause_of, receipt_of};
+ghost use Rattle.wh_live.specs.Private.Answering.{AnswersOpen, CompletesTask, CompletesWith, FailsTask, HasAnswer};
+ghost use Rattle.wh_live.specs.Private.Answering.{IsActivityRequest, IsReplaced, counts_fault};
+ghost use Rattle.wh_live.specs.Private.Answering.{is_reported};
+ghost use Rattle.wh_live.specs.Private.Answering.{receipt_of_sent, reports_refusal, run_use};
+ghost use Rattle.wh_live.specs.Private.Counting.{settled};
 
-use crate::asking::{AskFault, ask, fault_text, history_text};
-use crate::codes::{Receipt, refused_answer};
-use crate::connection::Connection;
 use crate::journals::Journal;
-use crate::replies::Reply;
-use crate::service_client::ServiceClient;
+use crate::task_log::{log_activity, log_workflow};
 use crate::tasks::OpenTask;
-use std::alloc::{AllocError, Global};
-use wh_events::{Event, OutOfMemory, Text};
+use crate::texts::{fault_text, history_text, replay_text, request_text};
+use std::alloc::AllocError;
+use wh_client::{AskFault, Client, Connection, Receipt, Request, Status, refused_answer};
+use wh_events::{Event, OutOfMemory};
 use wh_ghost_list::GhostList;
 use wh_json::ReadFault;
-use wh_messages::{FailedCause, NO_QUERIES, RequestFault, query_failed};
+use wh_messages::{CarriedOver, FailedCause, RequestFault, continues_as_new};
 use wh_replay::{Answer, Fault};
 use wh_slots::TaskName;
-use wh_tasks::{ActivityAnswer, Sent, SourceFault};
-use wh_tester::ReplayFaultText;
+use wh_tasks::{Acceptance, ActivityAnswer, RunUse, Sent, SourceFault};
 use wh_workflow::Command;
 
 /// Whether a failure is sent in this attempt of a task. A server gives a failed task again at once.
-fn is_told(attempt: u64) -> bool
-    ensures { result ≡ nat_le attempt 1 }
+fn sends_failure(attempt: u64) -> bool
+    ensures { (result ≡ true) ↔ attempt ≤ 1 }
 {
     attempt <= 1
 }
@@ -43,7 +49,8 @@ fn cause_of(fault: &Fault) -> FailedCause
 
 /// What becomes of an answer whose call failed.
 fn receipt_of(fault: &AskFault) -> Receipt
-    ensures { result ≡ receipt_of fault.now }
+    ensures is { result ≡ receipt_of fault.now }
+    ensures unacknowledged { result ≢ Acknowledged }
 {
     match fault {
         AskFault::Refused { status, .. } => refused_answer(*status),
@@ -54,227 +61,378 @@ fn receipt_of(fault: &AskFault) -> Receipt
     }
 }
 
-/// A fault of replay in words.
-fn replay_text(alloc: Global, fault: &Fault) -> Result<String, AllocError> {
-    let fault = ReplayFaultText(*fault);
-    format!(in alloc; "{fault}")
+/// Whether it is reported that an answer was refused with a status and a text. It is not where the
+/// task is over, nor where the run had news while its answer closed it (`UnhandledCommand`): both
+/// are normal.
+fn reports_refusal(status: Status, message: &str) -> bool
+    ensures { result ≡ reports_refusal status message.now }
+{
+    match status {
+        Status::NotFound => false,
+        Status::InvalidArgument => message != "UnhandledCommand",
+        Status::Cancelled | Status::PermissionDenied | Status::Unauthenticated | Status::Other =>
+            true,
+    }
 }
 
-/// Why an answer can't be written, in words.
-fn request_text(alloc: Global, fault: &RequestFault) -> Result<String, AllocError> {
+/// Whether it is reported that the call of an answer failed.
+fn is_reported(fault: &AskFault) -> bool
+    ensures { result ≡ is_reported fault.now }
+{
     match fault {
-        RequestFault::TooLong { timer_id } => {
-            let id = timer_id.get();
-            format!(in alloc; "the timer {id} runs too long")
-        }
-        RequestFault::NotScheduled { activity_id } => {
-            let id = activity_id.get();
-            format!(in alloc; "the activity {id} is cancelled and was not scheduled")
-        }
-        RequestFault::NeverSent { change_id } => {
-            let id = change_id.get();
-            format!(in alloc; "the version of {id} is asked for after the end")
-        }
-        RequestFault::OutOfMemory => String::from_str(alloc, "out of memory"),
+        AskFault::Refused {
+            status,
+            message,
+            ..
+        } => reports_refusal(*status, message.as_str()),
+        AskFault::Closed | AskFault::OutOfMemory => false,
+        AskFault::Output | AskFault::Unreadable | AskFault::TooManyPages | AskFault::History(_) =>
+            true,
     }
 }
 
-impl<L: Connection> ServiceClient<'_, L> {
-    /// Tells a person something of a task.
-    fn tell_of(&self, open: &OpenTask, what: &str) {
-        if let Ok(text) = open.said(self.allocator(), what) {
-            self.line.tell(text.as_str());
-        }
-    }
-
-    /// Tells a person that an answer was lost.
-    fn tell_lost(&self, open: &OpenTask, fault: &AskFault) {
-        if let Ok(text) = fault_text(self.allocator(), fault) {
-            self.tell_of(open, text.as_str());
-        }
-    }
-
-    /// Sends an answer to a task. What is lost is reported.
-    fn send(&self, open: &OpenTask, reply: Reply) -> Receipt {
-        let Reply { method, params } = reply;
-        match ask(self.line, method, params) {
-            Ok(_) => Receipt::Acknowledged,
-            Err(fault) => {
-                let receipt = receipt_of(&fault);
-                if receipt == Receipt::Lost {
-                    self.tell_lost(open, &fault);
-                }
-                receipt
-            }
-        }
-    }
-
-    /// Sends an answer to a task, if there was memory for it.
-    fn send_written(&self, open: &OpenTask, reply: Result<Reply, OutOfMemory>) -> Receipt {
-        match reply {
-            Ok(reply) => self.send(open, reply),
-            Err(_) => Receipt::NoMemory,
-        }
-    }
-
-    /// Fails a workflow task, unless that was done in an earlier attempt. Either is reported.
-    fn fail(&self, open: &OpenTask, cause: FailedCause, message: &str) -> Receipt {
-        self.tell_of(open, message);
-        if !is_told(open.attempt) {
-            return Receipt::Withheld;
-        }
-        self.send_written(open, self.failed(open, cause, message))
-    }
-
-    /// Fails a workflow task for a fault of replay.
-    fn fail_replay(&self, open: &OpenTask, fault: &Fault) -> Receipt {
-        match replay_text(self.allocator(), fault) {
-            Ok(text) => self.fail(open, cause_of(fault), text.as_str()),
-            Err(_) => Receipt::NoMemory,
-        }
-    }
-
-    /// Fails a workflow task whose history can't be read.
-    pub(crate) fn fail_unreadable(&self, open: &OpenTask, fault: &ReadFault) {
-        if let Ok(text) = history_text(self.allocator(), fault) {
-            self.fail(open, FailedCause::Unhandled, text.as_str());
-        }
-    }
-
-    /// Fails a workflow task whose answer can't be written.
-    fn replace(&self, open: &OpenTask, fault: &RequestFault) -> Receipt {
-        match request_text(self.allocator(), fault) {
-            Ok(text) => {
-                self.fail(open, FailedCause::Unhandled, text.as_str());
-                Receipt::Replaced
-            }
-            Err(_) => Receipt::NoMemory,
-        }
-    }
-
-    /// Completes a workflow task with commands, after the events that they were replayed from.
-    fn complete(&self, open: &OpenTask, commands: &[Command], events: &[Event]) -> Receipt {
-        match self.completed(open, commands, events) {
-            Ok(reply) => self.send(open, reply),
-            Err(RequestFault::OutOfMemory) => Receipt::NoMemory,
-            Err(fault) => self.replace(open, &fault),
-        }
-    }
-
-    /// Answers a workflow task.
-    fn respond(&self, open: &OpenTask, answer: &Answer, events: &[Event]) -> Receipt {
-        match answer {
-            Answer::Complete(commands) => self.complete(open, commands.get(), events),
-            Answer::Fail(fault) => self.fail_replay(open, fault),
-        }
-    }
-
-    /// Says that a query is not answered.
-    pub(crate) fn refuse_query(&self, token: &Text) {
-        let names = &self.options.names;
-        if let Ok(params) = query_failed(self.allocator(), names, token.get(), NO_QUERIES) {
-            let _ = ask(self.line, "RespondQueryTaskCompleted", params);
-        }
-    }
-
-    /// Fails the open task where its history has events that can't be read, and reports any other
-    /// fault. Whether it is a fault of the source: the link was open, and no result came that can
-    /// be used.
-    pub(crate) fn settle_unread(&self, open: &mut Option<OpenTask>, fault: &AskFault) -> bool {
-        let Some(task) = open.take() else {
-            return true;
-        };
-        match fault {
-            AskFault::History(why) => self.fail_unreadable(&task, why),
-            AskFault::Closed => {}
-            _ => self.tell_lost(&task, fault),
-        }
-        drop(task);
-        !matches!(fault, AskFault::Closed | AskFault::History(_))
-    }
-
-    /// Answers the open workflow task, if it has this name, and reports how it ended.
-    fn answer_open(
-        &self,
-        open: Option<OpenTask>,
-        name: TaskName,
-        answer: &Answer,
-        events: &[Event],
-        steps: u64,
-    ) -> Receipt {
-        match open {
-            Some(open) if open.name == name => {
-                let receipt = self.respond(&open, answer, events);
-                self.log_workflow(&open, answer, events, steps, receipt);
-                receipt
-            }
-            _ => Receipt::Lost,
-        }
-    }
-
-    /// Answers the open activity task, if it has this name, and reports how it ended.
-    fn answer_open_activity(
-        &self,
-        open: Option<OpenTask>,
-        name: TaskName,
-        answer: &ActivityAnswer,
-    ) -> Receipt {
-        match open {
-            Some(open) if open.name == name => {
-                let receipt = self.send_written(&open, self.activity_reply(&open, answer));
-                self.log_activity(&open, answer, receipt);
-                receipt
-            }
-            _ => Receipt::Lost,
-        }
-    }
-
-    /// Answers the workflow task of a name, and notes the answer where it was taken.
-    pub(crate) fn answer_workflow(
-        &self,
-        journal: &mut Journal,
-        taken: &mut GhostList<(TaskName, Sent)>,
-        open: Option<OpenTask>,
-        name: TaskName,
-        answer: &Answer,
-        events: &[Event],
-        steps: u64,
-    ) -> Result<(), SourceFault>
-        ensures sent { OnOk result (taken.new.items ≡ taken.old.items ++ (name, OfWorkflow answer.now) ∷ []) }
-        ensures unsent { OnErr result (taken.new.items ≡ taken.old.items) }
-        ensures failures { FailsOnly result journal.old.tally.failures journal.new.tally.failures }
-    {
-        journal.keeps_run = false;
-        let Ok(copy) = answer.try_copy(self.allocator()) else {
-            return Err(SourceFault::OutOfMemory);
-        };
-        let receipt = self.answer_open(open, name, answer, events, steps);
-        settle(journal, taken, receipt, (name, Sent::Workflow(copy)))
-    }
-
-    /// Answers the activity task of a name, and notes the answer where it was taken.
-    pub(crate) fn answer_activity(
-        &self,
-        journal: &mut Journal,
-        taken: &mut GhostList<(TaskName, Sent)>,
-        open: Option<OpenTask>,
-        name: TaskName,
-        answer: &ActivityAnswer,
-    ) -> Result<(), SourceFault>
-        ensures sent { OnOk result (taken.new.items ≡ taken.old.items ++ (name, OfActivity answer.now) ∷ []) }
-        ensures unsent { OnErr result (taken.new.items ≡ taken.old.items) }
-        ensures failures { FailsOnly result journal.old.tally.failures journal.new.tally.failures }
-    {
-        let Ok(copy) = answer.try_copy() else {
-            return Err(SourceFault::OutOfMemory);
-        };
-        let receipt = self.answer_open_activity(open, name, answer);
-        settle(journal, taken, receipt, (name, Sent::Activity(copy)))
+/// What becomes of the run of a task whose answer had this receipt.
+fn run_use(receipt: Receipt) -> RunUse
+    ensures { result ≡ run_use receipt }
+{
+    if receipt.keeps_run() {
+        RunUse::Cache
+    } else {
+        RunUse::Discard
     }
 }
 
-/// Counts what became of an answer, notes it where it was taken, and lets the run be cached where
-/// the server has it.
+/// Reports something of a task.
+fn report_of<L: Connection>(client: &Client<'_, L>, task: &OpenTask, what: &str) {
+    if let Ok(text) = task.said(client.allocator(), what) {
+        client.connection.report(text.as_str());
+    }
+}
+
+/// Reports what went wrong with a task.
+fn report_fault<L: Connection>(client: &Client<'_, L>, task: &OpenTask, fault: &AskFault) {
+    if let Ok(text) = fault_text(client.allocator(), fault) {
+        report_of(client, task, text.as_str());
+    }
+}
+
+/// What became of an answer that was sent. Where it was refused or lost that is reported, if it is
+/// not normal.
+fn receive<L: Connection>(
+    client: &Client<'_, L>,
+    task: &OpenTask,
+    sent: Result<(), AskFault>,
+) -> Receipt
+    ensures is { result ≡ receipt_of_sent sent }
+    ensures acknowledged { result ≡ Acknowledged → IsOk sent }
+{
+    match sent {
+        Ok(()) => Receipt::Acknowledged,
+        Err(fault) => {
+            if is_reported(&fault) {
+                report_fault(client, task, &fault);
+            }
+            receipt_of(&fault)
+        }
+    }
+}
+
+/// Sends an answer to a task, if there was memory for it.
+fn send_written<L: Connection>(
+    client: &Client<'_, L>,
+    task: &OpenTask,
+    request: Result<Request, OutOfMemory>,
+) -> Receipt
+    ensures { result ≡ Acknowledged → IsOkAnd request (λ request. IsAcknowledged L.gives request) }
+{
+    match request {
+        Ok(request) => {
+            let sent = client.send(request);
+            receive(client, task, sent)
+        }
+        Err(_) => Receipt::NoMemory,
+    }
+}
+
+/// Fails a workflow task, unless that was done in an earlier attempt. Either is reported.
+fn fail<L: Connection>(
+    client: &Client<'_, L>,
+    task: &OpenTask,
+    cause: FailedCause,
+    message: &str,
+) -> Receipt
+    ensures later { 1 < task.now.attempt → result ≡ Withheld }
+    ensures sent { result ≡ Acknowledged →
+        FailsTask L.gives client.now.options.now.names task.now.token cause }
+{
+    report_of(client, task, message);
+    if !sends_failure(task.attempt) {
+        return Receipt::Withheld;
+    }
+    let request = client.failed(&task.token, cause, message);
+    send_written(client, task, request)
+}
+
+/// Fails a workflow task for a fault of replay.
+fn fail_replay<L: Connection>(client: &Client<'_, L>, task: &OpenTask, fault: &Fault) -> Receipt
+    ensures { result ≡ Acknowledged →
+        FailsTask L.gives client.now.options.now.names task.now.token (cause_of fault.now) }
+{
+    match replay_text(client.allocator(), fault) {
+        Ok(text) => fail(client, task, cause_of(fault), text.as_str()),
+        Err(_) => Receipt::NoMemory,
+    }
+}
+
+/// Fails a workflow task whose history can't be read.
+pub(crate) fn fail_unreadable<L: Connection>(
+    client: &Client<'_, L>,
+    task: &OpenTask,
+    fault: &ReadFault,
+) {
+    if let Ok(text) = history_text(client.allocator(), fault) {
+        fail(client, task, FailedCause::Unhandled, text.as_str());
+    }
+}
+
+/// Fails a workflow task whose answer can't be sent, with the reason.
+fn replace<L: Connection>(
+    client: &Client<'_, L>,
+    task: &OpenTask,
+    cause: FailedCause,
+    reason: Result<String, AllocError>,
+) -> Receipt
+    ensures { IsReplaced result }
+{
+    match reason {
+        Ok(text) => {
+            fail(client, task, cause, text.as_str());
+            Receipt::Replaced
+        }
+        Err(_) => Receipt::NoMemory,
+    }
+}
+
+/// Sends the completion of a workflow task. Where it is larger than the server takes the task is
+/// failed in its place.
+fn send_completed<L: Connection>(
+    client: &Client<'_, L>,
+    task: &OpenTask,
+    request: Request,
+) -> Receipt
+    ensures { result ≡ Acknowledged → IsAcknowledged L.gives request }
+{
+    match client.send(request) {
+        Err(fault) if fault.is_too_large() => {
+            let reason = fault_text(client.allocator(), &fault);
+            replace(client, task, FailedCause::TooLarge, reason)
+        }
+        sent => receive(client, task, sent),
+    }
+}
+
+/// Completes a workflow task with commands, after the events that they were replayed from, and with
+/// what its run hands on.
+fn complete_with<L: Connection>(
+    client: &Client<'_, L>,
+    task: &OpenTask,
+    commands: &[Command],
+    events: &[Event],
+    carried: &CarriedOver,
+) -> Receipt
+    ensures { result ≡ Acknowledged →
+        CompletesWith L.gives client.now.options.now task.now commands.now events.now (carried_seen carried.now) }
+{
+    match client.completed(
+        &task.token,
+        task.queries.as_slice(),
+        commands,
+        events,
+        carried,
+    ) {
+        Ok(request) => send_completed(client, task, request),
+        Err(RequestFault::OutOfMemory) => Receipt::NoMemory,
+        Err(fault) => {
+            let reason = request_text(client.allocator(), &fault);
+            replace(client, task, FailedCause::Unhandled, reason)
+        }
+    }
+}
+
+/// Completes a workflow task with commands, after the events that they were replayed from. Where
+/// they continue the run as a new one, what it hands on is fetched first.
+fn complete<L: Connection>(
+    client: &Client<'_, L>,
+    task: &OpenTask,
+    commands: &[Command],
+    events: &[Event],
+) -> Receipt
+    ensures { result ≡ Acknowledged →
+        CompletesTask L.gives client.now.options.now task.now commands.now events.now }
+{
+    if !continues_as_new(commands) {
+        return complete_with(client, task, commands, events, &CarriedOver::nothing());
+    }
+    match client.fetch_carried(&task.run) {
+        Ok(carried) => complete_with(client, task, commands, events, &carried),
+        Err(fault) => receive(client, task, Err(fault)),
+    }
+}
+
+/// Answers a workflow task.
+fn respond<L: Connection>(
+    client: &Client<'_, L>,
+    task: &OpenTask,
+    answer: &Answer,
+    events: &[Event],
+) -> Receipt
+    ensures { result ≡ Acknowledged →
+        HasAnswer L.gives client.now.options.now task.now answer.now events.now }
+{
+    match answer {
+        Answer::Complete(commands) => complete(client, task, commands.get(), events),
+        Answer::Fail(fault) => fail_replay(client, task, fault),
+    }
+}
+
+/// Fails the open task where its history has events that can't be read, and reports any other
+/// fault. Whether it is a fault of the source: the bridge was open, and no result came that can be
+/// used.
+pub(crate) fn settle_unread<L: Connection>(
+    client: &Client<'_, L>,
+    current: &mut Option<OpenTask>,
+    fault: &AskFault,
+) -> bool
+    ensures is { result ≡ counts_fault current.old fault.now }
+    ensures settled { current.new ≡ None }
+{
+    let Some(task) = current.take() else {
+        return true;
+    };
+    match fault {
+        AskFault::History(why) => {
+            fail_unreadable(client, &task, why);
+            false
+        }
+        AskFault::Closed => false,
+        AskFault::Output
+        | AskFault::Refused { .. }
+        | AskFault::Unreadable
+        | AskFault::TooManyPages
+        | AskFault::OutOfMemory => {
+            report_fault(client, &task, fault);
+            true
+        }
+    }
+}
+
+/// Answers the open workflow task, if it has this name, and logs how it ended.
+fn answer_open<L: Connection>(
+    client: &Client<'_, L>,
+    current: &Option<OpenTask>,
+    name: TaskName,
+    answer: &Answer,
+    events: &[Event],
+    steps: u64,
+) -> Receipt
+    ensures { result ≡ Acknowledged →
+        AnswersOpen L.gives client.now.options.now current.now name answer.now events.now }
+{
+    match current {
+        Some(task) if task.name == name => {
+            let receipt = respond(client, task, answer, events);
+            log_workflow(client, task, answer, events, steps, receipt);
+            receipt
+        }
+        _ => Receipt::Lost,
+    }
+}
+
+/// The request that answers an activity task.
+fn activity_request<L: Connection>(
+    client: &Client<'_, L>,
+    task: &OpenTask,
+    answer: &ActivityAnswer,
+) -> Result<Request, OutOfMemory>
+    ensures { IfOk result (IsActivityRequest client.now.options.now.names task.now.token answer.now) }
+{
+    match answer {
+        ActivityAnswer::Completed(outcome) => client.activity_completed(&task.token, outcome.get()),
+        ActivityAnswer::Failed(reason) => client.activity_failed(&task.token, reason.get()),
+    }
+}
+
+/// Answers the open activity task, if it has this name, and logs how it ended.
+fn answer_open_activity<L: Connection>(
+    client: &Client<'_, L>,
+    current: &Option<OpenTask>,
+    name: TaskName,
+    answer: &ActivityAnswer,
+) -> Receipt {
+    match current {
+        Some(task) if task.name == name => {
+            let request = activity_request(client, task, answer);
+            let receipt = send_written(client, task, request);
+            log_activity(client, task, answer, receipt);
+            receipt
+        }
+        _ => Receipt::Lost,
+    }
+}
+
+/// Answers the workflow task of a name, and notes the answer where it was taken. Its run may be
+/// cached where the server acknowledged the answer.
+pub(crate) fn answer_workflow<L: Connection>(
+    client: &Client<'_, L>,
+    journal: &mut Journal,
+    taken: &mut GhostList<(TaskName, Sent)>,
+    current: Option<OpenTask>,
+    name: TaskName,
+    answer: &Answer,
+    events: &[Event],
+    steps: u64,
+) -> Acceptance
+    ensures sent { OnOk result.sent (taken.new.items ≡ taken.old.items ++ (name, OfWorkflow answer.now) ∷ []) }
+    ensures unsent { OnErr result.sent (taken.new.items ≡ taken.old.items) }
+    ensures run { result.run ≡ RunUse.Cache →
+        AnswersOpen L.gives client.now.options.now current name answer.now events.now }
+    ensures failures { FailsOnly result.sent journal.old.tally.failures journal.new.tally.failures }
+{
+    let Ok(copy) = answer.try_copy(client.allocator()) else {
+        return Acceptance {
+            sent: Err(SourceFault::OutOfMemory),
+            run: RunUse::Discard,
+        };
+    };
+    let receipt = answer_open(client, &current, name, answer, events, steps);
+    let sent = settle(journal, taken, receipt, (name, Sent::Workflow(copy)));
+    Acceptance {
+        sent,
+        run: run_use(receipt),
+    }
+}
+
+/// Answers the activity task of a name, and notes the answer where it was taken.
+pub(crate) fn answer_activity<L: Connection>(
+    client: &Client<'_, L>,
+    journal: &mut Journal,
+    taken: &mut GhostList<(TaskName, Sent)>,
+    current: Option<OpenTask>,
+    name: TaskName,
+    answer: &ActivityAnswer,
+) -> Result<(), SourceFault>
+    ensures sent { OnOk result (taken.new.items ≡ taken.old.items ++ (name, OfActivity answer.now) ∷ []) }
+    ensures unsent { OnErr result (taken.new.items ≡ taken.old.items) }
+    ensures failures { FailsOnly result journal.old.tally.failures journal.new.tally.failures }
+{
+    let Ok(copy) = answer.try_copy() else {
+        return Err(SourceFault::OutOfMemory);
+    };
+    let receipt = answer_open_activity(client, &current, name, answer);
+    settle(journal, taken, receipt, (name, Sent::Activity(copy)))
+}
+
+/// Counts what became of an answer, and notes it where it was taken.
 fn settle(
     journal: &mut Journal,
     taken: &mut GhostList<(TaskName, Sent)>,
@@ -283,17 +441,18 @@ fn settle(
 ) -> Result<(), SourceFault>
     ensures sent { OnOk result (taken.new.items ≡ taken.old.items ++ sent ∷ []) }
     ensures unsent { OnErr result (taken.new.items ≡ taken.old.items) }
+    ensures taken { IsTrue (is_taken receipt) ↔ IsOk result }
     ensures failures { FailsOnly result journal.old.tally.failures journal.new.tally.failures }
-    ensures run { journal.new.keeps_run ≡ keeps_run receipt }
+    ensures tally { journal.new.tally ≡ settled receipt journal.old.tally }
 {
     journal.tally.answered(receipt);
-    journal.keeps_run = receipt.keeps_run();
     if receipt.is_taken() {
         *taken = taken.with(&sent);
         return Ok(());
     }
-    if receipt == Receipt::NoMemory {
-        return Err(SourceFault::OutOfMemory);
+    match receipt {
+        Receipt::NoMemory => Err(SourceFault::OutOfMemory),
+        Receipt::Lost => Err(journal.tally.failed(true)),
+        _ => Err(journal.tally.failed(false)),
     }
-    Err(journal.tally.failed(receipt == Receipt::Lost))
 }

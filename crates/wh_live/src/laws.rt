@@ -1,7 +1,16 @@
-//! What the codes of refused calls mean, each law as the contract of a function that does nothing.
-ghost use Rattle.wh_live.specs.Codes.{NoRunByCode};
+//! What becomes of polls and answers that fail, each law as the contract of a function that does
+//! nothing.
+ghost use Rattle.wh_live.specs.Answers.{CausesByFault, ReceiptsByFault};
+ghost use Rattle.wh_live.specs.Waits.{WaitsDouble};
 
-/// After no refusal the run of a task is cached.
-pub fn codes_are_said()
-    ensures { NoRunByCode }
+/// A task is failed as not deterministic where its commands differ from their record, and only
+/// there. An answer whose call failed is never acknowledged.
+pub fn answers_are_said()
+    ensures causes { CausesByFault }
+    ensures receipts { ReceiptsByFault }
+{}
+
+/// The waits between polls that fail in a row double, from a tenth of a second to ten seconds.
+pub fn waits_are_said()
+    ensures { WaitsDouble }
 {}

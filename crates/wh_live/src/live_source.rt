@@ -1,18 +1,36 @@
 //! A source whose tasks a server gives.
 
-ghost use Rattle.std.specs.Prelude.{◌≡◌, []};
+ghost use Rattle.std.specs.Prelude.{◌≡◌, None, Some};
+ghost use Rattle.wh_live.specs.Deliveries.{ComesFrom, Delivers, Fetches, fresh};
+ghost use Rattle.wh_tasks.specs.declared.source.RunUse.{RunUse};
 
-use crate::connection::Connection;
+use crate::answering::{answer_activity, answer_workflow};
+use crate::fetching::whole;
 use crate::journals::Journal;
-use crate::options::{LiveOptions, Role};
-use crate::service_client::ServiceClient;
+use crate::polling::{poll_activity, poll_workflow};
 use crate::tallies::Tally;
 use crate::tasks::OpenTask;
+use std::marker::Model;
+use wh_client::{Client, Connection, LiveOptions, Role};
 use wh_events::{Event, RunKey};
 use wh_ghost_list::GhostList;
 use wh_replay::Answer;
 use wh_slots::TaskName;
-use wh_tasks::{ActivityAnswer, ActivityTask, Polled, Sent, SourceFault, TaskSource, WorkflowTask};
+use wh_tasks::{
+    Acceptance, ActivityAnswer, ActivityTask, Polled, RunUse, Sent, SourceFault, TaskSource,
+    WorkflowTask,
+};
+
+/// The task whose run may be cached after its answer.
+fn acknowledged(run: RunUse, name: TaskName) -> Option<TaskName>
+    ensures cached { run ≡ RunUse.Cache → result ≡ Some name }
+    ensures discarded { run ≡ RunUse.Discard → result ≡ None }
+{
+    match run {
+        RunUse::Cache => Some(name),
+        RunUse::Discard => None,
+    }
+}
 
 /// A source whose polls and answers are calls of a Temporal server, for one worker. It delivers
 /// what was read from the results of its polls, and fetches what was read from the pages of a run's
@@ -26,79 +44,105 @@ use wh_tasks::{ActivityAnswer, ActivityTask, Polled, Sent, SourceFault, TaskSour
 /// It has one task at a time: a task that is not answered before the next poll is left to time out.
 /// A query that comes by itself is refused within the poll.
 #[derive(Drop)]
-pub struct LiveSource<'a, L> {
-    client: ServiceClient<'a, L>,
-    open: Option<OpenTask>,
+pub struct LiveSource<'a, L: Connection> {
+    client: Client<'a, L>,
+    role: Role,
+    current: Option<OpenTask>,
     journal: Journal,
+    acknowledged: Option<TaskName>,
     taken: GhostList<(TaskName, Sent)>,
 }
 
+impl<'a, L: Connection> Model for LiveSource<'a, L> {
+    ghost use Rattle.std.specs.Prelude.{option_map};
+    ghost use Rattle.wh_client.specs.Roles.{polls_sticky};
+    ghost use Rattle.wh_live.specs.Deliveries.{LiveView};
+    ghost use Rattle.wh_live.specs.Private.Opening.{HasLater, later_kept};
+
+    ghost Value = { LiveView };
+
+    ghost view = { λ s. record {
+      role = s.role;
+      names = s.client.options.now.names;
+      answers = s.taken.items;
+      tally = s.journal.tally;
+      acknowledged = s.acknowledged;
+      later = option_map later_kept s.current;
+    } };
+
+    ghost invariant = { λ s. HasLater L.gives s.client.options.now.names (polls_sticky s.role) s.current };
+}
+
 impl<'a, L: Connection> LiveSource<'a, L> {
-    /// A source that has polled nothing.
-    pub fn new(line: &'a L, options: &'a LiveOptions, role: Role) -> LiveSource<'a, L>
-        ensures taken { result.taken.items ≡ [] }
-        ensures failures { result.journal.tally.failures ≡ 0 }
-        ensures role { result.client.role ≡ role }
+    /// A source of a role that has polled nothing.
+    pub fn new(connection: &'a L, options: &'a LiveOptions, role: Role) -> LiveSource<'a, L>
+        ensures { result ≡ fresh role options.entry.now.names }
     {
         LiveSource {
-            client: ServiceClient {
-                line,
+            client: Client {
+                connection,
                 options,
-                role,
             },
-            open: None,
+            role,
+            current: None,
             journal: Journal::new(),
+            acknowledged: None,
             taken: GhostList::new(),
         }
     }
 
     /// What it has counted.
     pub fn tally(&self) -> Tally
-        ensures { result ≡ self.now.journal.tally }
+        ensures { result ≡ self.now.tally }
     {
         self.journal.tally
     }
 }
 
 impl<L: Connection> TaskSource for LiveSource<'_, L> {
-    ghost use Rattle.wh_live.specs.Deliveries.{Delivers, Recounts, ComesFrom};
+    ghost answers = { λ source. source.answers };
 
-    ghost answers = { λ source. source.taken.items };
+    ghost failures = { λ source. source.tally.failures };
 
-    ghost failures = { λ source. source.journal.tally.failures };
+    ghost delivers = { λ source. Delivers L.gives source.names source.role };
 
-    ghost delivers = { λ source. Delivers L.gives source.client.options.now.names source.client.role };
+    ghost tells = { λ source. Fetches L.gives source.names source.role };
 
-    ghost tells = { λ source. Recounts L.gives source.client.options.now.names };
+    ghost comes_from = { ComesFrom };
 
-    ghost comes_from = { λ later first. ComesFrom
-        later.client.role first.client.role later.client.options.now.names first.client.options.now.names
-        later.taken.items first.taken.items later.journal.tally.failures first.journal.tally.failures };
+    ghost caches = { λ source name. source.acknowledged ≡ Some name };
 
     fn poll_workflow(&mut self) -> Result<Polled<WorkflowTask>, SourceFault> {
-        self.client.poll_workflow(&mut self.journal, &mut self.open)
+        self.acknowledged = None;
+        poll_workflow(
+            &self.client,
+            self.role,
+            &mut self.journal,
+            &mut self.current,
+        )
     }
 
     fn poll_activity(&mut self) -> Result<Polled<ActivityTask>, SourceFault> {
-        self.client.poll_activity(&mut self.journal, &mut self.open)
+        poll_activity(
+            &self.client,
+            self.role,
+            &mut self.journal,
+            &mut self.current,
+        )
     }
 
     fn whole(&mut self, key: &RunKey, up_to: u64) -> Result<Vec<Event>, SourceFault> {
-        self.client
-            .recount(&mut self.journal, &mut self.open, key, up_to)
+        whole(
+            &self.client,
+            &mut self.journal,
+            &mut self.current,
+            key,
+            up_to,
+        )
     }
 
     fn answer_workflow(&mut self, name: TaskName, answer: &Answer) -> Result<(), SourceFault> {
-        let open = self.open.take();
-        self.client.answer_workflow(
-            &mut self.journal,
-            &mut self.taken,
-            open,
-            name,
-            answer,
-            &[],
-            0,
-        )
+        self.answer_replayed(name, answer, &[], 0).sent
     }
 
     fn answer_replayed(
@@ -107,23 +151,24 @@ impl<L: Connection> TaskSource for LiveSource<'_, L> {
         answer: &Answer,
         events: &[Event],
         steps: u64,
-    ) -> Result<(), SourceFault> {
-        let open = self.open.take();
-        self.client.answer_workflow(
+    ) -> Acceptance {
+        let current = self.current.take();
+        let accepted = answer_workflow(
+            &self.client,
             &mut self.journal,
             &mut self.taken,
-            open,
+            current,
             name,
             answer,
             events,
             steps,
-        )
+        );
+        self.acknowledged = acknowledged(accepted.run, name);
+        accepted
     }
 
-    fn keeps_run(&self) -> bool
-        ensures { result ≡ self.now.journal.keeps_run }
-    {
-        self.journal.keeps_run
+    fn without_answer(&self) -> RunUse {
+        RunUse::Discard
     }
 
     fn answer_activity(
@@ -131,8 +176,14 @@ impl<L: Connection> TaskSource for LiveSource<'_, L> {
         name: TaskName,
         answer: &ActivityAnswer,
     ) -> Result<(), SourceFault> {
-        let open = self.open.take();
-        self.client
-            .answer_activity(&mut self.journal, &mut self.taken, open, name, answer)
+        let current = self.current.take();
+        answer_activity(
+            &self.client,
+            &mut self.journal,
+            &mut self.taken,
+            current,
+            name,
+            answer,
+        )
     }
 }

@@ -2,11 +2,13 @@
 
 ghost use Rattle.std.specs.Prelude.{◌≡◌, Err};
 ghost use Rattle.wh_tasks.specs.Source.{FailsOnly};
+ghost use Rattle.wh_live.specs.Private.Counting.{with_answer, with_failure, with_poll};
+ghost use Rattle.wh_live.specs.Tallies.{no_counts, sum_of};
 
-use crate::codes::Receipt;
+use wh_client::Receipt;
 use wh_tasks::SourceFault;
 
-/// What a source has counted.
+/// What a source has counted. A count that is full stays so.
 #[derive(Clone, Copy, PartialEq, Eq, Debug)]
 pub struct Tally {
     /// Polls that got a result or an error.
@@ -17,16 +19,16 @@ pub struct Tally {
     pub not_found: u64,
     /// Answers of which the server had failed the task itself.
     pub refused: u64,
-    /// Calls of the source that failed, also where the link was closed.
+    /// Calls of the source that failed, also where the bridge had closed.
     pub failures: u64,
-    /// Calls of the source that failed while the link was open.
+    /// Calls of the source that failed while the bridge was open.
     pub faults: u64,
 }
 
 impl Tally {
     /// Nothing is counted.
-    pub(crate) fn new() -> Tally
-        ensures { result.failures ≡ 0 }
+    pub fn new() -> Tally
+        ensures { result ≡ no_counts }
     {
         Tally {
             polls: 0,
@@ -39,7 +41,9 @@ impl Tally {
     }
 
     /// Adds what another source has counted.
-    pub(crate) fn add(&mut self, other: Tally) {
+    pub fn add(&mut self, other: Tally)
+        ensures { self.new ≡ sum_of self.old other }
+    {
         self.polls = self.polls.saturating_add(other.polls);
         self.empty = self.empty.saturating_add(other.empty);
         self.not_found = self.not_found.saturating_add(other.not_found);
@@ -50,7 +54,7 @@ impl Tally {
 
     /// Counts a poll.
     pub(crate) fn polled(&mut self, is_empty: bool)
-        ensures { self.new.failures ≡ self.old.failures }
+        ensures { self.new ≡ with_poll is_empty self.old }
     {
         self.polls = self.polls.saturating_add(1);
         if is_empty {
@@ -60,27 +64,32 @@ impl Tally {
 
     /// Counts an answer.
     pub(crate) fn answered(&mut self, receipt: Receipt)
-        ensures { self.new.failures ≡ self.old.failures }
+        ensures { self.new ≡ with_answer receipt self.old }
     {
-        if receipt == Receipt::NotFound {
-            self.not_found = self.not_found.saturating_add(1);
-        }
-        if receipt == Receipt::Invalid {
-            self.refused = self.refused.saturating_add(1);
+        match receipt {
+            Receipt::NotFound => self.not_found = self.not_found.saturating_add(1),
+            Receipt::Invalid => self.refused = self.refused.saturating_add(1),
+            Receipt::Acknowledged
+            | Receipt::Withheld
+            | Receipt::Replaced
+            | Receipt::Cut
+            | Receipt::Lost
+            | Receipt::NoMemory => {}
         }
     }
 
     /// Counts a call that failed, and says what the source says of it.
     pub(crate) fn failed(&mut self, is_fault: bool) -> SourceFault
-        ensures { FailsOnly {A = Unit {0}} (Err result) self.old.failures self.new.failures }
+        ensures counted { self.new ≡ with_failure is_fault self.old }
+        ensures failures { FailsOnly {A = Unit {0}} (Err result) self.old.failures self.new.failures }
     {
+        if is_fault {
+            self.faults = self.faults.saturating_add(1);
+        }
         if self.failures == u64::MAX {
             return SourceFault::OutOfMemory;
         }
         self.failures += 1;
-        if is_fault {
-            self.faults = self.faults.saturating_add(1);
-        }
         SourceFault::Source
     }
 }

@@ -1,9 +1,7 @@
-//! A line for each task, for people.
+//! A line for each task that was answered.
 
-use crate::codes::Receipt;
-use crate::connection::Connection;
-use crate::service_client::ServiceClient;
 use crate::tasks::{OpenTask, workflow_type};
+use wh_client::{Client, Connection, Receipt};
 use wh_events::Event;
 use wh_replay::Answer;
 use wh_tasks::ActivityAnswer;
@@ -14,7 +12,7 @@ fn outcome_words(is_completed: bool, receipt: Receipt) -> &'static str {
     match receipt {
         Receipt::Acknowledged if is_completed => "completed",
         Receipt::Acknowledged | Receipt::Replaced => "failed",
-        Receipt::Withheld => "failed again, not told",
+        Receipt::Withheld => "failed again, not sent",
         Receipt::NotFound => "over before its answer",
         Receipt::Invalid => "refused",
         Receipt::Cut | Receipt::Lost => "answer lost",
@@ -39,50 +37,53 @@ fn type_of<'a>(open: &'a OpenTask, held: &'a [Event]) -> &'a str {
     }
 }
 
-impl<L: Connection> ServiceClient<'_, L> {
-    /// Reports how a workflow task ended that was replayed from these events, where tasks are
-    /// reported: its run and type, how many events it came with, whether it was a hit of the cache,
-    /// and how many steps replay took.
-    pub(crate) fn log_workflow(
-        &self,
-        open: &OpenTask,
-        answer: &Answer,
-        held: &[Event],
-        steps: u64,
-        receipt: Receipt,
+/// Logs how a workflow task ended that was replayed from these events, where tasks are logged: its
+/// run and type, how many events it came with, whether it was a hit of the cache, and how many
+/// steps replay took.
+pub(crate) fn log_workflow<L: Connection>(
+    client: &Client<'_, L>,
+    open: &OpenTask,
+    answer: &Answer,
+    held: &[Event],
+    steps: u64,
+    receipt: Receipt,
+) {
+    if !client.options.verbose {
+        return;
+    }
+    let found = if open.from_first { "miss" } else { "hit" };
+    let is_completed = matches!(answer, Answer::Complete(_));
+    let what = Shown(type_of(open, held));
+    let (events, commands) = (open.events, count_commands(answer));
+    let outcome = outcome_words(is_completed, receipt);
+    if let Ok(text) = format!(in client.allocator();
+        "workflow {what}: {events} events, {found}, {steps} steps, {commands} commands, {outcome}"
     ) {
-        if !self.options.verbose {
-            return;
-        }
-        let found = if open.from_first { "miss" } else { "hit" };
-        let is_completed = matches!(answer, Answer::Complete(_));
-        let what = Shown(type_of(open, held));
-        let (events, commands) = (open.events, count_commands(answer));
-        let outcome = outcome_words(is_completed, receipt);
-        if let Ok(text) = format!(in self.allocator();
-            "workflow {what}: {events} events, {found}, {steps} steps, {commands} commands, {outcome}"
-        ) {
-            self.log_of(open, text.as_str());
-        }
+        log_of(client, open, text.as_str());
     }
+}
 
-    /// Reports how an activity task ended, where tasks are reported: its run and type.
-    pub(crate) fn log_activity(&self, open: &OpenTask, answer: &ActivityAnswer, receipt: Receipt) {
-        if !self.options.verbose {
-            return;
-        }
-        let is_completed = matches!(answer, ActivityAnswer::Completed(_));
-        let what = Shown(open.what.get());
-        let outcome = outcome_words(is_completed, receipt);
-        if let Ok(text) = format!(in self.allocator(); "activity {what}: {outcome}") {
-            self.log_of(open, text.as_str());
-        }
+/// Logs how an activity task ended, where tasks are logged: its run and type.
+pub(crate) fn log_activity<L: Connection>(
+    client: &Client<'_, L>,
+    open: &OpenTask,
+    answer: &ActivityAnswer,
+    receipt: Receipt,
+) {
+    if !client.options.verbose {
+        return;
     }
+    let is_completed = matches!(answer, ActivityAnswer::Completed(_));
+    let what = Shown(open.what.get());
+    let outcome = outcome_words(is_completed, receipt);
+    if let Ok(text) = format!(in client.allocator(); "activity {what}: {outcome}") {
+        log_of(client, open, text.as_str());
+    }
+}
 
-    /// Tells something of a task with its run.
-    fn log_of(&self, open: &OpenTask, what: &str) {
-        if let Ok(text) = open.said(self.allocator(), what) {
-            self.line.log(text.as_str());
-        }
+/// Logs something of a task with its run.
+fn log_of<L: Connection>(client: &Client<'_, L>, open: &OpenTask, what: &str) {
+    if let Ok(text) = open.said(client.allocator(), what) {
+        client.connection.log(text.as_str());
     }
 }

@@ -1,6 +1,6 @@
 //! Tasks that a poll brought.
 
-ghost use Rattle.std.specs.Prelude.{◌≡◌};
+ghost use Rattle.std.specs.Prelude.{◌≡◌, []};
 
 use std::alloc::{AllocError, Global};
 use wh_events::{Event, EventKind, RunKey, Text};
@@ -26,6 +26,8 @@ pub(crate) struct OpenTask {
     pub(crate) events: usize,
     /// Whether it is replayed from the first event of its run.
     pub(crate) from_first: bool,
+    /// The events that it came with, where the first of its run is not among them.
+    pub(crate) later: Vec<Event>,
 }
 
 /// The type of the workflow of a history that begins with its first event.
@@ -39,8 +41,10 @@ pub(crate) fn workflow_type(events: &[Event]) -> Option<&Text> {
 impl OpenTask {
     /// A task of an id that a poll gave, in its first attempt and without queries.
     pub(crate) fn new(alloc: Global, id: u64, token: Text, run: RunKey) -> OpenTask
+        ensures name { result.name.0 ≡ id }
         ensures token { result.token ≡ token }
         ensures run { result.run ≡ run }
+        ensures later { result.later.items ≡ [] }
     {
         OpenTask {
             name: TaskName(u128::from(id)),
@@ -51,6 +55,7 @@ impl OpenTask {
             what: Text::new(String::new(alloc)),
             events: 0,
             from_first: false,
+            later: Vec::new(alloc),
         }
     }
 

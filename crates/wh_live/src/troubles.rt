@@ -1,8 +1,11 @@
 //! Polls that fail one after the other.
 
-ghost use Rattle.std.specs.Prelude.{◌≡◌, ◌≤◌, ◌*◌, min};
+ghost use Rattle.std.specs.Prelude.{◌≡◌, ℕ, ◌≤◌, ◌*◌, ◌+◌, min};
+ghost use Rattle.wh_live.specs.Private.Troubles.{HasFailed};
 
-use crate::connection::Connection;
+use std::alloc::AllocError;
+use wh_client::Connection;
+use wh_ghost_list::GhostList;
 
 /// How long a worker waits after the first poll that failed, in milliseconds.
 const FIRST_WAIT: u64 = 100;
@@ -22,42 +25,62 @@ fn next_wait(wait: u64) -> u64
 }
 
 /// The polls that failed since one that did not. The first of a row of equal ones is reported, and
-/// then how many more there were.
-#[derive(Debug, Drop)]
+/// then how many more there were. After each the worker waits, longer each time.
+#[derive(Drop)]
 pub(crate) struct Trouble {
     last: Option<String>,
     more: u64,
-    wait: u64,
+    pub(crate) wait: u64,
+    pub(crate) pauses: GhostList<u64>,
 }
 
 impl Trouble {
     /// No poll has failed.
-    pub(crate) fn new() -> Trouble {
+    pub(crate) fn new() -> Trouble
+        ensures { HasFailed 0 result }
+    {
         Trouble {
             last: None,
             more: 0,
             wait: FIRST_WAIT,
+            pauses: GhostList::new(),
         }
     }
 
-    /// A poll has failed: reports it, unless it is as the one before, and waits.
-    pub(crate) fn meet<L: Connection>(&mut self, line: &L, what: String) {
-        if self.is_last(what.as_str()) {
-            self.more = self.more.saturating_add(1);
-        } else {
-            self.tell_rest(line);
-            line.tell(what.as_str());
-            self.last = Some(what);
+    /// A poll has failed: reports it, unless it is as the one before or there was no memory for its
+    /// text, and waits.
+    pub(crate) fn meet<L: Connection>(&mut self, connection: &L, what: Result<String, AllocError>)
+        ensures { (count : ℕ) → HasFailed count self.old → HasFailed (count + 1) self.new }
+    {
+        if let Ok(what) = what {
+            self.report(connection, what);
         }
-        line.pause(self.wait);
+        connection.pause(self.wait, &mut self.pauses);
         self.wait = next_wait(self.wait);
     }
 
     /// A poll has not failed.
-    pub(crate) fn end<L: Connection>(&mut self, line: &L) {
-        self.tell_rest(line);
+    pub(crate) fn end<L: Connection>(&mut self, connection: &L)
+        ensures { HasFailed 0 self.new }
+    {
+        self.report_rest(connection);
         self.last = None;
         self.wait = FIRST_WAIT;
+        self.pauses = GhostList::new();
+    }
+
+    /// Reports why a poll failed, unless that is as the one before.
+    fn report<L: Connection>(&mut self, connection: &L, what: String)
+        ensures wait { self.new.wait ≡ self.old.wait }
+        ensures pauses { self.new.pauses ≡ self.old.pauses }
+    {
+        if self.is_last(what.as_str()) {
+            self.more = self.more.saturating_add(1);
+        } else {
+            self.report_rest(connection);
+            connection.report(what.as_str());
+            self.last = Some(what);
+        }
     }
 
     /// Whether the poll before failed in the same way.
@@ -69,11 +92,14 @@ impl Trouble {
     }
 
     /// Reports how many polls have failed as the one that was reported.
-    fn tell_rest<L: Connection>(&mut self, line: &L) {
+    fn report_rest<L: Connection>(&mut self, connection: &L)
+        ensures wait { self.new.wait ≡ self.old.wait }
+        ensures pauses { self.new.pauses ≡ self.old.pauses }
+    {
         let more = self.more;
         if 0 < more {
-            if let Ok(text) = format!(in line.allocator(); "the same {more} times more") {
-                line.tell(text.as_str());
+            if let Ok(text) = format!(in connection.allocator(); "the same {more} times more") {
+                connection.report(text.as_str());
             }
         }
         self.more = 0;

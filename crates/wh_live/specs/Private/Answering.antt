@@ -1,27 +1,132 @@
--- What is told of a task that failed, and what becomes of an answer.
-use Rattle.wh_live.specs.Codes.{refused_answer}
-use Rattle.wh_live.specs.declared.asking.AskFault.{AskFault}
-use Rattle.wh_live.specs.declared.asking.AskFault.TheVariants as asked
-use Rattle.wh_live.specs.declared.codes.Receipt.{Receipt}
-use Rattle.wh_live.specs.declared.codes.Receipt.TheVariants.{Cut, Lost, NoMemory}
+-- What is sent for a task, and what becomes of it.
+use Rattle.std.specs.Prelude.{◌≡◌, ◌⊎◌, ℕ, List, codes, not, Bool, true, false, Option, Some, None, Result, Ok, Err, string_bytes, if◌then◌else◌}
+use Rattle.std.specs.List.{list_any}
+use Rattle.std.specs.Str.{bytes_eq}
+use Rattle.serde_json.specs.Data.{Data}
+use Rattle.wh_client.specs.Calls.{Gives}
+use Rattle.wh_client.specs.Codes.{keeps_run}
+use Rattle.wh_live.specs.Answers.{cause_of, receipt_of}
+use Rattle.wh_client.specs.Histories.{HandsOn}
+use Rattle.wh_client.specs.Requests.{IsRequest}
+use Rattle.wh_client.specs.declared.asking.AskFault.{AskFault}
+use Rattle.wh_client.specs.declared.asking.AskFault.TheVariants as asked
+use Rattle.wh_client.specs.declared.codes.Receipt.{Receipt}
+use Rattle.wh_client.specs.declared.codes.Receipt.TheVariants.{Acknowledged, NoMemory, Replaced}
+use Rattle.wh_client.specs.declared.codes.Status.{Status}
+use Rattle.wh_client.specs.declared.codes.Status.TheVariants as status
+use Rattle.wh_client.specs.declared.options.LiveOptions.{LiveOptions}
+use Rattle.wh_client.specs.declared.requests.Request.{Request}
+use Rattle.wh_events.specs.declared.event.Event.{Event}
+use Rattle.wh_events.specs.declared.key.RunKey.{RunKey}
+use Rattle.wh_messages.specs.CarryingOver.{Carried, continues, nothing_carried}
+use Rattle.wh_messages.specs.declared.names.WorkerNames.{WorkerNames}
 use Rattle.wh_messages.specs.declared.request.FailedCause.{FailedCause}
-use Rattle.wh_messages.specs.declared.request.FailedCause.TheVariants.{Nondeterministic, Unhandled}
-use Rattle.wh_replay.specs.declared.fault.Fault.{Fault}
-use Rattle.wh_replay.specs.declared.fault.Fault.TheVariants.{NotATask, Place, Workflow, Mismatch}
+use Rattle.wh_messages.specs.Requests.{activity_completed, activity_failed, workflow_completed, workflow_failed}
+use Rattle.wh_replay.specs.declared.run.Answer.{Answer}
+use Rattle.wh_replay.specs.declared.run.Answer.TheVariants.{Complete, Fail}
+use Rattle.wh_slots.specs.declared.TaskName.{TaskName}
+use Rattle.wh_tasks.specs.declared.source.ActivityAnswer.{ActivityAnswer}
+use Rattle.wh_tasks.specs.declared.source.ActivityAnswer.TheVariants.{Completed, Failed}
+use Rattle.wh_tasks.specs.declared.source.RunUse.{RunUse}
+use Rattle.wh_tasks.specs.declared.source.RunUse.TheVariants.{Cache, Discard}
+use Rattle.wh_workflow.specs.declared.command.Command.{Command}
+use Rattle.wh_live.specs.declared.tasks.OpenTask.{OpenTask}
 
--- commands that differ from their record are told as such, and every other fault as one of the worker
-abbrev pub cause_of : Fault → FailedCause
-cause_of NotATask = Unhandled
-cause_of (Place at fault) = Unhandled
-cause_of (Workflow at fault) = Unhandled
-cause_of (Mismatch at mismatch) = Nondeterministic
+-- ---- What is sent
 
--- an answer is cut off where the link is closed; where it is refused the status decides
-abbrev pub receipt_of : AskFault → Receipt
-receipt_of asked.Closed = Cut
-receipt_of asked.Output = Lost
-receipt_of (asked.Refused status code message) = refused_answer status
-receipt_of asked.Unreadable = Lost
-receipt_of asked.TooManyPages = Lost
-receipt_of (asked.History fault) = Lost
-receipt_of asked.OutOfMemory = NoMemory
+-- the server gave a result for the completion of the task with these commands, and with what its run hands on
+pub record CompletesWith (gives : Gives) (options : LiveOptions) (task : OpenTask) (commands : List Command)
+    (events : List Event) (carried : Carried) : Type 0 where
+  pub params : Data
+  pub written :
+      workflow_completed options.names task.token commands events task.queries.items options.sticky options.activities carried
+      ≡ Ok params
+  pub result : Data
+  pub given : gives (codes "RespondWorkflowTaskCompleted") params result
+
+-- what a run hands on, where it is continued as a new one: what its first event says
+abbrev pub IsCarried : Gives → WorkerNames → RunKey → Bool → Carried → Type 0
+IsCarried gives names run false carried = carried ≡ nothing_carried
+IsCarried gives names run true carried = HandsOn gives names run carried
+
+-- the server gave a result for the completion of the task with these commands
+abbrev pub CompletesTask : Gives → LiveOptions → OpenTask → List Command → List Event → Type 0
+CompletesTask gives options task commands events =
+    (carried : Carried) × IsCarried gives options.names task.run (list_any continues commands) carried
+    × CompletesWith gives options task commands events carried
+
+-- the server gave a result for the failure of the task of a token under a cause
+pub record FailsTask (gives : Gives) (names : WorkerNames) (token : List ℕ) (cause : FailedCause) : Type 0 where
+  pub message : List ℕ
+  pub result : Data
+  pub given : gives (codes "RespondWorkflowTaskFailed") (workflow_failed names token cause message) result
+
+-- the server gave a result for this answer to the task
+abbrev pub HasAnswer : Gives → LiveOptions → OpenTask → Answer → List Event → Type 0
+HasAnswer gives options task (Complete commands) events = CompletesTask gives options task commands events
+HasAnswer gives options task (Fail fault) events = FailsTask gives options.names task.token (cause_of fault)
+
+-- the open task has this name, and the server gave a result for this answer to it
+pub record AnswersOpen (gives : Gives) (options : LiveOptions) (open_task : Option OpenTask) (name : TaskName)
+    (answer : Answer) (events : List Event) : Type 0 where
+  pub task : OpenTask
+  pub is : open_task ≡ Some task
+  pub named : task.name ≡ name
+  pub answered : HasAnswer gives options task answer events
+
+-- an activity's result is sent as such, and why it failed as a failure
+abbrev pub IsActivityRequest : WorkerNames → List ℕ → ActivityAnswer → Request → Type 0
+IsActivityRequest names token (Completed outcome) request =
+    IsRequest request (codes "RespondActivityTaskCompleted") (activity_completed names token outcome)
+IsActivityRequest names token (Failed reason) request =
+    IsRequest request (codes "RespondActivityTaskFailed") (activity_failed names token reason)
+
+-- ---- What becomes of it
+
+-- a result acknowledges an answer
+abbrev pub receipt_of_sent : {A : Type 0} → Result A AskFault → Receipt
+receipt_of_sent (Ok x) = Acknowledged
+receipt_of_sent (Err fault) = receipt_of fault
+
+-- the task was failed in place of its answer, unless there was no memory
+abbrev pub IsReplaced : Receipt → Type 0
+IsReplaced receipt = (receipt ≡ Replaced) ⊎ (receipt ≡ NoMemory)
+
+-- the text says that the run had news while its answer closed it
+abbrev pub is_unhandled_command : List ℕ → Bool
+is_unhandled_command message = bytes_eq message (codes "UnhandledCommand")
+
+-- each refusal is reported, but that the task is over, or that its run had news
+abbrev pub reports_refusal : Status → List ℕ → Bool
+reports_refusal status.Cancelled message = true
+reports_refusal status.InvalidArgument message = not (is_unhandled_command message)
+reports_refusal status.NotFound message = false
+reports_refusal status.PermissionDenied message = true
+reports_refusal status.Unauthenticated message = true
+reports_refusal status.Other message = true
+
+-- what was lost is reported, but where the bridge has closed or there is no memory
+abbrev pub is_reported : AskFault → Bool
+is_reported asked.Closed = false
+is_reported asked.Output = true
+is_reported (asked.Refused status code message) = reports_refusal status (string_bytes message)
+is_reported asked.Unreadable = true
+is_reported asked.TooManyPages = true
+is_reported (asked.History fault) = true
+is_reported asked.OutOfMemory = false
+
+-- it counts as a fault of the source that a history could not be had, unless the bridge has closed, or the open task
+-- was failed for events that can't be read
+abbrev pub counts_fault : Option OpenTask → AskFault → Bool
+counts_fault None fault = true
+counts_fault (Some task) asked.Closed = false
+counts_fault (Some task) asked.Output = true
+counts_fault (Some task) (asked.Refused status code message) = true
+counts_fault (Some task) asked.Unreadable = true
+counts_fault (Some task) asked.TooManyPages = true
+counts_fault (Some task) (asked.History fault) = false
+counts_fault (Some task) asked.OutOfMemory = true
+
+-- the run is cached where the server has the answer
+abbrev pub run_use : Receipt → RunUse
+run_use receipt = if keeps_run receipt then Cache else Discard

@@ -1,13 +1,31 @@
 -- Tasks that were opened, and are to be answered.
-use Rattle.std.specs.Prelude.{◌≡◌}
+use Rattle.std.specs.Prelude.{◌≡◌, ◌⊎◌, ℕ, Bool, List, [], Option, Some, None, option_map, Result, Ok, Err, if◌then◌else◌}
+use Rattle.wh_client.specs.Calls.{Gives}
+use Rattle.wh_events.specs.declared.event.Event.{Event}
+use Rattle.wh_events.specs.declared.key.RunKey.{RunKey}
+use Rattle.wh_live.specs.Deliveries.{HasKept, later_in}
+use Rattle.wh_live.specs.declared.tasks.Brought.{Brought}
+use Rattle.wh_live.specs.declared.tasks.Brought.TheVariants as brought
 use Rattle.wh_live.specs.declared.tasks.OpenTask.{OpenTask}
 use Rattle.wh_messages.specs.declared.response.PolledActivity.{PolledActivity}
+use Rattle.wh_messages.specs.declared.names.WorkerNames.{WorkerNames}
 use Rattle.wh_messages.specs.Responses.{Task}
+use Rattle.wh_replay.specs.Runs.{follows}
 use Rattle.wh_slots.specs.declared.TaskName.{TaskName}
+use Rattle.wh_tasks.specs.declared.source.Polled.{Polled}
+use Rattle.wh_tasks.specs.declared.source.Polled.TheVariants as polled
+use Rattle.wh_tasks.specs.declared.source.SourceFault.{SourceFault}
 
--- a task is answered under the token that it came under, in its attempt and with its queries, and under the name that
--- it is given under
-pub record Opens (polled : Task) (opened : OpenTask) (given : TaskName) : Type 0 where
+-- it holds of the task, where the poll brought one
+abbrev pub OnTask : {A : Type 0} → (A → Type 0) → Brought A → Type 0
+OnTask p (brought.Task task) = p task
+OnTask p brought.Empty = Unit {0}
+OnTask p brought.Settled = Unit {0}
+
+-- a task of a poll is answered under the token that it came under, in its attempt and with its queries, and under the
+-- name that it is given under, which is the id of the poll
+pub record Opens (id : ℕ) (polled : Task) (opened : OpenTask) (given : TaskName) : Type 0 where
+  pub numbered : given.0 ≡ id
   pub name : opened.name ≡ given
   pub token : opened.token ≡ polled.token
   pub run : opened.run ≡ polled.run
@@ -15,15 +33,46 @@ pub record Opens (polled : Task) (opened : OpenTask) (given : TaskName) : Type 0
   pub queries : opened.queries.items ≡ polled.queries
 
 -- an activity task likewise
-pub record OpensActivity (polled : PolledActivity) (opened : OpenTask) (given : TaskName) : Type 0 where
+pub record OpensActivity (id : ℕ) (polled : PolledActivity) (opened : OpenTask) (given : TaskName) : Type 0 where
+  pub numbered : given.0 ≡ id
   pub name : opened.name ≡ given
   pub token : opened.token ≡ polled.token
   pub run : opened.run ≡ polled.run
 
--- it is answered as before, under the name that it is given under
+-- the events of a task that does not come with the first event of its run
+abbrev pub later_events : List Event → List Event
+later_events events = if follows 0 events then [] else events
+
+-- it is answered as before, under the name that it is given under, which it had
 pub record StaysOpen (old new : OpenTask) (given : TaskName) : Type 0 where
+  pub kept : old.name ≡ given
   pub name : new.name ≡ given
   pub token : new.token ≡ old.token
   pub run : new.run ≡ old.run
   pub attempt : new.attempt ≡ old.attempt
   pub queries : new.queries.items ≡ old.queries.items
+
+-- where a task was brought it is given, and what it is to be answered by is open; else what was open stays so
+abbrev pub IsOpened : {A : Type 0} → Result (Polled (OpenTask × A)) SourceFault → Option OpenTask → Result (Polled A) SourceFault → Option OpenTask → Type 0
+IsOpened (Ok (polled.Task pair)) old result new = (result ≡ Ok (polled.Task pair.1)) × (new ≡ Some pair.0)
+IsOpened (Ok polled.Nothing) old result new = (result ≡ Ok polled.Nothing) × (new ≡ old)
+IsOpened (Ok polled.Closed) old result new = (result ≡ Ok polled.Closed) × (new ≡ old)
+IsOpened (Err fault) old result new = (result ≡ Err fault) × (new ≡ old)
+
+-- ---- Later events
+
+-- the run of a task and its later events
+abbrev pub later_kept : OpenTask → RunKey × List Event
+later_kept task = (task.run, task.later.items)
+
+-- the later events of the open task, if it is one of this run
+abbrev pub later_of : Option OpenTask → RunKey → List Event
+later_of open_task run = later_in (option_map later_kept open_task) run
+
+-- the later events of an open task are those of a task that the queue gave
+abbrev pub HasLater : Gives → WorkerNames → Option Bool → Option OpenTask → Type 0
+HasLater gives names queue open_task = HasKept gives names queue (option_map later_kept open_task)
+
+-- the open task is as before, or none is
+abbrev pub KeepsLater : Option OpenTask → Option OpenTask → Type 0
+KeepsLater old new = (new ≡ None) ⊎ (option_map later_kept new ≡ option_map later_kept old)

@@ -1,18 +1,20 @@
 -- What a source says of a poll.
-use Rattle.std.specs.Prelude.{◌≡◌, Result, Ok, IsErr}
-use Rattle.wh_live.specs.Codes.{poll_end}
-use Rattle.wh_live.specs.declared.asking.AskFault.{AskFault}
-use Rattle.wh_live.specs.declared.asking.AskFault.TheVariants as asked
-use Rattle.wh_live.specs.declared.codes.PollEnd.{PollEnd}
-use Rattle.wh_live.specs.declared.codes.PollEnd.TheVariants.{Closed, Never, Later}
+use Rattle.std.specs.Prelude.{◌≡◌, ℕ, ◌+◌, Result, Ok, Err, IsErr}
+use Rattle.wh_client.specs.Codes.{poll_end}
+use Rattle.wh_client.specs.declared.asking.AskFault.{AskFault}
+use Rattle.wh_client.specs.declared.asking.AskFault.TheVariants as asked
+use Rattle.wh_client.specs.declared.codes.PollEnd.{PollEnd}
+use Rattle.wh_client.specs.declared.codes.PollEnd.TheVariants.{Closed, Never, Later}
 use Rattle.wh_live.specs.declared.tasks.Brought.{Brought}
 use Rattle.wh_live.specs.declared.tasks.Brought.TheVariants.{Task, Empty, Settled}
+use Rattle.wh_live.specs.declared.troubles.Trouble.{Trouble}
+use Rattle.wh_live.specs.Private.Troubles.{HasFailed}
 use Rattle.wh_tasks.specs.declared.source.Polled.{Polled}
 use Rattle.wh_tasks.specs.declared.source.Polled.TheVariants as polled
 use Rattle.wh_tasks.specs.declared.source.SourceFault.{SourceFault}
 
 -- what follows where a poll failed: by the status that it was refused with, and else a later poll may do better, unless
--- there is no other end any more
+-- the bridge is gone
 abbrev pub end_of : AskFault → PollEnd
 end_of asked.Closed = Closed
 end_of asked.Output = Never
@@ -27,6 +29,21 @@ abbrev pub EndsPoll : {A : Type 0} → PollEnd → Result (Polled A) SourceFault
 EndsPoll Closed result = result ≡ Ok polled.Closed
 EndsPoll Later result = result ≡ Ok polled.Nothing
 EndsPoll Never result = IsErr result
+
+-- one poll more has failed in a row
+abbrev pub FailsOnceMore : Trouble → Trouble → Type 0
+FailsOnceMore old new = (count : ℕ) → HasFailed count old → HasFailed (count + 1) new
+
+-- where the poll was closed nothing is waited for; else it is one more that failed
+abbrev pub WaitsAfter : PollEnd → Trouble → Trouble → Type 0
+WaitsAfter Closed old new = new ≡ old
+WaitsAfter Later old new = FailsOnceMore old new
+WaitsAfter Never old new = FailsOnceMore old new
+
+-- a poll with a result ends the row of those that failed
+abbrev pub WaitsFor : {A : Type 0} → Result (Brought A) AskFault → Trouble → Trouble → Type 0
+WaitsFor (Ok brought) old new = HasFailed 0 new
+WaitsFor (Err fault) old new = WaitsAfter (end_of fault) old new
 
 -- a task is given; where there was none, or it was settled, there is none now
 abbrev pub polled_of : {A : Type 0} → Brought A → Polled A

@@ -1,0 +1,63 @@
+-- The codes, status by status.
+use Rattle.std.proofs.Common.{◌≡◌, inl, inr, refl}
+use Rattle.std.specs.Prelude.{ℤ, pos}
+use Rattle.wh_client.specs.declared.codes.Receipt.TheVariants as receipt
+use Rattle.wh_client.specs.declared.codes.Status.TheVariants as status
+use Rattle.wh_client.specs.Codes.{AnswersByCode, KeepsOut, NoRunByCode, PollsByCode, RunsByReceipt}
+
+pub no_run_by_code : NoRunByCode
+no_run_by_code status.Cancelled = refl
+no_run_by_code status.InvalidArgument = refl
+no_run_by_code status.NotFound = refl
+no_run_by_code status.PermissionDenied = refl
+no_run_by_code status.Unauthenticated = refl
+no_run_by_code status.Other = refl
+
+-- code 1 keeps no worker out
+one_lets_in : (code : ℤ) → code ≡ pos 1 → KeepsOut code → ⊥
+one_lets_in code one (inl three) = cc
+one_lets_in code one (inr (inl five)) = cc
+one_lets_in code one (inr (inr (inl seven))) = cc
+one_lets_in code one (inr (inr (inr sixteen))) = cc
+
+pub polls_by_code : PollsByCode
+polls_by_code status.Cancelled code is = ((λ _. is, λ _. refl), (λ e. cc, λ out. absurd (one_lets_in code is out)))
+polls_by_code status.InvalidArgument code is = ((λ e. cc, λ one. cc), (λ _. inl is, λ _. refl))
+polls_by_code status.NotFound code is = ((λ e. cc, λ one. cc), (λ _. inr (inl is), λ _. refl))
+polls_by_code status.PermissionDenied code is = ((λ e. cc, λ one. cc), (λ _. inr (inr (inl is)), λ _. refl))
+polls_by_code status.Unauthenticated code is = ((λ e. cc, λ one. cc), (λ _. inr (inr (inr is)), λ _. refl))
+polls_by_code status.Other code is = (
+  (λ e. cc, λ one. absurd (is.0 one)),
+  (
+    λ e. cc,
+    λ out. elim out [
+      | inl three ↦ absurd (is.1 three)
+      | inr more ↦ elim more [
+        | inl five ↦ absurd (is.2 five)
+        | inr rest ↦ elim rest [ inl seven ↦ absurd (is.3 seven) | inr sixteen ↦ absurd (is.4 sixteen) ]
+      ]
+    ],
+  ),
+)
+
+pub answers_by_code : AnswersByCode
+answers_by_code status.Cancelled code is =
+    (λ e. cc, λ gone. elim gone [ inl five ↦ cc | inr three ↦ cc ])
+answers_by_code status.InvalidArgument code is = (λ _. inr is, λ _. refl)
+answers_by_code status.NotFound code is = (λ _. inl is, λ _. refl)
+answers_by_code status.PermissionDenied code is =
+    (λ e. cc, λ gone. elim gone [ inl five ↦ cc | inr three ↦ cc ])
+answers_by_code status.Unauthenticated code is =
+    (λ e. cc, λ gone. elim gone [ inl five ↦ cc | inr three ↦ cc ])
+answers_by_code status.Other code is =
+    (λ e. cc, λ gone. elim gone [ inl five ↦ absurd (is.2 five) | inr three ↦ absurd (is.1 three) ])
+
+pub runs_by_receipt : RunsByReceipt
+runs_by_receipt receipt.Acknowledged = ((λ _. refl, λ _. refl), λ _. refl)
+runs_by_receipt receipt.NotFound = ((λ e. cc, λ e. cc), λ e. cc)
+runs_by_receipt receipt.Invalid = ((λ e. cc, λ e. cc), λ e. cc)
+runs_by_receipt receipt.Withheld = ((λ e. cc, λ e. cc), λ e. cc)
+runs_by_receipt receipt.Replaced = ((λ e. cc, λ e. cc), λ e. cc)
+runs_by_receipt receipt.Cut = ((λ e. cc, λ e. cc), λ e. cc)
+runs_by_receipt receipt.Lost = ((λ e. cc, λ e. cc), λ e. cc)
+runs_by_receipt receipt.NoMemory = ((λ e. cc, λ e. cc), λ e. cc)

@@ -1,0 +1,31 @@
+-- The histories that a server gives, page by page.
+use Rattle.std.specs.Prelude.{◌≡◌, ◌⊎◌, ℕ, List, [], Some, None, Ok}
+use Rattle.serde_json.specs.Data.{Data}
+use Rattle.wh_events.specs.declared.event.Event.{Event}
+use Rattle.wh_events.specs.declared.key.RunKey.{RunKey}
+use Rattle.wh_json.specs.Events.{members_from}
+use Rattle.wh_json.specs.Outcome.{all_of}
+use Rattle.wh_messages.specs.declared.names.WorkerNames.{WorkerNames}
+use Rattle.wh_client.specs.Calls.{Gives}
+use Rattle.wh_client.specs.Pages.{IsPaged, ReadsOn}
+use Rattle.wh_messages.specs.CarryingOver.{Carried, carried_in}
+use Rattle.wh_messages.specs.Responses.{Page}
+
+-- the members of a history are read as these events
+abbrev pub ReadsEvents : List Data → List Event → Type 0
+ReadsEvents members events = all_of (members_from 1 None members) ≡ Ok events
+
+-- all members are those before, and those of the pages after the token, if there is one
+abbrev pub HasAllMembers : Gives → WorkerNames → RunKey → List ℕ → List Data → List Data → Type 0
+HasAllMembers gives names run token members all =
+    ((token ≡ []) × (all ≡ members)) ⊎ ReadsOn gives names run token members all
+
+-- the members of all pages of the run's history, from the first one
+abbrev pub IsWhole : Gives → WorkerNames → RunKey → List Data → Type 0
+IsWhole gives names run members = ReadsOn gives names run [] [] members
+
+-- a run hands this on: it stands in the first event of its history
+pub record HandsOn (gives : Gives) (names : WorkerNames) (run : RunKey) (carried : Carried) : Type 0 where
+  pub page : Page
+  pub given : IsPaged gives names run [] page
+  pub read : carried_in page.members ≡ Some carried

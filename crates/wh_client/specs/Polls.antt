@@ -1,0 +1,20 @@
+-- What polls give.
+use Rattle.std.specs.Prelude.{◌≡◌, Bool, codes}
+use Rattle.serde_json.specs.Data.{Data}
+use Rattle.wh_messages.specs.declared.names.WorkerNames.{WorkerNames}
+use Rattle.wh_messages.specs.declared.response.ActivityPoll.{ActivityPoll}
+use Rattle.wh_messages.specs.Requests.{poll_workflow, poll_activity}
+use Rattle.wh_messages.specs.Responses.{Poll, workflow_poll, activity_poll}
+use Rattle.wh_client.specs.Calls.{Gives}
+
+-- the server gives a result of this meaning for a poll of a queue
+pub record IsWorkflowPoll (gives : Gives) (names : WorkerNames) (sticky : Bool) (poll : Poll) : Type 0 where
+  pub result : Data
+  pub given : gives (codes "PollWorkflowTaskQueue") (poll_workflow names sticky) result
+  pub read : poll ≡ workflow_poll result
+
+-- the server gives a result of this meaning for a poll of activities
+pub record IsActivityPoll (gives : Gives) (names : WorkerNames) (poll : ActivityPoll) : Type 0 where
+  pub result : Data
+  pub given : gives (codes "PollActivityTaskQueue") (poll_activity names) result
+  pub read : poll ≡ activity_poll result

@@ -1,0 +1,15 @@
+-- What a refusal says.
+use Rattle.std.specs.Prelude.{string_bytes}
+use Rattle.wh_client.specs.declared.asking.AskFault.{AskFault}
+use Rattle.wh_client.specs.declared.asking.AskFault.TheVariants as asked
+use Rattle.wh_messages.specs.ServerReads as server
+
+-- the call was refused since its request is larger than the server takes
+abbrev pub IsTooLarge : AskFault → Type 0
+IsTooLarge asked.Closed = ⊥
+IsTooLarge asked.Output = ⊥
+IsTooLarge (asked.Refused status code message) = server.IsTooLarge code (string_bytes message)
+IsTooLarge asked.Unreadable = ⊥
+IsTooLarge asked.TooManyPages = ⊥
+IsTooLarge (asked.History fault) = ⊥
+IsTooLarge asked.OutOfMemory = ⊥

@@ -1,0 +1,121 @@
+//! Calls whose result is asked for.
+
+ghost use Rattle.std.specs.Prelude.{◌≡◌, ◌↔◌, true, IfOk, Ok};
+ghost use Rattle.serde_json.specs.View.{view};
+ghost use Rattle.wh_rpc.specs.declared.response.Outcome.TheVariants.{Given};
+ghost use Rattle.wh_client.specs.Refusals.{IsTooLarge};
+ghost use Rattle.wh_client.specs.declared.asking.AskFault.TheVariants.{OutOfMemory as NoMemory};
+
+use crate::codes::{Status, status_of};
+use crate::connection::Connection;
+use serde_json::Value;
+use std::alloc::AllocError;
+use wh_events::OutOfMemory;
+use wh_json::ReadFault;
+use wh_messages::is_too_large;
+use wh_rpc::{CallFault, Outcome};
+
+/// Why a call gave no result that can be used.
+#[derive(Debug, Drop)]
+pub enum AskFault {
+    /// No response will come.
+    Closed,
+    /// The request could not be written.
+    Output,
+    /// The server refused it.
+    Refused {
+        /// What its code means.
+        status: Status,
+        /// Its code (gRPC, "Status codes").
+        code: i64,
+        /// Its text.
+        message: String,
+    },
+    /// The result can't be read.
+    Unreadable,
+    /// A history has more pages than are read.
+    TooManyPages,
+    /// The events of a history can't be read.
+    History(ReadFault),
+    /// There was no memory.
+    OutOfMemory,
+}
+
+impl From<AllocError> for AskFault {
+    ghost from_gives = { λ _ fault. fault ≡ NoMemory };
+
+    fn from(_refused: AllocError) -> AskFault {
+        AskFault::OutOfMemory
+    }
+}
+
+impl From<OutOfMemory> for AskFault {
+    ghost from_gives = { λ _ fault. fault ≡ NoMemory };
+
+    fn from(_refused: OutOfMemory) -> AskFault {
+        AskFault::OutOfMemory
+    }
+}
+
+impl AskFault {
+    /// Whether the call was refused since its request is larger than the server takes.
+    pub fn is_too_large(&self) -> bool
+        ensures { (result ≡ true) ↔ IsTooLarge self.now }
+    {
+        match self {
+            AskFault::Refused { code, message, .. } => is_too_large(*code, message.as_str()),
+            AskFault::Closed
+            | AskFault::Output
+            | AskFault::Unreadable
+            | AskFault::TooManyPages
+            | AskFault::History(_)
+            | AskFault::OutOfMemory => false,
+        }
+    }
+}
+
+/// Why a call has no outcome, as it is asked here.
+fn unanswered(why: CallFault) -> AskFault {
+    match why {
+        CallFault::Closed => AskFault::Closed,
+        CallFault::Output => AskFault::Output,
+        CallFault::OutOfMemory => AskFault::OutOfMemory,
+    }
+}
+
+/// The id and the result of a call.
+fn result_of(response: Result<(u64, Outcome), CallFault>) -> Result<(u64, Value), AskFault>
+    ensures { IfOk result (λ given. response ≡ Ok (given.0, Given given.1)) }
+{
+    match response {
+        Ok((id, Outcome::Given(value))) => Ok((id, value)),
+        Ok((_id, Outcome::Refused { code, message })) => Err(AskFault::Refused {
+            status: status_of(code),
+            code,
+            message,
+        }),
+        Err(why) => Err(unanswered(why)),
+    }
+}
+
+/// Calls, and gives the id of the call and its result.
+pub(crate) fn ask<L: Connection>(
+    connection: &L,
+    method: &str,
+    params: Value,
+) -> Result<(u64, Value), AskFault>
+    ensures { IfOk result (λ given. L.gives method.now (view params) (view given.1)) }
+{
+    result_of(connection.call(method, params))
+}
+
+/// Polls, and gives the id of the poll and its result.
+pub(crate) fn ask_poll<L: Connection>(
+    connection: &L,
+    method: &str,
+    params: Value,
+) -> Result<(u64, Value), AskFault>
+    ensures { IfOk result (λ given. L.gives method.now (view params) (view given.1)) }
+{
+    result_of(connection.poll(method, params))
+}

@@ -1,0 +1,159 @@
+//! The client of a server's calls, and what it reads from there.
+
+ghost use Rattle.std.specs.Prelude.{◌≡◌, IfOk, Some, map};
+ghost use Rattle.serde_json.specs.View.{view};
+ghost use Rattle.wh_messages.specs.Responses.{poll_seen};
+ghost use Rattle.wh_client.specs.Histories.{HandsOn, HasAllMembers, IsWhole, ReadsEvents};
+ghost use Rattle.wh_messages.specs.CarryingOver.{carried_in, carried_seen};
+ghost use Rattle.wh_client.specs.Polls.{IsActivityPoll, IsWorkflowPoll};
+
+use crate::asking::{AskFault, ask_poll};
+use crate::codes::Status;
+use crate::connection::Connection;
+use crate::options::LiveOptions;
+use crate::pages::{append_pages, ask_page};
+use serde_json::Value;
+use std::alloc::Global;
+use wh_events::{Event, RunKey, Text};
+use wh_json::{ReadFault, read_members};
+use wh_messages::{
+    ActivityPoll, CarriedOver, HistoryPage, WorkflowPoll, activity_poll, carried_over,
+    poll_activity, poll_workflow, workflow_poll,
+};
+
+/// The client of a server's calls, with what all workers of a process share.
+#[derive(Drop)]
+pub struct Client<'a, L> {
+    /// What its calls go through.
+    pub connection: &'a L,
+    /// What it says of the worker.
+    pub options: &'a LiveOptions,
+}
+
+/// Why a poll failed whose page could not be had. What the page was refused with says nothing of
+/// later polls.
+fn of_page(fault: AskFault) -> AskFault {
+    match fault {
+        AskFault::Refused { code, message, .. } => AskFault::Refused {
+            status: Status::Other,
+            code,
+            message,
+        },
+        fault => fault,
+    }
+}
+
+/// What a run hands on whose history begins with a page.
+fn carried_in_page(page: &HistoryPage) -> Result<CarriedOver, AskFault>
+    ensures { IfOk result (λ carried.
+        carried_in (map view page.now.members.items) ≡ Some (carried_seen carried)) }
+{
+    match carried_over(page.members.as_slice())? {
+        Some(carried) => Ok(carried),
+        None => Err(AskFault::Unreadable),
+    }
+}
+
+/// The events that the members of a history are. `History` says why they can't be read,
+/// `OutOfMemory` that there was no memory for them.
+pub fn read_history(alloc: Global, members: &[Value]) -> Result<Vec<Event>, AskFault>
+    ensures { IfOk result (λ events. ReadsEvents (map view members.now) events.items) }
+{
+    match read_members(alloc, members) {
+        Ok(events) => Ok(events),
+        Err(ReadFault::OutOfMemory) => Err(AskFault::OutOfMemory),
+        Err(fault) => Err(AskFault::History(fault)),
+    }
+}
+
+impl<L: Connection> Client<'_, L> {
+    /// Where it takes memory.
+    pub fn allocator(&self) -> Global {
+        self.connection.allocator()
+    }
+
+    /// Polls a queue of workflow tasks, and gives the id of the poll and what its result means. The
+    /// fault says why there is no result.
+    pub fn ask_workflow(&self, sticky: bool) -> Result<(u64, WorkflowPoll), AskFault>
+        ensures { IfOk result (λ polled.
+            IsWorkflowPoll L.gives self.now.options.now.names sticky (poll_seen polled.1)) }
+    {
+        let params = poll_workflow(self.allocator(), &self.options.names, sticky)?;
+        let (id, value) = ask_poll(self.connection, "PollWorkflowTaskQueue", params)?;
+        let poll = workflow_poll(self.allocator(), value)?;
+        Ok((id, poll))
+    }
+
+    /// Polls activity tasks, and gives the id of the poll and what its result means. The fault says
+    /// why there is no result.
+    pub fn ask_activity(&self) -> Result<(u64, ActivityPoll), AskFault>
+        ensures { IfOk result (λ polled.
+            IsActivityPoll L.gives self.now.options.now.names polled.1) }
+    {
+        let params = poll_activity(self.allocator(), &self.options.names)?;
+        let (id, value) = ask_poll(self.connection, "PollActivityTaskQueue", params)?;
+        let poll = activity_poll(self.allocator(), &value)?;
+        Ok((id, poll))
+    }
+
+    /// All members of a task's history: those that it came with, and those of the pages after
+    /// them. The fault says why a page could not be had; where one was refused its status is
+    /// `Other`, since that says nothing of later polls.
+    pub fn with_pages(
+        &self,
+        run: &RunKey,
+        next_page: Text,
+        members: Vec<Value>,
+    ) -> Result<Vec<Value>, AskFault>
+        ensures { IfOk result (λ all. HasAllMembers L.gives self.now.options.now.names run.now next_page
+            (map view members.items) (map view all.items)) }
+    {
+        let mut all = members;
+        if next_page.get().is_empty() {
+            return Ok(all);
+        }
+        match append_pages(
+            self.connection,
+            &self.options.names,
+            run,
+            next_page,
+            &mut all,
+        ) {
+            Ok(()) => Ok(all),
+            Err(fault) => Err(of_page(fault)),
+        }
+    }
+
+    /// What a run hands on to the one that continues it, read from the first page of its history. The
+    /// fault says why it could not be had: `Unreadable` also where that page does not begin with the
+    /// event that starts the run. Where the page was refused its status is `Other`, since that says
+    /// nothing of the task.
+    pub fn fetch_carried(&self, run: &RunKey) -> Result<CarriedOver, AskFault>
+        ensures { IfOk result (λ carried.
+            HandsOn L.gives self.now.options.now.names run.now (carried_seen carried)) }
+    {
+        let first = Text::new(String::new(self.allocator()));
+        match ask_page(self.connection, &self.options.names, run, &first) {
+            Ok(page) => carried_in_page(&page),
+            Err(fault) => Err(of_page(fault)),
+        }
+    }
+
+    /// The members of the history of a run, from its first event. The fault says why they could not
+    /// be had.
+    pub fn fetch_history(&self, run: &RunKey) -> Result<Vec<Value>, AskFault>
+        ensures { IfOk result (λ members.
+            IsWhole L.gives self.now.options.now.names run.now (map view members.items)) }
+    {
+        let first = Text::new(String::new(self.allocator()));
+        let mut members = Vec::new(self.allocator());
+        append_pages(
+            self.connection,
+            &self.options.names,
+            run,
+            first,
+            &mut members,
+        )?;
+        Ok(members)
+    }
+}

@@ -1,0 +1,19 @@
+//! The client of a Temporal server: the calls that a live worker makes, over any connection, and
+//! what their results mean.
+#![tactic(auto)]
+
+mod asking;
+mod client;
+mod codes;
+mod connection;
+pub mod laws;
+mod options;
+mod pages;
+mod requests;
+
+pub use asking::AskFault;
+pub use client::{Client, read_history};
+pub use codes::{PollEnd, Receipt, Status, poll_end, refused_answer, status_of};
+pub use connection::Connection;
+pub use options::{LiveOptions, Role};
+pub use requests::Request;

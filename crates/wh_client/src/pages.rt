@@ -1,0 +1,67 @@
+//! The pages of a history.
+
+ghost use Rattle.std.specs.Prelude.{◌≡◌, IfOk, OnOk, map};
+ghost use Rattle.serde_json.specs.View.{view};
+ghost use Rattle.wh_messages.specs.Responses.{page_seen};
+ghost use Rattle.wh_client.specs.Pages.{IsPaged, ReadsOn};
+
+use crate::asking::{AskFault, ask};
+use crate::connection::Connection;
+use serde_json::Value;
+use wh_events::{RunKey, Text};
+use wh_messages::{HistoryPage, WorkerNames, history, history_page};
+
+/// The most pages of a history.
+const MOST_PAGES: u64 = 1_000_000;
+
+/// The page of a run's history after a token, or the first one where the token is empty.
+#[tactic(auto, using(crate::proofs::Paging::paged_by))]
+pub(crate) fn ask_page<L: Connection>(
+    connection: &L,
+    names: &WorkerNames,
+    run: &RunKey,
+    token: &Text,
+) -> Result<HistoryPage, AskFault>
+    ensures { IfOk result (λ page. IsPaged L.gives names.now run.now token.now (page_seen page)) }
+{
+    let (workflow_id, run_id) = (run.workflow_id.get(), run.run_id.get());
+    let params = history(
+        connection.allocator(),
+        names,
+        workflow_id,
+        run_id,
+        token.get(),
+    )?;
+    let (_id, value) = ask(connection, "GetWorkflowExecutionHistory", params)?;
+    match history_page(connection.allocator(), value)? {
+        Some(page) => Ok(page),
+        None => Err(AskFault::Unreadable),
+    }
+}
+
+/// Appends the members of all pages of a run's history after a token, or of the whole history
+/// where the token is empty. After an error some of them may have been appended.
+pub(crate) fn append_pages<L: Connection>(
+    connection: &L,
+    names: &WorkerNames,
+    run: &RunKey,
+    token: Text,
+    members: &mut Vec<Value>,
+) -> Result<(), AskFault>
+    ensures { OnOk result (ReadsOn L.gives names.now run.now token
+        (map view members.old.items) (map view members.new.items)) }
+{
+    let mut token = token;
+    for _page in 0..MOST_PAGES {
+        let HistoryPage {
+            members: mut more,
+            next_page,
+        } = ask_page(connection, names, run, &token)?;
+        members.append(&mut more)?;
+        if next_page.get().is_empty() {
+            return Ok(());
+        }
+        token = next_page;
+    }
+    Err(AskFault::TooManyPages)
+}

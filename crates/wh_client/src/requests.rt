@@ -1,0 +1,142 @@
+//! The requests that answer tasks, and their sending.
+
+ghost use Rattle.std.specs.Prelude.{IfOk, OnOk, codes};
+ghost use Rattle.wh_messages.specs.CarryingOver.{carried_seen};
+ghost use Rattle.wh_messages.specs.Requests.{activity_completed, activity_failed};
+ghost use Rattle.wh_messages.specs.Requests.{workflow_completed, workflow_failed};
+ghost use Rattle.wh_client.specs.Requests.{IsAcknowledged, IsRequest, WritesRequest};
+
+use crate::asking::{AskFault, ask};
+use crate::client::Client;
+use crate::connection::Connection;
+use serde_json::Value;
+use wh_events::{Event, OutOfMemory, Payload, Text};
+use wh_messages::{
+    CarriedOver, FailedCause, NO_QUERIES, RequestFault, activity_completed, activity_failed,
+    query_failed, shutdown, workflow_completed, workflow_failed,
+};
+use wh_workflow::Command;
+
+/// A call that is to be made.
+#[derive(Debug, Drop)]
+pub struct Request {
+    /// Its method, as `RespondWorkflowTaskCompleted`.
+    pub method: &'static str,
+    /// Its parameters, in the proto3 JSON form of the method's request.
+    pub params: Value,
+}
+
+impl<L: Connection> Client<'_, L> {
+    /// Completes the workflow task of a token with commands, after the events that they were
+    /// replayed from, and refuses the queries that came with it. What is carried over goes with a
+    /// Continue-As-New alone. The fault is that of the first command that can't be written;
+    /// `OutOfMemory` can come in place of each.
+    pub fn completed(
+        &self,
+        token: &Text,
+        queries: &[Text],
+        commands: &[Command],
+        events: &[Event],
+        carried: &CarriedOver,
+    ) -> Result<Request, RequestFault>
+        ensures { WritesRequest result (codes "RespondWorkflowTaskCompleted") (workflow_completed
+            self.now.options.now.names token.now commands.now events.now queries.now
+            self.now.options.now.sticky self.now.options.now.activities (carried_seen carried.now)) }
+    {
+        let options = self.options;
+        let params = workflow_completed(
+            self.allocator(),
+            &options.names,
+            token.get(),
+            commands,
+            events,
+            queries,
+            options.sticky,
+            options.activities,
+            carried,
+        )?;
+        Ok(Request {
+            method: "RespondWorkflowTaskCompleted",
+            params,
+        })
+    }
+
+    /// Fails the workflow task of a token under a cause, with what went wrong. `OutOfMemory` where
+    /// there was no memory for the request.
+    pub fn failed(
+        &self,
+        token: &Text,
+        cause: FailedCause,
+        message: &str,
+    ) -> Result<Request, OutOfMemory>
+        ensures { IfOk result (λ request. IsRequest request (codes "RespondWorkflowTaskFailed")
+            (workflow_failed self.now.options.now.names token.now cause message.now)) }
+    {
+        let (alloc, names) = (self.allocator(), &self.options.names);
+        Ok(Request {
+            method: "RespondWorkflowTaskFailed",
+            params: workflow_failed(alloc, names, token.get(), cause, message)?,
+        })
+    }
+
+    /// Completes the activity task of a token with the activity's result. `OutOfMemory` where there
+    /// was no memory for the request.
+    pub fn activity_completed(
+        &self,
+        token: &Text,
+        outcome: &[Payload],
+    ) -> Result<Request, OutOfMemory>
+        ensures { IfOk result (λ request. IsRequest request (codes "RespondActivityTaskCompleted")
+            (activity_completed self.now.options.now.names token.now outcome.now)) }
+    {
+        let (alloc, names) = (self.allocator(), &self.options.names);
+        Ok(Request {
+            method: "RespondActivityTaskCompleted",
+            params: activity_completed(alloc, names, token.get(), outcome)?,
+        })
+    }
+
+    /// Fails the activity task of a token, with why the activity failed. `OutOfMemory` where there
+    /// was no memory for the request.
+    pub fn activity_failed(&self, token: &Text, reason: &str) -> Result<Request, OutOfMemory>
+        ensures { IfOk result (λ request. IsRequest request (codes "RespondActivityTaskFailed")
+            (activity_failed self.now.options.now.names token.now reason.now)) }
+    {
+        let (alloc, names) = (self.allocator(), &self.options.names);
+        Ok(Request {
+            method: "RespondActivityTaskFailed",
+            params: activity_failed(alloc, names, token.get(), reason)?,
+        })
+    }
+
+    /// Sends a request, and waits until the server acknowledges it. The fault says why it did not,
+    /// as far as that is known.
+    pub fn send(&self, request: Request) -> Result<(), AskFault>
+        ensures { OnOk result (IsAcknowledged L.gives request) }
+    {
+        let Request { method, params } = request;
+        match ask(self.connection, method, params) {
+            Ok(_) => Ok(()),
+            Err(fault) => Err(fault),
+        }
+    }
+
+    /// Says of the query of a token that it is not answered. What becomes of that is not asked: a
+    /// query that gets no answer times out.
+    pub fn refuse_query(&self, token: &Text) {
+        let names = &self.options.names;
+        if let Ok(params) = query_failed(self.allocator(), names, token.get(), NO_QUERIES) {
+            let _ = ask(self.connection, "RespondQueryTaskCompleted", params);
+        }
+    }
+
+    /// Gives up the sticky queue, if there is one, which spares the next process that it waits for
+    /// this one. What becomes of that is not asked.
+    pub fn give_up_queue(&self) {
+        if self.options.sticky.is_some() {
+            if let Ok(params) = shutdown(self.allocator(), &self.options.names) {
+                let _ = ask(self.connection, "ShutdownWorker", params);
+            }
+        }
+    }
+}

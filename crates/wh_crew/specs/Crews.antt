@@ -1,0 +1,32 @@
+-- What the workers of a host poll.
+use Rattle.std.specs.List.{Contains}
+use Rattle.std.specs.Prelude.{◌≡◌, ◌<◌, ◌≤◌, ℕ, zero, suc, ◌/◌, max, Bool, true, nat_lt, nat_le, if◌then◌else◌, List, [], ◌∷◌, ◌++◌}
+use Rattle.wh_client.specs.declared.options.Role.{Role}
+use Rattle.wh_client.specs.declared.options.Role.TheVariants.{Normal, Sticky, Activities}
+
+-- how many workflow workers poll the queue of all workers: with a cache one in five, and at least one, else all
+abbrev pub normal_workers : ℕ → Bool → ℕ
+normal_workers workers has_cache = if has_cache then max (workers / 5) 1 else workers
+
+-- workflow workers come before workers of activities, and among them those of the queue of all workers first
+abbrev pub role_at : ℕ → ℕ → ℕ → Role
+role_at normal workers place =
+    if nat_le workers place then Activities else (if nat_lt place normal then Normal else Sticky)
+
+-- what so many workers poll, in the order of their places
+abbrev pub roles_of : ℕ → ℕ → ℕ → List Role
+roles_of normal workers zero = []
+roles_of normal workers (suc count) = roles_of normal workers count ++ role_at normal workers count ∷ []
+
+-- ---- Laws
+
+-- every queue is polled, whatever the crew's size: that of all workers where there is a workflow worker, that of the
+-- process where runs are cached and there are two, and activities by each worker more
+pub record EveryQueueIsPolled (workers count : ℕ) (has_cache : Bool) : Type 0 where
+  pub normal : 1 ≤ workers → Contains (roles_of (normal_workers workers has_cache) workers count) Normal
+  pub sticky : has_cache ≡ true → 2 ≤ workers → Contains (roles_of (normal_workers workers has_cache) workers count) Sticky
+  pub activities : workers < count → Contains (roles_of (normal_workers workers has_cache) workers count) Activities
+
+-- in each crew that has as many workers as poll workflow tasks, or more
+abbrev pub CrewsPollAll : Type 0
+CrewsPollAll = (workers count : ℕ) (has_cache : Bool) → workers ≤ count → EveryQueueIsPolled workers count has_cache

@@ -1,0 +1,60 @@
+//! A connection over the calls of a bridge.
+
+use serde_json::Value;
+use std::alloc::Global;
+use std::sync::Wait;
+use std::thread;
+use std::time::{Clock, Duration};
+use wh_client::Connection;
+use wh_ghost_list::GhostList;
+use wh_rpc::{CallFault, Caller, Outcome};
+use wh_tester::Shown;
+
+/// A connection over the calls of a bridge, which reports and logs on standard error. It holds the
+/// handle, since a poll is passed none.
+#[derive(Drop)]
+pub(crate) struct BridgeConnection<'a, R, C> {
+    pub(crate) rt: &'a R,
+    pub(crate) calls: &'a C,
+    /// What the program is called, which stands before each report.
+    pub(crate) name: &'a str,
+}
+
+/// The time in whole seconds since 1970, 0 where there is no clock.
+fn seconds<R: Clock>(rt: &R) -> u64 {
+    match rt.since_1970() {
+        Ok(time) => time.as_secs(),
+        Err(_) => 0,
+    }
+}
+
+impl<R: Wait + Clock + Eprint, C: Caller> Connection for BridgeConnection<'_, R, C> {
+    ghost gives = { λ method params value. Unit {0} };
+
+    fn allocator(&self) -> Global {
+        self.calls.allocator()
+    }
+
+    fn call(&self, method: &str, params: Value) -> Result<(u64, Outcome), CallFault> {
+        self.calls.call(self.rt, method, params)
+    }
+
+    fn poll(&self, method: &str, params: Value) -> Result<(u64, Outcome), CallFault> {
+        self.calls.poll(self.rt, method, params)
+    }
+
+    fn report(&self, what: &str) {
+        let name = Shown(self.name);
+        let _ = eprintln!(self.rt; "{name}: {what}");
+    }
+
+    fn log(&self, what: &str) {
+        let seconds = seconds(self.rt);
+        let _ = eprintln!(self.rt; "{seconds} {what}");
+    }
+
+    fn pause(&self, milliseconds: u64, pauses: &mut GhostList<u64>) {
+        thread::sleep(self.rt, Duration::from_millis(milliseconds));
+        *pauses = pauses.with(&milliseconds);
+    }
+}

@@ -1,0 +1,110 @@
+//! The workers of a host.
+
+ghost use Rattle.std.specs.Prelude.{◌≡◌, ◌≤◌, ◌<◌, true, IfOk, Some, is_some, map, replicate, vec_len};
+ghost use Rattle.wh_crew.specs.Crews.{normal_workers, role_at, roles_of};
+
+use std::alloc::Global;
+use std::sync::Wait;
+use std::sync::ledger::Ledger;
+use std::thread::Threads;
+use wh_client::{Connection, LiveOptions, Role};
+use wh_events::OutOfMemory;
+use wh_host::Host;
+use wh_ledger::Seat;
+use wh_live::{LiveSource, Tally};
+use wh_poll::{ActivityHandler, Observer, OpenGate, WorkerEnd, WorkerSetup, run_on_host};
+use wh_workflow::Workflow;
+
+/// How many of the workflow workers poll the queue that all workers poll: one in five and at least
+/// one, or all of them where runs are not cached. Where runs are cached, two workers or more poll
+/// both queues.
+pub(crate) fn normal_workers(workers: usize, has_cache: bool) -> usize
+    ensures is { result ≡ normal_workers workers has_cache }
+    ensures normal { 1 ≤ workers → (1 ≤ result) × (result ≤ workers) }
+    ensures sticky { (has_cache ≡ true) → 2 ≤ workers → result < workers }
+{
+    if has_cache {
+        usize::max(workers / 5, 1)
+    } else {
+        workers
+    }
+}
+
+/// What the worker at a place polls: first come those of the queue that all poll, then those of the
+/// sticky queue, and then those of activities.
+fn role_at(normal: usize, workers: usize, place: usize) -> Role
+    ensures { result ≡ role_at normal workers place }
+{
+    if workers <= place {
+        Role::Activities
+    } else if place < normal {
+        Role::Normal
+    } else {
+        Role::Sticky
+    }
+}
+
+/// A setup for each worker, with turns without end. Each polls what is for its place.
+/// `OutOfMemory` where there was no memory.
+pub(crate) fn setups_of<'a, L: Connection, A: Drop, O: Drop>(
+    alloc: Global,
+    connection: &'a L,
+    options: &'a LiveOptions,
+    workers: usize,
+    crew: Vec<(A, O)>,
+) -> Result<Vec<WorkerSetup<LiveSource<'a, L>, A, O>>, OutOfMemory>
+    ensures count { IfOk result (λ setups. vec_len setups ≡ vec_len crew) }
+    ensures members { IfOk result (λ setups. map (λ setup. (setup.handler, setup.observer)) setups.items ≡ crew.items) }
+    ensures roles { IfOk result (λ setups. map (λ setup. setup.source.role) setups.items
+        ≡ roles_of (normal_workers workers (is_some options.entry.now.sticky)) workers (vec_len crew)) }
+    ensures turns { IfOk result (λ setups. map (λ setup. setup.turns) setups.items ≡ replicate (vec_len crew) u64.MAX) }
+{
+    let normal = normal_workers(workers, options.sticky.is_some());
+    let mut setups = Vec::new(alloc);
+    for (handler, observer) in crew {
+        let role = role_at(normal, workers, setups.len());
+        let source = LiveSource::new(connection, options, role);
+        setups.push(WorkerSetup {
+            source,
+            handler,
+            observer,
+            turns: u64::MAX,
+        })?;
+    }
+    Ok(setups)
+}
+
+/// What all sources have counted.
+fn gathered<L: Connection, A, O>(left: &[WorkerEnd<LiveSource<'_, L>, A, O>]) -> Tally {
+    let mut all = Tally::new();
+    for worker in left {
+        all.add(worker.source.tally());
+    }
+    all
+}
+
+/// Runs the workers, and gives the seats back and what their sources have counted.
+pub(crate) fn run_crew<
+    R: Threads + Wait + Sync,
+    W: Workflow + Send,
+    T: Ledger + Send,
+    K: Ledger + Send,
+    F: Ledger + Send,
+    L: Connection + Sync,
+    A: ActivityHandler + Send + Drop,
+    O: Observer + Send + Drop,
+>(
+    rt: &R,
+    alloc: Global,
+    host: &Host<W, T, K, F>,
+    seats: Vec<Seat<T, K, F>>,
+    setups: Vec<WorkerSetup<LiveSource<'_, L>, A, O>>,
+) -> Result<(Vec<Seat<T, K, F>>, Tally), OutOfMemory>
+    requires { vec_len seats ≡ vec_len setups }
+    ensures { IfOk result (λ ended. vec_len ended.0 ≡ vec_len setups.entry) }
+{
+    let (seats, left) = run_on_host(rt, alloc, host, seats, setups, &OpenGate)?;
+    let tally = gathered(left.as_slice());
+    drop(left);
+    Ok((seats, tally))
+}

@@ -1,0 +1,11 @@
+//! The workers of a host whose tasks a Temporal server gives, each over a source of its own.
+#![tactic(auto)]
+
+mod bridge_connection;
+mod crews;
+pub mod laws;
+mod reports;
+mod serving;
+
+pub use reports::Reporter;
+pub use serving::{LiveEnd, read_input, serve_live};

@@ -1,0 +1,129 @@
+//! Histories that are fetched from their first event.
+
+ghost use Rattle.std.specs.Prelude.{◌≡◌, ◌++◌, ◌+◌, ◌==◌, None, Err, IfOk, OnOk, position};
+ghost use Rattle.wh_tasks.specs.Numbers.{last_number};
+ghost use Rattle.wh_tasks.specs.Source.{FailsOnly};
+ghost use Rattle.wh_live.specs.Deliveries.{IsFetched, continued, going_on};
+ghost use Rattle.wh_live.specs.Private.Answering.{counts_fault};
+ghost use Rattle.wh_live.specs.Private.Counting.{with_failure};
+ghost use Rattle.wh_live.specs.Private.Opening.{later_of, KeepsLater};
+
+use crate::answering::settle_unread;
+use crate::journals::Journal;
+use crate::tasks::OpenTask;
+use wh_client::{AskFault, Client, Connection, read_history};
+use wh_events::{Event, OutOfMemory, RunKey};
+use wh_tasks::SourceFault;
+
+/// The number after that of the last event, 1 where there is none.
+fn next_number(events: &[Event]) -> u64
+    ensures { result ≡ last_number events.now + 1 }
+{
+    match events.last() {
+        Some(event) => event.number.get() + 1,
+        None => 1,
+    }
+}
+
+/// The place of the event of a number, if it is among these.
+fn place_of(number: u64, events: &[Event]) -> Option<usize>
+    ensures { result ≡ position (λ event. event.number == number) events.now }
+{
+    events.iter().position(|event| event.number.get() == number)
+}
+
+/// Those of the later events that go on where a history ends.
+fn going_on<'a>(history: &[Event], later: &'a [Event]) -> &'a [Event]
+    ensures { result.now ≡ going_on history.now later.entry.now }
+{
+    match place_of(next_number(history), later) {
+        Some(place) => &later[place..],
+        None => &[],
+    }
+}
+
+/// Adds copies of events at the end. After an error some of them may have been added.
+pub(crate) fn append_copies(events: &mut Vec<Event>, more: &[Event]) -> Result<(), OutOfMemory>
+    ensures { OnOk result (events.new.items ≡ events.old.items ++ more.now) }
+{
+    for event in more {
+        events.push(event.try_copy()?)?;
+    }
+    Ok(())
+}
+
+/// The history of a run from its first event, with those of the later events that go on where it
+/// ends, cut after so many.
+fn fetch<L: Connection>(
+    client: &Client<'_, L>,
+    later: &[Event],
+    run: &RunKey,
+    up_to: u64,
+) -> Result<Vec<Event>, AskFault>
+    ensures { IfOk result (λ history.
+        IsFetched L.gives client.now.options.now.names run.now later.now up_to history.items) }
+{
+    let members = client.fetch_history(run)?;
+    let mut history = read_history(client.allocator(), members.as_slice())?;
+    let rest = going_on(history.as_slice(), later);
+    append_copies(&mut history, rest)?;
+    history.truncate(up_to as usize);
+    Ok(history)
+}
+
+/// The later events of the open task, if it is one of this run.
+fn later_of<'a>(current: &'a Option<OpenTask>, run: &RunKey) -> &'a [Event]
+    ensures { result.now ≡ later_of current.entry.now run.now }
+{
+    match current {
+        Some(task) if task.run == *run => task.later.as_slice(),
+        _ => &[],
+    }
+}
+
+/// Notes the history that the open task is replayed from.
+fn note_history(current: &mut Option<OpenTask>, history: &[Event])
+    ensures { KeepsLater current.old current.new }
+{
+    if let Some(task) = current {
+        task.note_events(history);
+    }
+}
+
+/// What a source says of a history that could not be had.
+fn unfetched<L: Connection>(
+    client: &Client<'_, L>,
+    journal: &mut Journal,
+    current: &mut Option<OpenTask>,
+    fault: &AskFault,
+) -> SourceFault
+    ensures tally { journal.new.tally ≡ with_failure (counts_fault current.old fault.now) journal.old.tally }
+    ensures current { current.new ≡ None }
+    ensures failures { FailsOnly {A = Unit {0}} (Err result) journal.old.tally.failures journal.new.tally.failures }
+{
+    let is_fault = settle_unread(client, current, fault);
+    journal.tally.failed(is_fault)
+}
+
+/// What a source says of a history that it was asked for. Where it can't be read the open task is
+/// failed.
+pub(crate) fn whole<L: Connection>(
+    client: &Client<'_, L>,
+    journal: &mut Journal,
+    current: &mut Option<OpenTask>,
+    run: &RunKey,
+    up_to: u64,
+) -> Result<Vec<Event>, SourceFault>
+    ensures told { IfOk result (λ history. IsFetched L.gives client.now.options.now.names run.now
+        (later_of current.old run.now) up_to history.items) }
+    ensures current { KeepsLater current.old current.new }
+    ensures failures { FailsOnly result journal.old.tally.failures journal.new.tally.failures }
+{
+    match fetch(client, later_of(current, run), run, up_to) {
+        Ok(history) => {
+            note_history(current, history.as_slice());
+            Ok(history)
+        }
+        Err(fault) => Err(unfetched(client, journal, current, &fault)),
+    }
+}
