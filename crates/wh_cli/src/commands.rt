@@ -34,10 +34,10 @@ use std::slice;
 use std::sync::Wait;
 use std::thread::Threads;
 use wh_command_line::{Plan, ServeOptions};
+use wh_crew::LiveEnd;
 use wh_events::{OutOfMemory, Text};
 use wh_files::{Input, InputFault};
 use wh_host::Config;
-use wh_live::LiveEnd;
 use wh_tester::Line;
 use wh_workflow::Workflow;
 

@@ -15,9 +15,10 @@ use crate::service_report::{FileFailure, write_totals};
 use crate::serving::ServiceEnd;
 use std::io;
 use std::io::{Eprint, ErrorKind, Write};
+use wh_crew::LiveEnd;
 use wh_events::Text;
 use wh_files::Reason;
-use wh_live::{LiveEnd, Tally};
+use wh_live::Tally;
 use wh_tester::Shown;
 
 /// The standard error, as a writer.

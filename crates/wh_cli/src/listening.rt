@@ -18,7 +18,7 @@ pub fn read_input<R: Env + AllocGlobal + Wait + Input + Eprint, C: Caller>(
     calls: &C,
 ) {
     match words(rt) {
-        Ok(words) => wh_live::read_input(rt, alloc, called(words.as_slice()), calls),
-        Err(_) => wh_live::read_input(rt, alloc, UNCALLED, calls),
+        Ok(words) => wh_crew::read_input(rt, alloc, called(words.as_slice()), calls),
+        Err(_) => wh_crew::read_input(rt, alloc, UNCALLED, calls),
     }
 }

@@ -23,7 +23,7 @@ use std::sync::Wait;
 use std::thread::Threads;
 use std::{env, io};
 use wh_command_line::{Plan, Refusal, parse};
-use wh_live::LiveEnd;
+use wh_crew::LiveEnd;
 use wh_poll::ActivityHandler;
 use wh_rpc::Caller;
 use wh_workflow::Workflow;

@@ -4,8 +4,8 @@ use std::fmt;
 use std::fmt::{Display, Formatter};
 use std::sync::{Mutex, Wait};
 use std::time::Clock;
+use wh_crew::Reporter;
 use wh_host::{Counts, Outcome};
-use wh_live::Reporter;
 use wh_poll::{Served, SourceFault};
 use wh_tester::Shown;
 

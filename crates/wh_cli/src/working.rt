@@ -11,10 +11,11 @@ use crate::complaints::{Complaint, Complaints};
 use crate::failures::Failure;
 use std::alloc::Global;
 use std::io::Write;
+use wh_client::LiveOptions;
 use wh_command_line::WorkOptions;
+use wh_crew::LiveEnd;
 use wh_events::OutOfMemory;
 use wh_host::Config;
-use wh_live::{LiveEnd, LiveOptions};
 use wh_messages::{ActivityOptions, WorkerNames};
 
 /// How live tasks are served.

@@ -10,7 +10,7 @@ use Rattle.wh_command_line.specs.declared.command_line.Plan.TheVariants.{Replay,
 use Rattle.wh_files.specs.Inputs.{IsCalled, IsOf, IsReadFrom, IsSingle}
 use Rattle.wh_files.specs.declared.Input.{Input}
 use Rattle.wh_host.specs.declared.config.Config.{Config}
-use Rattle.wh_live.specs.declared.serving.LiveEnd.{LiveEnd}
+use Rattle.wh_crew.specs.declared.serving.LiveEnd.{LiveEnd}
 use Rattle.wh_workflow.specs.Law.{Program}
 use Rattle.wh_cli.specs.declared.complaints.Complaints.{Complaints}
 use Rattle.wh_cli.specs.declared.failures.Failure.{Failure}

@@ -4,8 +4,8 @@ use Rattle.wh_command_line.specs.Options.{config_of}
 use Rattle.wh_command_line.specs.declared.work.WorkOptions.{WorkOptions}
 use Rattle.wh_host.specs.Machine.{IsConfig}
 use Rattle.wh_host.specs.declared.config.Config.{Config}
-use Rattle.wh_live.specs.declared.options.LiveOptions.{LiveOptions}
-use Rattle.wh_live.specs.declared.serving.LiveEnd.{LiveEnd}
+use Rattle.wh_client.specs.declared.options.LiveOptions.{LiveOptions}
+use Rattle.wh_crew.specs.declared.serving.LiveEnd.{LiveEnd}
 use Rattle.wh_live.specs.declared.tallies.Tally.{Tally}
 use Rattle.wh_cli.specs.declared.working.LivePlan.{LivePlan}
 use Rattle.wh_cli.specs.Services.{totals_text}
