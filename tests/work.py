@@ -17,9 +17,11 @@ A talk is a file of lines:
     <% LINE          so too; \\xNN is a byte
     <+ NUMBER        so too, of as many letters
     pause N          N seconds go by
+    lasts N          at least N seconds have gone by since the program was started
     end              its input ends here
     status N         its exit status, otherwise 0
     says TEXT        what is within one of the lines on its standard error
+    hides TEXT       what is within none of them
 """
 
 import os
@@ -49,7 +51,8 @@ class Worker:
         pipe = subprocess.PIPE
         self.child = subprocess.Popen(command, executable=program[0], stdin=pipe, stdout=pipe, stderr=pipe)
         self.held = b""
-        self.until = time.monotonic() + LIMIT_SECONDS
+        self.begun = time.monotonic()
+        self.until = self.begun + LIMIT_SECONDS
 
     def next_line(self):
         """The next line of its output, without its end; none where the output has ended."""
@@ -137,7 +140,7 @@ class Talk:
         called = next((line.partition(" ")[2] for line in lines if line.startswith("called ")), program[0])
         self.worker = Worker(program, called, next(line.split()[1:] for line in lines if line.startswith("run ")))
         self.lines, self.texts, self.numbers = lines, {}, {}
-        self.status, self.says, self.wanted = 0, [], []
+        self.status, self.says, self.hides, self.wanted = 0, [], [], []
 
     def play(self):
         """Plays it to its end."""
@@ -170,6 +173,8 @@ class Talk:
             self.texts[name] = text
         elif word == "pause":
             time.sleep(float(rest))
+        elif word == "lasts":
+            self.last(float(rest))
         elif word == "end":
             self.worker.child.stdin.close()
             self.worker.child.stdin = None
@@ -177,6 +182,14 @@ class Talk:
             self.status = int(rest)
         elif word == "says":
             self.says.append(rest)
+        elif word == "hides":
+            self.hides.append(rest)
+
+    def last(self, seconds):
+        """So many seconds have gone by since the program was started."""
+        gone = time.monotonic() - self.worker.begun
+        if gone < seconds:
+            raise Wrong(f"only {gone:.2f} seconds have gone by, not {seconds}")
 
     def compare(self, status, said):
         """Its end has to be the one that the talk wants."""
@@ -185,6 +198,9 @@ class Talk:
         for text in self.says:
             if not any(text in line for line in said.splitlines()):
                 raise Wrong(f"it does not say {text!r}, but {said!r}")
+        for text in self.hides:
+            if text in said:
+                raise Wrong(f"it says {text!r}: {said!r}")
 
 
 def main():
