@@ -12,13 +12,13 @@ use Rattle.wh_tester.specs.Verdicts.{IsLineOf}
 use Rattle.wh_tester.specs.declared.line.Line.{Line}
 use Rattle.wh_workflow.specs.Law.{Program}
 use Rattle.wh_cli.specs.declared.noted.NotedLine.{NotedLine}
-use Rattle.wh_cli.specs.declared.file_faults.FileFault.{FileFault}
-use Rattle.wh_cli.specs.declared.replaying.CommandFault.{CommandFault}
-use Rattle.wh_cli.specs.Private.Faults.{AreMadeOf}
+use Rattle.wh_file_faults.specs.declared.file_faults.FileFault.{FileFault}
+use Rattle.wh_file_faults.specs.declared.command_fault.CommandFault.{CommandFault}
+use Rattle.wh_file_faults.specs.Made.{AreMadeOf}
 use Rattle.wh_cli.specs.Statuses.{status_of}
-use Rattle.wh_cli.proofs.Collected.{as_they_are}
+use Rattle.wh_file_faults.proofs.Collected.{as_they_are}
 use Rattle.wh_cli.specs.Private.Noted.{IsNotedOf, lines_in, json_line_with}
-use Rattle.wh_cli.specs.Services.{File}
+use Rattle.wh_file_faults.specs.Faults.{File}
 
 -- how many values pass, of what is made of others
 pub count_by_map : {A B : Type 0} (p : B → Bool) (f : A → B) (xs : List A) → count_by p (map f xs) ≡ count_by (λ x. p (f x)) xs

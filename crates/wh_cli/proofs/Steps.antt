@@ -8,18 +8,18 @@ use Rattle.wh_files.specs.declared.Input.{Input}
 use Rattle.wh_host.specs.declared.config.Config.{Config}
 use Rattle.wh_workflow.specs.Law.{Program}
 use Rattle.wh_cli.specs.declared.complaints.Complaints.{Complaints}
-use Rattle.wh_cli.specs.declared.replaying.CommandFault.{CommandFault}
-use Rattle.wh_cli.specs.declared.serving.ServiceEnd.{ServiceEnd}
+use Rattle.wh_service.specs.declared.service.ServiceEnd.{ServiceEnd}
 use Rattle.wh_cli.specs.declared.failures.Failure.{Failure}
 use Rattle.wh_files.specs.Inputs.{IsCalled, IsOf, IsReadFrom, IsSingle}
 use Rattle.wh_cli.specs.Private.Commands.{HasExplained, HasExplainedInput, HasExplainedPath, HasReplayed, HasReplayedPaths, HasServedAll, HasServedFolder}
 use Rattle.wh_cli.specs.Private.Complaints.{Reported, service_told}
 use Rattle.wh_cli.specs.Private.Listings.{AreListed, IsListed, is_by_path}
 use Rattle.wh_cli.specs.Private.Readings.{Gives, IsReadAs}
-use Rattle.wh_cli.specs.Private.Served.{HasServedInputs}
-use Rattle.wh_cli.specs.Services.{File, HostsBy, IsHosted}
+use Rattle.wh_service.specs.Services.{IsServiceEndOver}
+use Rattle.wh_file_faults.specs.Faults.{File}
+use Rattle.wh_service.specs.Services.{HostsBy, IsHosted}
 use Rattle.wh_cli.specs.Private.Statuses.{lacks_files, status_with}
-use Rattle.wh_cli.proofs.Workers.{by_closure, served_by}
+use Rattle.wh_service.proofs.Workers.{by_closure, end_by}
 
 -- what was written stays
 pub written_kept : (a b c : Option (List ℕ)) (text : List ℕ) → Appends a b text → Keeps b c → Appends a c text
@@ -104,33 +104,35 @@ replayed_paths program first more json required left_out lacks inputs old new co
 
 -- what was written of a service stays
 pub served_kept : {S T : Type 0} (Reads : T → File → Type 0) (program : Program S) (hosts : HostsBy) (config : Config) (inputs : List T) (old mid new : Option (List ℕ)) (end : ServiceEnd)
-    → HasServedInputs Reads program hosts config inputs old mid end → Keeps mid new → HasServedInputs Reads program hosts config inputs old new end
+    → IsServiceEndOver Reads program hosts config inputs old mid end → Keeps mid new → IsServiceEndOver Reads program hosts config inputs old new end
 served_kept Reads program hosts config inputs old mid new end h kept = record {
   files = h.files;
   from = h.from;
-  served = record {
-    rows = h.served.rows;
-    totals = h.served.totals;
-    service = h.served.service;
-    written = written_kept old mid new _ h.served.written kept;
-    ends = h.served.ends;
+  ended = record {
+    rows = h.ended.rows;
+    totals = h.ended.totals;
+    service = h.ended.service;
+    written = written_kept old mid new _ h.ended.written kept;
+    ends = h.ended.ends;
   };
   faults = h.faults;
 }
 
--- inputs were served, and then the rest was told
-pub served_all : {S E : Type 0} (gives : Gives) (program : Program S) (hosts : HostsBy) (config : Config) (inputs : List Input) (lacks : Bool) (old mid new : Option (List ℕ)) (contents : E → Option (List ℕ)) (before after : Complaints E) (answer : Result ServiceEnd CommandFault) (result : Result ℕ Failure)
-    → IfOk answer (HasServedInputs (IsReadAs gives) program hosts config inputs old mid)
+-- inputs were served, and then the rest was reported
+pub served_all : {S E : Type 0} (gives : Gives) (program : Program S) (hosts : HostsBy) (config sizes : Config) (inputs : List Input) (lacks : Bool) (old mid new : Option (List ℕ)) (contents : E → Option (List ℕ)) (before after : Complaints E) (end : ServiceEnd) (result : Result ℕ Failure)
+    → config ≡ sizes
+    → IsServiceEndOver (IsReadAs gives) program hosts config inputs old mid end
     → Keeps mid new
-    → IfOk result (λ status. (end : ServiceEnd) × (answer ≡ Ok end) × (status ≡ status_with lacks end.status) × Reported contents before after (service_told end))
-    → IfOk result (HasServedAll gives program hosts config inputs lacks old new contents before after)
-served_all gives program hosts config inputs lacks old mid new contents before after answer (Ok status) report kept h = record {
-  end = h.0;
-  served = served_kept (IsReadAs gives) program hosts config inputs old mid new h.0 (subst (λ a. IfOk a (HasServedInputs (IsReadAs gives) program hosts config inputs old mid)) h.1 report) kept;
-  told = h.3;
-  ends = h.2;
+    → IfOk result (λ status. status ≡ status_with lacks end.status)
+    → IfOk result (λ _. Reported contents before after (service_told end))
+    → IfOk result (HasServedAll gives program hosts sizes inputs lacks old new contents before after)
+served_all gives program hosts config sizes inputs lacks old mid new contents before after end (Ok status) same report kept ends told = record {
+  end = end;
+  served = subst (λ c. IsServiceEndOver (IsReadAs gives) program hosts c inputs old new end) same (served_kept (IsReadAs gives) program hosts config inputs old mid new end report kept);
+  told = told;
+  ends = ends;
 }
-served_all gives program hosts config inputs lacks old mid new contents before after answer (Err failure) report kept h = tt
+served_all gives program hosts config sizes inputs lacks old mid new contents before after end (Err failure) same report kept ends told = tt
 
 -- the files of a folder were served by a host that runs the program
 pub served_folder : {S E : Type 0} (program : Program S) (dir : List ℕ) (config : Config) (required left_out lacks : Bool) (inputs : List Input) (old new : Option (List ℕ)) (contents : E → Option (List ℕ)) (before between after : Complaints E) (answer : Result ℕ Failure)
@@ -149,7 +151,7 @@ served_folder program dir config required left_out lacks inputs old new contents
         served = record {
           files = h.served.files;
           from = h.served.from;
-          served = served_by (by_closure (IsHosted program)) (IsHosted program) config _ old new h.end (λ setups left hosted. hosted.2) h.served.served;
+          ended = end_by (by_closure (IsHosted program)) (IsHosted program) config _ old new h.end (λ setups left hosted. hosted.2) h.served.ended;
           faults = h.served.faults;
         };
         told = h.told;

@@ -1,12 +1,9 @@
 -- What no contract of a public item cites: only those of private functions, and what types keep over private fields.
 pub mod Commands
 pub mod Complaints
-pub mod Faults
 pub mod Listings
-pub mod Live
 pub mod Noted
 pub mod Outlets
 pub mod Readings
 pub mod Served
-pub mod Services
 pub mod Statuses

@@ -4,41 +4,38 @@ ghost use Rattle.std.specs.Prelude.{◌≡◌, Err, IfOk, Ok, string_bytes, vec_
 ghost use Rattle.std.specs.Io.KnownBytes.{Keeps};
 ghost use Rattle.wh_cli.specs.Private.Commands.{HasExplained, HasExplainedInput, HasExplainedPath};
 ghost use Rattle.wh_cli.specs.Private.Commands.{HasPrinted, HasReplayed, HasReplayedPaths, HasReported};
-ghost use Rattle.wh_cli.specs.Private.Commands.{HasServedAll, HasServedFolder, HasToldOf, Obeys};
+ghost use Rattle.wh_cli.specs.Private.Commands.{HasServedAll, HasServedFolder, HasToldOf, HasWorked, Obeys};
 ghost use Rattle.wh_cli.specs.Private.Complaints.{Reported, service_told};
-ghost use Rattle.wh_cli.specs.Private.Live.{MayServe, lives};
+ghost use Rattle.wh_work.specs.Plans.{MayServe, lives};
 ghost use Rattle.wh_cli.specs.Private.Readings.{IsReadAs};
 ghost use Rattle.wh_cli.specs.Private.Served.{sizes_of};
-ghost use Rattle.wh_cli.specs.Services.{IsHosted};
-ghost use Rattle.wh_cli.specs.Private.Services.{IsHost, leaves};
+ghost use Rattle.wh_service.specs.Services.{IsHost, IsHosted, leaves};
 ghost use Rattle.wh_cli.specs.Private.Statuses.{lacks_files, status_with};
-ghost use Rattle.wh_cli.specs.declared.serving.ServiceEnd.{ServiceEnd};
-ghost use Rattle.wh_command_line.specs.Options.{IsWithinLimits};
+ghost use Rattle.wh_command_line.specs.Options.{IsWithinLimits, IsWithinWorkLimits};
 ghost use Rattle.wh_host.specs.Machine.{IsConfig};
 
 use crate::complaints::{Complaint, Complaints};
 use crate::explaining::explain_file;
 use crate::failures::Failure;
-use crate::file_faults::{FileFault, unread_fault};
-use crate::hosts::{ServiceHost, ServiceSetup, host_of};
 use crate::inputs::{ReadsInputs, file_from};
 use crate::listing::{all_inputs, folder_of, input_of};
 use crate::noted::NotedLine;
-use crate::replaying::{CommandFault, lines_of, report, status_of};
-use crate::serving::{ServiceEnd, serve_inputs};
-use crate::working::{LivePlan, work};
+use crate::replaying::{lines_of, report, status_of};
 use std::alloc::Global;
 use std::io::Write;
 use std::rt::Runtime;
 use std::slice;
 use std::sync::Wait;
 use std::thread::Threads;
-use wh_command_line::{Plan, ServeOptions};
+use wh_command_line::{Plan, ServeOptions, WorkOptions};
 use wh_crew::LiveEnd;
 use wh_events::{OutOfMemory, Text};
+use wh_file_faults::{CommandFault, FileFault, unread_fault};
 use wh_files::{Input, InputFault};
 use wh_host::Config;
+use wh_service::{ServiceEnd, ServiceHost, ServiceSetup, host_of, serve_inputs};
 use wh_tester::Line;
+use wh_work::{LivePlan, live_plan, live_status};
 use wh_workflow::Workflow;
 
 /// The status of a command, once all that it wrote is out.
@@ -173,24 +170,19 @@ fn explain_input<W: Workflow, R: ReadsInputs + AllocGlobal, O: Write, E: Write>(
 }
 
 /// The status of a service, once its report is out and the rest is reported.
-fn served<O: Write, E: Write>(
-    answer: Result<ServiceEnd, CommandFault>,
+fn end_service<O: Write, E: Write>(
+    end: ServiceEnd,
     lacks: bool,
     output: &mut O,
     errors: &mut Complaints<'_, E>,
 ) -> Result<u8, Failure>
-    ensures end { IfOk result (λ status. (end : ServiceEnd) × (answer ≡ Ok end)
-        × (status ≡ status_with lacks end.status) × Reported E.contents errors.old errors.new (service_told end)) }
+    ensures status { IfOk result (λ status. status ≡ status_with lacks end.status) }
+    ensures reported { IfOk result (λ _. Reported E.contents errors.old errors.new (service_told end)) }
     ensures kept { Keeps (O.contents output.old) (O.contents output.new) }
 {
-    match answer {
-        Ok(end) => {
-            let status = flushed(Ok(end.status), output)?;
-            errors.tell(Complaint::Served { end });
-            Ok(status_with(lacks, status))
-        }
-        Err(fault) => flushed(Err(fault), output),
-    }
+    let status = flushed(Ok(end.status), output)?;
+    errors.tell(Complaint::Served { end });
+    Ok(status_with(lacks, status))
 }
 
 /// Serves inputs, writes the report, and once it is out, reports the rest.
@@ -215,18 +207,18 @@ where
     ensures { IfOk result (HasServedAll R.gives W.program (leaves (F.post host)) (sizes_of options) inputs.items lacks
         (O.contents output.old) (O.contents output.new) E.contents errors.old errors.new) }
 {
-    let answer = serve_inputs::<W, R, _, _, F, O>(
+    let end = serve_inputs::<W, R, _, _, F, O>(
         rt,
         rt.alloc(),
         inputs,
         |input: Input| -> Result<(String, Vec<u8>), InputFault>
             ensures { IfOk result (IsReadAs R.gives input) }
         { file_from(rt, input) },
-        options,
+        options.config(),
         output,
         host,
     )?;
-    served(answer, lacks, output, errors)
+    end_service(end, lacks, output, errors)
 }
 
 /// Replays what is at paths.
@@ -302,13 +294,38 @@ where
     )
 }
 
+/// Serves live tasks as options ask for, reports how they ended, and gives the status.
+fn work<F: FnOnce(LivePlan) -> Result<LiveEnd, OutOfMemory>, E: Write>(
+    alloc: Global,
+    options: WorkOptions,
+    live: F,
+    errors: &mut Complaints<'_, E>,
+) -> Result<u8, Failure>
+where
+    F: Drop,
+    requires limits { IsWithinWorkLimits options }
+    requires serves { MayServe (F.pre live) }
+    ensures { IfOk result (HasWorked (lives (F.post live)) options E.contents errors.old errors.new) }
+{
+    let Ok(plan) = live_plan(alloc, options) else {
+        drop(live);
+        return Err(Failure::OutOfMemory);
+    };
+    let Ok(end) = live(plan) else {
+        return Err(Failure::OutOfMemory);
+    };
+    let status = live_status(&end);
+    errors.tell(Complaint::Worked { end });
+    Ok(status)
+}
+
 /// Does what is asked for, and gives the status. Where there is none, why.
 pub(crate) fn obey<
     W: Workflow + Send,
     R: Runtime + AllocGlobal + Threads + Wait + Sync,
     O: Write,
     E: Write,
-    F: FnOnce(LivePlan) -> Result<LiveEnd, Failure>,
+    F: FnOnce(LivePlan) -> Result<LiveEnd, OutOfMemory>,
 >(
     rt: &R,
     plan: Plan,

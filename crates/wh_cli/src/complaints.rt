@@ -7,19 +7,17 @@ ghost use Rattle.wh_cli.specs.Private.Complaints.{entry_line, failed_text};
 ghost use Rattle.wh_cli.specs.Private.Complaints.{failure_line, failure_lines, fault_line, fault_lines};
 ghost use Rattle.wh_cli.specs.Private.Complaints.{path_line, reason_line, service_told, told_line};
 ghost use Rattle.wh_cli.specs.Private.Complaints.{uncompared_told, worker_told};
-ghost use Rattle.wh_cli.specs.Private.Live.{calls_text, live_text};
 
 use crate::failures::Failure;
-use crate::file_faults::FileFault;
-use crate::service_report::{FileFailure, write_totals};
-use crate::serving::ServiceEnd;
 use std::io;
 use std::io::{Eprint, ErrorKind, Write};
 use wh_crew::LiveEnd;
 use wh_events::Text;
+use wh_file_faults::FileFault;
 use wh_files::Reason;
-use wh_live::Tally;
+use wh_service::{FileFailure, ServiceEnd};
 use wh_tester::Shown;
+use wh_work::write_live_end;
 
 /// The standard error, as a writer.
 #[derive(Drop)]
@@ -177,31 +175,6 @@ fn tell_service<E: Write>(end: ServiceEnd, name: &str, writer: &mut E) -> io::Re
     tell_uncompared(uncompared, name, writer)
 }
 
-/// Writes what the sources of live tasks counted.
-fn tell_calls<E: Write>(tally: Tally, writer: &mut E) -> io::Result<()>
-    ensures { OnOk result (Appends (E.contents writer.old) (E.contents writer.new) (calls_text tally)) }
-{
-    let Tally {
-        polls,
-        empty,
-        not_found,
-        refused,
-        ..
-    } = tally;
-    write!(
-        writer,
-        "polls {polls}, empty polls {empty}, answers not found {not_found}, answers refused {refused}\n"
-    )
-}
-
-/// Writes how live tasks ended: the totals, and what the sources counted.
-fn tell_live<E: Write>(end: LiveEnd, writer: &mut E) -> io::Result<()>
-    ensures { OnOk result (Appends (E.contents writer.old) (E.contents writer.new) (live_text end)) }
-{
-    write_totals(end.totals, writer)?;
-    tell_calls(end.tally, writer)
-}
-
 /// Writes why there is nothing to read at a path.
 fn tell_path<E: Write>(path: &str, why: &str, name: &str, writer: &mut E) -> io::Result<()>
     ensures { OnOk result (Appends (E.contents writer.old) (E.contents writer.new)
@@ -313,7 +286,7 @@ fn tell_complaint<E: Write>(complaint: Complaint, name: &str, writer: &mut E) ->
         Complaint::BadJson { fault } => tell_fault(fault, name, writer),
         Complaint::BadFiles { faults } => tell_faults(faults, name, writer),
         Complaint::Served { end } => tell_service(end, name, writer),
-        Complaint::Worked { end } => tell_live(end, writer),
+        Complaint::Worked { end } => write_live_end(end, writer),
         Complaint::Failed { failure } => tell_failed(&failure, name, writer),
     }
 }

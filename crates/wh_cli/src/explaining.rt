@@ -6,11 +6,12 @@ ghost use Rattle.wh_cli.specs.Commands.{IsExplained};
 ghost use Rattle.wh_cli.specs.Replays.{explanation_as};
 ghost use Rattle.wh_cli.specs.Statuses.{status_of};
 
-use crate::replaying::{CommandFault, status_of};
+use crate::replaying::status_of;
 use std::alloc::Global;
 use std::io::Write;
 use std::{io, slice};
 use wh_explain::{Explanation, explain, write_explanation, write_json_explanation};
+use wh_file_faults::CommandFault;
 use wh_tester::Line;
 use wh_workflow::Workflow;
 

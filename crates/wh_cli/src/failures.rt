@@ -4,7 +4,9 @@ ghost use Rattle.std.specs.Prelude.{◌≡◌, None};
 ghost use Rattle.wh_files.specs.declared.Reason.{Reason};
 
 use wh_events::Text;
+use wh_file_faults::CommandFault;
 use wh_files::{FolderFault, InputFault, Reason};
+use wh_service::ServiceFault;
 
 /// Why a run ends without a full report.
 #[derive(Drop)]
@@ -49,6 +51,31 @@ impl From<InputFault> for Failure {
                 reason,
             },
             InputFault::OutOfMemory => Failure::OutOfMemory,
+        }
+    }
+}
+
+impl From<CommandFault> for Failure {
+    ghost use Rattle.std.specs.Prelude.{◌≡◌, ◌↔◌};
+    ghost use Rattle.wh_file_faults.specs.declared.command_fault.CommandFault.{CommandFault};
+    ghost use Rattle.wh_cli.specs.declared.failures.Failure.{Failure};
+
+    ghost from_gives = { λ fault failure.
+        (failure ≡ Failure.OutOfMemory) ↔ (fault ≡ CommandFault.OutOfMemory) };
+
+    fn from(fault: CommandFault) -> Failure {
+        match fault {
+            CommandFault::Output => Failure::Output,
+            CommandFault::OutOfMemory => Failure::OutOfMemory,
+        }
+    }
+}
+
+impl From<ServiceFault> for Failure {
+    fn from(fault: ServiceFault) -> Failure {
+        match fault {
+            ServiceFault::Input { fault } => Failure::from(fault),
+            ServiceFault::Report { fault } => Failure::from(fault),
         }
     }
 }

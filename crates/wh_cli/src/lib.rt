@@ -3,40 +3,26 @@
 //! its command line.
 #![tactic(auto)]
 
-mod assigning;
-mod calls;
 mod commands;
 mod complaints;
 mod explaining;
 mod failures;
-mod file_faults;
-mod gathering;
-mod hosts;
 mod inputs;
 mod listening;
 mod listing;
-mod live;
 mod noted;
 mod outlet;
-mod parallel;
-mod position;
 mod program;
-mod progress;
-mod reading;
 mod replaying;
-mod service_report;
-mod serving;
-mod watch;
-mod working;
+mod services;
 
-pub use calls::calls_over;
 pub use explaining::explain_command;
-pub use file_faults::{Cause, FileFault};
 pub use listening::read_input;
-pub use position::{Mark, Position};
 pub use program::{no_memory, run};
-pub use replaying::{CommandFault, replay_command};
-pub use service_report::FileFailure;
-pub use serving::{ServiceEnd, serve_command, serve_with_failures};
+pub use replaying::replay_command;
+pub use services::{serve_command, serve_with_failures};
 pub use wh_command_line::{Plan, Refusal, WorkOptions, parse};
+pub use wh_file_faults::{Cause, CommandFault, FileFault, Mark, Position};
 pub use wh_poll::NoActivities;
+pub use wh_service::{FileFailure, ServiceEnd};
+pub use wh_work::calls_over;

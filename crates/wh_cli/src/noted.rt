@@ -5,15 +5,14 @@ ghost use Rattle.std.specs.List.{flat_map, list_all};
 ghost use Rattle.std.specs.Io.KnownBytes.{Appends};
 ghost use Rattle.wh_tester.specs.Json.{following};
 ghost use Rattle.wh_tester.specs.Report.{all_good, good_count, is_good, line_text, report};
-ghost use Rattle.wh_cli.specs.Faults.{IsCauseOf};
+ghost use Rattle.wh_file_faults.specs.Faults.{IsCauseOf};
 ghost use Rattle.wh_cli.specs.Private.Noted.{IsNoteOf, lines_in, noted_line, note_members, noted_report};
 
-use crate::file_faults::{Cause, FileFault};
-use crate::position::Position;
 use std::alloc::Global;
 use std::io::Write;
 use std::{fmt, io};
 use wh_explain::{Pairing, PairingMembers, difference};
+use wh_file_faults::{Cause, FileFault, Position};
 use wh_replay::Fault;
 use wh_tester::{
     EscapedName, Line, Verdict, is_good, write_json_totals, write_line, write_open_json_line,

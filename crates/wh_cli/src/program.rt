@@ -4,15 +4,13 @@ ghost use Rattle.std.specs.Prelude.{◌≡◌, ◌≢◌, Err, IfOk, map, string
 ghost use Rattle.wh_command_line.specs.Options.{IsWithinLimits};
 ghost use Rattle.wh_command_line.specs.Plans.{HasFewSlots, IsAskedBy};
 ghost use Rattle.wh_cli.specs.Private.Commands.{Answers, HasFailed, HasObeyed, called, is_unread, name_of};
-ghost use Rattle.wh_cli.specs.Private.Live.{MayServe, lives};
+ghost use Rattle.wh_work.specs.Plans.{MayServe, lives};
 ghost use Rattle.wh_host.specs.Machine.{IsConfig};
 
 use crate::commands::obey;
 use crate::complaints::{Complaint, Complaints, ErrorPrinter};
 use crate::failures::Failure;
-use crate::live::serve_calls;
 use crate::outlet::Outlet;
-use crate::working::LivePlan;
 use std::alloc::Global;
 use std::env::Env;
 use std::io::{BufWriter, ErrorKind, Print, Printer, Write};
@@ -24,8 +22,10 @@ use std::thread::Threads;
 use std::{env, io};
 use wh_command_line::{Plan, Refusal, parse};
 use wh_crew::LiveEnd;
+use wh_events::OutOfMemory;
 use wh_poll::ActivityHandler;
 use wh_rpc::Caller;
+use wh_work::{LivePlan, serve_calls};
 use wh_workflow::Workflow;
 
 /// The status of a run that ends without a full report.
@@ -121,7 +121,7 @@ fn obeyed<
     R: Runtime + AllocGlobal + Threads + Wait + Sync,
     O: Write,
     E: Write,
-    F: FnOnce(LivePlan) -> Result<LiveEnd, Failure>,
+    F: FnOnce(LivePlan) -> Result<LiveEnd, OutOfMemory>,
 >(
     rt: &R,
     words: &[String],
@@ -148,7 +148,7 @@ fn answer<
     R: Runtime + AllocGlobal + Threads + Wait + Sync,
     O: Write,
     E: Write,
-    F: FnOnce(LivePlan) -> Result<LiveEnd, Failure>,
+    F: FnOnce(LivePlan) -> Result<LiveEnd, OutOfMemory>,
 >(rt: &R, words: &[String], live: F, output: &mut Outlet<O>, errors: &mut Complaints<'_, E>) -> u8
 where
     R::File: Send,
@@ -168,7 +168,7 @@ where
 fn run_words<
     W: Workflow + Send,
     R: Runtime + AllocGlobal + Threads + Wait + Sync,
-    F: FnOnce(LivePlan) -> Result<LiveEnd, Failure>,
+    F: FnOnce(LivePlan) -> Result<LiveEnd, OutOfMemory>,
 >(rt: &R, words: &[String], live: F) -> u8
 where
     R::File: Send,
@@ -226,7 +226,7 @@ where
         Err(failure) => return fail_unnamed(rt, failure),
     };
     let name = called(words.as_slice());
-    let live = |plan: LivePlan| -> Result<LiveEnd, Failure>
+    let live = |plan: LivePlan| -> Result<LiveEnd, OutOfMemory>
         requires sizes { IsConfig plan.config }
         requires listens { L.IsAlwaysCallable listen }
         requires makes { M.IsAlwaysCallable make }

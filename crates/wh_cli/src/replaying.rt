@@ -4,36 +4,23 @@ ghost use Rattle.std.specs.Prelude.{◌≡◌, ◌≢◌, List, Ok, Err, IfOk, I
 ghost use Rattle.std.specs.List.{AllZip};
 ghost use Rattle.std.specs.Io.KnownBytes.{Appends};
 ghost use Rattle.wh_tester.specs.Report.{report};
-ghost use Rattle.wh_cli.specs.Faults.{IsCauseOf, IsFaultOf, MayBeTold};
-ghost use Rattle.wh_cli.specs.Private.Faults.{AreMadeOf, IsMadeOf};
+ghost use Rattle.wh_file_faults.specs.Faults.{IsCauseOf, IsFaultOf, MayBeTold};
+ghost use Rattle.wh_file_faults.specs.Made.{AreMadeOf, IsMadeOf};
 ghost use Rattle.wh_cli.specs.Private.Noted.{IsNotedOf, lines_in, noted_report};
 ghost use Rattle.wh_cli.specs.Statuses.{status_of};
 ghost use Rattle.wh_tester.specs.Verdicts.{IsLineOf};
 ghost use Rattle.wh_tester.specs.declared.line.Line.{Line};
 
-use crate::file_faults::{FileFault, code_fault, unread_fault};
 use crate::noted::{NotedLine, all_good as all_noted_good, note_of, write_noted};
-use crate::parallel::all_made;
 use std::alloc::Global;
 use std::io::Write;
 use std::thread::Threads;
-use thiserror::Error;
 use wh_events::Text;
+use wh_file_faults::{CommandFault, FileFault, all_made, code_fault, unread_fault};
 use wh_files::InputFault;
 use wh_replay::Fault;
 use wh_tester::{Line, Verdict, all_good, verdict};
 use wh_workflow::{Workflow, WorkflowFault};
-
-/// Why a command has no status.
-#[derive(Debug, Drop, Error)]
-pub enum CommandFault {
-    /// The writer failed. Part of the report may be written.
-    #[error("cannot write")]
-    Output,
-    /// An allocation was refused. Nothing is written.
-    #[error("out of memory")]
-    OutOfMemory,
-}
 
 /// The status: 0 where each file is good, and else 1.
 pub(crate) fn status_of(lines: &[Line]) -> u8
@@ -68,7 +55,7 @@ pub(crate) fn report<O: Write>(
 
 /// What is reported of a file with this name, verdict and bytes: where it is no JSON or for which
 /// workflow type there is no code, if that is the verdict.
-#[tactic(auto, using(crate::proofs::Faults::of_json, crate::proofs::Faults::of_code))]
+#[tactic(auto, using(wh_file_faults::proofs::Faults::of_json, wh_file_faults::proofs::Faults::of_code))]
 fn fault_in<W: Workflow>(
     alloc: Global,
     name: &str,
@@ -90,7 +77,7 @@ fn fault_in<W: Workflow>(
 
 /// The line of a file: its name, with the verdict on its bytes, which are kept no longer, and its
 /// note. Beside it is what is told of the file.
-#[tactic(auto, using(crate::proofs::Faults::has_cause))]
+#[tactic(auto, using(wh_file_faults::proofs::Faults::has_cause))]
 fn line_of<W: Workflow>(alloc: Global, file: (String, Vec<u8>)) -> (NotedLine, Option<FileFault>)
     ensures line { IsNotedOf W.program file result.0 }
     ensures told { MayBeTold W.program file result.1 }

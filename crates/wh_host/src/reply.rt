@@ -1,5 +1,9 @@
 //! What the calls of a host answer.
 
+ghost use Rattle.std.specs.Prelude.{Some};
+ghost use Rattle.wh_host.specs.Texts.{totals_text};
+
+use std::fmt;
 use wh_cache::Put;
 use wh_replay::Run;
 use wh_slots::SlotCount;
@@ -69,4 +73,22 @@ pub struct Totals {
     pub failed: u64,
     /// Tasks that were not finished.
     pub in_hand: u64,
+}
+
+/// The four counts in words, as the reports of `serve` and `work` have them.
+impl fmt::Display for Totals {
+    ghost output = { λ totals. Some (totals_text totals) };
+
+    fn fmt<W: fmt::Write>(&self, f: &mut fmt::Formatter<W>) -> fmt::Result {
+        let Totals {
+            taken,
+            completed,
+            failed,
+            in_hand,
+        } = *self;
+        write!(
+            f,
+            "taken {taken}, completed {completed}, failed {failed}, in hand {in_hand}"
+        )
+    }
 }

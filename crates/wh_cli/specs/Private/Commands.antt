@@ -15,19 +15,22 @@ use Rattle.wh_workflow.specs.Law.{Program}
 use Rattle.wh_cli.specs.declared.complaints.Complaints.{Complaints}
 use Rattle.wh_cli.specs.declared.failures.Failure.{Failure}
 use Rattle.wh_cli.specs.declared.failures.Failure.TheVariants.{Output}
-use Rattle.wh_cli.specs.declared.file_faults.FileFault.{FileFault}
+use Rattle.wh_file_faults.specs.declared.file_faults.FileFault.{FileFault}
 use Rattle.wh_cli.specs.declared.noted.NotedLine.{NotedLine}
-use Rattle.wh_cli.specs.declared.serving.ServiceEnd.{ServiceEnd}
-use Rattle.wh_cli.specs.declared.working.LivePlan.{LivePlan}
+use Rattle.wh_service.specs.declared.service.ServiceEnd.{ServiceEnd}
+use Rattle.wh_work.specs.declared.plan.LivePlan.{LivePlan}
 use Rattle.wh_cli.specs.Private.Complaints.{Reported, failed_text, fault_lines, service_told}
-use Rattle.wh_cli.specs.Faults.{IsFaultOf, told_of}
-use Rattle.wh_cli.specs.Private.Faults.{AreMadeOf, IsNoJson}
+use Rattle.wh_file_faults.specs.Faults.{IsFaultOf, told_of}
+use Rattle.wh_file_faults.specs.Made.{AreMadeOf}
+use Rattle.wh_file_faults.specs.Faults.{IsNoJson}
 use Rattle.wh_cli.specs.Private.Listings.{AreListed, IsListed, is_by_path}
-use Rattle.wh_cli.specs.Private.Live.{IsLivePlan, LivesBy, live_status, live_text}
+use Rattle.wh_work.specs.Plans.{IsLivePlan, LivesBy}
+use Rattle.wh_work.specs.Reports.{live_status, live_text}
 use Rattle.wh_cli.specs.Private.Readings.{Gives, IsReadAs}
 use Rattle.wh_cli.specs.Private.Noted.{IsNotedOf, lines_in, noted_report}
-use Rattle.wh_cli.specs.Private.Served.{HasServedInputs}
-use Rattle.wh_cli.specs.Services.{File, HostsBy, IsHosted}
+use Rattle.wh_service.specs.Services.{IsServiceEndOver}
+use Rattle.wh_file_faults.specs.Faults.{File}
+use Rattle.wh_service.specs.Services.{HostsBy, IsHosted}
 use Rattle.wh_cli.specs.Statuses.{status_of}
 use Rattle.wh_cli.specs.Private.Statuses.{lacks_files, status_with}
 use Rattle.wh_cli.specs.Commands.{IsExplained}
@@ -82,7 +85,7 @@ pub record HasServedAll {S E : Type 0} (gives : Gives) (program : Program S) (ho
     (inputs : List Input) (lacks : Bool) (old new : Option (List ℕ)) (contents : E → Option (List ℕ)) (before after : Complaints E)
     (status : ℕ) : Type 0 where
   pub end : ServiceEnd
-  pub served : HasServedInputs (IsReadAs gives) program hosts config inputs old new end
+  pub served : IsServiceEndOver (IsReadAs gives) program hosts config inputs old new end
   pub told : Reported contents before after (service_told end)
   pub ends : status ≡ status_with lacks end.status
 

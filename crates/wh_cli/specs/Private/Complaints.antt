@@ -11,11 +11,12 @@ use Rattle.wh_cli.specs.declared.complaints.Complaint.TheVariants.{NoFiles, BadN
 use Rattle.wh_cli.specs.declared.complaints.Complaints.{Complaints}
 use Rattle.wh_cli.specs.declared.failures.Failure.{Failure}
 use Rattle.wh_cli.specs.declared.failures.Failure.TheVariants.{BadLine, BadArguments, FewSlots, Unreadable, Output, OutOfMemory}
-use Rattle.wh_cli.specs.declared.file_faults.FileFault.{FileFault}
-use Rattle.wh_cli.specs.declared.service_report.FileFailure.{FileFailure}
-use Rattle.wh_cli.specs.declared.serving.ServiceEnd.{ServiceEnd}
-use Rattle.wh_cli.specs.Private.Live.{live_text}
-use Rattle.wh_cli.specs.Services.{failure_text, file_fault_text}
+use Rattle.wh_file_faults.specs.declared.file_faults.FileFault.{FileFault}
+use Rattle.wh_service.specs.declared.failures.FileFailure.{FileFailure}
+use Rattle.wh_service.specs.declared.service.ServiceEnd.{ServiceEnd}
+use Rattle.wh_work.specs.Reports.{live_text}
+use Rattle.wh_service.specs.Texts.{failure_text}
+use Rattle.wh_file_faults.specs.Texts.{file_fault_text}
 
 -- `<name>: <text>`, under the name that the program is called by
 abbrev pub told_line : (text name : List ℕ) → List ℕ

@@ -8,12 +8,12 @@ use Rattle.wh_tester.specs.Report.{report, shown}
 use Rattle.wh_tester.specs.Verdicts.{IsLineOf}
 use Rattle.wh_tester.specs.declared.line.Line.{Line}
 use Rattle.wh_workflow.specs.Law.{Program}
-use Rattle.wh_cli.specs.declared.file_faults.Cause.TheVariants.{NotJson, NoCode}
+use Rattle.wh_file_faults.specs.declared.file_faults.Cause.TheVariants.{NotJson, NoCode}
 use Rattle.wh_cli.specs.declared.noted.Note.{Note}
 use Rattle.wh_cli.specs.declared.noted.Note.TheVariants.{Caused, Differs}
 use Rattle.wh_cli.specs.declared.noted.NotedLine.{NotedLine}
-use Rattle.wh_cli.specs.Faults.{IsCauseOf}
-use Rattle.wh_cli.specs.Services.{File}
+use Rattle.wh_file_faults.specs.Faults.{IsCauseOf}
+use Rattle.wh_file_faults.specs.Faults.{File}
 
 -- a note on bytes: their cause, or the difference that their replay stops at
 abbrev pub IsNoteOf : {S : Type 0} → Program S → List ℕ → Note → Type 0

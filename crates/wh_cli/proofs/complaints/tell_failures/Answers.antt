@@ -2,7 +2,7 @@ use Rattle.std.proofs.Common.{ℕ, List, [], ◌∷◌, append-nil}
 use Rattle.std.proofs.KnownBytes.{Appends-trans}
 use Rattle.std.proofs.lemmas.Grind.{flat_map-append}
 use Rattle.std.specs.List.{flat_map}
-use Rattle.wh_cli.specs.declared.service_report.FileFailure.{FileFailure}
+use Rattle.wh_service.specs.declared.failures.FileFailure.{FileFailure}
 use Rattle.wh_cli.specs.Private.Complaints.{failure_line}
 use Rattle.wh_cli.proofs.complaints.tell_failures.Goals as goal
 

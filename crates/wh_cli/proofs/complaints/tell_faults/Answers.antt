@@ -2,7 +2,7 @@ use Rattle.std.proofs.Common.{ℕ, List, [], ◌∷◌, append-nil}
 use Rattle.std.proofs.KnownBytes.{Appends-trans}
 use Rattle.std.proofs.lemmas.Grind.{flat_map-append}
 use Rattle.std.specs.List.{flat_map}
-use Rattle.wh_cli.specs.declared.file_faults.FileFault.{FileFault}
+use Rattle.wh_file_faults.specs.declared.file_faults.FileFault.{FileFault}
 use Rattle.wh_cli.specs.Private.Complaints.{fault_line}
 use Rattle.wh_cli.proofs.complaints.tell_faults.Goals as goal
 

@@ -1,6 +1,6 @@
 use Rattle.std.specs.Prelude.{Ok}
 use Rattle.wh_cli.specs.Private.Noted.{IsNotedOf}
-use Rattle.wh_cli.proofs.Collected.{all_ok, of_files}
+use Rattle.wh_file_faults.proofs.Collected.{all_ok, of_files}
 use Rattle.wh_cli.proofs.replaying.lines_of.Goals as goal
 
 -- the lines are those of the files that the inputs were read as

@@ -1,6 +1,0 @@
-use Rattle.std.proofs.Common.{arith}
-use Rattle.std.proofs.lemmas.Grind.{common_steps}
-use Rattle.wh_cli.proofs.assigning.sources_of.Goals as goal
-
-pub loop-list-preserved : goal.loop-list-preserved
-loop-list-preserved c = grind (arith, common_steps)

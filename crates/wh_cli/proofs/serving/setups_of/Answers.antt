@@ -1,6 +1,0 @@
-use Rattle.std.proofs.Common.{arith}
-use Rattle.std.proofs.lemmas.Grind.{common_steps}
-use Rattle.wh_cli.proofs.serving.setups_of.Goals as goal
-
-pub loop-source-preserved : goal.loop-source-preserved
-loop-source-preserved c = grind (arith, common_steps)

@@ -1,0 +1,64 @@
+-- What is told of files that are no JSON or lack code, and what is made of files beside it.
+use Rattle.std.specs.Prelude.{◌≡◌, ◌||◌, ℕ, List, [], ◌∷◌, nat_eq, Option, Some, None, IfSome, if◌then◌else◌, String, string_bytes, Vec}
+use Rattle.std.specs.List.{AllZip, flat_map, starts_with}
+use Rattle.std.specs.declared.alloc.Global.{Global}
+use Rattle.wh_explain.specs.Explaining.{unknown_in}
+use Rattle.wh_json.specs.Events.{history}
+use Rattle.wh_json.specs.Fields.{document}
+use Rattle.wh_workflow.specs.Law.{Program}
+use Rattle.wh_file_faults.specs.declared.file_faults.Cause.{Cause}
+use Rattle.wh_file_faults.specs.declared.file_faults.Cause.TheVariants.{NotJson, NoCode}
+use Rattle.wh_file_faults.specs.declared.file_faults.FileFault.{FileFault}
+use Rattle.wh_file_faults.specs.declared.position.Mark.{Mark}
+use Rattle.wh_file_faults.specs.declared.position.Mark.TheVariants.{ByteOrderMark, Utf16}
+
+-- a file: its name, and its bytes
+abbrev pub File : Type 0
+File = String Global × Vec ℕ Global
+
+-- what bytes begin with that are no JSON text in UTF-8: EF BB BF, FE FF or FF FE
+abbrev pub mark_of : List ℕ → Option Mark
+mark_of bytes =
+    if starts_with nat_eq bytes (239 ∷ 187 ∷ 191 ∷ []) then Some ByteOrderMark
+    else (if starts_with nat_eq bytes (254 ∷ 255 ∷ []) || starts_with nat_eq bytes (255 ∷ 254 ∷ []) then Some Utf16
+    else None)
+
+-- the bytes are no JSON, and the mark is what they begin with
+pub record IsUnread (bytes : List ℕ) (mark : Option Mark) : Type 0 where
+  pub no_json : document bytes ≡ None
+  pub marked : mark ≡ mark_of bytes
+
+-- the cause is one of the two
+abbrev pub IsCauseOf : {S : Type 0} → Program S → List ℕ → Cause → Type 0
+IsCauseOf program bytes (NotJson position mark) = IsUnread bytes mark
+IsCauseOf program bytes (NoCode kind) = unknown_in program (history bytes) ≡ Some kind
+
+-- the cause is that bytes are no JSON
+abbrev pub IsNoJson : List ℕ → Cause → Type 0
+IsNoJson bytes (NotJson position mark) = IsUnread bytes mark
+IsNoJson bytes (NoCode kind) = ⊥
+
+-- the cause is that there is no code for the workflow type of the history of bytes
+abbrev pub IsUncoded : {S : Type 0} → Program S → List ℕ → Cause → Type 0
+IsUncoded program bytes (NotJson position mark) = ⊥
+IsUncoded program bytes (NoCode kind) = unknown_in program (history bytes) ≡ Some kind
+
+-- a fault of a file by its name and bytes: it has the name, and a cause of the bytes
+pub record IsFaultOf (IsCause : List ℕ → Cause → Type 0) (name bytes : List ℕ) (fault : FileFault) : Type 0 where
+  pub named : fault.name ≡ name
+  pub causes : IsCause bytes fault.cause
+
+-- what may be told of a file: its fault, or nothing
+abbrev pub MayBeTold : {S : Type 0} → Program S → File → Option FileFault → Type 0
+MayBeTold program file told = IfSome told (IsFaultOf (IsCauseOf program) (string_bytes file.0) file.1.items)
+
+-- the fault that is told of a file, if one is
+abbrev pub told_of : Option FileFault → List FileFault
+told_of None = []
+told_of (Some fault) = fault ∷ []
+
+-- the faults that are told of files are theirs, at most one of each, in the order of the files
+pub record AreFaultsOf {S : Type 0} (program : Program S) (files : List File) (faults : List FileFault) : Type 0 where
+  pub told : List (Option FileFault)
+  pub each : AllZip (MayBeTold program) files told
+  pub all : faults ≡ flat_map told_of told

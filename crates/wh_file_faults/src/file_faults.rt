@@ -1,0 +1,198 @@
+//! Files that are no JSON, and where, and files of workflow types that there is no code for.
+
+ghost use Rattle.std.specs.Prelude.{◌≡◌, ◌++◌, [], ◌∷◌, IfOk, OnOk, IfSome, Some, map};
+ghost use Rattle.std.specs.List.{flat_map};
+ghost use Rattle.wh_file_faults.specs.Faults.{IsFaultOf, told_of};
+ghost use Rattle.wh_file_faults.specs.Faults.{IsNoJson, IsUncoded};
+ghost use Rattle.wh_file_faults.specs.Texts.{cause_text, file_fault_text, mark_text};
+
+use crate::position::{Mark, Position, mark_of, position_of};
+use std::alloc::Global;
+use std::fmt;
+use wh_events::{OutOfMemory, Text};
+use wh_explain::unknown_type;
+use wh_json::ReadFault;
+use wh_tester::{Shown, Verdict};
+use wh_workflow::Workflow;
+
+/// Why a file is named beside the report.
+#[derive(Drop)]
+pub enum Cause {
+    /// It is no JSON.
+    NotJson {
+        /// Where the reader stops.
+        position: Position,
+        /// What it begins with, where that is no JSON text in UTF-8.
+        mark: Option<Mark>,
+    },
+    /// There is no code for its workflow type.
+    NoCode {
+        /// The workflow type.
+        kind: Text,
+    },
+}
+
+impl Cause {
+    /// A copy with the same content. `OutOfMemory` where there was no memory for it.
+    pub fn try_copy(&self) -> Result<Cause, OutOfMemory>
+        ensures { IfOk result (λ copy. copy ≡ self.now) }
+    {
+        match self {
+            Cause::NotJson { position, mark } => Ok(Cause::NotJson {
+                position: *position,
+                mark: *mark,
+            }),
+            Cause::NoCode { kind } => Ok(Cause::NoCode {
+                kind: kind.try_copy()?,
+            }),
+        }
+    }
+}
+
+/// A file that is no JSON or has a workflow type that there is no code for. As a text: the name of
+/// the file as the report shows it, and the place or the workflow type.
+#[derive(Drop)]
+pub struct FileFault {
+    /// The name of the file.
+    pub name: Text,
+    /// Why it is named.
+    pub cause: Cause,
+}
+
+/// What a file begins with, in words after its place.
+#[derive(Clone, Copy)]
+struct MarkText(Option<Mark>);
+
+impl fmt::Display for MarkText {
+    ghost output = { λ t. Some (mark_text t.0) };
+
+    fn fmt<W: fmt::Write>(&self, f: &mut fmt::Formatter<W>) -> fmt::Result {
+        match self.0 {
+            Some(Mark::ByteOrderMark) => write!(f, ": it begins with a byte order mark"),
+            Some(Mark::Utf16) => write!(f, ": it is UTF-16, and has to be UTF-8"),
+            None => Ok(()),
+        }
+    }
+}
+
+/// Why a file is named, in words.
+#[derive(Drop)]
+struct CauseText<'a>(&'a Cause);
+
+impl fmt::Display for CauseText<'_> {
+    ghost output = { λ t. Some (cause_text t.0.now) };
+
+    fn fmt<W: fmt::Write>(&self, f: &mut fmt::Formatter<W>) -> fmt::Result {
+        match self.0 {
+            Cause::NotJson { position, mark } => {
+                let Position { line, column } = *position;
+                let mark = MarkText(*mark);
+                write!(f, "not JSON at line {line} column {column}{mark}")
+            }
+            Cause::NoCode { kind } => {
+                let kind = Shown(kind.get());
+                write!(f, "no code for the workflow type {kind}")
+            }
+        }
+    }
+}
+
+impl fmt::Display for FileFault {
+    ghost output = { λ fault. Some (file_fault_text fault) };
+
+    fn fmt<W: fmt::Write>(&self, f: &mut fmt::Formatter<W>) -> fmt::Result {
+        let name = Shown(self.name.get());
+        let cause = CauseText(&self.cause);
+        write!(f, "{name}: {cause}")
+    }
+}
+
+/// Where a file is no JSON, if it is none. Nothing is reported where memory for that is refused.
+pub fn json_fault(alloc: Global, name: &str, bytes: &[u8]) -> Option<FileFault>
+    ensures { IfSome result (IsFaultOf IsNoJson name.now bytes.now) }
+{
+    let Ok(Some(position)) = position_of(alloc, bytes) else {
+        return None;
+    };
+    let Ok(name) = String::from_str(alloc, name) else {
+        return None;
+    };
+    Some(FileFault {
+        name: Text::new(name),
+        cause: Cause::NotJson {
+            position,
+            mark: mark_of(bytes),
+        },
+    })
+}
+
+/// Where a file with this verdict is no JSON, if it is unreadable for that. Nothing is reported
+/// where memory for that is refused.
+pub fn unread_fault(alloc: Global, name: &str, verdict: &Verdict, bytes: &[u8]) -> Option<FileFault>
+    ensures { IfSome result (IsFaultOf IsNoJson name.now bytes.now) }
+{
+    match verdict {
+        Verdict::Unreadable(ReadFault::BadJson) => json_fault(alloc, name, bytes),
+        _ => None,
+    }
+}
+
+/// The workflow type of a file, if there is no code for it. Nothing is reported where memory for
+/// that is refused.
+pub fn code_fault<W: Workflow>(alloc: Global, name: &str, bytes: &[u8]) -> Option<FileFault>
+    ensures { IfSome result (IsFaultOf (IsUncoded W.program) name.now bytes.now) }
+{
+    let Ok(name) = String::from_str(alloc, name) else {
+        return None;
+    };
+    let Ok(Some(kind)) = unknown_type::<W>(alloc, bytes) else {
+        return None;
+    };
+    Some(FileFault {
+        name: Text::new(name),
+        cause: Cause::NoCode { kind },
+    })
+}
+
+/// Adds the fault of a file, if it has one.
+fn add_fault(faults: &mut Vec<FileFault>, fault: Option<FileFault>) -> Result<(), OutOfMemory>
+    ensures { OnOk result (faults.new.items ≡ faults.old.items ++ told_of fault) }
+{
+    match fault {
+        Some(fault) => Ok(faults.push(fault)?),
+        None => Ok(()),
+    }
+}
+
+/// Adds what was made of a file, and apart from it the fault of the file, if it has one.
+fn add_told<T: Drop>(
+    made: &mut Vec<T>,
+    faults: &mut Vec<FileFault>,
+    told: (T, Option<FileFault>),
+) -> Result<(), OutOfMemory>
+    ensures made { OnOk result (made.new.items ≡ made.old.items ++ (told.0 ∷ [])) }
+    ensures faults { OnOk result (faults.new.items ≡ faults.old.items ++ told_of told.1) }
+{
+    let (one, fault) = told;
+    let added = made.push(one).is_ok();
+    add_fault(faults, fault)?;
+    if added { Ok(()) } else { Err(OutOfMemory) }
+}
+
+/// What was made of files, and apart from it the faults that are reported of them, in the same
+/// order.
+pub(crate) fn parted<T: Drop>(
+    alloc: Global,
+    told: Vec<(T, Option<FileFault>)>,
+) -> Result<(Vec<T>, Vec<FileFault>), OutOfMemory>
+    ensures made { IfOk result (λ parts. parts.0.items ≡ map (λ one. one.0) told.items) }
+    ensures faults { IfOk result (λ parts.
+        parts.1.items ≡ flat_map told_of (map (λ one. one.1) told.items)) }
+{
+    let mut made = Vec::new(alloc);
+    let mut faults = Vec::new(alloc);
+    for both in told {
+        add_told(&mut made, &mut faults, both)?;
+    }
+    Ok((made, faults))
+}

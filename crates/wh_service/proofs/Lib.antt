@@ -1,0 +1,5 @@
+pub mod Assigned
+pub mod ReadFiles
+pub mod FileRows
+pub mod Turns
+pub mod Workers

@@ -1,0 +1,12 @@
+use Rattle.std.specs.Prelude.{Ok}
+use Rattle.wh_service.specs.Readings.{IsReading}
+use Rattle.wh_file_faults.proofs.Collected.{all_ok, of_files}
+use Rattle.wh_service.proofs.ReadFiles.{are_read}
+use Rattle.wh_service.proofs.readings.read_all.Goals as goal
+
+-- what was read of the inputs is the readings of the files that they were read as
+pub returns : goal.returns
+returns g c =
+    let inputs = c.args.inputs.items in
+    let program = g.W.Workflow.program in
+    all_ok c.in-Ok.parts (λ parts made. are_read (λ input file. g.F.Fn.post c.args.read (input, tt) (Ok file)) program inputs parts.0.items parts.1.items (of_files program (λ input file. g.F.Fn.post c.args.read (input, tt) (Ok file)) IsReading inputs parts.0.items parts.1.items made)) c.in-Ok.ensures

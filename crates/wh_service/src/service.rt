@@ -1,0 +1,247 @@
+//! Recorded histories are served by a host, and the report is written.
+
+ghost use Rattle.std.specs.Prelude.{◌≡◌, ◌≢◌, Ok, Err, IfOk, IfErr, OnErr, All, map, vec_len};
+ghost use Rattle.std.specs.Io.KnownBytes.{Appends};
+ghost use Rattle.wh_file_faults.specs.Faults.{AreFaultsOf};
+ghost use Rattle.wh_host.specs.Machine.{IsConfig};
+ghost use Rattle.wh_service.specs.Readings.{reading, reading_of};
+ghost use Rattle.wh_service.specs.Services.{HasItsTurns, IsHost, IsHosted, IsServiceEnd, IsServiceEndOver};
+ghost use Rattle.wh_service.specs.Services.{IsServiceOf, IsUnwritten, leaves, status_of};
+ghost use Rattle.wh_service.specs.Texts.{service_text};
+
+use crate::assignment::assign_sources;
+use crate::failures::FileFailure;
+use crate::host::{ServiceHost, ServiceSetup, host_of};
+use crate::outcomes::{Service, gather};
+use crate::readings::{ReadFile, read_all};
+use crate::rows::{are_good, write_service};
+use std::alloc::Global;
+use std::io::Write;
+use std::sync::Wait;
+use std::thread::Threads;
+use wh_events::OutOfMemory;
+use wh_file_faults::{CommandFault, FileFault};
+use wh_files::InputFault;
+use wh_host::Config;
+use wh_poll::{NoActivities, NoObserver, WorkerSetup};
+use wh_recorded::ScriptSource;
+use wh_workflow::Workflow;
+
+/// Why a service has no end.
+#[derive(Drop)]
+pub enum ServiceFault {
+    /// An input cannot be read, or there was no memory to read the inputs. Nothing is written.
+    Input { fault: InputFault },
+    /// There is no full report: where the fault is `Output` part of it may be written, and else
+    /// nothing is.
+    Report { fault: CommandFault },
+}
+
+/// A setup for each source: without activities, without an observer, and with as many turns as the
+/// source has tasks, and one more for each kind of tasks, by which the worker learns that there are
+/// no more.
+fn service_setups(
+    alloc: Global,
+    sources: Vec<ScriptSource>,
+) -> Result<Vec<ServiceSetup>, OutOfMemory>
+    ensures sources { IfOk result (λ setups. map (λ setup. setup.source) setups.items ≡ sources.items) }
+    ensures turns { IfOk result (λ setups. All HasItsTurns setups.items) }
+{
+    let mut setups = Vec::new(alloc);
+    for source in sources {
+        let turns = source.deliveries().saturating_add(2);
+        setups.push(WorkerSetup {
+            source,
+            handler: NoActivities { alloc },
+            observer: NoObserver,
+            turns,
+        })?;
+    }
+    Ok(setups)
+}
+
+/// Serves the files by a host of these sizes.
+fn serve_all<F: Fn(Config, Vec<ServiceSetup>) -> Result<ServiceHost, OutOfMemory>>(
+    alloc: Global,
+    files: Vec<ReadFile>,
+    config: Config,
+    host: F,
+) -> Result<Service, OutOfMemory>
+where
+    F: Drop,
+    requires sizes { IsConfig config }
+    requires runs { IsHost (F.pre host) (leaves (F.post host)) }
+    ensures { IfOk result (IsServiceOf (leaves (F.post host)) config (map reading files.items)) }
+{
+    let (assigned, sources) = assign_sources(alloc, files, config.seats)?;
+    let setups = service_setups(alloc, sources)?;
+    let end = host(config, setups)?;
+    gather(alloc, assigned, end)
+}
+
+/// The status: 0 where each file was read, no task failed and no worker has a fault, and else 1.
+fn status_of(service: &Service) -> u8
+    ensures { result ≡ status_of service.now.faultless service.now.rows.items service.now.totals }
+{
+    if service.faultless && service.totals.failed == 0 && are_good(service.rows.as_slice()) {
+        0
+    } else {
+        1
+    }
+}
+
+/// What is reported of a service beside its report.
+#[derive(Drop)]
+pub struct ServiceEnd {
+    /// The status: 0 where each file was read, no task failed and no worker has a fault, else 1.
+    pub status: u8,
+    /// The failed tasks, in the order of the files and, within a file, of its tasks.
+    pub failures: Vec<FileFailure>,
+    /// Whether the last task of a history that was served has a record: it is completed in the
+    /// history. A task is compared with its record where the next one is replayed, so this record
+    /// was compared with nothing, whether a task failed or not.
+    pub uncompared: bool,
+    /// Whether no worker has a fault: no call of its source failed. After a fault a worker goes on,
+    /// so all tasks may be completed beside one.
+    pub faultless: bool,
+    /// Where files are no JSON and for which workflow types there is no code, in the order of the
+    /// files.
+    pub file_faults: Vec<FileFault>,
+}
+
+/// Writes the report of a service, and gives what else is reported of it.
+fn report<O: Write>(
+    service: Service,
+    file_faults: Vec<FileFault>,
+    writer: &mut O,
+) -> Result<ServiceEnd, CommandFault>
+    ensures written { IfOk result (λ end.
+        Appends (O.contents writer.old) (O.contents writer.new) (service_text service.rows.items service.totals)
+        × (end.status ≡ status_of service.faultless service.rows.items service.totals)
+        × (end.failures.items ≡ service.failures.items) × (end.uncompared ≡ service.uncompared)
+        × (end.faultless ≡ service.faultless) × (end.file_faults.items ≡ file_faults.items)) }
+    ensures output { result ≢ Err CommandFault.OutOfMemory }
+{
+    let status = status_of(&service);
+    let Service {
+        rows,
+        totals,
+        failures,
+        uncompared,
+        faultless,
+    } = service;
+    match write_service(rows, totals, writer) {
+        Ok(()) => Ok(ServiceEnd {
+            status,
+            failures,
+            uncompared,
+            faultless,
+            file_faults,
+        }),
+        Err(_) => Err(CommandFault::Output),
+    }
+}
+
+/// Serves the tasks of files that were read, of some of which a fault is reported, and writes the
+/// report. Nothing is written where the answer is `OutOfMemory`.
+fn serve_read<F: Fn(Config, Vec<ServiceSetup>) -> Result<ServiceHost, OutOfMemory>, O: Write>(
+    alloc: Global,
+    read: (Vec<ReadFile>, Vec<FileFault>),
+    config: Config,
+    writer: &mut O,
+    host: F,
+) -> Result<ServiceEnd, CommandFault>
+where
+    F: Drop,
+    requires sizes { IsConfig config }
+    requires runs { IsHost (F.pre host) (leaves (F.post host)) }
+    ensures report { IfOk result (IsServiceEnd (leaves (F.post host)) config (map reading read.0.items)
+        (O.contents writer.old) (O.contents writer.new)) }
+    ensures faults { IfOk result (λ end. end.file_faults.items ≡ read.1.items) }
+    ensures unwritten { result ≡ Err CommandFault.OutOfMemory → writer.new ≡ writer.old }
+{
+    let (files, file_faults) = read;
+    let Ok(service) = serve_all(alloc, files, config, host) else {
+        return Err(CommandFault::OutOfMemory);
+    };
+    report(service, file_faults, writer)
+}
+
+/// Reads inputs, serves their tasks by a host of these sizes, and writes the report: a line for each
+/// input in their order, then the totals. Each input is read, and parsed, in a thread. File by file
+/// the workers are assigned the histories in turn. Of equal names each has the counts and the failed
+/// tasks of the first that its worker was assigned. `host` runs the host, as `host_of` does.
+///
+/// `Input` names the first input that cannot be read; nothing is written then. Where the fault is
+/// `Report` with `OutOfMemory` nothing is written either, and with `Output` part of the report may
+/// be.
+pub fn serve_inputs<
+    W: Workflow + Send,
+    R: Threads + Sync,
+    T: Send + Drop,
+    G: Fn(T) -> Result<(String, Vec<u8>), InputFault> + Copy + Send + Sync,
+    F: Fn(Config, Vec<ServiceSetup>) -> Result<ServiceHost, OutOfMemory>,
+    O: Write,
+>(
+    rt: &R,
+    alloc: Global,
+    inputs: Vec<T>,
+    read: G,
+    config: Config,
+    writer: &mut O,
+    host: F,
+) -> Result<ServiceEnd, ServiceFault>
+where
+    F: Drop,
+    requires sizes { IsConfig config }
+    requires reads { G.IsAlwaysCallable read }
+    requires runs { IsHost (F.pre host) (leaves (F.post host)) }
+    ensures report { IfOk result (IsServiceEndOver (λ input file. G.post read input (Ok file))
+        W.program (leaves (F.post host)) config inputs.items (O.contents writer.old) (O.contents writer.new)) }
+    ensures unwritten { IfErr result (λ fault. IsUnwritten fault → writer.new ≡ writer.old) }
+{
+    let read = match read_all::<W, R, T, G>(rt, alloc, inputs, read) {
+        Ok(read) => read,
+        Err(fault) => return Err(ServiceFault::Input { fault }),
+    };
+    match serve_read(alloc, read, config, writer, host) {
+        Ok(end) => Ok(end),
+        Err(fault) => Err(ServiceFault::Report { fault }),
+    }
+}
+
+/// Serves the tasks of files that are there already, as `serve_inputs` does those of inputs. Nothing
+/// is written where the answer is `OutOfMemory`.
+pub fn serve_files<W: Workflow + Send, R: Threads + Wait + Sync, O: Write>(
+    rt: &R,
+    alloc: Global,
+    files: Vec<(String, Vec<u8>)>,
+    config: Config,
+    writer: &mut O,
+) -> Result<ServiceEnd, CommandFault>
+    requires { IsConfig config }
+    ensures report { IfOk result (IsServiceEnd (IsHosted W.program) config (map reading_of files.items)
+        (O.contents writer.old) (O.contents writer.new)) }
+    ensures faults { IfOk result (λ end. AreFaultsOf W.program files.items end.file_faults.items) }
+    ensures unwritten { result ≡ Err CommandFault.OutOfMemory → writer.new ≡ writer.old }
+{
+    match serve_inputs::<W, R, _, _, _, O>(
+        rt,
+        alloc,
+        files,
+        |file: (String, Vec<u8>)| -> Result<(String, Vec<u8>), InputFault>
+            ensures { IfOk result (λ own. own ≡ file) }
+        { Ok(file) },
+        config,
+        writer,
+        |sizes: Config, setups: Vec<ServiceSetup>| -> Result<ServiceHost, OutOfMemory>
+            requires sizes { IsConfig sizes }
+            requires seats { sizes.seats ≡ vec_len setups }
+            ensures { IfOk result (IsHosted W.program sizes setups) }
+        { host_of::<W, R>(rt, alloc, sizes, setups) },
+    ) {
+        Ok(end) => Ok(end),
+        Err(ServiceFault::Report { fault }) => Err(fault),
+        Err(ServiceFault::Input { .. }) => Err(CommandFault::OutOfMemory),
+    }
+}

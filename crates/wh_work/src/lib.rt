@@ -1,0 +1,16 @@
+//! Live work: what options ask for, the workers that serve tasks over the calls of a server, and what
+//! is reported of them.
+#![tactic(auto)]
+
+mod calls;
+pub mod laws;
+mod plan;
+mod progress;
+mod report;
+mod watch;
+mod workers;
+
+pub use calls::calls_over;
+pub use plan::{LivePlan, live_plan};
+pub use report::{live_status, write_live_end};
+pub use workers::serve_calls;
