@@ -1,98 +1,249 @@
 //! The tasks of a history, each with the steps of its activation and with its record.
-ghost use Rattle.std.specs.Prelude.{◌≡◌, ◌≤◌, [], None, Some, Ok, length, IfOk, IfErr, string_bytes};
-ghost use Rattle.wh_events.specs.Cuts.{cuts};
+ghost use Rattle.std.specs.Prelude.{◌≡◌, ◌++◌, None, Some, IfOk, OnOk, option_map, option_to_list};
+ghost use Rattle.wh_events.specs.Cuts.{commanded};
 ghost use Rattle.wh_activation.specs.Cutting.{jobs_at};
-ghost use Rattle.wh_json.specs.Events.{history, longest};
+ghost use Rattle.wh_workflow.specs.Names.{mismatch};
 ghost use Rattle.wh_workflow.specs.Scripts.{reduced};
-ghost use Rattle.wh_replay.specs.Replays.{workflow_of};
-ghost use Rattle.wh_replay.specs.Views.{context_of};
+ghost use Rattle.wh_replay.specs.Views.{IsSpan, context_of, span_events};
 ghost use Rattle.wh_replay.specs.Activating.{IsWithin, IsOf};
-ghost use Rattle.wh_tester.specs.Verdicts.{IsVerdict};
-ghost use Rattle.wh_explain.specs.Explaining.{unless_refused, sent_ending, stops, IsTaskAt};
-ghost use Rattle.wh_explain.specs.Private.Explaining.{IsJudged, LeavesTask};
-ghost use Rattle.wh_explain.specs.Explaining.{AreTasks, AreTasksPlaced, AreTasksOf, AreTasksIn};
-ghost use Rattle.wh_explain.specs.Explaining.{unknown_placed, unknown_of, unknown_in};
+ghost use Rattle.wh_explain.specs.Differences.{if_differs, last_of};
+ghost use Rattle.wh_explain.specs.Private.Tasks.{IsEnd, IsTaskFinding, IsWalk, difference_in, explained_task};
+ghost use Rattle.wh_explain.specs.declared.explanation.Ending.TheVariants.{Refused};
+ghost use Rattle.wh_replay.specs.declared.fault.Fault.TheVariants.{Workflow as WorkflowFaulty};
+ghost use Rattle.wh_explain.specs.Private.Tasks.{fault_of, if_some, is_passed, mismatch_at};
 
-use crate::explanation::{Ending, ExplainedTask, Explanation};
-use crate::pairing::{pair_up, some_differ};
+use crate::explanation::{Detail, Ending, ExplainedTask, Pairing, Step};
+use crate::pairing::{differs, pair_up};
 use crate::stepping::step_all;
 use std::alloc::Global;
 use wh_activation::jobs;
-use wh_events::{Event, Items, OutOfMemory, Text};
-use wh_json::{ReadFault, read_events};
+use wh_events::{EventNo, Items, OutOfMemory};
 use wh_machines::Track;
-use wh_replay::{
-    Activation, Cut, ReplayState, RunFault, cut_after, sent_state, start, track_of, workflow_of,
-};
-use wh_tester::{Line, Verdict, history_verdict};
-use wh_workflow::{Command, Workflow, WorkflowFault};
+use wh_match::matches;
+use wh_replay::{Activation, Checked, Cut, Fault, ReplayState, Span, cut_after, sent_state};
+use wh_workflow::{Command, Mismatch, Workflow, WorkflowFault};
 
-/// What is explained of a history.
+/// Why no task follows one.
 #[derive(Drop)]
-pub(crate) struct ExplainedHistory {
-    pub(crate) unknown: Option<Text>,
-    pub(crate) tasks: Vec<ExplainedTask>,
+pub(crate) struct Stop {
+    /// Its fault.
+    pub(crate) fault: Fault,
+    /// What is sent and what is recorded where they differ, if that is the fault.
+    pub(crate) difference: Option<Pairing>,
 }
 
-/// Nothing is explained.
-fn nothing(alloc: Global) -> ExplainedHistory
-    ensures tasks { result.tasks.items ≡ [] }
-    ensures unknown { result.unknown ≡ None }
+/// How a task ends.
+#[derive(Drop)]
+pub(crate) struct TaskEnd {
+    /// What is shown of that, where it is kept.
+    pub(crate) ending: Option<Ending>,
+    /// Why no task follows, if so.
+    pub(crate) stop: Option<Stop>,
+}
+
+/// What is found of a task.
+#[derive(Drop)]
+pub(crate) struct TaskFinding<S> {
+    /// What is explained of it, where that is kept.
+    pub(crate) task: Option<ExplainedTask>,
+    /// Why no task follows, if so.
+    pub(crate) stop: Option<Stop>,
+    /// What it leaves.
+    pub(crate) left: ReplayState<S>,
+}
+
+/// What is found of the tasks of a history.
+#[derive(Drop)]
+pub(crate) struct Walk {
+    /// What is explained of them, where that is kept, up to the first that has a fault.
+    pub(crate) tasks: Vec<ExplainedTask>,
+    /// Why not all of them could be stepped, if so.
+    pub(crate) stop: Option<Stop>,
+    /// Their number, and whether the last is live, where all were stepped.
+    pub(crate) checked: Checked,
+}
+
+/// What is found where a task has a fault.
+fn stopped(tasks: Vec<ExplainedTask>, stop: Stop) -> Walk
+    ensures tasks { result.tasks.items ≡ tasks.items }
+    ensures stop { result.stop ≡ Some stop }
 {
-    ExplainedHistory {
-        unknown: None,
-        tasks: Vec::new(alloc),
+    Walk {
+        tasks,
+        stop: Some(stop),
+        checked: Checked {
+            tasks: 0,
+            live: false,
+        },
     }
 }
 
-/// A workflow type is named, for which there is no code.
-fn no_code(alloc: Global, kind: &str) -> Result<ExplainedHistory, OutOfMemory>
-    ensures tasks { IfOk result (λ explained. explained.tasks.items ≡ []) }
-    ensures unknown { IfOk result (λ explained. explained.unknown ≡ Some kind.now) }
+/// What is found where no task has a fault.
+fn all_stepped(tasks: Vec<ExplainedTask>, count: u64, live: bool) -> Walk
+    ensures tasks { result.tasks.items ≡ tasks.items }
+    ensures stop { result.stop ≡ None }
+    ensures checked { result.checked ≡ record { tasks = count; live = live } }
 {
-    Ok(ExplainedHistory {
-        unknown: Some(Text::new(String::from_str(alloc, kind)?)),
-        tasks: Vec::new(alloc),
-    })
+    Walk {
+        tasks,
+        stop: None,
+        checked: Checked { tasks: count, live },
+    }
+}
+
+/// The first difference between what is sent and the record in a span.
+fn first_mismatch(cut: &Cut, sent: &[Command], span: Span) -> Option<Mismatch>
+    requires { IsSpan cut.now.track.now span }
+    ensures { result ≡ mismatch cut.now.track.now sent.now (commanded (span_events cut.now.track.now span)) }
+{
+    matches(sent, cut.track, span.from, span.to).err()
+}
+
+/// A copy of the last pairing, if what is sent differs there from what is recorded.
+fn last_differing(pairings: &[Pairing]) -> Result<Option<Pairing>, OutOfMemory>
+    ensures { IfOk result (λ found. found ≡ if_differs (last_of pairings.now)) }
+{
+    let Some(pairing) = pairings.last() else {
+        return Ok(None);
+    };
+    if differs(pairing) {
+        Ok(Some(pairing.try_copy()?))
+    } else {
+        Ok(None)
+    }
+}
+
+/// Whether nothing is to be shown of a recorded task, and others follow it.
+fn is_passed(detail: Detail, mismatch: &Option<Mismatch>) -> bool
+    ensures { result ≡ is_passed detail mismatch.now }
+{
+    match detail {
+        Detail::Verdict => mismatch.is_none(),
+        Detail::Steps => false,
+    }
+}
+
+/// Why no task follows the one of a number, with these pairings, if there is a mismatch.
+fn stop_at(
+    at: EventNo,
+    mismatch: Option<Mismatch>,
+    pairings: &[Pairing],
+) -> Result<Option<Stop>, OutOfMemory>
+    ensures fault { IfOk result (λ stop. fault_of stop ≡ mismatch_at at mismatch) }
+    ensures difference { IfOk result (λ stop. difference_in stop ≡ if_some mismatch (if_differs (last_of pairings.now))) }
+{
+    let Some(mismatch) = mismatch else {
+        return Ok(None);
+    };
+    Ok(Some(Stop {
+        fault: Fault::Mismatch {
+            at: at.get(),
+            mismatch,
+        },
+        difference: last_differing(pairings)?,
+    }))
+}
+
+/// How a task ends that is recorded: what is sent stands beside the record. Where they differ, that
+/// is why no task follows.
+fn end_recorded(
+    alloc: Global,
+    detail: Detail,
+    cut: &Cut,
+    sent: &[Command],
+    span: Span,
+) -> Result<TaskEnd, OutOfMemory>
+    requires { IsSpan cut.now.track.now span }
+    ensures { let events = commanded (span_events cut.now.track.now span) in
+        IfOk result (IsEnd detail cut.now.number cut.now.track.now sent.now None (Some events)) }
+{
+    let mismatch = first_mismatch(cut, sent, span);
+    if is_passed(detail, &mismatch) {
+        return Ok(TaskEnd {
+            ending: None,
+            stop: None,
+        });
+    }
+    let record = cut.track.between(span.from, span.to);
+    let pairings = pair_up(alloc, cut.track.events(), sent, record)?;
+    let stop = stop_at(cut.number, mismatch, pairings.as_slice())?;
+    let ending = Some(Ending::Recorded {
+        pairings: Items::new(pairings),
+    });
+    Ok(TaskEnd { ending, stop })
+}
+
+/// How a task ends that sends these commands, which can stand.
+fn end_sent(
+    alloc: Global,
+    detail: Detail,
+    cut: &Cut,
+    sent: Vec<Command>,
+) -> Result<TaskEnd, OutOfMemory>
+    requires within { IsWithin cut.now }
+    ensures { IfOk result
+        (IsEnd detail cut.now.number cut.now.track.now sent.items None (context_of cut.now).recorded) }
+{
+    match cut.span {
+        Some(span) => end_recorded(alloc, detail, cut, sent.as_slice(), span),
+        None => Ok(TaskEnd {
+            ending: Some(Ending::Live {
+                sent: Items::new(sent),
+            }),
+            stop: None,
+        }),
+    }
+}
+
+/// How a task ends of which a command can't stand.
+fn end_refused(at: EventNo, fault: WorkflowFault) -> TaskEnd
+    ensures ending { result.ending ≡ Some Refused }
+    ensures fault { fault_of result.stop ≡ Some (WorkflowFaulty at fault) }
+    ensures difference { difference_in result.stop ≡ None }
+{
+    TaskEnd {
+        ending: Some(Ending::Refused),
+        stop: Some(Stop {
+            fault: Fault::Workflow {
+                at: at.get(),
+                fault,
+            },
+            difference: None,
+        }),
+    }
 }
 
 /// How a task ends that sends these commands, of which the last has the fault, if there is one.
 fn end_with(
     alloc: Global,
+    detail: Detail,
     cut: &Cut,
     sent: Vec<Command>,
     fault: Option<WorkflowFault>,
-) -> Result<Ending, OutOfMemory>
+) -> Result<TaskEnd, OutOfMemory>
     requires within { IsWithin cut.now }
-    ensures { let sending = sent_ending cut.now.track.now sent.items (context_of cut.now).recorded in
-        IfOk result (λ ending. ending ≡ unless_refused fault sending) }
+    ensures { IfOk result
+        (IsEnd detail cut.now.number cut.now.track.now sent.items fault (context_of cut.now).recorded) }
 {
-    if let Some(_fault) = fault {
-        return Ok(Ending::Refused);
+    match fault {
+        Some(fault) => Ok(end_refused(cut.number, fault)),
+        None => end_sent(alloc, detail, cut, sent),
     }
-    let Some(events) = cut.recorded() else {
-        return Ok(Ending::Live {
-            sent: Items::new(sent),
-        });
-    };
-    let pairings = pair_up(alloc, cut.track.events(), sent.as_slice(), events)?;
-    Ok(Ending::Recorded {
-        pairings: Items::new(pairings),
-    })
 }
 
 /// How a task ends, and what it leaves.
 fn end_task<W: Workflow>(
     alloc: Global,
+    detail: Detail,
     cut: &Cut,
     activation: Activation<W>,
     fault: Option<WorkflowFault>,
-) -> Result<(Ending, ReplayState<W::State>), OutOfMemory>
+) -> Result<(TaskEnd, ReplayState<W::State>), OutOfMemory>
     requires within { IsWithin cut.now }
     requires script { fault ≡ None → IsOf cut.now activation.script }
-    ensures ending { let context = context_of cut.now in
-        let sent = sent_ending cut.now.track.now (reduced context activation.script.issued) context.recorded in
-        IfOk result (λ ended. ended.0 ≡ unless_refused fault sent) }
+    ensures end { let context = context_of cut.now in
+        let sent = reduced context activation.script.issued in
+        IfOk result (λ ended. IsEnd detail cut.now.number cut.now.track.now sent fault context.recorded ended.0) }
     ensures state { IfOk result (λ ended. ended.1.state ≡ activation.state) }
     ensures versions { IfOk result (λ ended. ended.1.versions ≡ activation.versions) }
 {
@@ -101,8 +252,8 @@ fn end_task<W: Workflow>(
         versions,
         unsent,
     } = activation.finish()?;
-    match end_with(alloc, cut, unsent, fault) {
-        Ok(ending) => Ok((ending, sent_state(alloc, state, versions))),
+    match end_with(alloc, detail, cut, unsent, fault) {
+        Ok(end) => Ok((end, sent_state(alloc, state, versions))),
         Err(full) => {
             drop(state);
             drop(versions);
@@ -111,186 +262,77 @@ fn end_task<W: Workflow>(
     }
 }
 
-/// Whether no task follows one that ends so.
-fn stops(ending: &Ending) -> bool
-    ensures { result ≡ stops ending.now }
+/// What is explained of a task that ends so, where that is kept.
+fn task_with(at: EventNo, steps: Vec<Step>, ending: Option<Ending>) -> Option<ExplainedTask>
+    ensures { result ≡ option_map (explained_task at steps.items) ending }
 {
     match ending {
-        Ending::Refused => true,
-        Ending::Live { sent: _ } => false,
-        Ending::Recorded { pairings } => some_differ(pairings.get()),
+        Some(ending) => Some(ExplainedTask {
+            at,
+            steps: Items::new(steps),
+            ending,
+        }),
+        None => None,
     }
 }
 
-/// Explains the task of a cut after what the tasks before it left. What it leaves is known where
-/// no task stops there.
-fn explain_task<W: Workflow>(
+/// What is found of the task of a cut after what the tasks before it left. What it leaves is known
+/// where no task stops there.
+fn find_task<W: Workflow>(
     alloc: Global,
+    detail: Detail,
     cut: &Cut,
     before: ReplayState<W::State>,
-) -> Result<(ExplainedTask, ReplayState<W::State>), OutOfMemory>
+) -> Result<TaskFinding<W::State>, OutOfMemory>
     requires within { IsWithin cut.now }
-    ensures task { let told = jobs_at cut.now.track.now cut.now.previous cut.now.number in
-        IfOk result (λ explained. IsTaskAt W.program cut.now.track.now (context_of cut.now) told cut.now.number
-        before.state before.versions explained.0) }
-    ensures left { IfOk result (λ explained. LeavesTask W.program before.state before.versions
-        explained.0 explained.1.state explained.1.versions) }
+    ensures { let told = jobs_at cut.now.track.now cut.now.previous cut.now.number in
+        IfOk result (λ found. IsTaskFinding detail W.program cut.now.track.now (context_of cut.now) told cut.now.number
+        before.state before.versions found.task found.stop found.left.state found.left.versions) }
 {
     let jobs = jobs(alloc, cut.track, cut.previous, cut.number)?;
     let mut activation = Activation::<W>::new(alloc, cut, before);
-    let (steps, fault) = step_all(alloc, cut, &mut activation, jobs)?;
-    let (ending, left) = end_task::<W>(alloc, cut, activation, fault)?;
-    let task = ExplainedTask {
-        at: cut.number,
-        steps: Items::new(steps),
-        ending,
-    };
-    Ok((task, left))
+    let (steps, fault) = step_all(alloc, detail, cut, &mut activation, jobs)?;
+    let (end, left) = end_task::<W>(alloc, detail, cut, activation, fault)?;
+    let TaskEnd { ending, stop } = end;
+    let task = task_with(cut.number, steps, ending);
+    Ok(TaskFinding { task, stop, left })
 }
 
-/// Explains the tasks of a history in their order, up to the first that has a fault.
-fn explain_tasks<W: Workflow>(
+/// Adds a task to those before it, where it is kept.
+fn add_task(tasks: &mut Vec<ExplainedTask>, task: Option<ExplainedTask>) -> Result<(), OutOfMemory>
+    ensures { OnOk result (tasks.new.items ≡ tasks.old.items ++ option_to_list task) }
+{
+    match task {
+        Some(task) => Ok(tasks.push(task)?),
+        None => Ok(()),
+    }
+}
+
+/// Goes over the tasks of a history in their order, up to the first that has a fault.
+pub(crate) fn walk_tasks<W: Workflow>(
     alloc: Global,
+    detail: Detail,
     track: &Track,
     mut left: ReplayState<W::State>,
-) -> Result<Vec<ExplainedTask>, OutOfMemory>
-    ensures { IfOk result (λ tasks. AreTasks W.program track.now 0 (cuts track.now)
-        left.state left.versions tasks.items) }
+) -> Result<Walk, OutOfMemory>
+    ensures { IfOk result (IsWalk detail W.program track.now left.state left.versions) }
 {
+    // Made for the proof: its contract says that the events are in place.
+    let _proof_in_place = track.len();
     let mut tasks = Vec::new(alloc);
+    let mut count = 0;
+    let mut live = false;
     let mut last = 0;
     while let Some(cut) = cut_after(track, last) {
-        let (task, next) = explain_task::<W>(alloc, &cut, left)?;
-        left = next;
-        let stop = stops(&task.ending);
-        tasks.push(task)?;
-        if stop {
-            return Ok(tasks);
+        let found = find_task::<W>(alloc, detail, &cut, left)?;
+        left = found.left;
+        add_task(&mut tasks, found.task)?;
+        if let Some(stop) = found.stop {
+            return Ok(stopped(tasks, stop));
         }
+        count += 1;
+        live |= cut.span.is_none();
         last = cut.number.get();
     }
-    Ok(tasks)
-}
-
-/// Explains a history whose events are in place: its tasks, of which there are none where there is
-/// no code for its workflow type.
-fn explain_track<W: Workflow>(alloc: Global, track: &Track) -> Result<ExplainedHistory, OutOfMemory>
-    ensures tasks { IfOk result (λ explained. AreTasksPlaced (Ok track.now) W.program explained.tasks.items) }
-    ensures unknown { IfOk result (λ explained. explained.unknown ≡ unknown_placed W.program (Ok track.now)) }
-{
-    let kind = workflow_of(track.events());
-    if !W::handles(kind) {
-        return no_code(alloc, kind);
-    }
-    let first = start::<W>(alloc, kind)?;
-    let tasks = explain_tasks::<W>(alloc, track, first)?;
-    Ok(ExplainedHistory {
-        unknown: None,
-        tasks,
-    })
-}
-
-/// Explains a history: its tasks, of which there are none where its events are not in place, or
-/// where there is no code for its workflow type.
-fn explain_events<W: Workflow>(
-    alloc: Global,
-    events: Vec<Event>,
-) -> Result<ExplainedHistory, OutOfMemory>
-    ensures tasks { IfOk result (λ explained. AreTasksOf W.program events.items explained.tasks.items) }
-    ensures unknown { IfOk result (λ explained. explained.unknown ≡ unknown_of W.program events.items) }
-{
-    match track_of(alloc, events) {
-        Ok(track) => explain_track::<W>(alloc, &track),
-        Err(RunFault::OutOfMemory) => Err(OutOfMemory),
-        Err(RunFault::Fault(_)) => Ok(nothing(alloc)),
-    }
-}
-
-/// Explains the history of a file, of which there is nothing where it can't be read.
-#[tactic(auto, using(wh_tester::proofs::Reading::read_within))]
-pub(crate) fn explain_bytes<W: Workflow>(
-    alloc: Global,
-    bytes: &[u8],
-) -> Result<ExplainedHistory, OutOfMemory>
-    ensures tasks { IfOk result (λ explained. AreTasksIn W.program (history bytes.now) explained.tasks.items) }
-    ensures unknown { IfOk result (λ explained. explained.unknown ≡ unknown_in W.program (history bytes.now)) }
-    ensures memory { IfErr result (λ _. length bytes.now ≤ longest) }
-{
-    match read_events(alloc, bytes) {
-        Ok(events) => explain_events::<W>(alloc, events),
-        Err(ReadFault::OutOfMemory) => Err(OutOfMemory),
-        Err(_) => Ok(nothing(alloc)),
-    }
-}
-
-/// Explains a history, and gives the verdict on it. Its events are taken once, and then replayed
-/// for each.
-#[tactic(auto, using(crate::proofs::Judging::place_checked))]
-fn explain_judged<W: Workflow>(
-    alloc: Global,
-    events: Vec<Event>,
-) -> Result<(ExplainedHistory, Verdict), OutOfMemory>
-    ensures tasks { IfOk result (λ both. AreTasksOf W.program events.items both.0.tasks.items) }
-    ensures unknown { IfOk result (λ both. both.0.unknown ≡ unknown_of W.program events.items) }
-    ensures verdict { IfOk result (λ both. IsJudged W.program events.items both.1) }
-{
-    match track_of(alloc, events) {
-        Ok(track) => {
-            let explained = explain_track::<W>(alloc, &track)?;
-            let verdict = history_verdict::<W>(alloc, track.into_events());
-            Ok((explained, verdict))
-        }
-        Err(RunFault::OutOfMemory) => Err(OutOfMemory),
-        Err(RunFault::Fault(fault)) => Ok((nothing(alloc), Verdict::Faulty(fault))),
-    }
-}
-
-/// Explains a file, of which there is nothing where it can't be read, and gives the verdict on it.
-/// Its bytes are parsed once.
-#[tactic(auto, unfolding(wh_tester::specs::Verdicts::verdict_on), using(wh_tester::proofs::Reading::read_within))]
-fn explain_file<W: Workflow>(
-    alloc: Global,
-    bytes: &[u8],
-) -> Result<(ExplainedHistory, Verdict), OutOfMemory>
-    ensures tasks { IfOk result (λ both. AreTasksIn W.program (history bytes.now) both.0.tasks.items) }
-    ensures unknown { IfOk result (λ both. both.0.unknown ≡ unknown_in W.program (history bytes.now)) }
-    ensures verdict { IfOk result (λ both. IsVerdict W.program bytes.now both.1) }
-    ensures memory { IfErr result (λ _. length bytes.now ≤ longest) }
-{
-    match read_events(alloc, bytes) {
-        Ok(events) => explain_judged::<W>(alloc, events),
-        Err(ReadFault::OutOfMemory) => Err(OutOfMemory),
-        Err(fault) => Ok((nothing(alloc), Verdict::Unreadable(fault))),
-    }
-}
-
-/// Explains the replay of a history file, given by name and bytes, with the code of `W`: its tasks
-/// in their order up to the first that has a fault, each with the jobs that the workflow was given,
-/// what it gave, and what the record has beside what is sent. There are no tasks where the file
-/// can't be read, where an event is not in place, and where there is no code for the workflow type,
-/// which is named.
-///
-/// The line is that of the report of replay: the name and the verdict of `wh_tester::verdict`.
-/// `OutOfMemory` where the allocator refused a growth, never for a file that is too long.
-pub fn explain<W: Workflow>(
-    alloc: Global,
-    name: String,
-    bytes: &[u8],
-) -> Result<Explanation, OutOfMemory>
-    ensures tasks { IfOk result (λ explained. AreTasksIn W.program (history bytes.now) explained.tasks) }
-    ensures unknown { IfOk result (λ explained. explained.unknown ≡ unknown_in W.program (history bytes.now)) }
-    ensures name { IfOk result (λ explained. explained.line.name ≡ string_bytes name) }
-    ensures verdict { IfOk result (λ explained. IsVerdict W.program bytes.now explained.line.verdict) }
-    ensures memory { IfErr result (λ _. length bytes.now ≤ longest) }
-{
-    let (explained, verdict) = explain_file::<W>(alloc, bytes)?;
-    let ExplainedHistory { unknown, tasks } = explained;
-    Ok(Explanation {
-        unknown,
-        tasks: Items::new(tasks),
-        line: Line {
-            name: Text::new(name),
-            verdict,
-        },
-    })
+    Ok(all_stepped(tasks, count, live))
 }
