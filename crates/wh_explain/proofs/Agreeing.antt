@@ -41,7 +41,7 @@ differ_by true command event rest next other later = later
 differ_by false command event rest next other later = refl
 
 -- what is sent differs from the record where it has a mismatch with it
-differ_is : (history : List Event) (index : ℕ) (commands : List Command) (events : List Event) → list_any differs (pairings history commands events) ≡ is_some (mismatch_from history index commands events)
+pub differ_is : (history : List Event) (index : ℕ) (commands : List Command) (events : List Event) → list_any differs (pairings history commands events) ≡ is_some (mismatch_from history index commands events)
 differ_is history index [] [] = refl
 differ_is history index [] (event ∷ events) = refl
 differ_is history index (command ∷ commands) [] = refl
@@ -55,17 +55,17 @@ shown_by true index command event rest next later = later
 shown_by false index command event rest next later = refl
 
 -- the first difference that is shown is the mismatch
-shown_is : (history : List Event) (index : ℕ) (commands : List Command) (events : List Event) → difference_from index (pairings history commands events) ≡ mismatch_from history index commands events
+pub shown_is : (history : List Event) (index : ℕ) (commands : List Command) (events : List Event) → difference_from index (pairings history commands events) ≡ mismatch_from history index commands events
 shown_is history index [] [] = refl
 shown_is history index [] (event ∷ events) = refl
 shown_is history index (command ∷ commands) [] = refl
 shown_is history index (command ∷ commands) (event ∷ events) =
     shown_by (names history command event.body) index command (recorded_event history event) (pairings history commands events) (mismatch_from history (index + 1) commands events) (shown_is history (index + 1) commands events)
 
-abbrev top : ℕ
+abbrev pub top : ℕ
 top = 0xffff_ffff_ffff_ffff
 
-below_risen : (n m a : ℕ) → n ≡ risen m a → n ≤ top
+pub below_risen : (n m a : ℕ) → n ≡ risen m a → n ≤ top
 below_risen n m a e = omega arith
 
 unlike : (one : Bool) → one ≡ true → one ≡ false → ⊥
@@ -86,7 +86,7 @@ module _ {S : Type 0} where
   longer (Err NotATask) task tasks pass e = e
 
 module _ {S : Type 0} (program : Program S) (lawful : IsLawful program) (events : List Event) where
-  activates : (last number : ℕ) (current : ReplayResult S) (task : ExplainedTask) → current.meter ≤ top → IsTask program events last number current.state current.settled task
+  pub activates : (last number : ℕ) (current : ReplayResult S) (task : ExplainedTask) → current.meter ≤ top → IsTask program events last number current.state current.settled task
       → activate program (context_after events last number) (jobs_at events last number) (begin_at current) ≡ outcome program (context_after events last number) current.state current.settled current.meter task.steps
   activates last number current task below t =
       let context = context_after events last number in
@@ -112,7 +112,7 @@ module _ {S : Type 0} (program : Program S) (lawful : IsLawful program) (events 
           inr (Mismatched number difference, is, stop, λ front. (front, task, shown, refl, named, ending, same))
 
   -- what the steps of a task leave
-  abbrev left_of : (last number : ℕ) → ReplayResult S → ExplainedTask → Progress S
+  abbrev pub left_of : (last number : ℕ) → ReplayResult S → ExplainedTask → Progress S
   left_of last number current task = record {
     state = state_after program current.state task.steps;
     script = record { settled = settled_after current.settled task.steps; issued = issued_in (context_after events last number) current.settled task.steps };

@@ -40,7 +40,7 @@ use Rattle.wh_explain.proofs.Agreeing.{ends_as_replay}
 use Rattle.wh_explain.proofs.Popped.{last_pushed}
 
 -- the last of a list with one element more in front
-last_more : {A : Type 0} (x y : A) (ys : List A) → last_of (x ∷ y ∷ ys) ≡ last_of (y ∷ ys)
+pub last_more : {A : Type 0} (x y : A) (ys : List A) → last_of (x ∷ y ∷ ys) ≡ last_of (y ∷ ys)
 last_more x y ys =
     let place : length (x ∷ y ∷ ys) - 1 ≡ suc (length (y ∷ ys) - 1) = omega arith in
     ap (slice_get (x ∷ y ∷ ys)) place

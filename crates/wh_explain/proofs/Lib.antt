@@ -8,4 +8,6 @@ pub mod Calendar
 pub mod TimesRead
 pub mod Popped
 pub mod Found
-pub mod Judging
+pub mod Ends
+pub mod Walked
+pub mod Judged

@@ -17,7 +17,14 @@ use Rattle.wh_match.specs.declared.fault.ScriptFault.TheVariants.{Workflow, OutO
 use Rattle.wh_replay.specs.Views.{progress}
 use Rattle.wh_replay.proofs.Settling.{settled_less, ok_same}
 use Rattle.wh_replay.specs.Activating.{StopsBy}
-use Rattle.wh_explain.specs.Private.Stepping.{AddsStep, Shows, Leaves}
+use Rattle.wh_explain.specs.declared.explanation.Detail.{Detail}
+use Rattle.wh_explain.specs.declared.explanation.Detail.TheVariants.{Verdict, Steps}
+use Rattle.wh_explain.specs.Private.Stepping.{AddsOneStep, AddsStep, Keeps, Shows, Leaves}
+
+-- what is kept may be the whole
+pub keeps_whole : {A : Type 0} (detail : Detail) (kept whole : A) → kept ≡ whole → Keeps detail kept whole
+keeps_whole Verdict kept whole is = tt
+keeps_whole Steps kept whole is = is
 
 -- the commands up to a place
 pub up_to_place : (given front rest : List Command) (command : Command) (place : ℕ) → given ≡ front ++ command ∷ rest → place ≡ length front + 1 → take place given ≡ front ++ command ∷ []
@@ -43,6 +50,14 @@ shows_fault A (Workflow fault) program context now job given shown issued settle
   is ∙ up_to_place given stop.front stop.rest stop.command place stop.parts stop.place_is,
 )
 shows_fault A OutOfMemory program context now job given shown issued settled place gave settles issues is stop = tt
+
+-- a step of which a command can't stand is one more, whatever is shown of it
+pub adds_fault : {S : Type 0} (A : Type 0) (fault : ScriptFault) (program : Program S) (context : ActivationContext) (now : Progress S) (job : Job) (before : List Step) (given issued : List Command) (settled : Settled) (place : ℕ) → given ≡ program.gives now.state job
+    → settled ≡ now.script.settled → issued ≡ now.script.issued → StopsBy fault context settled issued given place → AddsOneStep {A = A} (Err fault) program context now job before
+adds_fault A (Workflow fault) program context now job before given issued settled place gave settles issues stop =
+    let shown = take place given in
+    (before ++ record { job = job; commands = shown } ∷ [], (shown, refl, shows_fault A (Workflow fault) program context now job given shown issued settled place gave settles issues refl stop))
+adds_fault A OutOfMemory program context now job before given issued settled place gave settles issues stop = (before, tt)
 
 same_outcome : {A : Type 0} (one other : Option WorkflowFault) (a b : A) → ok_unless one a ≡ ok_unless other b → (one ≡ other) × (one ≡ None → a ≡ b)
 same_outcome None None a b e = (refl, λ none. ok_same a b e)

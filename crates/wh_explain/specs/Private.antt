@@ -2,3 +2,5 @@
 pub mod Explaining
 pub mod Json
 pub mod Stepping
+pub mod Tasks
+pub mod Findings

@@ -1,9 +1,18 @@
 //! What an explanation holds.
 
 use std::marker::Model;
-use wh_events::{EventKind, EventNo, Items, Text};
+use wh_events::{EventKind, EventNo, Items, OutOfMemory, Text};
 use wh_tester::Line;
 use wh_workflow::{Command, Job};
+
+/// How much is kept of a replay.
+#[derive(Clone, Copy)]
+pub(crate) enum Detail {
+    /// The verdict, and what it stops at.
+    Verdict,
+    /// Each task with the steps of its activation.
+    Steps,
+}
 
 /// One step of an activation: a job, and the commands that the workflow gave at it; where one of
 /// them can't stand, those up to and with that one. Contracts see it as a step of the activation's
@@ -85,6 +94,54 @@ pub enum Pairing {
         /// What is sent.
         command: Command,
     },
+}
+
+impl RecordedEvent {
+    ghost use Rattle.std.specs.Prelude.{◌≡◌, IfOk};
+
+    /// A copy with the same content. `OutOfMemory` where there was no memory for it.
+    fn try_copy(&self) -> Result<RecordedEvent, OutOfMemory>
+        ensures { IfOk result (λ copy. copy ≡ self.now) }
+    {
+        let id = self.id.try_copy()?;
+        Ok(RecordedEvent {
+            number: self.number,
+            kind: self.kind.try_copy()?,
+            id,
+        })
+    }
+}
+
+impl Pairing {
+    ghost use Rattle.std.specs.Prelude.{◌≡◌, IfOk};
+
+    /// A copy with the same content. `OutOfMemory` where there was no memory for it.
+    pub fn try_copy(&self) -> Result<Pairing, OutOfMemory>
+        ensures { IfOk result (λ copy. copy ≡ self.now) }
+    {
+        match self {
+            Pairing::Alike { command, event } => {
+                let event = event.try_copy()?;
+                Ok(Pairing::Alike {
+                    command: command.try_copy()?,
+                    event,
+                })
+            }
+            Pairing::Different { command, event } => {
+                let event = event.try_copy()?;
+                Ok(Pairing::Different {
+                    command: command.try_copy()?,
+                    event,
+                })
+            }
+            Pairing::CommandMissing { event } => Ok(Pairing::CommandMissing {
+                event: event.try_copy()?,
+            }),
+            Pairing::CommandExtra { command } => Ok(Pairing::CommandExtra {
+                command: command.try_copy()?,
+            }),
+        }
+    }
 }
 
 /// How a task ends.

@@ -2,9 +2,8 @@
 //! the record has beside it, up to the first difference.
 #![tactic(auto)]
 
-mod differences;
-mod explaining;
 mod explanation;
+mod findings;
 mod json_lines;
 mod keys;
 pub mod laws;
@@ -13,9 +12,9 @@ mod phrase;
 mod showing;
 mod stepping;
 mod times;
+mod walk;
 
-pub use differences::{difference, unknown_type};
-pub use explaining::explain;
 pub use explanation::{Ending, ExplainedTask, Explanation, Pairing, RecordedEvent, Step};
+pub use findings::{Finding, check_file, difference, explain, unknown_type};
 pub use json_lines::{PairingMembers, write_json_explanation};
 pub use showing::write_explanation;

@@ -1,13 +1,13 @@
 //! The steps of an activation, each a job with what the workflow gives at it.
-ghost use Rattle.std.specs.Prelude.{◌≡◌, [], None, IfOk, OnOk};
+ghost use Rattle.std.specs.Prelude.{◌≡◌, List, [], None, IfOk, OnOk};
 ghost use Rattle.wh_activation.specs.Cutting.{jobs_at};
 ghost use Rattle.wh_workflow.specs.Activations.{turn};
-ghost use Rattle.wh_workflow.specs.ActivationScripts.{IsLongest};
+ghost use Rattle.wh_workflow.specs.ActivationScripts.{Step};
 ghost use Rattle.wh_replay.specs.Views.{context_of, progress_of, turn_of};
 ghost use Rattle.wh_replay.specs.Activating.{Gives, IsWithin, IsOf};
-ghost use Rattle.wh_explain.specs.Private.Stepping.{AddsStep, Shows, Leaves};
+ghost use Rattle.wh_explain.specs.Private.Stepping.{AddsOneStep, AddsStep, Keeps, Ran, Shows};
 
-use crate::explanation::Step;
+use crate::explanation::{Detail, Step};
 use std::alloc::Global;
 use wh_events::OutOfMemory;
 use wh_match::ScriptFault;
@@ -43,6 +43,50 @@ fn step_shown<W: Workflow>(
     }
 }
 
+/// Steps the workflow by one job, and answers what it asks. Nothing is kept of the step.
+fn take_step<W: Workflow>(
+    alloc: Global,
+    cut: &Cut,
+    activation: &mut Activation<W>,
+    job: &Job,
+    meter: &mut Meter,
+) -> Result<Option<Job>, ScriptFault>
+    requires within { IsWithin cut.now }
+    requires script { IsOf cut.now activation.old.script }
+    ensures turned { let whole = turn W.program (context_of cut.now) job.now (progress_of activation.old meter.old) in
+        Gives result whole (turn_of activation.new meter.new) }
+    ensures added { (before : List Step) → let now = progress_of activation.old meter.old in
+        AddsOneStep result W.program (context_of cut.now) now job.now before }
+    ensures script { OnOk result (IsOf cut.now activation.new.script) }
+{
+    let given = activation.step(alloc, job, meter)?;
+    match activation.respond(cut, given) {
+        Ok(next) => Ok(next),
+        Err(IssueFault { place: _, fault }) => Err(fault),
+    }
+}
+
+/// Steps the workflow by one job, which is not needed any more, and answers what it asks.
+fn take_job<W: Workflow>(
+    alloc: Global,
+    cut: &Cut,
+    activation: &mut Activation<W>,
+    job: Job,
+    meter: &mut Meter,
+) -> Result<Option<Job>, ScriptFault>
+    requires within { IsWithin cut.now }
+    requires script { IsOf cut.now activation.old.script }
+    ensures turned { let whole = turn W.program (context_of cut.now) job (progress_of activation.old meter.old) in
+        Gives result whole (turn_of activation.new meter.new) }
+    ensures added { (before : List Step) → let now = progress_of activation.old meter.old in
+        AddsOneStep result W.program (context_of cut.now) now job before }
+    ensures script { OnOk result (IsOf cut.now activation.new.script) }
+{
+    let answer = take_step(alloc, cut, activation, &job, meter);
+    drop(job);
+    answer
+}
+
 /// Steps the workflow by one job, adds the step to those before it, and answers what it asks.
 fn add_step<W: Workflow>(
     alloc: Global,
@@ -73,10 +117,38 @@ fn add_step<W: Workflow>(
     answer
 }
 
+/// Steps the workflow by one job, adds the step to those before it where steps are kept, and answers
+/// what it asks.
+fn step_by<W: Workflow>(
+    alloc: Global,
+    detail: Detail,
+    cut: &Cut,
+    activation: &mut Activation<W>,
+    job: Job,
+    meter: &mut Meter,
+    steps: &mut Vec<Step>,
+) -> Result<Option<Job>, ScriptFault>
+    requires within { IsWithin cut.now }
+    requires script { IsOf cut.now activation.old.script }
+    ensures turned { let whole = turn W.program (context_of cut.now) job (progress_of activation.old meter.old) in
+        Gives result whole (turn_of activation.new meter.new) }
+    ensures added { (before : List Step) → Keeps detail steps.old.items before
+        → let now = progress_of activation.old meter.old in
+        (after : List Step) × Keeps detail steps.new.items after
+        × AddsStep result W.program (context_of cut.now) now job before after }
+    ensures script { OnOk result (IsOf cut.now activation.new.script) }
+{
+    match detail {
+        Detail::Verdict => take_job(alloc, cut, activation, job, meter),
+        Detail::Steps => add_step(alloc, cut, activation, job, meter, steps),
+    }
+}
+
 /// Steps the workflow by the jobs of a cut and by the versions that they lead to, up to the first
-/// step with a fault. The answer is the steps and the fault.
+/// step with a fault. The answer is the steps, where they are kept, and the fault.
 pub(crate) fn step_all<W: Workflow>(
     alloc: Global,
+    detail: Detail,
     cut: &Cut,
     activation: &mut Activation<W>,
     jobs: Vec<Job>,
@@ -85,10 +157,9 @@ pub(crate) fn step_all<W: Workflow>(
     requires script { IsOf cut.now activation.old.script }
     requires unissued { activation.old.script.issued ≡ [] }
     requires told { jobs.items ≡ jobs_at cut.now.track.now cut.now.previous cut.now.number }
-    ensures steps { IfOk result (λ ran. IsLongest W.program (context_of cut.now) jobs.items
-        activation.old.state activation.old.versions ran.0.items) }
-    ensures left { IfOk result (λ ran. Leaves W.program (context_of cut.now) activation.old.state
-        activation.old.versions ran.0.items ran.1 activation.new.state activation.new.versions activation.new.script.issued) }
+    ensures steps { IfOk result (λ ran. Ran detail W.program (context_of cut.now) jobs.items
+        activation.old.state activation.old.versions ran.0.items ran.1
+        activation.new.state activation.new.versions activation.new.script.issued) }
     ensures script { IfOk result (λ ran. ran.1 ≡ None → IsOf cut.now activation.new.script) }
 {
     let mut meter = Meter::new();
@@ -96,7 +167,7 @@ pub(crate) fn step_all<W: Workflow>(
     let mut jobs = jobs.into_iter();
     let mut next = jobs.next();
     while let Some(job) = next {
-        next = match add_step(alloc, cut, activation, job, &mut meter, &mut steps) {
+        next = match step_by(alloc, detail, cut, activation, job, &mut meter, &mut steps) {
             Ok(Some(version)) => Some(version),
             Ok(None) => jobs.next(),
             Err(ScriptFault::Workflow(fault)) => return Ok((steps, Some(fault))),

@@ -227,9 +227,20 @@ fn marked(alloc: Global, bytes: &[u8]) -> Result<String, AllocError>
     Ok(shown)
 }
 
-/// The bytes of what can be read at a path, up to `READ_LIMIT` of them.
-fn read_path<R: Files + AllocGlobal>(rt: &R, path: &str) -> Result<Vec<u8>, FolderFault> {
-    let mut bytes = Vec::new(rt.alloc());
+/// How many bytes are made room for before a file of a size is read: one more than it has, so that
+/// its end is seen without more room.
+fn room_for(size: u64) -> usize {
+    size.min(READ_LIMIT) as usize + 1
+}
+
+/// The bytes of what can be read at a path, up to `READ_LIMIT` of them. It has this size, as far as
+/// the system says.
+fn read_path<R: Files + AllocGlobal>(
+    rt: &R,
+    path: &str,
+    size: u64,
+) -> Result<Vec<u8>, FolderFault> {
+    let mut bytes = Vec::with_capacity(rt.alloc(), room_for(size))?;
     File::open(rt, path)?
         .take(READ_LIMIT)
         .read_to_end(&mut bytes)?;
@@ -254,15 +265,16 @@ pub fn read_file<R: Files + AllocGlobal>(rt: &R, path: &str) -> Result<Vec<u8>, 
     if !metadata.is_file() {
         return Err(no_file(metadata.is_dir()));
     }
-    read_path(rt, path)
+    read_path(rt, path, metadata.len())
 }
 
 /// The bytes of a file that was named itself: as of any file, and of a pipe too, until it ends.
 fn read_named<R: Files + AllocGlobal>(rt: &R, path: &str) -> Result<Vec<u8>, FolderFault> {
-    if fs::metadata(rt, path)?.is_dir() {
+    let metadata = fs::metadata(rt, path)?;
+    if metadata.is_dir() {
         return Err(no_file(true));
     }
-    read_path(rt, path)
+    read_path(rt, path, metadata.len())
 }
 
 /// The bytes of a file of a folder, as of any file.

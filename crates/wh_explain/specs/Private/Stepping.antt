@@ -6,10 +6,17 @@ use Rattle.wh_workflow.specs.declared.fault.WorkflowFault.{WorkflowFault}
 use Rattle.wh_workflow.specs.Law.{Program}
 use Rattle.wh_workflow.specs.Scripts.{ActivationContext, Settled}
 use Rattle.wh_workflow.specs.Activations.{Progress}
-use Rattle.wh_workflow.specs.ActivationScripts.{Step, fault_in, issued_in, settled_after, state_after}
+use Rattle.wh_workflow.specs.ActivationScripts.{Step, IsLongest, fault_in, issued_in, settled_after, state_after}
 use Rattle.wh_match.specs.declared.fault.ScriptFault.{ScriptFault}
 use Rattle.wh_match.specs.declared.fault.ScriptFault.TheVariants.{Workflow, OutOfMemory}
 use Rattle.wh_replay.specs.Activating.{StopsAfter}
+use Rattle.wh_explain.specs.declared.explanation.Detail.{Detail}
+use Rattle.wh_explain.specs.declared.explanation.Detail.TheVariants.{Verdict, Steps}
+
+-- what is kept is the whole, where the steps are kept; else nothing is said of it
+abbrev pub Keeps : {A : Type 0} → Detail → A → A → Type 0
+Keeps Verdict kept whole = Unit {0}
+Keeps Steps kept whole = kept ≡ whole
 
 module _ {S : Type 0} where
   -- of the commands that the workflow gives at a job all are shown, or, where one of them can't
@@ -31,6 +38,11 @@ module _ {S : Type 0} where
       × Shows {A = A} (Err (Workflow fault)) program context progress job shown
   AddsStep (Err OutOfMemory) program context progress job before after = Unit {0}
 
+  -- there is a step more after those before it
+  abbrev pub AddsOneStep : {A : Type 0} → Result A ScriptFault → Program S → ActivationContext → Progress S → Job → List Step → Type 0
+  AddsOneStep result program context progress job before =
+      (after : List Step) × AddsStep result program context progress job before after
+
   -- the steps have this fault; where they have none, they leave this state, these versions and
   -- these issued commands
   pub record Leaves (program : Program S) (context : ActivationContext) (state : S) (settled : Settled)
@@ -39,3 +51,12 @@ module _ {S : Type 0} where
     pub left_is : fault ≡ None → left ≡ state_after program state steps
     pub versions_are : fault ≡ None → versions ≡ settled_after settled steps
     pub issued_are : fault ≡ None → issued ≡ issued_in context settled steps
+
+  -- the steps of an activation are its longest script and leave that; they are kept as is asked for
+  pub record Ran (detail : Detail) (program : Program S) (context : ActivationContext) (jobs : List Job) (state : S)
+      (settled : Settled) (kept : List Step) (fault : Option WorkflowFault) (left : S) (versions : Settled)
+      (issued : List Command) : Type 0 where
+    pub steps : List Step
+    pub keeps : Keeps detail kept steps
+    pub longest : IsLongest program context jobs state settled steps
+    pub leaves : Leaves program context state settled steps fault left versions issued

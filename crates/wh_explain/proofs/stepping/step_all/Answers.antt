@@ -1,14 +1,13 @@
-use Rattle.std.proofs.Common.{List, ◌≡◌, ◌++◌, ◌∙◌, [], Some, None, Option, length, ap, subst, sym, length-append, arith, rules}
+use Rattle.std.proofs.Common.{◌≡◌, ◌++◌, ◌∙◌, [], Some, None, Option, length, ap, subst, sym, length-append, arith, rules}
 use Rattle.std.specs.Prelude.{option_to_list}
 use Rattle.std.specs.Vec.Iter.{into_iter_items, into_iter_len}
 use Rattle.wh_workflow.specs.declared.job.Job.{Job}
 use Rattle.wh_workflow.specs.declared.fault.WorkflowFault.{WorkflowFault}
-use Rattle.wh_workflow.specs.ActivationScripts.{Step}
-use Rattle.wh_workflow.proofs.Following.{no_versions, IsTraced}
+use Rattle.wh_workflow.proofs.Following.{no_versions}
 use Rattle.wh_replay.specs.Views.{context_of, progress, progress_of, turn_of}
 use Rattle.wh_explain.specs.Private.Stepping.{Leaves}
 use Rattle.wh_explain.proofs.Tasks.{told_plain}
-use Rattle.wh_explain.proofs.Traced.{begins, goes_on, ends_faulty, ends_well, is_longest, leaves, less_room, none_left}
+use Rattle.wh_explain.proofs.Traced.{keeps_whole, begins, goes_on, ends_faulty, ends_well, is_longest, leaves, less_room, none_left}
 use Rattle.wh_explain.proofs.stepping.step_all.Goals as goal
 
 pub loop-next-init : goal.loop-next-init
@@ -28,36 +27,40 @@ loop-next-init g c =
       count = count;
       done = done;
       traced = λ lawful.
-          let P : List Step → Type 0 = λ steps. IsTraced g.W.Workflow.program lawful (context_of cut) c.args.jobs.items before.state before.versions 0 steps (option_to_list next ++ rest) (progress_of before c.new-meter.result) in
-          subst P (sym c.new-steps.ensures.items) (begins g.W.Workflow.program lawful (context_of cut) c.args.jobs.items before.state before.versions next rest (progress_of before c.new-meter.result) plain parts begin);
+          ([], keeps_whole c.args.detail _ _ c.new-steps.ensures.items, begins g.W.Workflow.program lawful (context_of cut) c.args.jobs.items before.state before.versions next rest (progress_of before c.new-meter.result) plain parts begin);
     }
 
 pub loop-next-smaller-in-Ok-Some : goal.loop-next-smaller-in-Ok-Some
 loop-next-smaller-in-Ok-Some g c =
     let at = c.loop-next in
     let e = rw c.in-Ok-Some.field-0-is at c.in-Ok-Some.ensures.turned in
-    less_room g.W.Workflow.program (context_of c.args.cut.now) at.next c.in-Some.job c.in-Ok-Some.version (length (into_iter_items at.jobs)) (progress_of at.activation at.meter) (progress_of c.add_step.new.activation c.add_step.new.meter) c.in-Some.is e
+    less_room g.W.Workflow.program (context_of c.args.cut.now) at.next c.in-Some.job c.in-Ok-Some.version (length (into_iter_items at.jobs)) (progress_of at.activation at.meter) (progress_of c.step_by.new.activation c.step_by.new.meter) c.in-Some.is e
 
 pub loop-next-preserved-in-Ok-Some : goal.loop-next-preserved-in-Ok-Some
 loop-next-preserved-in-Ok-Some g c =
     let at = c.loop-next in
     let before = c.args.activation.now in
-    let after = c.add_step.new in
+    let after = c.step_by.new in
     let e = rw c.in-Ok-Some.field-0-is at c.in-Ok-Some.ensures.turned in
     record {
       of = c.in-Ok-Some.ensures.script;
       count = at.invariant.count;
       done = λ none. cc;
       traced = λ lawful.
-          goes_on g.W.Workflow.program lawful (context_of c.args.cut.now) c.args.jobs.items before.state before.versions c.in-Ok-Some.field-0 at.steps.items after.steps.items at.next c.in-Some.job (into_iter_items at.jobs) (progress_of at.activation at.meter)
-          (turn_of after.activation after.meter (Some c.in-Ok-Some.version)) c.in-Some.is (at.invariant.traced lawful) e c.in-Ok-Some.ensures.added;
+          let was = at.invariant.traced lawful in
+          let more = c.in-Ok-Some.ensures.added was.0 was.1 in (
+            more.0,
+            more.1,
+            goes_on g.W.Workflow.program lawful (context_of c.args.cut.now) c.args.jobs.items before.state before.versions c.in-Ok-Some.field-0 was.0 more.0 at.next c.in-Some.job (into_iter_items at.jobs) (progress_of at.activation at.meter)
+                (turn_of after.activation after.meter (Some c.in-Ok-Some.version)) c.in-Some.is was.2 e more.2,
+          );
     }
 
 pub loop-next-preserved : goal.loop-next-preserved
 loop-next-preserved g c =
     let at = c.loop-next in
     let before = c.args.activation.now in
-    let after = c.add_step.new in
+    let after = c.step_by.new in
     let rest = into_iter_items c.next.new.self in
     let e = rw c.in-Ok-None.field-0-is at c.in-Ok-None.ensures.turned in
     let parts : into_iter_items at.jobs ≡ option_to_list c.next.result ++ rest = c.next.ensures.items in
@@ -66,48 +69,46 @@ loop-next-preserved g c =
       count = let h = c.next.ensures.len in let was = at.invariant.count in let all = ap length parts ∙ length-append (option_to_list c.next.result) rest in omega arith;
       done = λ none. none_left (into_iter_len at.jobs) c.next.result (into_iter_items at.jobs) rest none at.invariant.count c.next.ensures.variant.1 parts;
       traced = λ lawful.
-          let on = goes_on g.W.Workflow.program lawful (context_of c.args.cut.now) c.args.jobs.items before.state before.versions c.in-Ok-None.field-0 at.steps.items after.steps.items at.next c.in-Some.job (into_iter_items at.jobs) (progress_of at.activation at.meter)
-          (turn_of after.activation after.meter None) c.in-Some.is (at.invariant.traced lawful) e c.in-Ok-None.ensures.added in
-          rw parts at on;
+          let was = at.invariant.traced lawful in
+          let more = c.in-Ok-None.ensures.added was.0 was.1 in
+          let on = goes_on g.W.Workflow.program lawful (context_of c.args.cut.now) c.args.jobs.items before.state before.versions c.in-Ok-None.field-0 was.0 more.0 at.next c.in-Some.job (into_iter_items at.jobs) (progress_of at.activation at.meter)
+          (turn_of after.activation after.meter None) c.in-Some.is was.2 e more.2 in
+          (more.0, more.1, rw parts at on);
     }
 
 pub returns-in-Err-Workflow-clause-steps : goal.returns-in-Err-Workflow-clause-steps
 returns-in-Err-Workflow-clause-steps g c =
     let at = c.loop-next in
     let before = c.args.activation.now in
+    let after = c.step_by.new in
+    let program = g.W.Workflow.program in
     let lawful = g.met.W.Workflow.lawful in
+    let was = at.invariant.traced lawful in
     let e = rw c.in-Err-Workflow.field-0-is at c.in-Err-Workflow.ensures.turned in
-    let added = rw c.in-Err-Workflow.field-0-is at c.in-Err-Workflow.ensures.added in
-    let all = ends_faulty g.W.Workflow.program lawful (context_of c.args.cut.now) c.args.jobs.items before.state before.versions (Option Job) at.steps.items c.add_step.new.steps.items at.next c.in-Some.job (into_iter_items at.jobs) (progress_of at.activation at.meter) c.in-Err-Workflow.fault
-    c.in-Some.is (at.invariant.traced lawful) e added in
-    is_longest g.W.Workflow.program lawful (context_of c.args.cut.now) c.args.jobs.items before.state before.versions c.add_step.new.steps.items _ all
-
-pub returns-in-Err-Workflow-clause-left : goal.returns-in-Err-Workflow-clause-left
-returns-in-Err-Workflow-clause-left g c =
-    let at = c.loop-next in
-    let before = c.args.activation.now in
-    let after = c.add_step.new in
-    let lawful = g.met.W.Workflow.lawful in
-    let e = rw c.in-Err-Workflow.field-0-is at c.in-Err-Workflow.ensures.turned in
-    let added = rw c.in-Err-Workflow.field-0-is at c.in-Err-Workflow.ensures.added in
-    let all = ends_faulty g.W.Workflow.program lawful (context_of c.args.cut.now) c.args.jobs.items before.state before.versions (Option Job) at.steps.items after.steps.items at.next c.in-Some.job (into_iter_items at.jobs) (progress_of at.activation at.meter) c.in-Err-Workflow.fault
-    c.in-Some.is (at.invariant.traced lawful) e added in
-    let P : WorkflowFault → Type 0 = λ fault. Leaves g.W.Workflow.program (context_of c.args.cut.now) before.state before.versions after.steps.items (Some fault) after.activation.state after.activation.versions after.activation.script.issued in
-    subst P (sym c.in-Err-Workflow.fault-is)
-    (leaves g.W.Workflow.program lawful (context_of c.args.cut.now) c.args.jobs.items before.state before.versions after.steps.items (Some c.in-Err-Workflow.fault) (progress_of after.activation after.meter) all)
+    let more = c.in-Err-Workflow.ensures.added was.0 was.1 in
+    let added = rw c.in-Err-Workflow.field-0-is at more.2 in
+    let all = ends_faulty program lawful (context_of c.args.cut.now) c.args.jobs.items before.state before.versions (Option Job) was.0 more.0 at.next c.in-Some.job (into_iter_items at.jobs) (progress_of at.activation at.meter) c.in-Err-Workflow.fault
+    c.in-Some.is was.2 e added in
+    let P : WorkflowFault → Type 0 = λ fault. Leaves program (context_of c.args.cut.now) before.state before.versions more.0 (Some fault) after.activation.state after.activation.versions after.activation.script.issued in
+    record {
+      steps = more.0;
+      keeps = more.1;
+      longest = is_longest program lawful (context_of c.args.cut.now) c.args.jobs.items before.state before.versions more.0 _ all;
+      leaves = subst P (sym c.in-Err-Workflow.fault-is)
+          (leaves program lawful (context_of c.args.cut.now) c.args.jobs.items before.state before.versions more.0 (Some c.in-Err-Workflow.fault) (progress_of after.activation after.meter) all);
+    }
 
 pub returns-clause-steps : goal.returns-clause-steps
 returns-clause-steps g c =
     let at = c.loop-next in
     let before = c.args.activation.now in
+    let program = g.W.Workflow.program in
     let lawful = g.met.W.Workflow.lawful in
-    let all = ends_well g.W.Workflow.program lawful (context_of c.args.cut.now) c.args.jobs.items before.state before.versions at.steps.items at.next (into_iter_items at.jobs) (progress_of at.activation at.meter) c.in_default.is (at.invariant.done c.in_default.is) (at.invariant.traced lawful) in
-    is_longest g.W.Workflow.program lawful (context_of c.args.cut.now) c.args.jobs.items before.state before.versions at.steps.items _ all
-
-pub returns-clause-left : goal.returns-clause-left
-returns-clause-left g c =
-    let at = c.loop-next in
-    let before = c.args.activation.now in
-    let lawful = g.met.W.Workflow.lawful in
-    let all = ends_well g.W.Workflow.program lawful (context_of c.args.cut.now) c.args.jobs.items before.state before.versions at.steps.items at.next (into_iter_items at.jobs) (progress_of at.activation at.meter) c.in_default.is (at.invariant.done c.in_default.is) (at.invariant.traced lawful) in
-    leaves g.W.Workflow.program lawful (context_of c.args.cut.now) c.args.jobs.items before.state before.versions at.steps.items None (progress_of at.activation at.meter) all
+    let was = at.invariant.traced lawful in
+    let all = ends_well program lawful (context_of c.args.cut.now) c.args.jobs.items before.state before.versions was.0 at.next (into_iter_items at.jobs) (progress_of at.activation at.meter) c.in_default.is (at.invariant.done c.in_default.is) was.2 in
+    record {
+      steps = was.0;
+      keeps = was.1;
+      longest = is_longest program lawful (context_of c.args.cut.now) c.args.jobs.items before.state before.versions was.0 _ all;
+      leaves = leaves program lawful (context_of c.args.cut.now) c.args.jobs.items before.state before.versions was.0 None (progress_of at.activation at.meter) all;
+    }

@@ -1,11 +1,13 @@
-use Rattle.std.proofs.Common.{◌≡◌, ◌+◌, ◌*◌, ◌++◌, [], None, length}
+use Rattle.std.proofs.Common.{◌≡◌, ◌+◌, ◌*◌, ◌++◌, List, [], None, length}
 use Rattle.std.specs.Prelude.{option_to_list}
 use Rattle.std.specs.Vec.Iter.{into_iter_items, into_iter_len}
+use Rattle.wh_workflow.specs.ActivationScripts.{Step}
 use Rattle.wh_workflow.specs.Law.{IsLawful}
 use Rattle.wh_workflow.specs.Activations.{follow, room}
 use Rattle.wh_workflow.proofs.Following.{IsTraced}
 use Rattle.wh_replay.specs.Views.{context_of, progress_of}
 use Rattle.wh_replay.specs.Activating.{IsOf}
+use Rattle.wh_explain.specs.Private.Stepping.{Keeps}
 use Rattle.wh_explain.proofs.stepping.step_all.Given as goal
 
 -- the steps so far trace the activation
@@ -17,7 +19,8 @@ invariant-loop-next g l =
       of : IsOf l.cut l.activation.script;
       count : into_iter_len l.jobs ≡ length (into_iter_items l.jobs);
       done : l.next ≡ None → into_iter_items l.jobs ≡ [];
-      traced : (lawful : IsLawful program) → IsTraced program lawful (context_of l.cut) l.fn.jobs.items before.state before.versions 0 l.steps.items (option_to_list l.next ++ into_iter_items l.jobs) (progress_of l.activation l.meter);
+      traced : (lawful : IsLawful program) → (steps : List Step) × Keeps l.detail l.steps.items steps
+          × IsTraced program lawful (context_of l.cut) l.fn.jobs.items before.state before.versions 0 steps (option_to_list l.next ++ into_iter_items l.jobs) (progress_of l.activation l.meter);
     }
 
 abbrev pub decreases-loop-next : goal.decreases-loop-next

@@ -3,17 +3,17 @@ use Rattle.wh_workflow.specs.Scripts.{reduced}
 use Rattle.wh_replay.specs.Replays.{ReplayResult}
 use Rattle.wh_replay.specs.Views.{context_of}
 use Rattle.wh_replay.proofs.Responding.{sent_is}
-use Rattle.wh_explain.proofs.Tasks.{same_ending}
-use Rattle.wh_explain.proofs.explaining.end_task.Goals as goal
+use Rattle.wh_explain.proofs.Ends.{end_along}
+use Rattle.wh_explain.proofs.walk.end_task.Goals as goal
 
-pub returns-in-Ok-clause-ending : goal.returns-in-Ok-clause-ending
-returns-in-Ok-clause-ending g c =
+pub returns-in-Ok-clause-end : goal.returns-in-Ok-clause-end
+returns-in-Ok-clause-end g c =
     let cut = c.args.cut.now in
     let context = context_of cut in
     let script = c.args.activation.script in
     let sent = c.in_ok-state.field-0.unsent.items in
     let left = ap (λ (u : ReplayResult _). u.unsent) (c.in_ok-state.ensures 0) in
-    c.in-Ok.ensures ∙ same_ending c.args.fault cut.track.now sent (reduced context script.issued) context.recorded (λ none. sent_is cut script sent (c.requires.script none) left)
+    end_along c.args.detail cut.number cut.track.now sent (reduced context script.issued) c.args.fault context.recorded c.in-Ok.end (λ none. sent_is cut script sent (c.requires.script none) left) c.in-Ok.ensures
 
 pub returns-in-Ok-clause-state : goal.returns-in-Ok-clause-state
 returns-in-Ok-clause-state g c = ap (λ (u : ReplayResult _). u.state) (c.sent_state.ensures 0) ∙ ap (λ (u : ReplayResult _). u.state) (c.in_ok-state.ensures 0)

@@ -1,0 +1,11 @@
+use Rattle.std.proofs.Common.{sym, subst}
+use Rattle.wh_explain.specs.declared.explanation.Detail.{Detail}
+use Rattle.wh_explain.specs.Private.Stepping.{Keeps}
+use Rattle.wh_explain.proofs.stepping.step_by.Goals as goal
+
+-- where steps are not kept, nothing is said of what is kept
+pub returns-in-Verdict-clause-added : goal.returns-in-Verdict-clause-added
+returns-in-Verdict-clause-added g c before keeps =
+    let more = c.take_job.ensures.added before in
+    let P : Detail → Type 0 = λ detail. Keeps detail c.args.steps.now.items more.0 in
+    (more.0, subst P (sym c.in-Verdict.is) tt, more.1)

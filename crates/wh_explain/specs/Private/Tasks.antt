@@ -1,0 +1,111 @@
+-- What is found of tasks: of each how it ends, and why no other follows.
+use Rattle.std.specs.Prelude.{◌≡◌, ℕ, Bool, false, List, [], length, Option, Some, None, is_none, Result, Ok, Err}
+use Rattle.wh_events.specs.declared.event.Event.{Event}
+use Rattle.wh_events.specs.Cuts.{cuts}
+use Rattle.wh_workflow.specs.declared.command.Command.{Command}
+use Rattle.wh_workflow.specs.declared.job.Job.{Job}
+use Rattle.wh_workflow.specs.declared.fault.WorkflowFault.{WorkflowFault}
+use Rattle.wh_workflow.specs.declared.fault.Mismatch.{Mismatch}
+use Rattle.wh_workflow.specs.Law.{Program}
+use Rattle.wh_workflow.specs.Names.{mismatch}
+use Rattle.wh_workflow.specs.Scripts.{ActivationContext, Settled, reduced}
+use Rattle.wh_workflow.specs.ActivationScripts.{Step, fault_in, issued_in}
+use Rattle.wh_replay.specs.declared.fault.Fault.{Fault}
+use Rattle.wh_replay.specs.declared.fault.Fault.TheVariants.{Workflow as WorkflowFaulty, Mismatch as Mismatched}
+use Rattle.wh_replay.specs.Checks.{ends_live, replay_result}
+use Rattle.wh_replay.specs.Replays.{ReplayResult, replay_after}
+use Rattle.wh_explain.specs.declared.explanation.Detail.{Detail}
+use Rattle.wh_explain.specs.declared.explanation.Detail.TheVariants.{Verdict, Steps}
+use Rattle.wh_explain.specs.declared.explanation.Ending.{Ending}
+use Rattle.wh_explain.specs.declared.explanation.ExplainedTask.{ExplainedTask}
+use Rattle.wh_explain.specs.declared.explanation.Pairing.{Pairing}
+use Rattle.wh_explain.specs.declared.walk.Stop.{Stop}
+use Rattle.wh_explain.specs.declared.walk.TaskEnd.{TaskEnd}
+use Rattle.wh_explain.specs.declared.walk.Walk.{Walk}
+use Rattle.wh_explain.specs.Differences.{difference_at, last_difference}
+use Rattle.wh_explain.specs.Explaining.{sent_ending, unless_refused, IsTaskAt, AreTasks}
+use Rattle.wh_explain.specs.Private.Explaining.{LeavesTask}
+use Rattle.wh_explain.specs.Private.Stepping.{Keeps}
+
+-- the fault that no task follows, if there is one
+abbrev pub fault_of : Option Stop → Option Fault
+fault_of None = None
+fault_of (Some stop) = Some stop.fault
+
+-- what is sent and what is recorded where they differ, if that is why
+abbrev pub difference_in : Option Stop → Option Pairing
+difference_in None = None
+difference_in (Some stop) = stop.difference
+
+-- the second, if the first is there
+abbrev pub if_some : {A B : Type 0} → Option A → Option B → Option B
+if_some None second = None
+if_some (Some first) second = second
+
+-- the fault of a mismatch at the cut of a number
+abbrev pub mismatch_at : ℕ → Option Mismatch → Option Fault
+mismatch_at at None = None
+mismatch_at at (Some difference) = Some (Mismatched at difference)
+
+-- that of a command that can't stand comes before it
+abbrev pub fault_at : ℕ → Option WorkflowFault → Option Mismatch → Option Fault
+fault_at at None difference = mismatch_at at difference
+fault_at at (Some fault) difference = Some (WorkflowFaulty at fault)
+
+-- the first difference between what is sent and what is recorded of a task, if it is recorded
+abbrev pub mismatch_with : List Event → List Command → Option (List Event) → Option Mismatch
+mismatch_with events sent None = None
+mismatch_with events sent (Some recorded) = mismatch events sent recorded
+
+-- nothing is to be shown of a recorded task, and others follow it
+abbrev pub is_passed : Detail → Option Mismatch → Bool
+is_passed Verdict difference = is_none difference
+is_passed Steps difference = false
+
+-- what is explained of a task
+abbrev pub explained_task : ℕ → List Step → Ending → ExplainedTask
+explained_task at steps ending = record { at = at; steps = steps; ending = ending }
+
+-- how a task ends at the cut of a number that sends this, and has the fault, if there is one: that is kept as is asked
+-- for, and it is said why no task follows
+pub record IsEnd (detail : Detail) (at : ℕ) (events : List Event) (sent : List Command) (fault : Option WorkflowFault)
+    (recorded : Option (List Event)) (end : TaskEnd) : Type 0 where
+  pub keeps : Keeps detail end.ending (Some (unless_refused fault (sent_ending events sent recorded)))
+  pub stops_by : fault_of end.stop ≡ fault_at at fault (mismatch_with events sent recorded)
+  pub differs_in : difference_in end.stop ≡ difference_at (unless_refused fault (sent_ending events sent recorded))
+
+-- the fault of a task with these steps
+abbrev pub task_fault : List Event → ActivationContext → Settled → ℕ → List Step → Option Fault
+task_fault events context settled at steps =
+    let sent = reduced context (issued_in context settled steps) in
+    fault_at at (fault_in context settled [] steps) (mismatch_with events sent context.recorded)
+
+module _ {S : Type 0} where
+  -- what is found of a task: what is explained of it is kept as is asked for, and it is said why no task follows, and
+  -- what it leaves
+  pub record IsTaskFinding (detail : Detail) (program : Program S) (events : List Event) (context : ActivationContext)
+      (told : List Job) (at : ℕ) (state : S) (settled : Settled) (kept : Option ExplainedTask) (stop : Option Stop)
+      (left : S) (versions : Settled) : Type 0 where
+    pub task : ExplainedTask
+    pub explained : IsTaskAt program events context told at state settled task
+    pub keeps : Keeps detail kept (Some task)
+    pub stops_by : fault_of stop ≡ task_fault events context settled at task.steps
+    pub differs_in : difference_in stop ≡ difference_at task.ending
+    pub leaves : LeavesTask program state settled task left versions
+
+  -- a replay has this fault, or none
+  abbrev pub EndsBy : Result (ReplayResult S) Fault → Option Fault → Type 0
+  EndsBy result None = (left : ReplayResult S) × (result ≡ Ok left)
+  EndsBy result (Some fault) = result ≡ Err fault
+
+  -- what is found of the tasks of a history from a state and settled versions on: what is explained of them is kept as
+  -- is asked for, and it is said why not all of them were stepped, or else how many there are and whether the last is live
+  pub record IsWalk (detail : Detail) (program : Program S) (events : List Event) (state : S) (settled : Settled)
+      (walk : Walk) : Type 0 where
+    pub tasks : List ExplainedTask
+    pub explained : AreTasks program events 0 (cuts events) state settled tasks
+    pub keeps : Keeps detail walk.tasks.items tasks
+    pub differs_in : difference_in walk.stop ≡ last_difference tasks
+    pub ends : EndsBy (replay_after program [] [] events (replay_result state settled [] 0)) (fault_of walk.stop)
+    pub counted : walk.stop ≡ None → walk.checked.tasks ≡ length (cuts events)
+    pub lives : walk.stop ≡ None → walk.checked.live ≡ ends_live events

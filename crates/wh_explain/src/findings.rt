@@ -1,0 +1,260 @@
+//! What the replay of a history file finds: its verdict, the workflow type that there is no code for,
+//! and what is sent and what is recorded where they differ.
+ghost use Rattle.std.specs.Prelude.{◌≡◌, ◌≢◌, ◌≤◌, ℕ, [], None, Some, Ok, length, IfOk, IfErr, IfSome, IsSome, string_bytes};
+ghost use Rattle.wh_json.specs.Events.{history, longest};
+ghost use Rattle.wh_json.specs.declared.fault.ReadFault.TheVariants.{OutOfMemory as ReadMemory};
+ghost use Rattle.wh_replay.specs.declared.fault.Fault.TheVariants.{Mismatch as Mismatched, Workflow as WorkflowFaulty};
+ghost use Rattle.wh_workflow.specs.declared.fault.Mismatch.{Mismatch};
+ghost use Rattle.wh_workflow.specs.declared.fault.WorkflowFault.TheVariants.{UnknownWorkflow};
+ghost use Rattle.wh_tester.specs.Verdicts.{IsVerdict};
+ghost use Rattle.wh_explain.specs.Differences.{IsDifferenceIn, StopsAtDifference};
+ghost use Rattle.wh_explain.specs.Explaining.{AreTasksIn, unknown_in};
+ghost use Rattle.wh_explain.specs.Private.Findings.{AreFoundIn, AreFoundOf, AreFoundPlaced, verdict_by};
+ghost use Rattle.wh_explain.specs.Private.Tasks.{difference_in, fault_of};
+
+use crate::explanation::{Detail, ExplainedTask, Explanation, Pairing};
+use crate::walk::{Stop, Walk, walk_tasks};
+use std::alloc::Global;
+use wh_events::{Event, Items, OutOfMemory, Text};
+use wh_json::{ReadFault, read_events};
+use wh_machines::Track;
+use wh_replay::{Checked, Fault, RunFault, start, track_of, workflow_of};
+use wh_tester::{Line, Verdict};
+use wh_workflow::{Workflow, WorkflowFault};
+
+/// What the replay of a history file finds.
+#[derive(Drop)]
+pub struct Finding {
+    /// What came of the file. Its fault, if it has one, says the place.
+    pub verdict: Verdict,
+    /// The workflow type of its history, where there is no code for it.
+    pub unknown: Option<Text>,
+    /// What is sent and what is recorded, where the replay stops since they differ.
+    pub difference: Option<Pairing>,
+}
+
+/// What is found of a file, and its tasks where they are kept.
+#[derive(Drop)]
+struct Findings {
+    finding: Finding,
+    tasks: Vec<ExplainedTask>,
+}
+
+/// Nothing is found but a verdict.
+fn judged(alloc: Global, verdict: Verdict) -> Findings
+    ensures finding { result.finding ≡ record { verdict = verdict; unknown = None; difference = None } }
+    ensures tasks { result.tasks.items ≡ [] }
+{
+    Findings {
+        finding: Finding {
+            verdict,
+            unknown: None,
+            difference: None,
+        },
+        tasks: Vec::new(alloc),
+    }
+}
+
+/// A workflow type is found, for which there is no code.
+fn no_code(alloc: Global, kind: &str) -> Result<Findings, OutOfMemory>
+    ensures tasks { IfOk result (λ found. found.tasks.items ≡ []) }
+    ensures unknown { IfOk result (λ found. found.finding.unknown ≡ Some kind.now) }
+    ensures difference { IfOk result (λ found. found.finding.difference ≡ None) }
+    ensures verdict { IfOk result (λ found.
+        found.finding.verdict ≡ Verdict.Faulty (WorkflowFaulty 1 UnknownWorkflow)) }
+{
+    let kind = Text::new(String::from_str(alloc, kind)?);
+    Ok(Findings {
+        finding: Finding {
+            verdict: Verdict::Faulty(Fault::Workflow {
+                at: 1,
+                fault: WorkflowFault::UnknownWorkflow,
+            }),
+            unknown: Some(kind),
+            difference: None,
+        },
+        tasks: Vec::new(alloc),
+    })
+}
+
+/// The verdict by which the tasks of a history end, and the difference that they stop at.
+fn ended(stop: Option<Stop>, checked: Checked) -> (Verdict, Option<Pairing>)
+    ensures verdict { result.0 ≡ verdict_by (fault_of stop) checked }
+    ensures difference { result.1 ≡ difference_in stop }
+{
+    match stop {
+        None => (Verdict::Good(checked), None),
+        Some(Stop { fault, difference }) => (Verdict::Faulty(fault), difference),
+    }
+}
+
+/// What is found of the tasks of a history.
+fn walked(walk: Walk) -> Findings
+    ensures tasks { result.tasks ≡ walk.tasks }
+    ensures unknown { result.finding.unknown ≡ None }
+    ensures verdict { result.finding.verdict ≡ verdict_by (fault_of walk.stop) walk.checked }
+    ensures difference { result.finding.difference ≡ difference_in walk.stop }
+{
+    let Walk {
+        tasks,
+        stop,
+        checked,
+    } = walk;
+    let (verdict, difference) = ended(stop, checked);
+    Findings {
+        finding: Finding {
+            verdict,
+            unknown: None,
+            difference,
+        },
+        tasks,
+    }
+}
+
+/// What is found of a history whose events are in place. There are no tasks where there is no code
+/// for its workflow type.
+fn find_in_track<W: Workflow>(
+    alloc: Global,
+    detail: Detail,
+    track: &Track,
+) -> Result<Findings, OutOfMemory>
+    ensures { IfOk result (λ found. AreFoundPlaced detail W.program (Ok track.now) found.finding found.tasks.items) }
+{
+    let kind = workflow_of(track.events());
+    if !W::handles(kind) {
+        return no_code(alloc, kind);
+    }
+    let first = start::<W>(alloc, kind)?;
+    Ok(walked(walk_tasks::<W>(alloc, detail, track, first)?))
+}
+
+/// What is found of a history. There are no tasks where its events are not in place, or where there
+/// is no code for its workflow type.
+fn find_in_events<W: Workflow>(
+    alloc: Global,
+    detail: Detail,
+    events: Vec<Event>,
+) -> Result<Findings, OutOfMemory>
+    ensures { IfOk result (λ found. AreFoundOf detail W.program events.items found.finding found.tasks.items) }
+{
+    match track_of(alloc, events) {
+        Ok(track) => find_in_track::<W>(alloc, detail, &track),
+        Err(RunFault::OutOfMemory) => Err(OutOfMemory),
+        Err(RunFault::Fault(fault)) => Ok(judged(alloc, Verdict::Faulty(fault))),
+    }
+}
+
+/// What is found of a file that can't be read, if there was memory to read it.
+fn unread(alloc: Global, fault: ReadFault) -> Result<Findings, OutOfMemory>
+    ensures finding { IfOk result (λ found.
+        found.finding ≡ record { verdict = Verdict.Unreadable fault; unknown = None; difference = None }) }
+    ensures tasks { IfOk result (λ found. found.tasks.items ≡ []) }
+    ensures known { IfOk result (λ _. fault ≢ ReadMemory) }
+    ensures memory { IfErr result (λ _. fault ≡ ReadMemory) }
+{
+    match fault {
+        ReadFault::OutOfMemory => Err(OutOfMemory),
+        fault => Ok(judged(alloc, Verdict::Unreadable(fault))),
+    }
+}
+
+/// What is found of a file, which is parsed once and whose history is replayed once. There are no
+/// tasks where it can't be read.
+#[tactic(auto, unfolding(wh_tester::specs::Verdicts::verdict_on), using(wh_tester::proofs::Reading::read_within))]
+fn find_in_bytes<W: Workflow>(
+    alloc: Global,
+    detail: Detail,
+    bytes: &[u8],
+) -> Result<Findings, OutOfMemory>
+    ensures found { IfOk result (λ found. AreFoundIn detail W.program bytes.now found.finding found.tasks.items) }
+    ensures read { IfOk result (λ found. found.finding.verdict ≢ Verdict.Unreadable ReadMemory) }
+    ensures memory { IfErr result (λ _. length bytes.now ≤ longest) }
+{
+    match read_events(alloc, bytes) {
+        Ok(events) => find_in_events::<W>(alloc, detail, events),
+        Err(fault) => unread(alloc, fault),
+    }
+}
+
+/// Replays a history file with the code of `W`, and gives what is found: the verdict of
+/// `wh_tester::verdict`, the workflow type, where there is no code for it, and what is sent and what
+/// is recorded, where they differ, which is the last of the pairings that `explain` has of its last
+/// task. The file is parsed once and its history is replayed once, whatever comes of it.
+///
+/// `Verdict::OutOfMemory` can come in place of every verdict but that of a file that is too long;
+/// nothing else is found then.
+pub fn check_file<W: Workflow>(alloc: Global, bytes: &[u8]) -> Finding
+    ensures verdict { IsVerdict W.program bytes.now result.verdict }
+    ensures unknown { result.verdict ≢ Verdict.OutOfMemory → result.unknown ≡ unknown_in W.program (history bytes.now) }
+    ensures named { IfSome result.unknown (λ kind. unknown_in W.program (history bytes.now) ≡ Some kind) }
+    ensures difference { result.verdict ≢ Verdict.OutOfMemory → IsDifferenceIn W.program bytes.now result.difference }
+    ensures found { (at : ℕ) (mismatch : Mismatch) → result.verdict ≡ Verdict.Faulty (Mismatched at mismatch)
+        → IsSome result.difference }
+{
+    match find_in_bytes::<W>(alloc, Detail::Verdict, bytes) {
+        Ok(found) => found.finding,
+        Err(OutOfMemory) => Finding {
+            verdict: Verdict::OutOfMemory,
+            unknown: None,
+            difference: None,
+        },
+    }
+}
+
+/// The difference that the replay of a history file stops at, with the code of `W`, if it stops at
+/// one, as `check_file` finds it.
+/// `OutOfMemory` where the allocator refused a growth, never for a file that is too long.
+pub fn difference<W: Workflow>(alloc: Global, bytes: &[u8]) -> Result<Option<Pairing>, OutOfMemory>
+    ensures difference { IfOk result (IsDifferenceIn W.program bytes.now) }
+    ensures found { IfOk result (λ found. StopsAtDifference W.program bytes.now → IsSome found) }
+    ensures memory { IfErr result (λ _. length bytes.now ≤ longest) }
+{
+    let Findings { finding, .. } = find_in_bytes::<W>(alloc, Detail::Verdict, bytes)?;
+    Ok(finding.difference)
+}
+
+/// The workflow type of a history file, if its events are in place and `W` has no code for it, as
+/// `explain` names it.
+/// `OutOfMemory` where the allocator refused a growth, never for a file that is too long.
+pub fn unknown_type<W: Workflow>(alloc: Global, bytes: &[u8]) -> Result<Option<Text>, OutOfMemory>
+    ensures unknown { IfOk result (λ kind. kind ≡ unknown_in W.program (history bytes.now)) }
+    ensures memory { IfErr result (λ _. length bytes.now ≤ longest) }
+{
+    let Findings { finding, .. } = find_in_bytes::<W>(alloc, Detail::Verdict, bytes)?;
+    Ok(finding.unknown)
+}
+
+/// Explains the replay of a history file, given by name and bytes, with the code of `W`: its tasks
+/// in their order up to the first that has a fault, each with the jobs that the workflow was given,
+/// what it gave, and what the record has beside what is sent. There are no tasks where the file
+/// can't be read, where an event is not in place, and where there is no code for the workflow type,
+/// which is named. The file is parsed once and its history is replayed once.
+///
+/// The line is that of the report of replay: the name and the verdict of `wh_tester::verdict`.
+/// `OutOfMemory` where the allocator refused a growth, never for a file that is too long.
+pub fn explain<W: Workflow>(
+    alloc: Global,
+    name: String,
+    bytes: &[u8],
+) -> Result<Explanation, OutOfMemory>
+    ensures tasks { IfOk result (λ explained. AreTasksIn W.program (history bytes.now) explained.tasks) }
+    ensures unknown { IfOk result (λ explained. explained.unknown ≡ unknown_in W.program (history bytes.now)) }
+    ensures name { IfOk result (λ explained. explained.line.name ≡ string_bytes name) }
+    ensures verdict { IfOk result (λ explained. IsVerdict W.program bytes.now explained.line.verdict) }
+    ensures memory { IfErr result (λ _. length bytes.now ≤ longest) }
+{
+    let Findings { finding, tasks } = find_in_bytes::<W>(alloc, Detail::Steps, bytes)?;
+    let Finding {
+        verdict,
+        unknown,
+        ..
+    } = finding;
+    Ok(Explanation {
+        unknown,
+        tasks: Items::new(tasks),
+        line: Line {
+            name: Text::new(name),
+            verdict,
+        },
+    })
+}

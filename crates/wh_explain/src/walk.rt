@@ -1,0 +1,338 @@
+//! The tasks of a history, each with the steps of its activation and with its record.
+ghost use Rattle.std.specs.Prelude.{◌≡◌, ◌++◌, None, Some, IfOk, OnOk, option_map, option_to_list};
+ghost use Rattle.wh_events.specs.Cuts.{commanded};
+ghost use Rattle.wh_activation.specs.Cutting.{jobs_at};
+ghost use Rattle.wh_workflow.specs.Names.{mismatch};
+ghost use Rattle.wh_workflow.specs.Scripts.{reduced};
+ghost use Rattle.wh_replay.specs.Views.{IsSpan, context_of, span_events};
+ghost use Rattle.wh_replay.specs.Activating.{IsWithin, IsOf};
+ghost use Rattle.wh_explain.specs.Differences.{if_differs, last_of};
+ghost use Rattle.wh_explain.specs.Private.Tasks.{IsEnd, IsTaskFinding, IsWalk, difference_in, explained_task};
+ghost use Rattle.wh_explain.specs.declared.explanation.Ending.TheVariants.{Refused};
+ghost use Rattle.wh_replay.specs.declared.fault.Fault.TheVariants.{Workflow as WorkflowFaulty};
+ghost use Rattle.wh_explain.specs.Private.Tasks.{fault_of, if_some, is_passed, mismatch_at};
+
+use crate::explanation::{Detail, Ending, ExplainedTask, Pairing, Step};
+use crate::pairing::{differs, pair_up};
+use crate::stepping::step_all;
+use std::alloc::Global;
+use wh_activation::jobs;
+use wh_events::{EventNo, Items, OutOfMemory};
+use wh_machines::Track;
+use wh_match::matches;
+use wh_replay::{Activation, Checked, Cut, Fault, ReplayState, Span, cut_after, sent_state};
+use wh_workflow::{Command, Mismatch, Workflow, WorkflowFault};
+
+/// Why no task follows one.
+#[derive(Drop)]
+pub(crate) struct Stop {
+    /// Its fault.
+    pub(crate) fault: Fault,
+    /// What is sent and what is recorded where they differ, if that is the fault.
+    pub(crate) difference: Option<Pairing>,
+}
+
+/// How a task ends.
+#[derive(Drop)]
+pub(crate) struct TaskEnd {
+    /// What is shown of that, where it is kept.
+    pub(crate) ending: Option<Ending>,
+    /// Why no task follows, if so.
+    pub(crate) stop: Option<Stop>,
+}
+
+/// What is found of a task.
+#[derive(Drop)]
+pub(crate) struct TaskFinding<S> {
+    /// What is explained of it, where that is kept.
+    pub(crate) task: Option<ExplainedTask>,
+    /// Why no task follows, if so.
+    pub(crate) stop: Option<Stop>,
+    /// What it leaves.
+    pub(crate) left: ReplayState<S>,
+}
+
+/// What is found of the tasks of a history.
+#[derive(Drop)]
+pub(crate) struct Walk {
+    /// What is explained of them, where that is kept, up to the first that has a fault.
+    pub(crate) tasks: Vec<ExplainedTask>,
+    /// Why not all of them could be stepped, if so.
+    pub(crate) stop: Option<Stop>,
+    /// Their number, and whether the last is live, where all were stepped.
+    pub(crate) checked: Checked,
+}
+
+/// What is found where a task has a fault.
+fn stopped(tasks: Vec<ExplainedTask>, stop: Stop) -> Walk
+    ensures tasks { result.tasks.items ≡ tasks.items }
+    ensures stop { result.stop ≡ Some stop }
+{
+    Walk {
+        tasks,
+        stop: Some(stop),
+        checked: Checked {
+            tasks: 0,
+            live: false,
+        },
+    }
+}
+
+/// What is found where no task has a fault.
+fn all_stepped(tasks: Vec<ExplainedTask>, count: u64, live: bool) -> Walk
+    ensures tasks { result.tasks.items ≡ tasks.items }
+    ensures stop { result.stop ≡ None }
+    ensures checked { result.checked ≡ record { tasks = count; live = live } }
+{
+    Walk {
+        tasks,
+        stop: None,
+        checked: Checked { tasks: count, live },
+    }
+}
+
+/// The first difference between what is sent and the record in a span.
+fn first_mismatch(cut: &Cut, sent: &[Command], span: Span) -> Option<Mismatch>
+    requires { IsSpan cut.now.track.now span }
+    ensures { result ≡ mismatch cut.now.track.now sent.now (commanded (span_events cut.now.track.now span)) }
+{
+    matches(sent, cut.track, span.from, span.to).err()
+}
+
+/// A copy of the last pairing, if what is sent differs there from what is recorded.
+fn last_differing(pairings: &[Pairing]) -> Result<Option<Pairing>, OutOfMemory>
+    ensures { IfOk result (λ found. found ≡ if_differs (last_of pairings.now)) }
+{
+    let Some(pairing) = pairings.last() else {
+        return Ok(None);
+    };
+    if differs(pairing) {
+        Ok(Some(pairing.try_copy()?))
+    } else {
+        Ok(None)
+    }
+}
+
+/// Whether nothing is to be shown of a recorded task, and others follow it.
+fn is_passed(detail: Detail, mismatch: &Option<Mismatch>) -> bool
+    ensures { result ≡ is_passed detail mismatch.now }
+{
+    match detail {
+        Detail::Verdict => mismatch.is_none(),
+        Detail::Steps => false,
+    }
+}
+
+/// Why no task follows the one of a number, with these pairings, if there is a mismatch.
+fn stop_at(
+    at: EventNo,
+    mismatch: Option<Mismatch>,
+    pairings: &[Pairing],
+) -> Result<Option<Stop>, OutOfMemory>
+    ensures fault { IfOk result (λ stop. fault_of stop ≡ mismatch_at at mismatch) }
+    ensures difference { IfOk result (λ stop. difference_in stop ≡ if_some mismatch (if_differs (last_of pairings.now))) }
+{
+    let Some(mismatch) = mismatch else {
+        return Ok(None);
+    };
+    Ok(Some(Stop {
+        fault: Fault::Mismatch {
+            at: at.get(),
+            mismatch,
+        },
+        difference: last_differing(pairings)?,
+    }))
+}
+
+/// How a task ends that is recorded: what is sent stands beside the record. Where they differ, that
+/// is why no task follows.
+fn end_recorded(
+    alloc: Global,
+    detail: Detail,
+    cut: &Cut,
+    sent: &[Command],
+    span: Span,
+) -> Result<TaskEnd, OutOfMemory>
+    requires { IsSpan cut.now.track.now span }
+    ensures { let events = commanded (span_events cut.now.track.now span) in
+        IfOk result (IsEnd detail cut.now.number cut.now.track.now sent.now None (Some events)) }
+{
+    let mismatch = first_mismatch(cut, sent, span);
+    if is_passed(detail, &mismatch) {
+        return Ok(TaskEnd {
+            ending: None,
+            stop: None,
+        });
+    }
+    let record = cut.track.between(span.from, span.to);
+    let pairings = pair_up(alloc, cut.track.events(), sent, record)?;
+    let stop = stop_at(cut.number, mismatch, pairings.as_slice())?;
+    let ending = Some(Ending::Recorded {
+        pairings: Items::new(pairings),
+    });
+    Ok(TaskEnd { ending, stop })
+}
+
+/// How a task ends that sends these commands, which can stand.
+fn end_sent(
+    alloc: Global,
+    detail: Detail,
+    cut: &Cut,
+    sent: Vec<Command>,
+) -> Result<TaskEnd, OutOfMemory>
+    requires within { IsWithin cut.now }
+    ensures { IfOk result
+        (IsEnd detail cut.now.number cut.now.track.now sent.items None (context_of cut.now).recorded) }
+{
+    match cut.span {
+        Some(span) => end_recorded(alloc, detail, cut, sent.as_slice(), span),
+        None => Ok(TaskEnd {
+            ending: Some(Ending::Live {
+                sent: Items::new(sent),
+            }),
+            stop: None,
+        }),
+    }
+}
+
+/// How a task ends of which a command can't stand.
+fn end_refused(at: EventNo, fault: WorkflowFault) -> TaskEnd
+    ensures ending { result.ending ≡ Some Refused }
+    ensures fault { fault_of result.stop ≡ Some (WorkflowFaulty at fault) }
+    ensures difference { difference_in result.stop ≡ None }
+{
+    TaskEnd {
+        ending: Some(Ending::Refused),
+        stop: Some(Stop {
+            fault: Fault::Workflow {
+                at: at.get(),
+                fault,
+            },
+            difference: None,
+        }),
+    }
+}
+
+/// How a task ends that sends these commands, of which the last has the fault, if there is one.
+fn end_with(
+    alloc: Global,
+    detail: Detail,
+    cut: &Cut,
+    sent: Vec<Command>,
+    fault: Option<WorkflowFault>,
+) -> Result<TaskEnd, OutOfMemory>
+    requires within { IsWithin cut.now }
+    ensures { IfOk result
+        (IsEnd detail cut.now.number cut.now.track.now sent.items fault (context_of cut.now).recorded) }
+{
+    match fault {
+        Some(fault) => Ok(end_refused(cut.number, fault)),
+        None => end_sent(alloc, detail, cut, sent),
+    }
+}
+
+/// How a task ends, and what it leaves.
+fn end_task<W: Workflow>(
+    alloc: Global,
+    detail: Detail,
+    cut: &Cut,
+    activation: Activation<W>,
+    fault: Option<WorkflowFault>,
+) -> Result<(TaskEnd, ReplayState<W::State>), OutOfMemory>
+    requires within { IsWithin cut.now }
+    requires script { fault ≡ None → IsOf cut.now activation.script }
+    ensures end { let context = context_of cut.now in
+        let sent = reduced context activation.script.issued in
+        IfOk result (λ ended. IsEnd detail cut.now.number cut.now.track.now sent fault context.recorded ended.0) }
+    ensures state { IfOk result (λ ended. ended.1.state ≡ activation.state) }
+    ensures versions { IfOk result (λ ended. ended.1.versions ≡ activation.versions) }
+{
+    let ReplayState {
+        state,
+        versions,
+        unsent,
+    } = activation.finish()?;
+    match end_with(alloc, detail, cut, unsent, fault) {
+        Ok(end) => Ok((end, sent_state(alloc, state, versions))),
+        Err(full) => {
+            drop(state);
+            drop(versions);
+            Err(full)
+        }
+    }
+}
+
+/// What is explained of a task that ends so, where that is kept.
+fn task_with(at: EventNo, steps: Vec<Step>, ending: Option<Ending>) -> Option<ExplainedTask>
+    ensures { result ≡ option_map (explained_task at steps.items) ending }
+{
+    match ending {
+        Some(ending) => Some(ExplainedTask {
+            at,
+            steps: Items::new(steps),
+            ending,
+        }),
+        None => None,
+    }
+}
+
+/// What is found of the task of a cut after what the tasks before it left. What it leaves is known
+/// where no task stops there.
+fn find_task<W: Workflow>(
+    alloc: Global,
+    detail: Detail,
+    cut: &Cut,
+    before: ReplayState<W::State>,
+) -> Result<TaskFinding<W::State>, OutOfMemory>
+    requires within { IsWithin cut.now }
+    ensures { let told = jobs_at cut.now.track.now cut.now.previous cut.now.number in
+        IfOk result (λ found. IsTaskFinding detail W.program cut.now.track.now (context_of cut.now) told cut.now.number
+        before.state before.versions found.task found.stop found.left.state found.left.versions) }
+{
+    let jobs = jobs(alloc, cut.track, cut.previous, cut.number)?;
+    let mut activation = Activation::<W>::new(alloc, cut, before);
+    let (steps, fault) = step_all(alloc, detail, cut, &mut activation, jobs)?;
+    let (end, left) = end_task::<W>(alloc, detail, cut, activation, fault)?;
+    let TaskEnd { ending, stop } = end;
+    let task = task_with(cut.number, steps, ending);
+    Ok(TaskFinding { task, stop, left })
+}
+
+/// Adds a task to those before it, where it is kept.
+fn add_task(tasks: &mut Vec<ExplainedTask>, task: Option<ExplainedTask>) -> Result<(), OutOfMemory>
+    ensures { OnOk result (tasks.new.items ≡ tasks.old.items ++ option_to_list task) }
+{
+    match task {
+        Some(task) => Ok(tasks.push(task)?),
+        None => Ok(()),
+    }
+}
+
+/// Goes over the tasks of a history in their order, up to the first that has a fault.
+pub(crate) fn walk_tasks<W: Workflow>(
+    alloc: Global,
+    detail: Detail,
+    track: &Track,
+    mut left: ReplayState<W::State>,
+) -> Result<Walk, OutOfMemory>
+    ensures { IfOk result (IsWalk detail W.program track.now left.state left.versions) }
+{
+    // Made for the proof: its contract says that the events are in place.
+    let _proof_in_place = track.len();
+    let mut tasks = Vec::new(alloc);
+    let mut count = 0;
+    let mut live = false;
+    let mut last = 0;
+    while let Some(cut) = cut_after(track, last) {
+        let found = find_task::<W>(alloc, detail, &cut, left)?;
+        left = found.left;
+        add_task(&mut tasks, found.task)?;
+        if let Some(stop) = found.stop {
+            return Ok(stopped(tasks, stop));
+        }
+        count += 1;
+        live |= cut.span.is_none();
+        last = cut.number.get();
+    }
+    Ok(all_stepped(tasks, count, live))
+}
