@@ -26,9 +26,9 @@ import sys
 import threading
 import time
 import uuid
-from concurrent.futures import ThreadPoolExecutor
-from queue import SimpleQueue
+from collections import deque
 
+signal.signal(signal.SIGINT, signal.SIG_DFL)  # Until the command runs there is nothing to be told.
 os.environ.setdefault("GRPC_VERBOSITY", "NONE")  # What goes wrong is said once, by this program.
 try:
     import grpc
@@ -44,7 +44,7 @@ POLL_SECONDS = 70
 CALL_SECONDS = 10
 FIRST_WAIT, LONGEST_WAIT = 0.1, 2.0
 # A worker has 64 requests open at most, each in a thread.
-MOST_CALLS = 200
+MOST_CALLS = 80
 # What the host reads of a line: so many bytes, and values in one another.
 MOST_BYTES, MOST_LEVELS = 128 << 20, 127
 CANCELLED, INVALID, DEADLINE, EXHAUSTED, UNIMPLEMENTED, INTERNAL, UNAVAILABLE = 1, 3, 4, 8, 12, 13, 14
@@ -63,6 +63,7 @@ CHANNEL = {
     "grpc.http2.max_pings_without_data": 0,
     "grpc.max_reconnect_backoff_ms": 5_000,
 }
+SHUTDOWN = b'{"jsonrpc":"2.0","method":"shutdown"}\n'
 TRUE = ("1", "true", "yes")
 
 
@@ -180,13 +181,10 @@ def request_in(line):
     return request if is_request else None
 
 
-def line_of(message):
-    """The line of a JSON-RPC message."""
-    return json.dumps({"jsonrpc": "2.0", **message}, separators=(",", ":")).encode() + b"\n"
-
-
-def error_of(code, text):
-    return {"error": {"code": code, "message": text}}
+def line_of(number, result, error):
+    """The line of the response to a request: of its result where there is no error, which is a code and a text."""
+    outcome = {"result": result} if error is None else {"error": {"code": error[0], "message": error[1]}}
+    return json.dumps({"jsonrpc": "2.0", "id": number, **outcome}, separators=(",", ":")).encode() + b"\n"
 
 
 def levels(value):
@@ -196,7 +194,9 @@ def levels(value):
     return 1 + max(map(levels, value.values() if isinstance(value, dict) else value), default=0)
 
 
-SHUTDOWN = line_of({"method": "shutdown"})
+def is_too_deep(line, result):
+    """Whether the line of a result nests deeper than the host reads. Each level has a bracket: most lines have too few."""
+    return line.count(b"{") + line.count(b"[") > MOST_LEVELS and 1 + levels(result) > MOST_LEVELS
 
 
 class Bridge:
@@ -206,8 +206,8 @@ class Bridge:
         self.address, self.namespace, self.key = found.address, found.namespace, api_key(found.api_key)
         # Polls have a channel of their own, whose end cancels them.
         self.for_polls, self.for_others, self.stubs = connect(found), connect(found), {}
-        self.threads, self.responses = ThreadPoolExecutor(MOST_CALLS), SimpleQueue()
-        self.stops, self.child = 0, None
+        self.reading, self.writing, self.lines = threading.Lock(), threading.Lock(), deque()
+        self.is_stopped, self.stops, self.child = threading.Event(), 0, None
 
     def greet(self, longest):
         """Whether the server answers within so many seconds, or at once; says why where it does not."""
@@ -248,11 +248,14 @@ class Bridge:
         that ends or by a proxy, and a later one may do better."""
         try:
             result, error = self.ask(method, request, POLL_SECONDS)
-        except ValueError:  # The channel is closed.
-            result, error = None, (CANCELLED, "closed")
-        if error is not None and error[0] == CANCELLED:
+        except ValueError:
+            if not self.stops:
+                raise
+            return None, (CANCELLED, "shutdown")  # The channel was closed.
+        code = None if error is None else error[0]
+        if code == CANCELLED:
             return None, (CANCELLED, "shutdown") if self.stops else (UNAVAILABLE, error[1])
-        return ({}, None) if error is not None and error[0] == DEADLINE else (result, error)
+        return ({}, None) if code == DEADLINE else (result, error)
 
     def insist(self, method, request):
         """Any other call is tried again while it may do better, but not for long."""
@@ -265,63 +268,70 @@ class Bridge:
             time.sleep(wait)
             wait = min(2 * wait, LONGEST_WAIT)
 
-    def outcome(self, request):
-        """Makes the call of a request: the member of its response that says what came of it."""
-        method = request["method"]
+    def outcome(self, method, params):
+        """Makes the call of a request: its result, or a code and a text."""
         made = getattr(messages, method + "Request", None)
         if made is None:
-            return error_of(UNIMPLEMENTED, f"no call {method}")
-        message = json_format.ParseDict(request.get("params", {}), made(), ignore_unknown_fields=True)
-        result, error = (self.poll if method.startswith("Poll") else self.insist)(method, message)
-        return error_of(*error) if error is not None else {"result": result}
-
-    def response(self, request):
-        """The line of the response to a request, which the host can read."""
-        response = {"id": request["id"], **self.outcome(request)}
-        line = line_of(response)
-        if len(line) > MOST_BYTES:
-            return line_of({"id": request["id"], **error_of(EXHAUSTED, f"a response of {len(line)} bytes")})
-        # Each level has its bracket, so most lines need no closer look.
-        if line.count(b"{") + line.count(b"[") > MOST_LEVELS and levels(response) > MOST_LEVELS:
-            return line_of({"id": request["id"], **error_of(INTERNAL, f"a response of {levels(response)} levels")})
-        return line
+            return None, (UNIMPLEMENTED, f"no call {method}")
+        if not isinstance(params, dict):
+            return None, (INTERNAL, "the params are no object")
+        message = json_format.ParseDict(params, made(), ignore_unknown_fields=True)
+        return self.poll(method, message) if method.startswith("Poll") else self.insist(method, message)
 
     def answer(self, request):
-        """Makes the call of a request, and leaves its response to be written. There is one, whatever goes wrong."""
+        """Makes the call of a request, and writes its response. There is one that the host can read, whatever goes wrong."""
+        number = request["id"]
         try:
-            line = self.response(request)
+            result, error = self.outcome(request["method"], request.get("params", {}))
+            line = line_of(number, result, error)
+            if len(line) > MOST_BYTES:
+                line = line_of(number, None, (EXHAUSTED, f"a response of {len(line)} bytes"))
+            elif is_too_deep(line, result):
+                line = line_of(number, None, (INTERNAL, f"a response of more than {MOST_LEVELS} levels"))
         except Exception as why:
-            line = line_of({"id": request["id"], **error_of(INTERNAL, f"{type(why).__name__}: {why}")})
-        self.responses.put(line)
+            line = line_of(number, None, (INTERNAL, f"{type(why).__name__}: {why}"))
+        self.lines.append(line)
+        self.write()
 
     def write(self):
-        """Writes one response after the other. Where the command does not read, it is this thread alone that waits."""
-        try:
-            while True:
-                self.child.stdin.write(self.responses.get())
-                self.child.stdin.flush()
-        except OSError:
-            pass  # The command reads no more.
-
-    def read(self):
-        """Takes one request after the other."""
-        for line in self.child.stdout:
-            request = request_in(line)
+        """Writes the lines that are there, unless another thread is doing so: it writes these too. So where the command does
+        not read, one thread alone waits for it."""
+        while self.lines and self.writing.acquire(blocking=False):
             try:
-                if request is None:
-                    say(f"no request: {line[:200]!r}")
-                else:
-                    self.threads.submit(self.answer, request)
-            except RuntimeError as why:
-                say(f"a call waits for another one's thread: {why}")
+                while self.lines:
+                    self.child.stdin.write(self.lines.popleft())
+                    self.child.stdin.flush()
+            except OSError:
+                pass  # The command reads no more.
+            finally:
+                self.writing.release()
+
+    def serve(self):
+        """Takes a request and answers it, again and again, as many threads do at once."""
+        while True:
+            with self.reading:
+                line = self.child.stdout.readline()
+            if not line:
+                return
+            request = request_in(line)
+            if request is None:
+                say(f"no request: {line[:200]!r}")
+            else:
+                self.answer(request)
 
     def stop(self, *_):
-        """Tells the command to shut down, and cancels the polls; at the second time ends it."""
+        """Has the command told to shut down; at the second time ends it."""
         self.stops += 1
         if self.stops > 1:
             return self.child.kill()
-        self.responses.put(SHUTDOWN)
-        threading.Thread(target=self.for_polls.close, daemon=True).start()
+        self.is_stopped.set()
+
+    def shut_down(self):
+        """When it is time, tells the command to shut down, and cancels the polls."""
+        self.is_stopped.wait()
+        self.lines.append(SHUTDOWN)
+        self.for_polls.close()
+        self.write()
 
     def run(self, command):
         """Starts the command, serves it to its end, and answers its status."""
@@ -334,14 +344,19 @@ class Bridge:
             return 2
         signal.signal(signal.SIGTERM, self.stop)
         signal.signal(signal.SIGINT, self.stop)
-        for work in (self.write, self.read):
+        for work in [self.shut_down] + [self.serve] * MOST_CALLS:
             threading.Thread(target=work, daemon=True).start()
-        status = self.child.wait()
+        # Again and again, since a signal that comes just before it waits is noted after that.
+        while self.child.returncode is None:
+            try:
+                self.child.wait(timeout=1)
+            except subprocess.TimeoutExpired:
+                pass
+        status = self.child.returncode
         return 128 - status if status < 0 else status
 
 
 def main():
-    signal.signal(signal.SIGINT, signal.SIG_DFL)  # Until the command runs there is nothing to be told.
     found = options()
     identity = f"{socket.gethostname()}-{os.getpid()}-{uuid.uuid4().hex[:8]}"
     try:

@@ -3,8 +3,10 @@
 what is wrong with its options and files, and how it ends. Each try is a function of the table at the end, and starts
 bridges of its own on 127.0.0.1. What is wrong is printed; the last line is `N tried, M wrong`, or `skipped: WHY` where
 Python's grpcio is not there. Words after its name are names of tries, all where there is none; `--long` tries those too
-that take a minute."""
+that take a minute; `--bridge FILE` tries another bridge."""
 
+import argparse
+import base64
 import json
 import os
 import signal
@@ -233,8 +235,6 @@ TASK, ANSWER, PAGE = "PollWorkflowTaskQueue", "RespondWorkflowTaskCompleted", "G
 
 
 def base64_of(text):
-    import base64
-
     return base64.b64encode(text.encode()).decode()
 
 
@@ -328,16 +328,18 @@ def answer_too_large():
         code, text = bridge.answered(ANSWER, answer_to("x" * (5 << 20)))
         same("code", code, 8)
         has("text", text, "larger than max")
-        same("at once", time.monotonic() - begun < 5, True)
+        same("at once", time.monotonic() - begun < 8, True)
         bridge.done()
 
 
 def answers_not_for_long():
     """A code that stays is given after some ten seconds."""
     with Server({ANSWER: refuse(14, "no"), PAGE: refuse(8, "no")}) as server, Bridge(server.port) as bridge:
+        same("outcome", bridge.answered(TASK, POLL), {})
+        begun = time.monotonic()
         bridge.ask(1, ANSWER, answer_to("token"))
         bridge.ask(2, PAGE, {"namespace": "default"})
-        responses, took = bridge.all(2), time.monotonic() - bridge.begun
+        responses, took = bridge.all(2), time.monotonic() - begun
         same("outcomes", (outcome(responses[1]), outcome(responses[2])), ((14, "no"), (8, "no")))
         same("eight to fifteen seconds", 8 < took < 15, True)
         bridge.done()
@@ -348,10 +350,11 @@ def answers_not_for_long():
 
 def requests_that_are_wrong():
     """A request of which no call can be made gets code 13, and the server sees nothing; a call that is not there code 12."""
-    wrong = [5, "text", None, [1], {"namespace": 5}, {"taskQueue": "q"}, {"taskQueue": {"kind": {}}}, {"identity": "\ud800"}]
+    wrong = [5, "text", None, [], {"namespace": 5}, {"identity": "\ud800"}]
+    rows = {TASK: [*wrong, {"taskQueue": {"kind": {}}}], ANSWER: [*wrong, {"commands": 5}]}
     with Server() as server, Bridge(server.port) as bridge:
-        for method in (TASK, ANSWER):
-            for params in wrong:
+        for method, all_params in rows.items():
+            for params in all_params:
                 code, text = bridge.answered(method, params)
                 same(f"code of {method} {params!r}", code, 13)
                 same("a text", text != "", True)
@@ -432,7 +435,7 @@ def response_too_deep():
         with Server({"PollNest": lambda *_: next(replies)}) as server, Bridge(server.port, path=path) as bridge:
             result = bridge.answered("PollNest", {})
             same("brackets", sum(map(json.dumps(result).count, "{[")), 126)
-            same("outcome", bridge.answered("PollNest", {}), (13, "a response of 128 levels"))
+            same("outcome", bridge.answered("PollNest", {}), (13, "a response of more than 127 levels"))
             bridge.done()
 
 
@@ -477,10 +480,10 @@ def free_port():
 
 def no_server():
     """Without --wait, status 2 at once; with it, after so long."""
-    for options, least, most in (([], 0, 5), (["--wait", "2"], 2, 9)):
+    for options, least, most in (([], 0, 10), (["--wait", "2"], 2, 15)):
         port = free_port()
         with Bridge(port, *options) as bridge:
-            has("said", bridge.end(2, 15), f"temporal_bridge: no connection to 127.0.0.1:{port}: ")
+            has("said", bridge.end(2, 20), f"temporal_bridge: no connection to 127.0.0.1:{port}: ")
             same(f"{least} to {most} s", least <= time.monotonic() - bridge.begun < most, True)
 
 
@@ -686,8 +689,9 @@ def shutdown_twice():
 
 def interrupted_at_the_start():
     """A key that interrupts it while it waits for a server ends it without more words."""
-    with Bridge(free_port(), "--wait", "20") as bridge:
-        time.sleep(1.5)
+    with socket.create_server(("127.0.0.1", 0)) as silent, Bridge(silent.getsockname()[1], "--wait", "20") as bridge:
+        silent.settimeout(LIMIT_SECONDS)
+        silent.accept()
         bridge.child.send_signal(signal.SIGINT)
         same("said", bridge.end(-signal.SIGINT, 5), "")
 
@@ -761,17 +765,21 @@ def fault_of(one):
 
 
 def main():
-    names = [word for word in sys.argv[1:] if word != "--long"]
-    known = TRIES + (LONG if "--long" in sys.argv or names else [])
-    tries = [one for one in known if not names or one.__name__ in names]
-    wrong = 0
+    global BRIDGE
+    parser = argparse.ArgumentParser(description=__doc__, formatter_class=argparse.RawDescriptionHelpFormatter)
+    parser.add_argument("--bridge", type=Path, default=BRIDGE, help="another bridge, a file")
+    parser.add_argument("--long", action="store_true", help="also those that take a minute")
+    parser.add_argument("names", nargs="*", metavar="NAME", choices=[[], *(one.__name__ for one in TRIES + LONG)])
+    asked = parser.parse_args()
+    BRIDGE, wrong = asked.bridge, 0
+    tries = [one for one in TRIES + LONG if one.__name__ in asked.names] or TRIES + LONG * asked.long
     with ThreadPoolExecutor(AT_ONCE) as threads:
         for one, fault in zip(tries, threads.map(fault_of, tries)):
             if fault:
                 wrong += 1
                 print(f"{one.__name__}: {fault}", flush=True)
     print(f"{len(tries)} tried, {wrong} wrong")
-    return 1 if wrong or not tries else 0
+    return 1 if wrong else 0
 
 
 if __name__ == "__main__":
