@@ -12,6 +12,7 @@ import statistics
 import subprocess
 import sys
 from concurrent.futures import ThreadPoolExecutor
+from itertools import cycle, islice
 from pathlib import Path
 
 SYSTEM = "/usr/bin/python3"  # Debian's packages python3-grpcio and python3-protobuf are for this one.
@@ -20,6 +21,8 @@ sys.path.insert(0, str(TOP / "standin"))
 sys.dont_write_bytecode = True
 try:
     import grpc
+    from google.protobuf import json_format
+
     from definitions import CLASSES, SERVICE
 except ImportError as missing:
     if sys.executable != SYSTEM and os.access(SYSTEM, os.X_OK):
@@ -29,6 +32,7 @@ except ImportError as missing:
 # Events in a task, and threads that poll and answer.
 ROWS = [(5, 4), (5, 16), (20, 4), (20, 16)]
 SERVE = "--serve"
+PAYLOAD = {"metadata": {"encoding": "anNvbi9wbGFpbg=="}, "data": "eyJjZW50cyI6IDE5OTl9"}
 # The worker: each thread polls, answers, and polls again. It takes the id of a response from the end that all bridges give
 # it, and looks at nothing else. For a first second it does not count.
 WORKER = r"""
@@ -65,18 +69,36 @@ for line in sys.stdin.buffer:
 """
 
 
+# What follows in a history again and again: a task whose code starts a timer, and a signal that makes the next task.
+FOLLOWING = [
+    ("WORKFLOW_TASK_SCHEDULED", {"taskQueue": {"name": "orders", "kind": "TASK_QUEUE_KIND_NORMAL"}, "attempt": 1}),
+    ("WORKFLOW_TASK_STARTED", {"scheduledEventId": "2", "identity": "machine-1-0a1b2c3d"}),
+    ("WORKFLOW_TASK_COMPLETED", {"scheduledEventId": "2", "startedEventId": "3"}),
+    ("TIMER_STARTED", {"timerId": "hold", "startToFireTimeout": "86400s", "workflowTaskCompletedEventId": "4"}),
+    ("WORKFLOW_EXECUTION_SIGNALED", {"signalName": "go", "input": {"payloads": [PAYLOAD]}}),
+]
+
+
+def event(number, kind, attributes):
+    """An event, as JSON has it."""
+    member = "".join(word.capitalize() for word in kind.split("_")) + "EventAttributes"
+    time = f"2024-05-01T10:00:{number:02}.123456Z"
+    return {"eventId": number, "eventTime": time, "eventType": "EVENT_TYPE_" + kind, member[0].lower() + member[1:]: attributes}
+
+
 def task(events):
     """The response of a poll with so many events."""
-    response = CLASSES["PollWorkflowTaskQueueResponse"](task_token=b"token 1", started_event_id=events, attempt=1)
-    response.workflow_execution.workflow_id, response.workflow_execution.run_id = "order-1", "first"
-    response.workflow_type.name = "Order"
-    for number in range(1, events + 1):
-        event = response.history.events.add(event_id=number, event_type=26)
-        event.event_time.FromSeconds(1_700_000_000)
-        signal = event.workflow_execution_signaled_event_attributes
-        signal.signal_name = "go"
-        signal.input.payloads.add(data=b'{"cents": 1999}').metadata["encoding"] = b"json/plain"
-    return response.SerializeToString()
+    started = {"workflowType": {"name": "Order"}, "taskQueue": {"name": "orders"}, "input": {"payloads": [PAYLOAD]}}
+    kinds = [("WORKFLOW_EXECUTION_STARTED", started), *islice(cycle(FOLLOWING), events - 1)]
+    response = {
+        "taskToken": "dG9rZW4gMQ==",
+        "workflowExecution": {"workflowId": "order-1", "runId": "5e6f7a8b-0000-4000-8000-0123456789ab"},
+        "workflowType": {"name": "Order"},
+        "startedEventId": events,
+        "attempt": 1,
+        "history": {"events": [event(number, *one) for number, one in enumerate(kinds, 1)]},
+    }
+    return json_format.ParseDict(response, CLASSES["PollWorkflowTaskQueueResponse"]()).SerializeToString()
 
 
 class Server(grpc.GenericRpcHandler):

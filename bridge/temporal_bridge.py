@@ -27,6 +27,7 @@ import threading
 import time
 import uuid
 from collections import deque
+from functools import lru_cache
 
 signal.signal(signal.SIGINT, signal.SIG_DFL)  # Until the command runs there is nothing to be told.
 os.environ.setdefault("GRPC_VERBOSITY", "NONE")  # What goes wrong is said once, by this program.
@@ -64,7 +65,6 @@ CHANNEL = {
     "grpc.max_reconnect_backoff_ms": 5_000,
 }
 SHUTDOWN = b'{"jsonrpc":"2.0","method":"shutdown"}\n'
-TRUE = ("1", "true", "yes")
 
 
 class Unusable(Exception):
@@ -76,11 +76,6 @@ def say(text):
         print(f"temporal_bridge: {text}", file=sys.stderr, flush=True)
     except OSError:
         pass  # Nobody reads it.
-
-
-def setting(*names, otherwise=None):
-    """What the first of these environment variables says that is there."""
-    return next((os.environ[name] for name in names if os.environ.get(name)), otherwise)
 
 
 def seconds(text):
@@ -95,22 +90,22 @@ def options():
     """The command line, where what is not said is taken from the environment, as by Temporal's own command."""
     shape = argparse.RawDescriptionHelpFormatter
     parser = argparse.ArgumentParser(description=__doc__, formatter_class=shape, usage="%(prog)s [OPTIONS] -- COMMAND ..")
-    address = setting("TEMPORAL_ADDRESS", otherwise="localhost:7233")
-    namespace = setting("TEMPORAL_NAMESPACE", otherwise="default")
-    cert = setting("TEMPORAL_TLS_CLIENT_CERT_PATH", "TEMPORAL_TLS_CERT")
-    key = setting("TEMPORAL_TLS_CLIENT_KEY_PATH", "TEMPORAL_TLS_KEY")
-    authority = setting("TEMPORAL_TLS_SERVER_CA_CERT_PATH", "TEMPORAL_TLS_CA")
-    server = setting("TEMPORAL_TLS_SERVER_NAME")
-    tls = setting("TEMPORAL_TLS", otherwise="").lower() in TRUE
-    parser.add_argument("--address", default=address, help="host and port of the server (TEMPORAL_ADDRESS)")
-    parser.add_argument("--namespace", default=namespace, help="what {namespace} stands for (TEMPORAL_NAMESPACE)")
-    parser.add_argument("--wait", type=seconds, default=0, help="seconds to try for a server that is not up yet")
-    parser.add_argument("--tls", action="store_true", default=tls, help="use TLS (TEMPORAL_TLS)")
-    parser.add_argument("--tls-cert", default=cert, help="client's certificate, a file (TEMPORAL_TLS_CLIENT_CERT_PATH)")
-    parser.add_argument("--tls-key", default=key, help="its private key, a file (TEMPORAL_TLS_CLIENT_KEY_PATH)")
-    parser.add_argument("--tls-ca", default=authority, help="server's authority, a file (TEMPORAL_TLS_SERVER_CA_CERT_PATH)")
-    parser.add_argument("--tls-server-name", default=server, help="name in its certificate (TEMPORAL_TLS_SERVER_NAME)")
-    parser.add_argument("--api-key", default=setting("TEMPORAL_API_KEY"), help="key of an account (TEMPORAL_API_KEY)")
+
+    def add(name, what, *names, otherwise=None, **how):
+        held = next((os.environ[one] for one in names if os.environ.get(one)), otherwise)
+        parser.add_argument(name, default=held, help=f"{what} ({names[0]})" if names else what, **how)
+
+    add("--address", "host and port of the server", "TEMPORAL_ADDRESS", otherwise="localhost:7233")
+    add("--namespace", "what {namespace} stands for", "TEMPORAL_NAMESPACE", otherwise="default")
+    add("--wait", "how long to try for a server that is not up yet", type=seconds, otherwise=0, metavar="SECONDS")
+    add("--tls-cert", "client's certificate, a file", "TEMPORAL_TLS_CLIENT_CERT_PATH", "TEMPORAL_TLS_CERT", metavar="FILE")
+    add("--tls-key", "its private key, a file", "TEMPORAL_TLS_CLIENT_KEY_PATH", "TEMPORAL_TLS_KEY", metavar="FILE")
+    add("--tls-ca", "server's authority, a file", "TEMPORAL_TLS_SERVER_CA_CERT_PATH", "TEMPORAL_TLS_CA", metavar="FILE")
+    add("--tls-server-name", "name in the server's certificate", "TEMPORAL_TLS_SERVER_NAME", metavar="NAME")
+    add("--api-key", "key of an account", "TEMPORAL_API_KEY", metavar="KEY")
+    tls = os.environ.get("TEMPORAL_TLS", "").lower() in ("1", "true", "yes")
+    use_tls = "use TLS, which a key and each --tls-.. ask for too (TEMPORAL_TLS)"
+    parser.add_argument("--tls", action="store_true", default=tls, help=use_tls)
     parser.add_argument("command", nargs="+", help=argparse.SUPPRESS)
     return parser.parse_args()
 
@@ -199,6 +194,12 @@ def is_too_deep(line, result):
     return line.count(b"{") + line.count(b"[") > MOST_LEVELS and 1 + levels(result) > MOST_LEVELS
 
 
+@lru_cache(maxsize=MOST_CALLS)
+def poll_message(made, params):
+    """The message of a poll, by the JSON text of its params, which are those of an earlier one mostly."""
+    return json_format.ParseDict(json.loads(params), made(), ignore_unknown_fields=True)
+
+
 class Bridge:
     """The command, the server, and the calls between them."""
 
@@ -275,8 +276,9 @@ class Bridge:
             return None, (UNIMPLEMENTED, f"no call {method}")
         if not isinstance(params, dict):
             return None, (INTERNAL, "the params are no object")
-        message = json_format.ParseDict(params, made(), ignore_unknown_fields=True)
-        return self.poll(method, message) if method.startswith("Poll") else self.insist(method, message)
+        if method.startswith("Poll"):
+            return self.poll(method, poll_message(made, json.dumps(params)))
+        return self.insist(method, json_format.ParseDict(params, made(), ignore_unknown_fields=True))
 
     def answer(self, request):
         """Makes the call of a request, and writes its response. There is one that the host can read, whatever goes wrong."""

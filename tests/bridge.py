@@ -587,7 +587,8 @@ def made_files(path):
 def tls_files_that_are_wrong():
     """Each fault of the files is one line that names what is wrong, and status 2."""
     together = "--tls-cert and --tls-key go together, and one of them is not there"
-    certificates, key = "{} holds no certificates in PEM that can be read", "the private key in {} can't be read: it has to be PEM without a pass phrase"
+    certificates = "{} holds no certificates in PEM that can be read"
+    key = "the private key in {} can't be read: it has to be PEM without a pass phrase"
     rows = [
         (["--tls-cert", "one.pem"], together),
         (["--tls-key", "one.key"], together),
