@@ -124,7 +124,8 @@ def content(path):
 def check_files(cert, key, authority):
     """Looks at the files for TLS, since of bad ones gRPC says nothing that helps."""
     if (cert is None) != (key is None):
-        raise Unusable("--tls-cert and --tls-key go together, and one of them is not there")
+        lacking = "--tls-cert" if cert is None else "--tls-key"
+        raise Unusable(f"{lacking} is missing: a certificate and its private key go together")
     context, looked_at = ssl.SSLContext(ssl.PROTOCOL_TLS_CLIENT), ""
     try:
         for looked_at in filter(None, (authority, cert)):

@@ -586,12 +586,12 @@ def made_files(path):
 
 def tls_files_that_are_wrong():
     """Each fault of the files is one line that names what is wrong, and status 2."""
-    together = "--tls-cert and --tls-key go together, and one of them is not there"
+    together = "{} is missing: a certificate and its private key go together"
     certificates = "{} holds no certificates in PEM that can be read"
     key = "the private key in {} can't be read: it has to be PEM without a pass phrase"
     rows = [
-        (["--tls-cert", "one.pem"], together),
-        (["--tls-key", "one.key"], together),
+        (["--tls-cert", "one.pem"], together.format("--tls-key")),
+        (["--tls-key", "one.key"], together.format("--tls-cert")),
         (["--tls-cert", "one.pem", "--tls-key", "two.key"], "the private key in two.key is not the one of one.pem"),
         (["--tls-cert", "no.pem", "--tls-key", "one.key"], certificates.format("no.pem")),
         (["--tls-cert", "bad.pem", "--tls-key", "one.key"], certificates.format("bad.pem")),
