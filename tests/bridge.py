@@ -205,7 +205,7 @@ class Bridge:
         self.ask(1, method, params)
         return outcome(self.next())
 
-    def end(self, status=0, within=10.0):
+    def end(self, status=0, within=20.0):
         """Waits for the end, and answers what was said."""
         try:
             self.child.wait(within)
@@ -702,7 +702,7 @@ def ends_of_a_worker():
     rows = [
         (["sh", "-c", "exit 3"], 3, ""),
         (["sh", "-c", "kill -9 $$"], 137, ""),
-        (["sh", "-c", "sleep 20 & exit 4"], 4, ""),
+        (["sh", "-c", "sleep 30 & exit 4"], 4, ""),
         (["sh", "-c", "exec >&- <&-; sleep 1; exit 5"], 5, ""),
         (["/no/such"], 2, "temporal_bridge: cannot start /no/such: No such file or directory\n"),
         (["/"], 2, "temporal_bridge: cannot start /: Permission denied\n"),
