@@ -324,6 +324,7 @@ def answers_refused():
 def answer_too_large():
     """An answer that is too large for a server of gRPC itself is refused once."""
     with Server(options=[("grpc.max_receive_message_length", 4 << 20)]) as server, Bridge(server.port) as bridge:
+        same("outcome", bridge.answered(TASK, POLL), {})
         begun = time.monotonic()
         code, text = bridge.answered(ANSWER, answer_to("x" * (5 << 20)))
         same("code", code, 8)
