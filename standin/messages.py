@@ -187,6 +187,6 @@ def command_in(value):
     return kind, value[name], fault_in(value[name], COMMANDS[kind], kind)
 
 
-def seconds_of(duration):
+def milliseconds_of(duration):
     """A duration in milliseconds."""
     return round(float(duration[:-1]) * 1000)

@@ -32,7 +32,8 @@ from peers import Settings  # noqa: E402
 from pipes import Pipes  # noqa: E402
 from server import Server  # noqa: E402
 from troubles import KINDS, Troubles, names_of  # noqa: E402
-from workflows import ORDERS, OUTSIDE, SAMPLES, STRANGE, World  # noqa: E402
+from workflows import STRANGE, Orders, Own, Samples  # noqa: E402
+from world import World  # noqa: E402
 
 PROGRAMS = {"samples": TOP / "crates/wfhost/out/wfhost", "orders": TOP / "crates/order_worker/out/order_worker"}
 LIMIT_SECONDS = 600
@@ -48,10 +49,9 @@ class Loop:
     def __init__(self, options, seed, workers, cache):
         self.options, self.workers, self.cache = options, max(workers, 2) if cache else workers, cache
         self.troubles = Troubles(seed, options.trouble)
-        kinds = ORDERS if options.orders else SAMPLES
-        self.world = World(self.troubles, kinds, options.runs, options.open, options.activity_workers > 0)
+        self.workflows = workflows_of(options, self.troubles.dice)
+        self.world = World(self.troubles, self.workflows, options.runs, options.open, options.activity_workers > 0)
         self.server = Server(Settings(is_sticky=cache > 0), self.troubles, self.world)
-        self.world.server = self.server
         self.pipes = front(options)(self.server, self.troubles)
         self.dice, self.begun, self.killed, self.count = random.Random(seed), time.monotonic(), 0, 0
         self.title = f"seed {seed}, {workers} workers, cache {cache}"
@@ -75,7 +75,7 @@ class Loop:
     def is_over(self):
         """Whether all runs are closed, or it takes too long, or too much is wrong."""
         is_late = time.monotonic() - self.begun > self.options.limit
-        return self.world.is_over() or is_late or len(self.server.wrong) > MOST_WRONG
+        return self.world.is_over() or is_late or len(self.server.findings.wrong) > MOST_WRONG
 
     def run(self):
         """Runs the loop, and answers what is wrong."""
@@ -94,8 +94,8 @@ class Loop:
                 break
         ended = self.pipes.stop_all(END_SECONDS)
         self.keep(ended)
-        wrong = list(self.server.wrong)
-        wrong += [f"not closed: {run.kind} {run.workflow_id}" for run in self.server.runs if not run.closed]
+        wrong = list(self.server.findings.wrong)
+        wrong += [f"not closed: {run.kind} {run.workflow_id}" for run in self.server.runs.all if not run.closed]
         wrong += self.world.failures
         return wrong + self.replayed() + [what for process in ended for what in self.reported(process)]
 
@@ -111,7 +111,7 @@ class Loop:
         """What replay says against the histories."""
         with tempfile.TemporaryDirectory() as room:
             folder = Path(self.options.keep or room)
-            runs = [run for run in self.server.runs if run.kind not in (*OUTSIDE, STRANGE)]
+            runs = [run for run in self.server.runs.all if run.kind != STRANGE and not self.world.is_outside(run.kind)]
             for at, run in enumerate(runs):
                 Path(folder, f"{at:06}-{run.kind}.json").write_text(json.dumps({"events": run.events}))
             ran = self.replay(folder)
@@ -135,10 +135,10 @@ class Loop:
             return [f"{name}: no report: {said[-500:]}"]
         taken, completed, failed, in_hand = map(int, report.groups())
         rows = [("in hand", in_hand, 0), ("taken", taken, completed + failed)]
-        if not process.peer.is_cut:
-            # Of one whose input has ended nobody knows what it was still told.
+        if not process.peer.is_cut and not process.peer.is_disturbed:
+            # Of one whose input has ended, or whose connection was lost, nobody knows which responses reached it.
             rows += self.rows_of(process.peer.counts, calls)
-        wrong = [f"{name}: {what} {told}, by the server {counted}" for what, told, counted in rows if told != counted]
+        wrong = [f"{name}: {what} {said}, by the server {counted}" for what, said, counted in rows if said != counted]
         return wrong + self.bounds(process.peer, taken)
 
     def rows_of(self, counts, calls):
@@ -156,22 +156,28 @@ class Loop:
         """A worker takes no more tasks than it was given, and no fewer than it answered."""
         given = peer.counts["given"] + peer.counts["activities given"]
         answers = peer.counts["answers"] + peer.counts["activity answers"]
-        if answers <= taken <= given:
+        if answers <= taken <= given or peer.is_disturbed:
             return []
         return [f"{peer.name}: taken {taken}, by the server {answers} answers to {given} tasks"]
 
     def line(self):
         """What the loop did."""
-        counts = self.server.counts
-        peers = self.server.peers
+        counts, peers = self.server.findings.counts, self.server.peers
         hits, misses = (sum(peer.counts[what] for peer in peers) for what in ("hits", "misses"))
         refused = counts["unhandled"]
         not_found = sum(peer.counts[5] for peer in peers)
         seconds = time.monotonic() - self.begun
         met = ", ".join(f"{name} {times}" for name, times in self.troubles.met.items() if times)
-        line = f"{self.title}: {len(self.server.runs)} runs, {counts['given']} tasks, {hits} hits, {misses} misses, "
+        line = f"{self.title}: {len(self.server.runs.all)} runs, {counts['given']} tasks, {hits} hits, {misses} misses, "
         line += f"{not_found} not found, {refused} refused, {self.killed} killed, {seconds:.1f} s"
         return line + (f"; {met}" if met else "")
+
+
+def workflows_of(asked, dice):
+    """The workflows that are run."""
+    if asked.kinds:
+        return Own(dice, asked.kinds, asked.timers, asked.signals, asked.input)
+    return Orders(dice) if asked.orders else Samples(dice)
 
 
 def front(asked):
@@ -189,6 +195,26 @@ def numbers(text):
     return [int(word) for word in text.split(",")]
 
 
+def names(text):
+    return [word for word in text.split(",") if word]
+
+
+def firings(text):
+    """Which timers fire, and after how many milliseconds where it is not after their own time."""
+    found = {}
+    for word in names(text):
+        name, equals, seconds = word.partition("=")
+        found[name] = round(float(seconds) * 1000) if equals else None
+    return {} if text == "none" else found
+
+
+def values(text):
+    found = json.loads(text)
+    if not isinstance(found, list):
+        raise ValueError(text)
+    return found
+
+
 def options():
     """The command line."""
     parser = argparse.ArgumentParser(description=__doc__, formatter_class=argparse.RawDescriptionHelpFormatter)
@@ -197,6 +223,12 @@ def options():
     which = parser.add_mutually_exclusive_group()
     which.add_argument("--samples", action="store_true", help="the six samples of wfhost (otherwise)")
     which.add_argument("--orders", action="store_true", help="orders, by order_worker")
+    which.add_argument("--kinds", type=names, help="workflow types of one's own, with commas, of the program of --program")
+    parser.add_argument("--timers", type=firings, default="all", help="with --kinds, the timers that fire: all, none, or names "
+                        "with commas; NAME=SECONDS, or all=SECONDS, fires after so many")
+    parser.add_argument("--signals", type=names, default=[], help="with --kinds, names of signals, with commas, of which each run gets "
+                        "some at random until it closes")
+    parser.add_argument("--input", type=values, help="with --kinds, the input of each run, as a JSON list of its values")
     parser.add_argument("--workers", type=numbers, default=[4], help="numbers of workers, with commas")
     parser.add_argument("--activity-workers", type=int, default=0, help="0: the stand-in serves the activities")
     parser.add_argument("--cache", type=numbers, default=[10], help="capacities of the cache, with commas")
@@ -210,6 +242,8 @@ def options():
     parser.add_argument("--more", type=str.split, default=[], help="more options of the worker, as words")
     parser.add_argument("--keep", help="a folder for the histories and what the workers said")
     found = parser.parse_args()
+    if found.kinds and not found.program:
+        parser.error("--kinds wants the program that has them: --program PROGRAM")
     found.program = found.program or [str(PROGRAMS["orders" if found.orders else "samples"])]
     if not shutil.which(found.program[0]):
         parser.error(f"{found.program[0]} is not built")
