@@ -54,7 +54,7 @@ class Given:
         self.peer, self.run, self.task, self.is_partial = peer, run, task, is_partial
         self.times, self.answers, self.hits, self.repeats = 1, 0, 0, 0
         self.before, self.last_cached = run.before, peer.cached.get(run)
-        self.has_fetched = self.is_stale = False
+        self.is_speculative, self.has_fetched, self.is_stale = task.is_speculative, False, False
         peer.has.setdefault(run, []).append(self)
 
 

@@ -29,6 +29,8 @@ HOSTILE = [
     b'{"jsonrpc":"2.0","id":%d,"result":{"taskToken":"\xff\xfe"}}',
     b"[" * 1000,
 ]
+# Within how many seconds a worker knows that it was told to end.
+KNOWS_SECONDS = 3
 
 
 class Process:
@@ -44,8 +46,8 @@ class Process:
         os.set_blocking(self.child.stdout.fileno(), False)
         self.read, self.ready, self.unsent = b"", [], b""
         self.ids, self.is_over, self.is_cut = set(), False, False
-        # Whether it was told to shut down, and whether its open polls stay open then.
-        self.is_stopped = self.is_unanswered = False
+        # Whether it was told to shut down, and what then ends its open polls, and until when.
+        self.is_stopped, self.ending, self.ends_until = False, None, 0
 
     def report(self):
         """What it has said on standard error."""
@@ -166,15 +168,24 @@ class Pipes:
         self.ending.append(process)
 
     def shut_down(self, process):
-        """Tells a worker to end. Its open polls are ended too, as a bridge does, or stay open."""
-        process.is_stopped, process.is_unanswered = True, self.troubles.happens("unanswered")
+        """Tells a worker to end. Its polls then end by code 1, as from a bridge. Or they are empty, as long as it may have
+        asked for them before it knew, and later ones are never answered. Or none is answered."""
+        process.is_stopped, process.ends_until = True, time.monotonic() + KNOWS_SECONDS
+        if self.troubles.happens("open"):
+            process.ending = None
+        else:
+            process.ending = "empty" if self.troubles.happens("unanswered") else "closed"
         process.ready.append(b'{"jsonrpc":"2.0","method":"shutdown"}')
         self.write(process)
 
-    def close_polls(self, process):
+    def end_polls(self, process):
         """Ends the polls of a worker that was told to end."""
-        if process.is_stopped and not process.is_unanswered:
+        if process.ending == "closed":
             self.server.polls.close(process.peer, "shutdown")
+        elif process.ending == "empty" and time.monotonic() < process.ends_until:
+            for poll in self.server.polls.take_all(process.peer):
+                process.peer.counts["empty"] += 1
+                poll.answer({})
 
     def stop_all(self, seconds):
         """Tells all workers to end, and waits for it. Those that don't are killed, and answered."""
@@ -185,7 +196,7 @@ class Pipes:
                 self.shut_down(process)
         while self.processes and time.monotonic() < until:
             for process in self.processes:
-                self.close_polls(process)
+                self.end_polls(process)
             self.turn()
         for process in list(self.processes):
             self.server.findings.blame(process.peer, "it does not end when it is told to")

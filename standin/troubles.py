@@ -15,7 +15,8 @@ KINDS = {
     "lost": (0.03, "an answer is taken and its response lost, or the result of a poll is lost"),
     "hostile": (0.03, "a line that is no response to a call that waits (pipes alone)"),
     "order": (0.50, "responses come in another order than they were made (pipes alone)"),
-    "unanswered": (0.50, "at a shutdown the open polls of a process are never answered (pipes alone)"),
+    "unanswered": (0.50, "at a shutdown open polls end without code 1, and later ones are never answered (pipes alone)"),
+    "open": (1.00, "at a shutdown open polls are never answered, which docs/WIRE.md excludes (pipes alone; not in `all`)"),
     "queries": (0.03, "a query on its own, or beside a task"),
     "during": (0.15, "a signal, a cancel or a timer comes while the task is in hand"),
     "late": (0.30, "the event of an activity's start is written at once, and not only with that of its end"),
@@ -26,6 +27,8 @@ KINDS = {
     "dead": (0.01, "a second in which a connection goes dead: nothing goes through, and nobody closes it (gRPC alone)"),
     "away": (0.05, "a second after which the server is away for some (gRPC alone)"),
 }
+# What a bridge never does.
+NOT_IN_ALL = ("open",)
 
 
 class Troubles:
@@ -47,7 +50,7 @@ class Troubles:
 def names_of(text):
     """The kinds that a text names: `all`, `none`, or names with commas between. A ValueError where there is no such kind."""
     if text == "all":
-        return list(KINDS)
+        return [name for name in KINDS if name not in NOT_IN_ALL]
     names = [] if text == "none" else text.split(",")
     if not set(names) <= set(KINDS):
         raise ValueError(f"no kinds of trouble: {text}")

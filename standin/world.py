@@ -111,7 +111,7 @@ class World:
         run = given.run
         is_right = message == (SAID_OF_STRANGE if run.kind == STRANGE else "not a task" if given.is_stale else None)
         if not is_right:
-            what = "a speculative task" if given.task.is_speculative else "a task"
+            what = "a speculative task" if given.is_speculative else "a task"
             self.failures.append(f"{what} of {run.kind} {run.workflow_id} was failed: {message}")
 
     def completed(self, run, commands):
