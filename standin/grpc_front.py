@@ -22,12 +22,12 @@ from forwarder import Forwarder
 from peers import CANCELLED, EXHAUSTED, UNAVAILABLE, Peer, Refused
 
 TOP = Path(__file__).resolve().parent
-BRIDGE = TOP.parent / "bridge/temporal_bridge.py"
 CODES = {code.value[0]: code for code in grpc.StatusCode}
 # What a call of a worker is refused with for good: the bridge tries again after the codes of an outage.
 FINAL_CODES = (9,)
 MOST_THREADS = 400
-AWAY_SECONDS = 3
+# For how many seconds the server is away, and after how many a bridge has found out that its connection is dead.
+AWAY_SECONDS, DEAD_SECONDS = 3, 60
 
 
 class Waiting:
@@ -156,21 +156,22 @@ class Weather:
 
     def __init__(self, calls):
         self.calls, self.forwarder = calls, Forwarder(calls.port)
-        self.last, self.back = time.monotonic(), 0
+        self.last, self.until = time.monotonic(), 0
 
     def pass_by(self):
-        """Looks once a second, while the server is not away, whether something happens."""
+        """Looks once a second whether something happens, unless it is not over yet."""
         now = time.monotonic()
-        if now - self.last < 1 or now < self.back:
+        if now - self.last < 1 or now < self.until:
             return
         self.last, troubles = now, self.calls.troubles
         if troubles.happens("dead"):
             self.lose_connections()
             self.forwarder.die()
+            self.until = now + DEAD_SECONDS
         elif troubles.happens("away"):
             self.lose_connections()
             self.forwarder.leave(AWAY_SECONDS)
-            self.back = now + AWAY_SECONDS + 1
+            self.until = now + AWAY_SECONDS + 1
 
     def lose_connections(self):
         for peer in self.calls.server.peers:
@@ -180,8 +181,8 @@ class Weather:
 class Front:
     """All bridges, and the server after its port."""
 
-    def __init__(self, server, troubles):
-        self.server = server
+    def __init__(self, server, bridge):
+        self.server, self.bridge = server, bridge
         server.final_codes = FINAL_CODES
         self.calls = Calls(server)
         self.calls.listen()
@@ -191,7 +192,7 @@ class Front:
     def start(self, command, name, pollers):
         """Starts a bridge with a worker."""
         address = f"127.0.0.1:{self.weather.forwarder.port}"
-        bridge = [sys.executable, str(BRIDGE), "--address", address, "--", *command]
+        bridge = [sys.executable, str(self.bridge), "--address", address, "--", *command]
         with self.calls.lock:
             process = Bridged(bridge, name, pollers)
             self.processes.append(process)

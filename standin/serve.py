@@ -20,7 +20,7 @@ def options():
     parser = argparse.ArgumentParser(description=__doc__)
     parser.add_argument("--port", type=int, default=0, help="0: a free one")
     parser.add_argument("--task-queues", type=lambda text: text.split(","), default=["q"], help="names, with commas")
-    parser.add_argument("--speed", type=float, default=20, help="how fast its clock is")
+    parser.add_argument("--speed", type=float, default=6, help="how much faster its clock is than others")
     parser.add_argument("--trouble", type=names_of, default="none", help="as for tests/loops.py")
     parser.add_argument("--seed", type=int, default=1)
     return parser.parse_args()

@@ -36,6 +36,7 @@ from workflows import STRANGE, Orders, Own, Samples  # noqa: E402
 from world import World  # noqa: E402
 
 PROGRAMS = {"samples": TOP / "crates/wfhost/out/wfhost", "orders": TOP / "crates/order_worker/out/order_worker"}
+BRIDGE = TOP / "bridge/temporal_bridge.py"
 LIMIT_SECONDS = 600
 END_SECONDS = 30
 MOST_WRONG = 100
@@ -52,7 +53,7 @@ class Loop:
         self.workflows = workflows_of(options, self.troubles.dice)
         self.world = World(self.troubles, self.workflows, options.runs, options.open, options.activity_workers > 0)
         self.server = Server(Settings(is_sticky=cache > 0), self.troubles, self.world)
-        self.pipes = front(options)(self.server, self.troubles)
+        self.front = front(options, self.server, self.troubles)
         self.dice, self.begun, self.killed, self.count = random.Random(seed), time.monotonic(), 0, 0
         self.title = f"seed {seed}, {workers} workers, cache {cache}"
 
@@ -66,11 +67,11 @@ class Loop:
     def start_worker(self):
         self.count += 1
         name = f"worker-{self.count}"
-        self.pipes.start(self.command(name), name, self.workers + self.options.activity_workers)
+        self.front.start(self.command(name), name, self.workers + self.options.activity_workers)
 
     def living(self):
         """The workers that are neither killed nor cut off."""
-        return [process for process in self.pipes.processes if not process.peer.is_gone]
+        return [process for process in self.front.processes if not process.peer.is_gone]
 
     def is_over(self):
         """Whether all runs are closed, or it takes too long, or too much is wrong."""
@@ -83,16 +84,16 @@ class Loop:
             self.start_worker()
         killed_at = time.monotonic()
         while not self.is_over():
-            self.pipes.turn()
+            self.front.turn()
             if self.options.kill and time.monotonic() - killed_at > self.options.kill:
                 killed_at = time.monotonic()
                 self.killed += 1
-                self.dice.choice([self.pipes.kill, self.pipes.cut])(self.dice.choice(self.living()))
+                self.dice.choice([self.front.kill, self.front.cut])(self.dice.choice(self.living()))
             while self.options.kill and len(self.living()) < self.options.processes:
                 self.start_worker()
             if not self.living():
                 break
-        ended = self.pipes.stop_all(END_SECONDS)
+        ended = self.front.stop_all(END_SECONDS)
         self.keep(ended)
         wrong = list(self.server.findings.wrong)
         wrong += [f"not closed: {run.kind} {run.workflow_id}" for run in self.server.runs.all if not run.closed]
@@ -128,7 +129,8 @@ class Loop:
     def reported(self, process):
         """What is wrong with the end of a worker and with its report."""
         said, name, status = process.report(), process.peer.name, process.child.returncode
-        if status not in ((0, 1) if self.troubles.met.get("calls") else (0,)):
+        may_lose = self.troubles.met.get("calls") or process.peer.is_disturbed
+        if status not in ((0, 1) if may_lose else (0,)):
             return [f"{name}: status {status}: {said[-500:]}"]
         report, calls = re.search(REPORT, said), re.search(CALLS, said)
         if not report or not calls:
@@ -180,15 +182,15 @@ def workflows_of(asked, dice):
     return Orders(dice) if asked.orders else Samples(dice)
 
 
-def front(asked):
+def front(asked, server, troubles):
     """What stands between the server and the workers."""
     if not asked.grpc:
-        return Pipes
+        return Pipes(server, troubles)
     try:
         from grpc_front import Front
     except ImportError as missing:
         sys.exit(f"{missing}: --grpc needs grpcio and protobuf, such as Debian's python3 has with python3-grpcio")
-    return Front
+    return Front(server, asked.bridge)
 
 
 def numbers(text):
@@ -235,6 +237,7 @@ def options():
     parser.add_argument("--trouble", type=names_of, default="all", help="all, none, or kinds with commas: " + ", ".join(KINDS))
     parser.add_argument("--kill", type=float, nargs="?", const=1.0, default=0, help="every so many seconds kills a worker or ends its input")
     parser.add_argument("--grpc", action="store_true", help="through the bridge, over gRPC")
+    parser.add_argument("--bridge", default=BRIDGE, help="with --grpc, another bridge")
     parser.add_argument("--processes", type=int, default=1, help="worker processes on the one queue")
     parser.add_argument("--seeds", type=numbers, default=[1], help="seeds, with commas")
     parser.add_argument("--limit", type=float, default=LIMIT_SECONDS, help="seconds that a loop may take")
