@@ -12,6 +12,8 @@ CLOSINGS = {
     "CANCEL_WORKFLOW_EXECUTION": "WorkflowExecutionCanceled",
     "CONTINUE_AS_NEW_WORKFLOW_EXECUTION": "WorkflowExecutionContinuedAsNew",
 }
+# What a run hands on to the one that continues it.
+CARRIED_OVER = ("memo", "retryPolicy", "searchAttributes")
 
 
 class Check:
@@ -95,7 +97,10 @@ class Check:
         return "" if good else f"a marker has {change!r} and {version!r}"
 
     def continue_as_new_workflow_execution(self, attributes):
-        return self.queue(attributes)
+        """The next run gets what this one began with."""
+        first = self.run.events[0]["workflowExecutionStartedEventAttributes"]
+        changed = [name for name in CARRIED_OVER if attributes.get(name) != first.get(name)]
+        return self.queue(attributes) or (f"{changed[0]} is not that of the run" if changed else "")
 
 
 def lone(payloads):

@@ -48,10 +48,17 @@ class Troubles:
 
 
 def names_of(text):
-    """The kinds that a text names: `all`, `none`, or names with commas between. A ValueError where there is no such kind."""
-    if text == "all":
-        return [name for name in KINDS if name not in NOT_IN_ALL]
-    names = [] if text == "none" else text.split(",")
-    if not set(names) <= set(KINDS):
-        raise ValueError(f"no kinds of trouble: {text}")
+    """The kinds that a text names: `none`, or words with commas between, each a name, `all`, or `-` and a name that is left
+    out of those before. A ValueError where there is no such kind."""
+    names = []
+    for word in text.split(",") if text != "none" else []:
+        name = word.lstrip("-")
+        if name not in KINDS and word != "all":
+            raise ValueError(f"no kind of trouble: {word}")
+        if word == "all":
+            names += [one for one in KINDS if one not in NOT_IN_ALL]
+        elif word == name:
+            names.append(name)
+        else:
+            names = [one for one in names if one != name]
     return names

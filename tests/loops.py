@@ -234,7 +234,7 @@ def options():
     parser.add_argument("--workers", type=numbers, default=[4], help="numbers of workers, with commas")
     parser.add_argument("--activity-workers", type=int, default=0, help="0: the stand-in serves the activities")
     parser.add_argument("--cache", type=numbers, default=[10], help="capacities of the cache, with commas")
-    parser.add_argument("--trouble", type=names_of, default="all", help="all, none, or kinds with commas: " + ", ".join(KINDS))
+    parser.add_argument("--trouble", type=names_of, default="all", help="none, or kinds with commas, where -KIND leaves one out: all, " + ", ".join(KINDS))
     parser.add_argument("--kill", type=float, nargs="?", const=1.0, default=0, help="every so many seconds kills a worker or ends its input")
     parser.add_argument("--grpc", action="store_true", help="through the bridge, over gRPC")
     parser.add_argument("--bridge", default=BRIDGE, help="with --grpc, another bridge")
