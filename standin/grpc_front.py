@@ -17,7 +17,7 @@ import grpc
 from google.protobuf import json_format
 
 from clients import Clients
-from definitions import CLASSES, SERVICE
+from definitions import CLASSES
 from forwarder import Forwarder
 from peers import CANCELLED, EXHAUSTED, UNAVAILABLE, Peer, Refused
 
@@ -64,7 +64,7 @@ class Calls(grpc.GenericRpcHandler):
 
     def service(self, details):
         """What serves a call."""
-        method = details.method.removeprefix(SERVICE)
+        method = details.method.rpartition("/")[2]
         request, response = CLASSES.get(method + "Request"), CLASSES.get(method + "Response")
         if request is None:
             return None

@@ -190,8 +190,8 @@ def command_in(value):
     """The kind of a command and its attributes, or what is wrong with it."""
     if not isinstance(value, dict) or not isinstance(value.get("commandType"), str):
         return None, None, "a command has no type"
-    kind = value["commandType"].removeprefix("COMMAND_TYPE_")
-    if kind not in COMMANDS or value["commandType"] == kind:
+    prefix, _, kind = value["commandType"].partition("COMMAND_TYPE_")
+    if kind not in COMMANDS or prefix:
         return None, None, f"a command has the type {value['commandType']}"
     name = attributes_name(kind)
     if set(value) != {"commandType", name}:

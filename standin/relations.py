@@ -63,7 +63,7 @@ class Relations:
         if parent is None or parent.closed is not None or number not in parent.children:
             return
         child = parent.children.pop(number)
-        kind = "ChildWorkflowExecution" + run.closed.removeprefix("WorkflowExecution")
-        made = {"initiatedEventId": str(number), "workflowExecution": run.execution, "workflowType": {"name": run.kind}}
-        made |= {name: attributes[name] for name in ("result", "failure") if name in attributes}
-        parent.come_in(kind, lambda: {**made, "startedEventId": str(child.started)})
+        made = {name: attributes[name] for name in ("result", "failure") if name in attributes}
+        made["workflowExecution"], made["workflowType"] = run.execution, {"name": run.kind}
+        made["initiatedEventId"] = str(number)
+        parent.come_in("Child" + run.closed, lambda: {**made, "startedEventId": str(child.started)})

@@ -28,8 +28,8 @@ class Queries:
         peer.counts["queries"] += 1
         self.server.in_hand.add(token, peer)
         result = {"taskToken": token, "workflowExecution": run.execution, "workflowType": {"name": run.kind}}
-        result |= page_of(self.server.histories.pages.first(run.execution, list(run.events)))
-        poll.answer(left_out({**result, "query": {"queryType": "state"}}))
+        page = page_of(self.server.histories.pages.first(run.execution, list(run.events)))
+        poll.answer({**result, **page, "query": {"queryType": "state"}})
 
     def answered(self, peer, params):
         token = params["taskToken"]

@@ -217,6 +217,15 @@ def values(text):
     return found
 
 
+def add_options_of_kinds(parser):
+    """What goes with --kinds."""
+    found = parser.add_argument_group("with --kinds (docs/LIVE.md)")
+    found.add_argument("--timers", type=firings, default="all", help="timers that fire: all, none, or names with commas; NAME=SECONDS "
+                       "or all=SECONDS fire after so many seconds in place of their own")
+    found.add_argument("--signals", type=names, default=[], help="names of signals, with commas, that come at random until a run closes")
+    found.add_argument("--input", type=values, help="the input of each run, as a JSON list of its values")
+
+
 def options():
     """The command line."""
     parser = argparse.ArgumentParser(description=__doc__, formatter_class=argparse.RawDescriptionHelpFormatter)
@@ -225,12 +234,7 @@ def options():
     which = parser.add_mutually_exclusive_group()
     which.add_argument("--samples", action="store_true", help="the six samples of wfhost (otherwise)")
     which.add_argument("--orders", action="store_true", help="orders, by order_worker")
-    which.add_argument("--kinds", type=names, help="workflow types of one's own, with commas, of the program of --program")
-    parser.add_argument("--timers", type=firings, default="all", help="with --kinds, the timers that fire: all, none, or names "
-                        "with commas; NAME=SECONDS, or all=SECONDS, fires after so many")
-    parser.add_argument("--signals", type=names, default=[], help="with --kinds, names of signals, with commas, of which each run gets "
-                        "some at random until it closes")
-    parser.add_argument("--input", type=values, help="with --kinds, the input of each run, as a JSON list of its values")
+    which.add_argument("--kinds", type=names, help="workflow types, with commas, of the program that --program names")
     parser.add_argument("--workers", type=numbers, default=[4], help="numbers of workers, with commas")
     parser.add_argument("--activity-workers", type=int, default=0, help="0: the stand-in serves the activities")
     parser.add_argument("--cache", type=numbers, default=[10], help="capacities of the cache, with commas")
@@ -244,6 +248,7 @@ def options():
     parser.add_argument("--program", type=str.split, help="another program, as words")
     parser.add_argument("--more", type=str.split, default=[], help="more options of the worker, as words")
     parser.add_argument("--keep", help="a folder for the histories and what the workers said")
+    add_options_of_kinds(parser)
     found = parser.parse_args()
     if found.kinds and not found.program:
         parser.error("--kinds wants the program that has them: --program PROGRAM")
