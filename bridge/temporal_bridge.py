@@ -1,28 +1,35 @@
 #!/usr/bin/env python3
 """Connects a worker of this host with a Temporal server.
 
-    temporal_bridge.py --address localhost:7233 -- ./wfhost work --task-queue orders --identity {identity}
+    temporal_bridge.py --address localhost:7233 -- \\
+        ./wfhost work --task-queue orders --namespace {namespace} --identity {identity}
 
 It starts the command after `--`, reads its requests (JSON-RPC 2.0, an object a line, on the command's standard output),
 makes each call of `temporal.api.workflowservice.v1.WorkflowService`, and writes the response to the command's standard
-input. It decides nothing about a workflow. `{identity}` among the words of the command is replaced by a name that no other
-process has. On SIGTERM and SIGINT it tells the command to shut down and waits for its end; a second one ends both. Its
-status is that of the command, or 2 where that could not be started or connected.
+input. Each request gets a response, and nothing is decided about a workflow. Among the words of the command `{identity}`
+is replaced by a name that no other process has, and `{namespace}` by the one of --namespace. On SIGTERM and SIGINT it
+tells the command to shut down and waits for its end; a second one ends both. Its status is that of the command, or 2
+where that could not be started or connected.
 
 It needs Python 3.8 or later and two packages: `pip install temporalio grpcio`.
 """
 
 import argparse
 import json
+import math
 import os
 import signal
 import socket
+import ssl
 import subprocess
 import sys
 import threading
 import time
 import uuid
+from collections import deque
+from functools import lru_cache
 
+signal.signal(signal.SIGINT, signal.SIG_DFL)  # Until the command runs there is nothing to be told.
 os.environ.setdefault("GRPC_VERBOSITY", "NONE")  # What goes wrong is said once, by this program.
 try:
     import grpc
@@ -37,174 +44,296 @@ SERVICE = "/temporal.api.workflowservice.v1.WorkflowService/"
 POLL_SECONDS = 70
 CALL_SECONDS = 10
 FIRST_WAIT, LONGEST_WAIT = 0.1, 2.0
-MOST_BYTES = 128 << 20
-CANCELLED, INVALID, DEADLINE, UNIMPLEMENTED, UNAVAILABLE = 1, 3, 4, 12, 14
-TRUE = ("1", "true", "yes")
+# A worker has 64 requests open at most, each in a thread.
+MOST_CALLS = 80
+# What the host reads of a line: so many bytes, and values in one another.
+MOST_BYTES, MOST_LEVELS = 128 << 20, 127
+CANCELLED, INVALID, DEADLINE, EXHAUSTED, UNIMPLEMENTED, INTERNAL, UNAVAILABLE = 1, 3, 4, 8, 12, 13, 14
+# The codes after which the same call may do better: those that Temporal's own workers try again, and that of a call which
+# a proxy or a server that ends has given up.
+PASSING = (CANCELLED, 2, EXHAUSTED, 10, 11, INTERNAL, UNAVAILABLE, 15)
+# How gRPC says, in C and Go or in Java, that a message is too large, which it is the next time too.
+TOO_LARGE = ("larger than max", "exceeds maximum size")
+CHANNEL = {
+    "grpc.max_receive_message_length": MOST_BYTES,
+    "grpc.max_send_message_length": MOST_BYTES,
+    # A connection without a sign of life is found dead within 45 seconds, and tried again at least each five.
+    "grpc.keepalive_time_ms": 30_000,
+    "grpc.keepalive_timeout_ms": 15_000,
+    "grpc.keepalive_permit_without_calls": 1,
+    "grpc.http2.max_pings_without_data": 0,
+    "grpc.max_reconnect_backoff_ms": 5_000,
+}
+SHUTDOWN = b'{"jsonrpc":"2.0","method":"shutdown"}\n'
+
+
+class Unusable(Exception):
+    """Why the options can't be used."""
 
 
 def say(text):
-    print(f"temporal_bridge: {text}", file=sys.stderr, flush=True)
+    try:
+        print(f"temporal_bridge: {text}", file=sys.stderr, flush=True)
+    except OSError:
+        pass  # Nobody reads it.
 
 
-def setting(*names, otherwise=None):
-    """What the first of these environment variables says that is there."""
-    return next((os.environ[name] for name in names if os.environ.get(name)), otherwise)
+def seconds(text):
+    """A number of seconds, from 0."""
+    number = float(text)
+    if not 0 <= number < math.inf:
+        raise ValueError
+    return number
 
 
 def options():
     """The command line, where what is not said is taken from the environment, as by Temporal's own command."""
     shape = argparse.RawDescriptionHelpFormatter
     parser = argparse.ArgumentParser(description=__doc__, formatter_class=shape, usage="%(prog)s [OPTIONS] -- COMMAND ..")
-    address = setting("TEMPORAL_ADDRESS", otherwise="localhost:7233")
-    namespace = setting("TEMPORAL_NAMESPACE", otherwise="default")
-    cert = setting("TEMPORAL_TLS_CLIENT_CERT_PATH", "TEMPORAL_TLS_CERT")
-    key = setting("TEMPORAL_TLS_CLIENT_KEY_PATH", "TEMPORAL_TLS_KEY")
-    authority = setting("TEMPORAL_TLS_SERVER_CA_CERT_PATH", "TEMPORAL_TLS_CA")
-    server = setting("TEMPORAL_TLS_SERVER_NAME")
-    tls = setting("TEMPORAL_TLS", otherwise="").lower() in TRUE
-    parser.add_argument("--address", default=address, help="host and port of the server (TEMPORAL_ADDRESS)")
-    parser.add_argument("--namespace", default=namespace, help="namespace that calls are made for (TEMPORAL_NAMESPACE)")
-    parser.add_argument("--tls", action="store_true", default=tls, help="use TLS (TEMPORAL_TLS)")
-    parser.add_argument("--tls-cert", default=cert, help="client's certificate, a file (TEMPORAL_TLS_CLIENT_CERT_PATH)")
-    parser.add_argument("--tls-key", default=key, help="its private key, a file (TEMPORAL_TLS_CLIENT_KEY_PATH)")
-    parser.add_argument("--tls-ca", default=authority, help="server's authority, a file (TEMPORAL_TLS_SERVER_CA_CERT_PATH)")
-    parser.add_argument("--tls-server-name", default=server, help="name in its certificate (TEMPORAL_TLS_SERVER_NAME)")
-    parser.add_argument("--api-key", default=setting("TEMPORAL_API_KEY"), help="key of an account (TEMPORAL_API_KEY)")
+
+    def add(name, what, *names, otherwise=None, **how):
+        held = next((os.environ[one] for one in names if os.environ.get(one)), otherwise)
+        parser.add_argument(name, default=held, help=f"{what} ({names[0]})" if names else what, **how)
+
+    add("--address", "host and port of the server", "TEMPORAL_ADDRESS", otherwise="localhost:7233")
+    add("--namespace", "what {namespace} stands for", "TEMPORAL_NAMESPACE", otherwise="default")
+    add("--wait", "how long to try for a server that is not up yet", type=seconds, otherwise=0, metavar="SECONDS")
+    add("--tls-cert", "client's certificate, a file", "TEMPORAL_TLS_CLIENT_CERT_PATH", "TEMPORAL_TLS_CERT", metavar="FILE")
+    add("--tls-key", "its private key, a file", "TEMPORAL_TLS_CLIENT_KEY_PATH", "TEMPORAL_TLS_KEY", metavar="FILE")
+    add("--tls-ca", "server's authority, a file", "TEMPORAL_TLS_SERVER_CA_CERT_PATH", "TEMPORAL_TLS_CA", metavar="FILE")
+    add("--tls-server-name", "name in the server's certificate", "TEMPORAL_TLS_SERVER_NAME", metavar="NAME")
+    add("--api-key", "key of an account", "TEMPORAL_API_KEY", metavar="KEY")
+    tls = os.environ.get("TEMPORAL_TLS", "").lower() in ("1", "true", "yes")
+    use_tls = "use TLS, which a key and each --tls-.. ask for too (TEMPORAL_TLS)"
+    parser.add_argument("--tls", action="store_true", default=tls, help=use_tls)
     parser.add_argument("command", nargs="+", help=argparse.SUPPRESS)
     return parser.parse_args()
 
 
-def content(path, what):
-    """What a file holds, which has to be a PEM of this kind; none where none is named."""
+def content(path):
+    """What a file holds; none where none is named."""
     if path is None:
         return None
-    with open(path, "rb") as file:
-        held = file.read()
-    if what.upper().encode() not in held:
-        raise OSError(0, f"it holds no {what}", path)
-    return held
+    try:
+        with open(path, "rb") as file:
+            return file.read()
+    except OSError as why:
+        raise Unusable(f"cannot read {path}: {why.strerror}") from why
+
+
+def check_files(cert, key, authority):
+    """Looks at the files for TLS, since of bad ones gRPC says nothing that helps."""
+    if (cert is None) != (key is None):
+        raise Unusable("--tls-cert and --tls-key go together, and one of them is not there")
+    context, looked_at = ssl.SSLContext(ssl.PROTOCOL_TLS_CLIENT), ""
+    try:
+        for looked_at in filter(None, (authority, cert)):
+            context.load_verify_locations(looked_at)
+    except ssl.SSLError as why:
+        raise Unusable(f"{looked_at} holds no certificates in PEM that can be read") from why
+    try:
+        if cert is not None:
+            context.load_cert_chain(cert, key, password=lambda: "")
+    except ssl.SSLError as why:
+        is_other = why.reason == "KEY_VALUES_MISMATCH"
+        fault = f"is not the one of {cert}" if is_other else "can't be read: it has to be PEM without a pass phrase"
+        raise Unusable(f"the private key in {key} {fault}") from why
 
 
 def connect(found):
     """A channel to the server."""
-    most = [("grpc.max_receive_message_length", MOST_BYTES), ("grpc.max_send_message_length", MOST_BYTES)]
+    given = list(CHANNEL.items())
     if found.tls_server_name:
-        most.append(("grpc.ssl_target_name_override", found.tls_server_name))
-    if not (found.tls or found.tls_cert or found.tls_ca or found.api_key):
-        return grpc.insecure_channel(found.address, most)
-    authority, cert = (content(path, "certificate") for path in (found.tls_ca, found.tls_cert))
-    credentials = grpc.ssl_channel_credentials(authority, content(found.tls_key, "private key"), cert)
-    return grpc.secure_channel(found.address, credentials, most)
+        given.append(("grpc.ssl_target_name_override", found.tls_server_name))
+    files = found.tls_cert, found.tls_key, found.tls_ca
+    if not (found.tls or any(files) or found.tls_server_name or found.api_key):
+        return grpc.insecure_channel(found.address, given)
+    cert, key, authority = map(content, files)
+    check_files(*files)
+    return grpc.secure_channel(found.address, grpc.ssl_channel_credentials(authority, key, cert), given)
+
+
+def is_plain(text):
+    """Whether gRPC takes a text beside a call."""
+    return text.isascii() and text.isprintable()
+
+
+def api_key(text):
+    """The key of an account, which a file ends with a line break."""
+    key = text and text.rstrip("\r\n")
+    if key is not None and not (key and is_plain(key)):
+        raise Unusable("the API key is empty, or has a character that is not printable ASCII")
+    return key
 
 
 def request_in(line):
     """The request of a line; none where it is none."""
     try:
         request = json.loads(line)
-    except ValueError:
+    except (ValueError, RecursionError):
         return None
     is_request = isinstance(request, dict) and isinstance(request.get("method"), str) and "id" in request
     return request if is_request else None
+
+
+def line_of(number, result, error):
+    """The line of the response to a request: of its result where there is no error, which is a code and a text."""
+    outcome = {"result": result} if error is None else {"error": {"code": error[0], "message": error[1]}}
+    return json.dumps({"jsonrpc": "2.0", "id": number, **outcome}, separators=(",", ":")).encode() + b"\n"
+
+
+def levels(value):
+    """How many objects and lists of a JSON value are in one another."""
+    if not isinstance(value, (dict, list)):
+        return 0
+    return 1 + max(map(levels, value.values() if isinstance(value, dict) else value), default=0)
+
+
+def is_too_deep(line, result):
+    """Whether the line of a result nests deeper than the host reads. Each level has a bracket: most lines have too few."""
+    return line.count(b"{") + line.count(b"[") > MOST_LEVELS and 1 + levels(result) > MOST_LEVELS
+
+
+@lru_cache(maxsize=MOST_CALLS)
+def poll_message(made, params):
+    """The message of a poll, by the JSON text of its params, which are those of an earlier one mostly."""
+    return json_format.ParseDict(json.loads(params), made(), ignore_unknown_fields=True)
 
 
 class Bridge:
     """The command, the server, and the calls between them."""
 
     def __init__(self, found):
-        self.channel = connect(found)
-        self.metadata = [("temporal-namespace", found.namespace)]
-        if found.api_key:
-            self.metadata.append(("authorization", f"Bearer {found.api_key}"))
-        self.lock, self.open, self.stops, self.child = threading.Lock(), set(), 0, None
+        self.address, self.namespace, self.key = found.address, found.namespace, api_key(found.api_key)
+        # Polls have a channel of their own, whose end cancels them.
+        self.for_polls, self.for_others, self.stubs = connect(found), connect(found), {}
+        self.reading, self.writing, self.lines = threading.Lock(), threading.Lock(), deque()
+        self.is_stopped, self.stops, self.child = threading.Event(), 0, None
 
-    def greet(self):
-        """Whether the server answers at all; says why where it does not."""
-        try:
-            self.future("GetSystemInfo", messages.GetSystemInfoRequest(), CALL_SECONDS).result()
-        except grpc.RpcError as why:
-            if why.code().value[0] not in (INVALID, UNIMPLEMENTED):
-                say(f"no connection: {why.details()}")
+    def greet(self, longest):
+        """Whether the server answers within so many seconds, or at once; says why where it does not."""
+        until = time.monotonic() + longest
+        while True:
+            _, error = self.ask("GetSystemInfo", messages.GetSystemInfoRequest(), CALL_SECONDS)
+            if error is None or error[0] in (INVALID, UNIMPLEMENTED):
+                return True
+            if error[0] not in (*PASSING, DEADLINE) or time.monotonic() >= until:
+                say(f"no connection to {self.address}: {error[1]}")
                 return False
-        return True
+            time.sleep(FIRST_WAIT)
 
-    def future(self, method, request, seconds):
-        """A call that is under way."""
-        answer = getattr(messages, method + "Response")
-        call = self.channel.unary_unary(SERVICE + method, type(request).SerializeToString, answer.FromString)
-        return call.future(request, timeout=seconds, metadata=self.metadata)
+    def stub(self, method, request):
+        """What makes the calls of a method."""
+        if method not in self.stubs:
+            channel = self.for_polls if method.startswith("Poll") else self.for_others
+            response = getattr(messages, method + "Response")
+            self.stubs[method] = channel.unary_unary(SERVICE + method, type(request).SerializeToString, response.FromString)
+        return self.stubs[method]
 
-    def call(self, method, params):
-        """Makes one call: its result, or a code and a message."""
-        made = getattr(messages, method + "Request", None)
-        if made is None:
-            return None, (UNIMPLEMENTED, f"no call {method}")
+    def metadata(self, request):
+        """What goes beside a call: the namespace that it is for, and the key of an account."""
+        namespace = getattr(request, "namespace", "") or self.namespace
+        beside = [("temporal-namespace", namespace)] if is_plain(namespace) else []
+        return beside + ([("authorization", f"Bearer {self.key}")] if self.key else [])
+
+    def ask(self, method, request, longest):
+        """Makes one call: its result, or a code and a text."""
+        call, beside = self.stub(method, request), self.metadata(request)
         try:
-            request = json_format.ParseDict(params, made(), ignore_unknown_fields=True)
-        except json_format.ParseError as why:
-            return None, (INVALID, str(why))
-        return self.poll(method, request) if method.startswith("Poll") else self.insist(method, request)
+            return json_format.MessageToDict(call(request, timeout=longest, metadata=beside)), None
+        except grpc.RpcError as why:
+            return None, (why.code().value[0], why.details() or why.code().name)
 
     def poll(self, method, request):
-        """A poll that gets no task in time is an empty one. Polls that are open at a shutdown are cancelled."""
-        with self.lock:
-            if self.stops:
-                return None, (CANCELLED, "shutdown")
-            future = self.future(method, request, POLL_SECONDS)
-            self.open.add(future)
+        """A poll that gets no task in time is an empty one. One that is cancelled, but not by a shutdown, was so by a server
+        that ends or by a proxy, and a later one may do better."""
         try:
-            return self.outcome(future, {DEADLINE: ({}, None)})
-        finally:
-            with self.lock:
-                self.open.discard(future)
+            result, error = self.ask(method, request, POLL_SECONDS)
+        except ValueError:
+            if not self.stops:
+                raise
+            return None, (CANCELLED, "shutdown")  # The channel was closed.
+        code = None if error is None else error[0]
+        if code == CANCELLED:
+            return None, (CANCELLED, "shutdown") if self.stops else (UNAVAILABLE, error[1])
+        return ({}, None) if code == DEADLINE else (result, error)
 
     def insist(self, method, request):
-        """Any other call is tried again while the server is not there, but not for long."""
+        """Any other call is tried again while it may do better, but not for long."""
         until, wait = time.monotonic() + CALL_SECONDS, FIRST_WAIT
         while True:
-            result, error = self.outcome(self.future(method, request, CALL_SECONDS), {})
-            if error is None or error[0] != UNAVAILABLE or time.monotonic() + wait > until:
+            result, error = self.ask(method, request, CALL_SECONDS)
+            is_final = error is None or error[0] not in PASSING or any(words in error[1] for words in TOO_LARGE)
+            if is_final or time.monotonic() + wait > until:
                 return result, error
             time.sleep(wait)
             wait = min(2 * wait, LONGEST_WAIT)
 
-    def outcome(self, future, instead):
-        """What comes of a call that is under way. For some codes something else stands."""
-        try:
-            return json_format.MessageToDict(future.result()), None
-        except grpc.FutureCancelledError:
-            return None, (CANCELLED, "shutdown")
-        except grpc.RpcError as why:
-            code = why.code().value[0]
-            return instead.get(code, (None, (code, why.details() or why.code().name)))
+    def outcome(self, method, params):
+        """Makes the call of a request: its result, or a code and a text."""
+        made = getattr(messages, method + "Request", None)
+        if made is None:
+            return None, (UNIMPLEMENTED, f"no call {method}")
+        if not isinstance(params, dict):
+            return None, (INTERNAL, "the params are no object")
+        if method.startswith("Poll"):
+            return self.poll(method, poll_message(made, json.dumps(params)))
+        return self.insist(method, json_format.ParseDict(params, made(), ignore_unknown_fields=True))
 
     def answer(self, request):
-        """Makes the call of a request, and writes its response."""
-        result, error = self.call(request["method"], request.get("params", {}))
-        outcome = {"result": result} if error is None else {"error": {"code": error[0], "message": error[1]}}
-        self.write({"jsonrpc": "2.0", "id": request["id"], **outcome})
-
-    def write(self, value):
-        line = json.dumps(value, separators=(",", ":")).encode() + b"\n"
+        """Makes the call of a request, and writes its response. There is one that the host can read, whatever goes wrong."""
+        number = request["id"]
         try:
-            with self.lock:
-                self.child.stdin.write(line)
-                self.child.stdin.flush()
-        except (BrokenPipeError, ValueError):
-            pass  # The command has ended.
+            result, error = self.outcome(request["method"], request.get("params", {}))
+            line = line_of(number, result, error)
+            if len(line) > MOST_BYTES:
+                line = line_of(number, None, (EXHAUSTED, f"a response of {len(line)} bytes"))
+            elif is_too_deep(line, result):
+                line = line_of(number, None, (INTERNAL, f"a response of more than {MOST_LEVELS} levels"))
+        except Exception as why:
+            line = line_of(number, None, (INTERNAL, f"{type(why).__name__}: {why}"))
+        self.lines.append(line)
+        self.write()
+
+    def write(self):
+        """Writes the lines that are there, unless another thread is doing so: it writes these too. So where the command does
+        not read, one thread alone waits for it."""
+        while self.lines and self.writing.acquire(blocking=False):
+            try:
+                while self.lines:
+                    self.child.stdin.write(self.lines.popleft())
+                    self.child.stdin.flush()
+            except OSError:
+                pass  # The command reads no more.
+            finally:
+                self.writing.release()
+
+    def serve(self):
+        """Takes a request and answers it, again and again, as many threads do at once."""
+        while True:
+            with self.reading:
+                line = self.child.stdout.readline()
+            if not line:
+                return
+            request = request_in(line)
+            if request is None:
+                say(f"no request: {line[:200]!r}")
+            else:
+                self.answer(request)
 
     def stop(self, *_):
-        """Tells the command to shut down, and cancels the polls; at the second time ends it."""
+        """Has the command told to shut down; at the second time ends it."""
         self.stops += 1
         if self.stops > 1:
             return self.child.kill()
-        threading.Thread(target=self.drain, daemon=True).start()
+        self.is_stopped.set()
 
-    def drain(self):
-        self.write({"jsonrpc": "2.0", "method": "shutdown"})
-        with self.lock:
-            polls = list(self.open)
-        for poll in polls:
-            poll.cancel()
+    def shut_down(self):
+        """When it is time, tells the command to shut down, and cancels the polls."""
+        self.is_stopped.wait()
+        self.lines.append(SHUTDOWN)
+        self.for_polls.close()
+        self.write()
 
     def run(self, command):
         """Starts the command, serves it to its end, and answers its status."""
@@ -217,13 +346,15 @@ class Bridge:
             return 2
         signal.signal(signal.SIGTERM, self.stop)
         signal.signal(signal.SIGINT, self.stop)
-        for line in self.child.stdout:
-            request = request_in(line)
-            if request is None:
-                say(f"no request: {line[:200]!r}")
-            else:
-                threading.Thread(target=self.answer, args=(request,), daemon=True).start()
-        status = self.child.wait()
+        for work in [self.shut_down] + [self.serve] * MOST_CALLS:
+            threading.Thread(target=work, daemon=True).start()
+        # Again and again, since a signal that comes just before it waits is noted after that.
+        while self.child.returncode is None:
+            try:
+                self.child.wait(timeout=1)
+            except subprocess.TimeoutExpired:
+                pass
+        status = self.child.returncode
         return 128 - status if status < 0 else status
 
 
@@ -232,12 +363,13 @@ def main():
     identity = f"{socket.gethostname()}-{os.getpid()}-{uuid.uuid4().hex[:8]}"
     try:
         bridge = Bridge(found)
-    except OSError as why:
-        say(f"cannot read {why.filename}: {why.strerror}")
+    except Unusable as why:
+        say(why)
         return 2
-    if not bridge.greet():
+    if not bridge.greet(found.wait):
         return 2
-    return bridge.run([word.replace("{identity}", identity) for word in found.command])
+    words = (word.replace("{identity}", identity) for word in found.command)
+    return bridge.run([word.replace("{namespace}", found.namespace) for word in words])
 
 
 if __name__ == "__main__":
