@@ -37,7 +37,7 @@ BRIDGE = TOP / "bridge/temporal_bridge.py"
 PROGRAM = TOP / "crates/wfhost/out/wfhost"
 STAND_IN = TOP / "standin/serve.py"
 SERVICE = "/temporal.api.workflowservice.v1.WorkflowService/"
-CALL_SECONDS, PAGE_EVENTS, END_SECONDS = 10, 100, 30
+CALL_SECONDS, PAGE_EVENTS, END_SECONDS, REPLAY_SECONDS = 10, 100, 30, 600
 NOT_FOUND = 5
 # Codes after which a call may do better a little later.
 PASSING = (2, 4, 8, 10, 14)
@@ -183,8 +183,8 @@ class Worker:
         return self.said.read().decode(errors="replace")
 
 
-class Kind:
-    """Runs of some types on a task queue, and the worker that serves them."""
+class Service:
+    """Some workflow types on a task queue, and the worker that serves them."""
 
     def __init__(self, asked, address, program, queue, types):
         self.program, self.queue, self.types = program, queue, types
@@ -198,9 +198,9 @@ class Trial:
         self.asked, self.client, self.dice = asked, Client(asked, address), random.Random(asked.seed)
         self.name = f"wfhost-{uuid.uuid4().hex[:8]}"
         queue = asked.task_queue or self.name
-        self.kinds = [Kind(asked, address, asked.program, queue, SAMPLES)]
+        self.services = [Service(asked, address, asked.program, queue, SAMPLES)]
         if asked.orders:
-            self.kinds.append(Kind(asked, address, asked.orders, queue + "-orders", ("Order",)))
+            self.services.append(Service(asked, address, asked.orders, queue + "-orders", ("Order",)))
         self.executions, self.wrong, self.done = {}, [], Counter()
         self.until = time.monotonic() + asked.minutes * 60
 
@@ -210,43 +210,45 @@ class Trial:
     # Runs.
 
     def start(self, number):
-        """Starts a run, and perhaps has something come to it."""
-        kind = self.kinds[number % len(self.kinds)]
-        types = kind.types[number // len(self.kinds) % len(kind.types)]
-        workflow_id = f"{self.name}-{types.lower()}-{number}"
-        input = payloads({"cents": number}, workflow_id) if types == "Order" else payloads(f"person {number}")
-        execution = self.client.start(types, workflow_id, kind.queue, input)
-        self.executions[workflow_id] = (kind, types, execution)
+        """Starts a run."""
+        if time.monotonic() > self.until:
+            raise Wrong(f"the time is over after {number} runs")
+        service = self.services[number % len(self.services)]
+        kind = service.types[number // len(self.services) % len(service.types)]
+        workflow_id = f"{self.name}-{kind.lower()}-{number}"
+        input = payloads({"cents": number}, workflow_id) if kind == "Order" else payloads(f"person {number}")
+        execution = self.client.start(kind, workflow_id, service.queue, input)
+        self.executions[workflow_id] = (service, kind, execution)
 
     def disturb(self):
         """Signals some runs, and asks for the cancel of some."""
-        for types, execution in self.open_ones():
-            chance, name = SIGNALS.get(types, (0, ""))
-            if self.dice.random() < chance and self.may_be_called_off(types, execution):
+        for kind, execution in self.open_ones():
+            chance, name = SIGNALS.get(kind, (0, ""))
+            if self.dice.random() < chance and self.may_be_called_off(kind, execution):
                 self.client.signal(execution, name)
                 self.done["signals"] += 1
-            if self.dice.random() < CANCELS.get(types, 0) and self.may_be_called_off(types, execution):
+            if self.dice.random() < CANCELS.get(kind, 0) and self.may_be_called_off(kind, execution):
                 self.client.request_cancel(execution)
                 self.done["cancels"] += 1
 
-    def may_be_called_off(self, types, execution):
+    def may_be_called_off(self, kind, execution):
         """Whether a run closes still where something calls it off: a Greet and a Family that are called off in their first
         task start nothing, and wait for ever."""
-        events = self.client.history(execution) if types in ("Greet", "Family") else [OPENINGS]
+        events = self.client.history(execution) if kind in ("Greet", "Family") else [OPENINGS]
         return any(name in event for event in events for name in OPENINGS)
 
     def kill_workers(self):
         """Kills each bridge with its worker, and starts them again a little later."""
-        for kind in self.kinds:
-            kind.worker.kill()
+        for service in self.services:
+            service.worker.kill()
             self.done["kills"] += 1
         time.sleep(1)
-        for kind in self.kinds:
-            kind.worker.start()
+        for service in self.services:
+            service.worker.start()
 
     def open_ones(self):
         """The types and the executions of the runs that are open."""
-        return [(types, execution) for _, types, execution in self.executions.values() if self.client.is_open(execution)]
+        return [(kind, execution) for _, kind, execution in self.executions.values() if self.client.is_open(execution)]
 
     def wait(self):
         """Waits until all runs are closed, or the time is over. A signal that always comes to runs of a type comes again and
@@ -255,10 +257,10 @@ class Trial:
             left = self.open_ones()
             if not left:
                 return
-            if any(kind.worker.child.poll() is not None for kind in self.kinds):
+            if any(service.worker.child.poll() is not None for service in self.services):
                 raise Wrong("a bridge has ended by itself")
-            for types, execution in left:
-                chance, name = SIGNALS.get(types, (0, ""))
+            for kind, execution in left:
+                chance, name = SIGNALS.get(kind, (0, ""))
                 if chance == 1:
                     self.client.signal(execution, name)
             time.sleep(5)
@@ -266,11 +268,11 @@ class Trial:
     def run(self):
         """Does all of it; what it takes is ended whatever comes."""
         try:
-            for kind in self.kinds:
-                kind.worker.start()
+            for service in self.services:
+                service.worker.start()
             for number in range(self.asked.runs):
                 self.start(number)
-            self.say(f"{len(self.executions)} runs started on {', '.join(kind.queue for kind in self.kinds)}")
+            self.say(f"{len(self.executions)} runs started on {', '.join(service.queue for service in self.services)}")
             time.sleep(self.asked.pause)
             self.disturb()
             self.kill_workers()
@@ -285,11 +287,11 @@ class Trial:
 
     def clean_up(self):
         """Ends the workers, and terminates the runs that are open still."""
-        for kind in self.kinds:
-            if kind.worker.child is not None:
-                status = kind.worker.stop()
+        for service in self.services:
+            if service.worker.child is not None:
+                status = service.worker.stop()
                 if status != 0:
-                    self.wrong.append(f"the worker of {kind.queue} ended with {status}: {kind.worker.report()[-500:]}")
+                    self.wrong.append(f"the worker of {service.queue} ended with {status}: {service.worker.report()[-500:]}")
         try:
             left = self.open_ones()
             self.wrong += [f"not closed: {execution['workflow_id']}" for _, execution in left]
@@ -303,32 +305,32 @@ class Trial:
     def judge(self, folder):
         """Writes the histories, and replays them: how many there are, and how many of them are closed."""
         count = closed = 0
-        for at, kind in enumerate(self.kinds):
+        for at, service in enumerate(self.services):
             place = Path(folder, str(at))
             place.mkdir(parents=True, exist_ok=True)
-            histories = dict(self.histories(kind))
+            histories = dict(self.histories(service))
             for workflow_id, events in histories.items():
                 Path(place, f"{workflow_id}.json").write_text(json.dumps({"events": events}))
             count += len(histories)
             closed += sum(is_closed(events) for events in histories.values())
-            self.replay(kind, place, len(histories))
+            self.replay(service, place, len(histories))
         return count, closed
 
-    def histories(self, kind):
-        """The histories of all runs of a kind, and of their children that its worker has code for."""
+    def histories(self, service):
+        """The histories of all runs of a service, and of their children that its worker has code for."""
         for workflow_id, (own, _, execution) in self.executions.items():
-            if own is kind:
+            if own is service:
                 events = self.client.history(execution)
                 yield workflow_id, events
                 for child in (event[CHILD] for event in events if CHILD in event):
-                    if child["workflowType"]["name"] in kind.types:
+                    if child["workflowType"]["name"] in service.types:
                         ids = child["workflowExecution"]
                         found = {"workflow_id": ids["workflowId"], "run_id": ids["runId"]}
                         yield f"{workflow_id}-child", self.client.history(found)
 
-    def replay(self, kind, folder, count):
+    def replay(self, service, folder, count):
         """Notes what replay has to say against the histories of a folder."""
-        ran = subprocess.run([*kind.program, "replay", str(folder)], capture_output=True, text=True)
+        ran = subprocess.run([*service.program, "replay", str(folder)], capture_output=True, text=True, timeout=REPLAY_SECONDS)
         lines = ran.stdout.splitlines()
         self.wrong += [line for line in lines if not re.search(r": ok, \d+ tasks$|^\d+ files, \d+ ok$", line)]
         if lines[-1:] != [f"{count} files, {count} ok"]:
