@@ -4,7 +4,7 @@ import base64
 import json
 
 from history import LAST_OF_ALL, Activity, Child, left_out
-from messages import command_in, seconds_of
+from messages import command_in, milliseconds_of
 
 CLOSINGS = {
     "COMPLETE_WORKFLOW_EXECUTION": "WorkflowExecutionCompleted",
@@ -12,6 +12,8 @@ CLOSINGS = {
     "CANCEL_WORKFLOW_EXECUTION": "WorkflowExecutionCanceled",
     "CONTINUE_AS_NEW_WORKFLOW_EXECUTION": "WorkflowExecutionContinuedAsNew",
 }
+# What a run hands on to the one that continues it.
+CARRIED_OVER = ("memo", "retryPolicy", "searchAttributes")
 
 
 class Check:
@@ -47,7 +49,7 @@ class Check:
 
     def queue(self, attributes):
         name = attributes["taskQueue"]["name"]
-        return "" if name == self.settings.queue else f"the task queue is {name}"
+        return "" if name == self.run.queue else f"the task queue is {name}"
 
     def request_cancel_activity_task(self, attributes):
         scheduled = int(attributes["scheduledEventId"])
@@ -95,7 +97,10 @@ class Check:
         return "" if good else f"a marker has {change!r} and {version!r}"
 
     def continue_as_new_workflow_execution(self, attributes):
-        return self.queue(attributes)
+        """The next run gets what this one began with."""
+        first = self.run.events[0]["workflowExecutionStartedEventAttributes"]
+        changed = [name for name in CARRIED_OVER if attributes.get(name) != first.get(name)]
+        return self.queue(attributes) or (f"{changed[0]} is not that of the run" if changed else "")
 
 
 def lone(payloads):
@@ -153,7 +158,7 @@ class Effects:
     def schedule_activity_task(self, attributes):
         number = self.run.append("ActivityTaskScheduled", attributes)
         activity = self.run.activities[number] = Activity(number, attributes)
-        self.server.schedule_activity(self.run, activity)
+        self.server.activities.schedule(self.run, activity)
 
     def request_cancel_activity_task(self, attributes):
         scheduled = int(attributes["scheduledEventId"])
@@ -170,7 +175,8 @@ class Effects:
     def start_timer(self, attributes):
         number = self.run.append("TimerStarted", attributes)
         self.run.timers[attributes["timerId"]] = number
-        self.server.start_timer(self.run, attributes["timerId"], number, seconds_of(attributes["startToFireTimeout"]))
+        delay = milliseconds_of(attributes["startToFireTimeout"])
+        self.server.runs.start_timer(self.run, attributes["timerId"], number, delay)
 
     def cancel_timer(self, attributes):
         name = attributes["timerId"]
@@ -179,25 +185,25 @@ class Effects:
             fired = next(one for one in self.run.held if one[0] == "TimerFired" and one[1]["timerId"] == name)
             self.run.held.remove(fired)
             number = int(fired[1]["startedEventId"])
-            self.server.counts["timers taken back"] += 1
+            self.server.findings.counts["timers taken back"] += 1
         self.run.append("TimerCanceled", {**attributes, "startedEventId": str(number)})
 
     def start_child_workflow_execution(self, attributes):
         number = self.run.append("StartChildWorkflowExecutionInitiated", attributes)
         child = self.run.children[number] = Child(number, attributes["workflowId"])
-        self.server.start_child(self.run, child, attributes)
+        self.server.relations.start_child(self.run, child, attributes)
 
     def request_cancel_external_workflow_execution(self, attributes):
         made = {**attributes, "workflowExecution": {"workflowId": attributes["workflowId"]}}
         del made["workflowId"]
         number = self.run.append("RequestCancelExternalWorkflowExecutionInitiated", made)
-        self.server.cancel_child(self.run, number, attributes["workflowId"])
+        self.server.relations.cancel_child(self.run, number, attributes["workflowId"])
 
     def signal_external_workflow_execution(self, attributes):
         made = {**attributes, "workflowExecution": attributes["execution"]}
         del made["execution"]
         number = self.run.append("SignalExternalWorkflowExecutionInitiated", made)
-        self.server.signal_external(self.run, number, attributes)
+        self.server.relations.signal_external(self.run, number, attributes)
 
     def record_marker(self, attributes):
         self.run.append("MarkerRecorded", attributes)

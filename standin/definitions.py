@@ -19,6 +19,8 @@ ENUMS = """
 TaskQueueKind TASK_QUEUE_KIND_ UNSPECIFIED NORMAL STICKY
 QueryResultType QUERY_RESULT_TYPE_ UNSPECIFIED ANSWERED FAILED
 TimeoutType TIMEOUT_TYPE_ UNSPECIFIED START_TO_CLOSE SCHEDULE_TO_START SCHEDULE_TO_CLOSE HEARTBEAT
+WorkflowExecutionStatus WORKFLOW_EXECUTION_STATUS_ UNSPECIFIED RUNNING COMPLETED FAILED CANCELED TERMINATED
+    CONTINUED_AS_NEW TIMED_OUT
 RetryState RETRY_STATE_ UNSPECIFIED IN_PROGRESS NON_RETRYABLE_FAILURE TIMEOUT
 StartFailedCause START_CHILD_WORKFLOW_EXECUTION_FAILED_CAUSE_ UNSPECIFIED WORKFLOW_ALREADY_EXISTS
 CancelFailedCause CANCEL_EXTERNAL_WORKFLOW_EXECUTION_FAILED_CAUSE_ UNSPECIFIED EXTERNAL_WORKFLOW_EXECUTION_NOT_FOUND
@@ -155,7 +157,7 @@ PollWorkflowTaskQueueResponse task_token 1 bytes, workflow_execution 2 WorkflowE
     next_page_token 9 bytes, query 10 WorkflowQuery, queries 14 >WorkflowQuery
 RespondWorkflowTaskCompletedRequest task_token 1 bytes, commands 2 *Command, identity 3 string, sticky_attributes 4
     StickyExecutionAttributes, query_results 8 >WorkflowQueryResult, namespace 9 string
-RespondWorkflowTaskCompletedResponse
+RespondWorkflowTaskCompletedResponse reset_history_event_id 4 int64
 RespondWorkflowTaskFailedRequest task_token 1 bytes, cause 2 WorkflowTaskFailedCause, failure 3 Failure, identity 4
     string, namespace 6 string
 RespondWorkflowTaskFailedResponse
@@ -177,6 +179,22 @@ ShutdownWorkerRequest namespace 1 string, sticky_task_queue 2 string, identity 3
 ShutdownWorkerResponse
 GetSystemInfoRequest
 GetSystemInfoResponse server_version 1 string
+StartWorkflowExecutionRequest namespace 1 string, workflow_id 2 string, workflow_type 3 WorkflowType, task_queue 4
+    TaskQueue, input 5 Payloads, identity 9 string, request_id 10 string
+StartWorkflowExecutionResponse run_id 1 string
+SignalWorkflowExecutionRequest namespace 1 string, workflow_execution 2 WorkflowExecution, signal_name 3 string, input 4
+    Payloads, identity 5 string, request_id 6 string
+SignalWorkflowExecutionResponse
+RequestCancelWorkflowExecutionRequest namespace 1 string, workflow_execution 2 WorkflowExecution, identity 3 string,
+    request_id 4 string
+RequestCancelWorkflowExecutionResponse
+TerminateWorkflowExecutionRequest namespace 1 string, workflow_execution 2 WorkflowExecution, reason 3 string, identity 5
+    string
+TerminateWorkflowExecutionResponse
+WorkflowExecutionInfo execution 1 WorkflowExecution, type 2 WorkflowType, status 5 WorkflowExecutionStatus,
+    history_length 6 int64
+DescribeWorkflowExecutionRequest namespace 1 string, execution 2 WorkflowExecution
+DescribeWorkflowExecutionResponse workflow_execution_info 2 WorkflowExecutionInfo
 """
 
 # The members of an event that hold its attributes, in the order of their numbers, of which the first is 6.

@@ -16,29 +16,18 @@ from pathlib import Path
 import grpc
 from google.protobuf import json_format
 
-from definitions import CLASSES, SERVICE
-from peers import Peer
+from clients import Clients
+from definitions import CLASSES
+from forwarder import Forwarder
+from peers import CANCELLED, EXHAUSTED, UNAVAILABLE, Peer, Refused
 
 TOP = Path(__file__).resolve().parent
-BRIDGE = TOP.parent / "bridge/temporal_bridge.py"
 CODES = {code.value[0]: code for code in grpc.StatusCode}
+# What a call of a worker is refused with for good: the bridge tries again after the codes of an outage.
+FINAL_CODES = (9,)
 MOST_THREADS = 400
-
-
-class Bridged:
-    """A bridge with its worker, and what they are to the server."""
-
-    def __init__(self, command, name, pollers):
-        self.peer, self.name = Peer(name, pollers), name
-        self.said = tempfile.TemporaryFile()
-        path = os.pathsep.join(filter(None, [str(TOP / "trimmed"), os.environ.get("PYTHONPATH")]))
-        self.child = subprocess.Popen(
-            command, stdin=subprocess.DEVNULL, stderr=self.said, env={**os.environ, "PYTHONPATH": path}
-        )
-
-    def report(self):
-        self.said.seek(0)
-        return self.said.read().decode(errors="replace")
+# For how many seconds the server is away, and after how many a bridge has found out that its connection is dead.
+AWAY_SECONDS, DEAD_SECONDS = 3, 60
 
 
 class Waiting:
@@ -52,23 +41,30 @@ class Waiting:
         self.done.set()
 
 
-class Front(grpc.GenericRpcHandler):
-    """All bridges, and the server after its port."""
+class Calls(grpc.GenericRpcHandler):
+    """The server after a port. A worker is known by the identity in its requests, and where a request has none by its
+    connection. Where `is_open`, whoever says a new identity is a worker, and all others are clients."""
 
-    def __init__(self, server, troubles):
-        self.server, self.troubles = server, troubles
+    def __init__(self, server, is_open=False):
+        self.server, self.troubles, self.is_open = server, server.troubles, is_open
         self.lock, self.last = threading.RLock(), time.monotonic()
-        self.processes, self.is_ending, self.peers = [], False, {}
+        self.clients, self.by_identity, self.by_connection = Clients(server), {}, {}
+
+    def listen(self, port=0):
+        """Begins to take calls, on a port of its own where none is named."""
         self.listener = grpc.server(ThreadPoolExecutor(MOST_THREADS))
         self.listener.add_generic_rpc_handlers([self])
-        self.port = self.listener.add_insecure_port("127.0.0.1:0")
+        self.port = self.listener.add_insecure_port(f"127.0.0.1:{port}")
         self.listener.start()
 
-    # Calls.
+    def add(self, peer):
+        """A worker of which calls will come."""
+        self.by_identity[peer.name] = peer
+        self.server.peers.append(peer)
 
     def service(self, details):
         """What serves a call."""
-        method = details.method.removeprefix(SERVICE)
+        method = details.method.rpartition("/")[2]
         request, response = CLASSES.get(method + "Request"), CLASSES.get(method + "Response")
         if request is None:
             return None
@@ -79,59 +75,137 @@ class Front(grpc.GenericRpcHandler):
         )
 
     def take(self, method, message, context):
-        """Takes a call, and waits for its response."""
+        """Takes a call, and gives its response."""
         response = CLASSES[method + "Response"]
         if method == "GetSystemInfo":
             return response(server_version="stand-in")
-        params, waiting = json_format.MessageToDict(message), Waiting()
+        params = json_format.MessageToDict(message)
+        with self.lock:
+            peer = None if self.is_of_clients_alone(method) else self.peer_of(params, context)
+        if peer is None and self.is_open and method in self.clients.calls:
+            result, error = self.of_client(method, params)
+        else:
+            result, error = self.of_worker(peer, method, params, context)
+        if error is not None:
+            context.abort(CODES[error[0]], error[1])
+        return json_format.ParseDict(result, response())
+
+    def is_of_clients_alone(self, method):
+        return method in self.clients.calls and method not in self.server.calls
+
+    def peer_of(self, params, context):
+        """The worker that a call comes from."""
+        identity = params.get("identity")
+        if identity and identity not in self.by_identity and self.is_open:
+            self.add(Peer(identity, 0))
+        if identity:
+            self.by_connection[context.peer()] = self.by_identity.get(identity)
+        return self.by_connection.get(context.peer())
+
+    def of_client(self, method, params):
+        try:
+            with self.lock:
+                return self.clients.call(method, params), None
+        except Refused as why:
+            return None, (why.code, why.message)
+
+    def of_worker(self, peer, method, params, context):
+        waiting = Waiting()
         with self.lock:
             self.last = time.monotonic()
-            peer = self.peer_of(params, context)
             if peer is None or peer.is_gone:
-                context.abort(grpc.StatusCode.UNAVAILABLE, "who are you?")
+                return None, (UNAVAILABLE, "who are you?")
             if not method.startswith("Poll") and self.troubles.happens("codes"):
-                context.abort(grpc.StatusCode.UNAVAILABLE, "try again")
+                return None, (UNAVAILABLE, "try again")
+            if not method.startswith("Poll") and self.troubles.happens("busy"):
+                return None, (EXHAUSTED, "the namespace is over its rate limit")
             self.server.call(peer, method, params, waiting)
         # Where the caller goes away, its poll goes too.
         if not context.add_callback(lambda: self.forsake(peer, waiting)):
             self.forsake(peer, waiting)
         waiting.done.wait()
-        if waiting.error is not None:
-            context.abort(CODES[waiting.error[0]], waiting.error[1])
-        return json_format.ParseDict(waiting.result, response())
-
-    def peer_of(self, params, context):
-        """The worker that a call comes from: by its identity, and where it says none by its connection."""
-        identity = params.get("identity")
-        if identity:
-            found = next((one.peer for one in self.processes if one.name == identity), None)
-            self.peers[context.peer()] = found
-        return self.peers.get(context.peer())
+        return waiting.result, waiting.error
 
     def forsake(self, peer, waiting):
         """The caller of a call is gone."""
         with self.lock:
             if not waiting.done.is_set():
-                self.server.drop_poll(peer, waiting)
-                waiting(None, (1, "gone"))
+                self.server.polls.drop(peer, waiting)
+                waiting(None, (CANCELLED, "gone"))
 
-    # Workers.
+
+class Bridged:
+    """A bridge with its worker, and what they are to the server."""
+
+    def __init__(self, command, name, pollers):
+        self.peer = Peer(name, pollers)
+        self.said = tempfile.TemporaryFile()
+        path = os.pathsep.join(filter(None, [str(TOP / "trimmed"), os.environ.get("PYTHONPATH")]))
+        self.child = subprocess.Popen(
+            command, stdin=subprocess.DEVNULL, stderr=self.said, env={**os.environ, "PYTHONPATH": path}
+        )
+
+    def report(self):
+        """What it has said on standard error."""
+        self.said.seek(0)
+        return self.said.read().decode(errors="replace")
+
+
+class Weather:
+    """What happens to the way between the bridges and the server: about so often a second, it goes dead or away."""
+
+    def __init__(self, calls):
+        self.calls, self.forwarder = calls, Forwarder(calls.port)
+        self.last, self.until = time.monotonic(), 0
+
+    def pass_by(self):
+        """Looks once a second whether something happens, unless it is not over yet."""
+        now = time.monotonic()
+        if now - self.last < 1 or now < self.until:
+            return
+        self.last, troubles = now, self.calls.troubles
+        if troubles.happens("dead"):
+            self.lose_connections()
+            self.forwarder.die()
+            self.until = now + DEAD_SECONDS
+        elif troubles.happens("away"):
+            self.lose_connections()
+            self.forwarder.leave(AWAY_SECONDS)
+            self.until = now + AWAY_SECONDS + 1
+
+    def lose_connections(self):
+        for peer in self.calls.server.peers:
+            peer.lose_connection()
+
+
+class Front:
+    """All bridges, and the server after its port."""
+
+    def __init__(self, server, bridge):
+        self.server, self.bridge = server, bridge
+        server.final_codes = FINAL_CODES
+        self.calls = Calls(server)
+        self.calls.listen()
+        self.weather = Weather(self.calls)
+        self.processes, self.is_ending = [], False
 
     def start(self, command, name, pollers):
         """Starts a bridge with a worker."""
-        bridge = [sys.executable, str(BRIDGE), "--address", f"127.0.0.1:{self.port}", "--", *command]
-        with self.lock:
+        address = f"127.0.0.1:{self.weather.forwarder.port}"
+        bridge = [sys.executable, str(self.bridge), "--address", address, "--", *command]
+        with self.calls.lock:
             process = Bridged(bridge, name, pollers)
             self.processes.append(process)
-            self.server.peers.append(process.peer)
+            self.calls.add(process.peer)
         return process
 
     def turn(self):
         """Starts runs, and lets time go on where all wait."""
-        with self.lock:
+        with self.calls.lock:
             if not self.is_ending:
                 self.server.world.begin()
-            all_wait = self.server.go_on(time.monotonic() - self.last)
+                self.weather.pass_by()
+            all_wait = self.server.go_on(time.monotonic() - self.calls.last)
             for process in [process for process in self.processes if process.child.poll() is not None]:
                 self.leave(process)
         time.sleep(0.0005 if all_wait else 0.005)
@@ -144,7 +218,7 @@ class Front(grpc.GenericRpcHandler):
         """Kills a bridge; its worker ends by itself."""
         process.child.kill()
         process.child.wait()
-        with self.lock:
+        with self.calls.lock:
             if process in self.processes:
                 self.leave(process)
 
@@ -160,7 +234,7 @@ class Front(grpc.GenericRpcHandler):
         while self.processes and time.monotonic() < until:
             self.turn()
         for process in list(self.processes):
-            self.server.blame(process.peer, "it does not end when it is told to")
+            self.server.findings.blame(process.peer, "it does not end when it is told to")
             self.kill(process)
-        self.listener.stop(None)
+        self.calls.listener.stop(None)
         return left

@@ -2,7 +2,9 @@
 
 A run writes its events as a Temporal server does. What comes in from outside while a workflow task is in hand is held
 back, and stands after the events of the task's commands, with its own earlier time. A task that follows a failed one
-directly is written only once it is completed: until then its two events are shown to the worker alone.
+directly is written only once it is completed: until then its two events are shown to the worker alone. So is a
+speculative task, which an update gives to a run that has no task: it is written once it is completed with commands, or
+something else is written; completed without commands, it leaves no event.
 """
 
 from datetime import datetime, timedelta, timezone
@@ -65,8 +67,9 @@ class Child:
 class Task:
     """A workflow task that is scheduled or in hand."""
 
-    def __init__(self, scheduled, attempt, time, queue):
+    def __init__(self, scheduled, attempt, time, queue, is_speculative):
         self.scheduled = scheduled
+        self.is_speculative = is_speculative
         self.attempt = attempt
         self.time = time
         self.queue = queue
@@ -77,7 +80,7 @@ class Task:
 
     @property
     def is_written(self):
-        return self.attempt == 1
+        return self.attempt == 1 and not self.is_speculative
 
 
 class Run:
@@ -125,16 +128,17 @@ class Run:
     def append(self, kind, attributes, time=None):
         """Writes an event, and answers its number."""
         number = self.next_number
-        self.events.append(event_of(number, self.server.now if time is None else time, kind, attributes))
+        self.events.append(event_of(number, self.server.clock.now if time is None else time, kind, attributes))
         return number
 
     def come_in(self, kind, attributes, note=None):
         """An event from outside: written, or held back while a task is in hand. The attributes may be a function, which
-        is called when the event is written, and `note` is told the number then."""
+        is called when the event is written, and `note` is called with its number then."""
+        self.write_speculative()
         if self.is_in_hand:
-            self.held.append((kind, attributes, note, self.server.now))
+            self.held.append((kind, attributes, note, self.server.clock.now))
             return
-        self.write_down(kind, attributes, note, self.server.now)
+        self.write_down(kind, attributes, note, self.server.clock.now)
         self.need_task()
 
     def write_down(self, kind, attributes, note, time):
@@ -158,13 +162,24 @@ class Run:
         if self.task is None and self.closed is None:
             self.schedule_task()
 
-    def schedule_task(self):
+    def schedule_task(self, is_speculative=False):
         queue = self.sticky[0] if self.sticky else self.queue
-        number = self.next_number
-        if self.attempt == 1:
+        self.task = Task(self.next_number, self.attempt, self.server.clock.now, queue, is_speculative)
+        if self.task.is_written:
             self.append("WorkflowTaskScheduled", self.scheduled_attributes(queue, 1))
-        self.task = Task(number, self.attempt, self.server.now, queue)
-        self.server.offer(self)
+        self.server.tasks.offer(self)
+
+    def write_speculative(self):
+        """Something else is written: a speculative task becomes one like the others, with its events before that."""
+        task = self.task
+        if task is None or not task.is_speculative:
+            return
+        events = self.unwritten()
+        task.is_speculative = False
+        if events:
+            self.events += events
+        else:
+            self.append("WorkflowTaskScheduled", self.scheduled_attributes(task.queue, 1), task.time)
 
     def scheduled_attributes(self, queue, attempt):
         return {"taskQueue": {"name": queue}, "startToCloseTimeout": "10s", "attempt": attempt}
@@ -177,7 +192,7 @@ class Run:
             self.attempt = task.attempt = 1
             task.scheduled = self.append("WorkflowTaskScheduled", self.scheduled_attributes(task.queue, 1), task.time)
         started = {"scheduledEventId": str(task.scheduled), "identity": identity}
-        task.token, task.started_time = token, self.server.now
+        task.token, task.started_time = token, self.server.clock.now
         if task.is_written:
             task.started = self.append("WorkflowTaskStarted", started)
             return []
@@ -204,8 +219,13 @@ class Run:
         self.before = task.started
         self.task, self.attempt = None, 1
 
+    def drop_task(self):
+        """The speculative task in hand was completed and did nothing: no trace of it is left."""
+        self.task, self.attempt = None, 1
+
     def end_task(self, kind, attributes):
         """The task in hand failed or timed out: what was held back is written. The run is not sticky any more."""
+        self.write_speculative()
         task = self.task
         self.task, self.sticky = None, None
         numbers = {"scheduledEventId": str(task.scheduled), "startedEventId": str(task.started)}
@@ -213,27 +233,29 @@ class Run:
             self.append(kind, {**numbers, **attributes})
         self.attempt = 1 if self.flush() else task.attempt + 1
 
-    def give_up_sticky(self, is_told):
-        """The task waits in a sticky queue that nobody takes it from: it goes to the normal queue, with an event that
-        tells so or without."""
+    def leave_sticky(self, is_recorded):
+        """The task waits in a sticky queue that nobody takes it from: it goes to the normal queue, with an event of a
+        timeout or without."""
         task = self.task
         self.sticky = None
-        if is_told:
+        if is_recorded:
+            self.write_speculative()
             self.task = None
             timeout = {"scheduledEventId": str(task.scheduled), "timeoutType": "TIMEOUT_TYPE_SCHEDULE_TO_START"}
             self.append("WorkflowTaskTimedOut", timeout)
             self.schedule_task()
         else:
             task.queue = self.queue
-            self.server.offer(self)
+            self.server.tasks.offer(self)
 
     # The end.
 
     def close(self, kind, attributes):
         """Closes the run, by a command or from outside."""
+        self.write_speculative()
         if self.is_in_hand:
             self.end_task("WorkflowTaskFailed", {"cause": "WORKFLOW_TASK_FAILED_CAUSE_FORCE_CLOSE_COMMAND"})
         self.append(kind, attributes)
         self.task = None
         self.closed = kind
-        self.server.closed(self, attributes)
+        self.server.runs.closed(self, attributes)

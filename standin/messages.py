@@ -41,6 +41,10 @@ def is_true(value):
     return value is True
 
 
+def is_object(value):
+    return isinstance(value, dict)
+
+
 def one_of(*texts):
     return lambda value: value in texts
 
@@ -65,6 +69,7 @@ STICKY = {
 }
 ANSWER = {"identity": is_text, "namespace": is_text, "taskToken": is_base64}
 CAUSES = (
+    "WORKFLOW_TASK_FAILED_CAUSE_GRPC_MESSAGE_TOO_LARGE",
     "WORKFLOW_TASK_FAILED_CAUSE_NON_DETERMINISTIC_ERROR",
     "WORKFLOW_TASK_FAILED_CAUSE_WORKFLOW_WORKER_UNHANDLED_FAILURE",
 )
@@ -132,7 +137,14 @@ COMMANDS = {
     "COMPLETE_WORKFLOW_EXECUTION": {"result?": PAYLOADS},
     "FAIL_WORKFLOW_EXECUTION": {"failure": FAILURE},
     "CANCEL_WORKFLOW_EXECUTION": {},
-    "CONTINUE_AS_NEW_WORKFLOW_EXECUTION": {"input?": PAYLOADS, "taskQueue": QUEUE, "workflowType": NAMED},
+    "CONTINUE_AS_NEW_WORKFLOW_EXECUTION": {
+        "input?": PAYLOADS,
+        "memo?": is_object,
+        "retryPolicy?": is_object,
+        "searchAttributes?": is_object,
+        "taskQueue": QUEUE,
+        "workflowType": NAMED,
+    },
 }
 
 
@@ -178,8 +190,8 @@ def command_in(value):
     """The kind of a command and its attributes, or what is wrong with it."""
     if not isinstance(value, dict) or not isinstance(value.get("commandType"), str):
         return None, None, "a command has no type"
-    kind = value["commandType"].removeprefix("COMMAND_TYPE_")
-    if kind not in COMMANDS or value["commandType"] == kind:
+    prefix, _, kind = value["commandType"].partition("COMMAND_TYPE_")
+    if kind not in COMMANDS or prefix:
         return None, None, f"a command has the type {value['commandType']}"
     name = attributes_name(kind)
     if set(value) != {"commandType", name}:
@@ -187,6 +199,6 @@ def command_in(value):
     return kind, value[name], fault_in(value[name], COMMANDS[kind], kind)
 
 
-def seconds_of(duration):
+def milliseconds_of(duration):
     """A duration in milliseconds."""
     return round(float(duration[:-1]) * 1000)

@@ -2,10 +2,9 @@
 
 from collections import Counter
 
-INVALID, DEADLINE, NOT_FOUND, UNAVAILABLE = 3, 4, 5, 14
-# The codes of a server that can't now, and those of them that the bridge passes on as they are.
-OUTAGE_CODES = (2, DEADLINE, 8, 10, 13, UNAVAILABLE)
-FINAL_CODES = (2, 8, 10, 13)
+CANCELLED, INVALID, DEADLINE, NOT_FOUND, EXHAUSTED, UNAVAILABLE = 1, 3, 4, 5, 8, 14
+# The codes of a server that can't answer at the moment.
+OUTAGE_CODES = (2, DEADLINE, EXHAUSTED, 10, 13, UNAVAILABLE)
 
 
 class Refused(Exception):
@@ -19,8 +18,8 @@ class Refused(Exception):
 class Settings:
     """How the workers were started, as far as their requests show it."""
 
-    def __init__(self, namespace="default", queue="q", activity_timeout=60, activity_attempts=1, is_sticky=True):
-        self.namespace, self.queue = namespace, queue
+    def __init__(self, namespace="default", queues=("q",), activity_timeout=60, activity_attempts=1, is_sticky=True):
+        self.namespace, self.queues = namespace, queues
         self.activity_timeout = f"{activity_timeout}s"
         self.activity_attempts = activity_attempts
         self.is_sticky = is_sticky
@@ -31,7 +30,7 @@ class Peer:
 
     def __init__(self, name, pollers):
         self.name, self.pollers = name, pollers
-        self.is_gone = self.is_cut = False
+        self.is_gone = self.is_cut = self.is_disturbed = False
         self.identity = self.sticky = None
         self.polls = 0
         # Of each run of which an answer was acknowledged to it: the number of the last event that the run then held, for
@@ -41,20 +40,49 @@ class Peer:
         self.has = {}
         self.counts = Counter()
 
+    def lose_connection(self):
+        """Its connection is lost: of each answer that it has sent it may have missed the response, and send it again."""
+        self.is_disturbed = True
+        for given in (given for all_given in self.has.values() for given in all_given):
+            given.repeats += 1
+
 
 class Given:
     """A task that was given to a peer, perhaps twice."""
 
     def __init__(self, peer, run, task, is_partial):
         self.peer, self.run, self.task, self.is_partial = peer, run, task, is_partial
-        self.times, self.answers, self.hits = 1, 0, 0
+        self.times, self.answers, self.hits, self.repeats = 1, 0, 0, 0
         self.before, self.last_cached = run.before, peer.cached.get(run)
-        self.has_fetched = False
+        self.is_speculative, self.has_fetched, self.is_stale = task.is_speculative, False, False
         peer.has.setdefault(run, []).append(self)
 
 
-class Poll:
-    """A poll that waits."""
+class InHand:
+    """The tasks that workers have in hand. While there are some, the clock is not moved."""
 
-    def __init__(self, peer, is_activity, reply):
-        self.peer, self.is_activity, self.reply = peer, is_activity, reply
+    def __init__(self):
+        self.held = set()
+
+    def __bool__(self):
+        return bool(self.held)
+
+    def add(self, token, peer):
+        self.held.add((token, peer))
+
+    def discard(self, token, peer):
+        self.held.discard((token, peer))
+
+    def forget(self, token):
+        """Nobody is waited for any more on account of a task."""
+        self.held = {one for one in self.held if one[0] != token}
+
+    def leave(self, peer):
+        """A worker is gone."""
+        self.held = {one for one in self.held if one[1] is not peer}
+
+    def clear(self):
+        self.held.clear()
+
+    def tokens_of(self, peer):
+        return [token for token, other in self.held if other is peer]

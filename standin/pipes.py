@@ -7,7 +7,7 @@ import subprocess
 import tempfile
 import time
 
-from peers import Peer
+from peers import CANCELLED, UNAVAILABLE, Peer
 
 # Lines that are no response to a call that waits. `%d` is the id of one that has its answer.
 HOSTILE = [
@@ -29,6 +29,8 @@ HOSTILE = [
     b'[{"jsonrpc":"2.0","id":%d,"result":{"taskToken":"\xff\xfe"}}]',
     b"[" * 1000,
 ]
+# Within how many seconds a worker knows that it was told to end.
+KNOWS_SECONDS = 3
 
 
 class Process:
@@ -44,6 +46,8 @@ class Process:
         os.set_blocking(self.child.stdout.fileno(), False)
         self.read, self.ready, self.unsent = b"", [], b""
         self.ids, self.is_over, self.is_cut = set(), False, False
+        # Whether it was told to shut down, and what then ends its open polls, and until when.
+        self.is_stopped, self.ending, self.ends_until = False, None, 0
 
     def report(self):
         """What it has said on standard error."""
@@ -100,17 +104,20 @@ class Pipes:
         except ValueError:
             request, exact = None, False
         if not exact or not isinstance(request, dict) or set(request) != {"id", "jsonrpc", "method", "params"}:
-            return self.server.blame(process.peer, f"no request: {line[:300]!r}")
+            return self.server.findings.blame(process.peer, f"no request: {line[:300]!r}")
         number = request["id"]
         if type(number) is not int or number < 1 or number in process.ids:
-            self.server.blame(process.peer, f"the id {number!r} is used again, or is none")
+            self.server.findings.blame(process.peer, f"the id {number!r} is used again, or is none")
         process.ids.add(number)
         self.server.call(
             process.peer, request["method"], request["params"], lambda result, error: self.reply(process, number, result, error)
         )
 
     def reply(self, process, number, result, error):
-        """A response, and perhaps a line that is none."""
+        """A response, and perhaps a line that is none. Code 1 says that the worker has to end, so before its shutdown a
+        bridge passes it on as unavailable."""
+        if error is not None and error[0] == CANCELLED and not process.is_stopped:
+            error = (UNAVAILABLE, error[1])
         outcome = {"result": result} if error is None else {"error": {"code": error[0], "message": error[1]}}
         process.ready.append(json.dumps({"jsonrpc": "2.0", "id": number, **outcome}).encode())
         if self.troubles.happens("hostile"):
@@ -136,9 +143,9 @@ class Pipes:
     def close(self, process):
         """A worker has closed its output."""
         if process.read:
-            self.server.blame(process.peer, f"its last line has no end: {process.read[:100]!r}")
+            self.server.findings.blame(process.peer, f"its last line has no end: {process.read[:100]!r}")
         if process.ids and len(process.ids) != max(process.ids):
-            self.server.blame(process.peer, f"{len(process.ids)} requests have ids up to {max(process.ids)}")
+            self.server.findings.blame(process.peer, f"{len(process.ids)} requests have ids up to {max(process.ids)}")
         self.selector.unregister(process.child.stdout)
         self.processes.remove(process)
         process.is_over = True
@@ -161,10 +168,24 @@ class Pipes:
         self.ending.append(process)
 
     def shut_down(self, process):
-        """Tells a worker to end."""
+        """Tells a worker to end. Its polls then end by code 1, as from a bridge. Or they are empty, as long as it may have
+        asked for them before it knew, and later ones are never answered. Or none is answered."""
+        process.is_stopped, process.ends_until = True, time.monotonic() + KNOWS_SECONDS
+        if self.troubles.happens("open"):
+            process.ending = None
+        else:
+            process.ending = "empty" if self.troubles.happens("unanswered") else "closed"
         process.ready.append(b'{"jsonrpc":"2.0","method":"shutdown"}')
         self.write(process)
-        self.server.close_polls(process.peer)
+
+    def end_polls(self, process):
+        """Ends the polls of a worker that was told to end."""
+        if process.ending == "closed":
+            self.server.polls.close(process.peer, "shutdown")
+        elif process.ending == "empty" and time.monotonic() < process.ends_until:
+            for poll in self.server.polls.take_all(process.peer):
+                process.peer.counts["empty"] += 1
+                poll.answer({})
 
     def stop_all(self, seconds):
         """Tells all workers to end, and waits for it. Those that don't are killed, and answered."""
@@ -174,11 +195,11 @@ class Pipes:
             if not process.is_cut:
                 self.shut_down(process)
         while self.processes and time.monotonic() < until:
-            for process in list(self.processes):
-                self.server.close_polls(process.peer)
+            for process in self.processes:
+                self.end_polls(process)
             self.turn()
         for process in list(self.processes):
-            self.server.blame(process.peer, "it does not end when it is told to")
+            self.server.findings.blame(process.peer, "it does not end when it is told to")
             self.kill(process)
         ended = left + [process for process in self.ending if process not in left]
         for process in ended:

@@ -6,20 +6,29 @@ import random
 KINDS = {
     "twice": (0.06, "a workflow task is given to two polls"),
     "timeouts": (0.05, "a workflow task times out while it is in hand"),
-    "sticky": (0.10, "a sticky queue is dropped without a word, or nobody takes a task from it in time"),
+    "sticky": (0.10, "a sticky queue is dropped without an event, or nobody takes a task from it in time"),
     "pages": (0.40, "a history comes in pages, some of them empty"),
     "empty": (0.05, "a poll gets no task"),
     "codes": (0.01, "a poll is refused for now, by one of the codes of an outage"),
-    "calls": (0.005, "an answer or the call for a page fails for good, by such a code, taken or not"),
+    "cancelled": (0.01, "a server or proxy ends the open polls of a process by code 1, in the middle of work"),
+    "calls": (0.005, "an answer or the call for a page fails for good, taken or not"),
     "lost": (0.03, "an answer is taken and its response lost, or the result of a poll is lost"),
-    "hostile": (0.03, "a line that is no response to a call that waits"),
-    "order": (0.50, "responses come in another order than they were made"),
+    "hostile": (0.03, "a line that is no response to a call that waits (pipes alone)"),
+    "order": (0.50, "responses come in another order than they were made (pipes alone)"),
+    "unanswered": (0.50, "at a shutdown open polls end without code 1, and later ones are never answered (pipes alone)"),
+    "open": (1.00, "at a shutdown open polls are never answered, which docs/WIRE.md excludes (pipes alone; not in `all`)"),
     "queries": (0.03, "a query on its own, or beside a task"),
     "during": (0.15, "a signal, a cancel or a timer comes while the task is in hand"),
-    "late": (0.30, "an activity's start is told at once, and not only with its end"),
+    "late": (0.30, "the event of an activity's start is written at once, and not only with that of its end"),
+    "speculative": (0.50, "an update gives a run a task whose events are not written"),
     "strangers": (0.03, "a run of a type that the workers have no code for"),
     "outside": (0.10, "a run is terminated, times out or is asked to be cancelled"),
+    "busy": (0.03, "an answer or a call for a page gets code 8 and is not taken, so that it is tried again (gRPC alone)"),
+    "dead": (0.01, "a second in which a connection goes dead: nothing goes through, and nobody closes it (gRPC alone)"),
+    "away": (0.05, "a second after which the server is away for some (gRPC alone)"),
 }
+# What a bridge never does.
+NOT_IN_ALL = ("open",)
 
 
 class Troubles:
@@ -39,10 +48,17 @@ class Troubles:
 
 
 def names_of(text):
-    """The kinds that a text names: `all`, `none`, or names with commas between. A ValueError where there is no such kind."""
-    if text == "all":
-        return list(KINDS)
-    names = [] if text == "none" else text.split(",")
-    if not set(names) <= set(KINDS):
-        raise ValueError(f"no kinds of trouble: {text}")
+    """The kinds that a text names: `none`, or words with commas between, each a name, `all`, or `-` and a name that is left
+    out of those before. A ValueError where there is no such kind."""
+    names = []
+    for word in text.split(",") if text != "none" else []:
+        name = word.lstrip("-")
+        if name not in KINDS and word != "all":
+            raise ValueError(f"no kind of trouble: {word}")
+        if word == "all":
+            names += [one for one in KINDS if one not in NOT_IN_ALL]
+        elif word == name:
+            names.append(name)
+        else:
+            names = [one for one in names if one != name]
     return names

@@ -32,9 +32,11 @@ from peers import Settings  # noqa: E402
 from pipes import Pipes  # noqa: E402
 from server import Server  # noqa: E402
 from troubles import KINDS, Troubles, names_of  # noqa: E402
-from workflows import ORDERS, OUTSIDE, SAMPLES, STRANGE, World  # noqa: E402
+from workflows import STRANGE, Orders, Own, Samples  # noqa: E402
+from world import World  # noqa: E402
 
 PROGRAMS = {"samples": TOP / "crates/wfhost/out/wfhost", "orders": TOP / "crates/order_worker/out/order_worker"}
+BRIDGE = TOP / "bridge/temporal_bridge.py"
 LIMIT_SECONDS = 600
 END_SECONDS = 30
 MOST_WRONG = 100
@@ -48,11 +50,10 @@ class Loop:
     def __init__(self, options, seed, workers, cache):
         self.options, self.workers, self.cache = options, max(workers, 2) if cache else workers, cache
         self.troubles = Troubles(seed, options.trouble)
-        kinds = ORDERS if options.orders else SAMPLES
-        self.world = World(self.troubles, kinds, options.runs, options.open, options.activity_workers > 0)
+        self.workflows = workflows_of(options, self.troubles.dice)
+        self.world = World(self.troubles, self.workflows, options.runs, options.open, options.activity_workers > 0)
         self.server = Server(Settings(is_sticky=cache > 0), self.troubles, self.world)
-        self.world.server = self.server
-        self.pipes = front(options)(self.server, self.troubles)
+        self.front = front(options, self.server, self.troubles)
         self.dice, self.begun, self.killed, self.count = random.Random(seed), time.monotonic(), 0, 0
         self.title = f"seed {seed}, {workers} workers, cache {cache}"
 
@@ -66,16 +67,16 @@ class Loop:
     def start_worker(self):
         self.count += 1
         name = f"worker-{self.count}"
-        self.pipes.start(self.command(name), name, self.workers + self.options.activity_workers)
+        self.front.start(self.command(name), name, self.workers + self.options.activity_workers)
 
     def living(self):
         """The workers that are neither killed nor cut off."""
-        return [process for process in self.pipes.processes if not process.peer.is_gone]
+        return [process for process in self.front.processes if not process.peer.is_gone]
 
     def is_over(self):
         """Whether all runs are closed, or it takes too long, or too much is wrong."""
         is_late = time.monotonic() - self.begun > self.options.limit
-        return self.world.is_over() or is_late or len(self.server.wrong) > MOST_WRONG
+        return self.world.is_over() or is_late or len(self.server.findings.wrong) > MOST_WRONG
 
     def run(self):
         """Runs the loop, and answers what is wrong."""
@@ -83,19 +84,19 @@ class Loop:
             self.start_worker()
         killed_at = time.monotonic()
         while not self.is_over():
-            self.pipes.turn()
+            self.front.turn()
             if self.options.kill and time.monotonic() - killed_at > self.options.kill:
                 killed_at = time.monotonic()
                 self.killed += 1
-                self.dice.choice([self.pipes.kill, self.pipes.cut])(self.dice.choice(self.living()))
+                self.dice.choice([self.front.kill, self.front.cut])(self.dice.choice(self.living()))
             while self.options.kill and len(self.living()) < self.options.processes:
                 self.start_worker()
             if not self.living():
                 break
-        ended = self.pipes.stop_all(END_SECONDS)
+        ended = self.front.stop_all(END_SECONDS)
         self.keep(ended)
-        wrong = list(self.server.wrong)
-        wrong += [f"not closed: {run.kind} {run.workflow_id}" for run in self.server.runs if not run.closed]
+        wrong = list(self.server.findings.wrong)
+        wrong += [f"not closed: {run.kind} {run.workflow_id}" for run in self.server.runs.all if not run.closed]
         wrong += self.world.failures
         return wrong + self.replayed() + [what for process in ended for what in self.reported(process)]
 
@@ -111,7 +112,7 @@ class Loop:
         """What replay says against the histories."""
         with tempfile.TemporaryDirectory() as room:
             folder = Path(self.options.keep or room)
-            runs = [run for run in self.server.runs if run.kind not in (*OUTSIDE, STRANGE)]
+            runs = [run for run in self.server.runs.all if run.kind != STRANGE and not self.world.is_outside(run.kind)]
             for at, run in enumerate(runs):
                 Path(folder, f"{at:06}-{run.kind}.json").write_text(json.dumps({"events": run.events}))
             ran = self.replay(folder)
@@ -128,17 +129,18 @@ class Loop:
     def reported(self, process):
         """What is wrong with the end of a worker and with its report."""
         said, name, status = process.report(), process.peer.name, process.child.returncode
-        if status not in ((0, 1) if self.troubles.met.get("calls") else (0,)):
+        may_lose = self.troubles.met.get("calls") or process.peer.is_disturbed
+        if status not in ((0, 1) if may_lose else (0,)):
             return [f"{name}: status {status}: {said[-500:]}"]
         report, calls = re.search(REPORT, said), re.search(CALLS, said)
         if not report or not calls:
             return [f"{name}: no report: {said[-500:]}"]
         taken, completed, failed, in_hand = map(int, report.groups())
         rows = [("in hand", in_hand, 0), ("taken", taken, completed + failed)]
-        if not process.peer.is_cut:
-            # Of one whose input has ended nobody knows what it was still told.
+        if not process.peer.is_cut and not process.peer.is_disturbed:
+            # Of one whose input has ended, or whose connection was lost, nobody knows which responses reached it.
             rows += self.rows_of(process.peer.counts, calls)
-        wrong = [f"{name}: {what} {told}, by the server {counted}" for what, told, counted in rows if told != counted]
+        wrong = [f"{name}: {what} {said}, by the server {counted}" for what, said, counted in rows if said != counted]
         return wrong + self.bounds(process.peer, taken)
 
     def rows_of(self, counts, calls):
@@ -156,37 +158,72 @@ class Loop:
         """A worker takes no more tasks than it was given, and no fewer than it answered."""
         given = peer.counts["given"] + peer.counts["activities given"]
         answers = peer.counts["answers"] + peer.counts["activity answers"]
-        if answers <= taken <= given:
+        if answers <= taken <= given or peer.is_disturbed:
             return []
         return [f"{peer.name}: taken {taken}, by the server {answers} answers to {given} tasks"]
 
     def line(self):
         """What the loop did."""
-        counts = self.server.counts
-        peers = self.server.peers
+        counts, peers = self.server.findings.counts, self.server.peers
         hits, misses = (sum(peer.counts[what] for peer in peers) for what in ("hits", "misses"))
         refused = counts["unhandled"]
         not_found = sum(peer.counts[5] for peer in peers)
         seconds = time.monotonic() - self.begun
         met = ", ".join(f"{name} {times}" for name, times in self.troubles.met.items() if times)
-        line = f"{self.title}: {len(self.server.runs)} runs, {counts['given']} tasks, {hits} hits, {misses} misses, "
+        line = f"{self.title}: {len(self.server.runs.all)} runs, {counts['given']} tasks, {hits} hits, {misses} misses, "
         line += f"{not_found} not found, {refused} refused, {self.killed} killed, {seconds:.1f} s"
         return line + (f"; {met}" if met else "")
 
 
-def front(asked):
+def workflows_of(asked, dice):
+    """The workflows that are run."""
+    if asked.kinds:
+        return Own(dice, asked.kinds, asked.timers, asked.signals, asked.input)
+    return Orders(dice) if asked.orders else Samples(dice)
+
+
+def front(asked, server, troubles):
     """What stands between the server and the workers."""
     if not asked.grpc:
-        return Pipes
+        return Pipes(server, troubles)
     try:
         from grpc_front import Front
     except ImportError as missing:
         sys.exit(f"{missing}: --grpc needs grpcio and protobuf, such as Debian's python3 has with python3-grpcio")
-    return Front
+    return Front(server, asked.bridge)
 
 
 def numbers(text):
     return [int(word) for word in text.split(",")]
+
+
+def names(text):
+    return [word for word in text.split(",") if word]
+
+
+def firings(text):
+    """Which timers fire, and after how many milliseconds where it is not after their own time."""
+    found = {}
+    for word in names(text):
+        name, equals, seconds = word.partition("=")
+        found[name] = round(float(seconds) * 1000) if equals else None
+    return {} if text == "none" else found
+
+
+def values(text):
+    found = json.loads(text)
+    if not isinstance(found, list):
+        raise ValueError(text)
+    return found
+
+
+def add_options_of_kinds(parser):
+    """What goes with --kinds."""
+    found = parser.add_argument_group("with --kinds (docs/LIVE.md)")
+    found.add_argument("--timers", type=firings, default="all", help="timers that fire: all, none, or names with commas; NAME=SECONDS "
+                       "or all=SECONDS fire after so many seconds in place of their own")
+    found.add_argument("--signals", type=names, default=[], help="names of signals, with commas, that come at random until a run closes")
+    found.add_argument("--input", type=values, help="the input of each run, as a JSON list of its values")
 
 
 def options():
@@ -197,19 +234,24 @@ def options():
     which = parser.add_mutually_exclusive_group()
     which.add_argument("--samples", action="store_true", help="the six samples of wfhost (otherwise)")
     which.add_argument("--orders", action="store_true", help="orders, by order_worker")
+    which.add_argument("--kinds", type=names, help="workflow types, with commas, of the program that --program names")
     parser.add_argument("--workers", type=numbers, default=[4], help="numbers of workers, with commas")
     parser.add_argument("--activity-workers", type=int, default=0, help="0: the stand-in serves the activities")
     parser.add_argument("--cache", type=numbers, default=[10], help="capacities of the cache, with commas")
-    parser.add_argument("--trouble", type=names_of, default="all", help="all, none, or kinds with commas: " + ", ".join(KINDS))
+    parser.add_argument("--trouble", type=names_of, default="all", help="none, or kinds with commas, where -KIND leaves one out: all, " + ", ".join(KINDS))
     parser.add_argument("--kill", type=float, nargs="?", const=1.0, default=0, help="every so many seconds kills a worker or ends its input")
     parser.add_argument("--grpc", action="store_true", help="through the bridge, over gRPC")
+    parser.add_argument("--bridge", default=BRIDGE, help="with --grpc, another bridge")
     parser.add_argument("--processes", type=int, default=1, help="worker processes on the one queue")
     parser.add_argument("--seeds", type=numbers, default=[1], help="seeds, with commas")
     parser.add_argument("--limit", type=float, default=LIMIT_SECONDS, help="seconds that a loop may take")
     parser.add_argument("--program", type=str.split, help="another program, as words")
     parser.add_argument("--more", type=str.split, default=[], help="more options of the worker, as words")
     parser.add_argument("--keep", help="a folder for the histories and what the workers said")
+    add_options_of_kinds(parser)
     found = parser.parse_args()
+    if found.kinds and not found.program:
+        parser.error("--kinds wants the program that has them: --program PROGRAM")
     found.program = found.program or [str(PROGRAMS["orders" if found.orders else "samples"])]
     if not shutil.which(found.program[0]):
         parser.error(f"{found.program[0]} is not built")

@@ -1,0 +1,85 @@
+"""What a client asks of the server: runs to start, signals, cancels and ends, and what became of a run."""
+
+from findings import text_of, token_of
+from history import left_out
+from peers import INVALID, NOT_FOUND, Refused
+
+ALREADY_EXISTS = 6
+STATUSES = {
+    None: "RUNNING",
+    "WorkflowExecutionCompleted": "COMPLETED",
+    "WorkflowExecutionFailed": "FAILED",
+    "WorkflowExecutionCanceled": "CANCELED",
+    "WorkflowExecutionTerminated": "TERMINATED",
+    "WorkflowExecutionContinuedAsNew": "CONTINUED_AS_NEW",
+    "WorkflowExecutionTimedOut": "TIMED_OUT",
+}
+
+
+class Clients:
+    """The calls of clients. Each gives a result, or raises `Refused`."""
+
+    def __init__(self, server):
+        self.server = server
+        self.calls = {
+            "StartWorkflowExecution": self.start,
+            "SignalWorkflowExecution": self.signal,
+            "RequestCancelWorkflowExecution": self.request_cancel,
+            "TerminateWorkflowExecution": self.terminate,
+            "DescribeWorkflowExecution": self.describe,
+            "GetWorkflowExecutionHistory": self.history,
+        }
+
+    def call(self, method, params):
+        self.server.clock.now += 1
+        if params.get("namespace") != self.server.settings.namespace:
+            raise Refused(NOT_FOUND, f"no namespace {params.get('namespace')}")
+        return self.calls[method](params)
+
+    def start(self, params):
+        queue = params["taskQueue"]["name"]
+        if queue not in self.server.settings.queues:
+            raise Refused(INVALID, f"no task queue {queue}")
+        runs, kind = self.server.runs, params["workflowType"]["name"]
+        run = runs.start(kind, params["workflowId"], params.get("input"), queue=queue)
+        if run is None:
+            raise Refused(ALREADY_EXISTS, "a run of this id is open")
+        return {"runId": run.run_id}
+
+    def run_of(self, execution, is_open=True):
+        """The run of an execution, which has to be open where that is asked for."""
+        run = self.server.runs.find(execution)
+        if run is None or is_open and run.closed is not None:
+            raise Refused(NOT_FOUND, "no such run, or it is closed")
+        return run
+
+    def signal(self, params):
+        self.server.runs.signal(self.run_of(params["workflowExecution"]), params["signalName"], params.get("input"))
+        return {}
+
+    def request_cancel(self, params):
+        self.server.runs.request_cancel(self.run_of(params["workflowExecution"]))
+        return {}
+
+    def terminate(self, params):
+        self.server.runs.terminate(self.run_of(params["workflowExecution"]))
+        return {}
+
+    def describe(self, params):
+        run = self.run_of(params["execution"], is_open=False)
+        info = {
+            "execution": run.execution,
+            "type": {"name": run.kind},
+            "status": "WORKFLOW_EXECUTION_STATUS_" + STATUSES[run.closed],
+            "historyLength": str(len(run.events)),
+        }
+        return {"workflowExecutionInfo": info}
+
+    def history(self, params):
+        """The history in pages of the size that is asked for. A token is the number of events before the page."""
+        run = self.run_of(params["execution"], is_open=False)
+        token = params.get("nextPageToken", "")
+        first = int(text_of(token)) if token else 0
+        last = first + int(params.get("maximumPageSize", 0) or len(run.events))
+        rest = token_of(str(last)) if last < len(run.events) else ""
+        return left_out({"history": {"events": run.events[first:last]}, "nextPageToken": rest})

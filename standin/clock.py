@@ -1,0 +1,30 @@
+"""The time of the stand-in."""
+
+import heapq
+import itertools
+
+
+class Clock:
+    """A clock in milliseconds. It stands still until it is moved to the next thing that is planned."""
+
+    def __init__(self):
+        self.now, self.planned, self.order = 0, [], itertools.count()
+
+    def at(self, delay, action):
+        """Plans an action after so many milliseconds."""
+        heapq.heappush(self.planned, (self.now + delay, next(self.order), action))
+
+    def jump(self):
+        """Moves on to the next thing that is planned, and does it; whether there was one."""
+        if not self.planned:
+            return False
+        time, _, action = heapq.heappop(self.planned)
+        self.now = max(self.now, time)
+        action()
+        return True
+
+    def run_to(self, time):
+        """Does all that is planned up to a time, which it then shows."""
+        while self.planned and self.planned[0][0] <= time:
+            self.jump()
+        self.now = max(self.now, time)

@@ -1,0 +1,96 @@
+"""Runs from outside: how they start, what comes to them, and what follows where one closes."""
+
+from history import Run, left_out
+
+
+class Runs:
+    """All runs, by their ids."""
+
+    def __init__(self, server):
+        self.server = server
+        self.all, self.by_id, self.open = [], {}, set()
+
+    def start(self, kind, workflow_id, input=None, parent=None, queue=None, continued=None):
+        """Starts a run; none where one of this id is open."""
+        if self.open_one(workflow_id) is not None:
+            return None
+        run_id = f"{len(self.all) + 1:08x}-0000-4000-8000-{self.server.troubles.dice.getrandbits(48):012x}"
+        queue = queue or (parent[0].queue if parent else self.server.settings.queues[0])
+        run = Run(self.server, workflow_id, run_id, kind, queue, parent, input, continued)
+        self.by_id.setdefault(workflow_id, []).append(run)
+        self.all.append(run)
+        self.open.add(run)
+        run.need_task()
+        return run
+
+    def open_one(self, workflow_id):
+        """The open run of an id, or none."""
+        runs = self.by_id.get(workflow_id)
+        return runs[-1] if runs and runs[-1].closed is None else None
+
+    def find(self, execution):
+        """The run of an execution; the last one of its id where it names none; none where there is no such run."""
+        runs, run_id = self.by_id.get(execution["workflowId"], []), execution.get("runId")
+        return next((run for run in reversed(runs) if run_id in (None, run.run_id)), None)
+
+    # What comes to a run.
+
+    def signal(self, run, name, input=None):
+        if run.closed is None:
+            run.come_in("WorkflowExecutionSignaled", left_out({"signalName": name, "input": input}))
+
+    def request_cancel(self, run):
+        if run.closed is None and not run.is_cancelled:
+            run.is_cancelled = True
+            run.come_in("WorkflowExecutionCancelRequested", {"cause": "asked"})
+
+    def update(self, run):
+        """An update comes. Where the run has no task it gets a speculative one, whose events are not written."""
+        if run.closed is None and run.task is None and self.server.troubles.happens("speculative"):
+            run.schedule_task(is_speculative=True)
+
+    def terminate(self, run):
+        if run.closed is None:
+            run.close("WorkflowExecutionTerminated", {"reason": "terminated"})
+
+    def time_out(self, run):
+        if run.closed is None:
+            run.close("WorkflowExecutionTimedOut", {"retryState": "RETRY_STATE_TIMEOUT"})
+
+    # Timers.
+
+    def start_timer(self, run, name, number, delay):
+        """A timer of so many milliseconds starts. The world says after what time it fires, or that it never does."""
+        delay = self.server.world.timer(name, delay)
+        if delay is not None:
+            run.due[name] = self.server.clock.now + delay
+            self.server.clock.at(delay, lambda: self.fire(run, name, number))
+
+    def fire(self, run, name, number):
+        if run.closed is None and run.timers.get(name) == number:
+            del run.timers[name]
+            run.come_in("TimerFired", {"timerId": name, "startedEventId": str(number)})
+
+    # The end.
+
+    def closed(self, run, attributes):
+        """A run has closed: its children are terminated, the next run of its id starts, and its parent hears of it."""
+        self.open.discard(run)
+        for child in list(run.children.values()):
+            if child.run is not None:
+                self.terminate(child.run)
+        if run.closed == "WorkflowExecutionContinuedAsNew":
+            self.go_on(run, attributes)
+        else:
+            self.server.relations.child_closed(run, attributes)
+        self.server.world.closed(run)
+
+    def go_on(self, run, attributes):
+        """Starts the run that follows one which continued as new."""
+        kind = attributes["workflowType"]["name"]
+        new = self.start(kind, run.workflow_id, attributes.get("input"), run.parent, run.queue, run.run_id)
+        run.events[-1]["workflowExecutionContinuedAsNewEventAttributes"]["newExecutionRunId"] = new.run_id
+        parent, number = run.parent or (None, 0)
+        if parent and number in parent.children:
+            parent.children[number].run = new
+        self.server.world.continued(new)

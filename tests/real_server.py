@@ -1,0 +1,419 @@
+#!/usr/bin/env python3
+"""Tries the bridge and a program of this host against a Temporal server: for whoever has one.
+
+    temporal server start-dev
+    pip install temporalio grpcio
+    tests/real_server.py --address localhost:7233 --runs 60
+    tests/real_server.py --address localhost:7233 --orders crates/order_worker/out/order_worker
+
+It starts runs of the samples (and of orders, where --orders names the program that has them), signals some and asks for the
+cancel of some, kills the bridge and its worker in the middle of it and starts them again, and waits until all runs are
+closed. Then it gets each history by GetWorkflowExecutionHistory, writes it as a file in the form of the Temporal CLI, and
+replays the folder with the program. The last line is `N runs, N closed, 0 wrong`, and the status is 1 where something is
+wrong. Children are runs too. It uses task queues and workflow ids of its own, ends what it has started, also where it is
+interrupted, and takes no more than so many minutes.
+
+With --stand-in it starts the stand-in of standin/ and takes it for the server.
+"""
+
+import argparse
+import json
+import os
+import random
+import re
+import signal
+import subprocess
+import sys
+import tempfile
+import time
+import uuid
+from collections import Counter
+from pathlib import Path
+
+TOP = Path(__file__).resolve().parent.parent
+sys.dont_write_bytecode = True
+TRIMMED = TOP / "standin/trimmed"
+BRIDGE = TOP / "bridge/temporal_bridge.py"
+PROGRAM = TOP / "crates/wfhost/out/wfhost"
+STAND_IN = TOP / "standin/serve.py"
+SERVICE = "/temporal.api.workflowservice.v1.WorkflowService/"
+CALL_SECONDS, PAGE_EVENTS, END_SECONDS, REPLAY_SECONDS = 10, 100, 30, 600
+NOT_FOUND = 5
+# Codes after which a call may do better a little later.
+PASSING = (2, 4, 8, 10, 14)
+RUNNING = 1
+SAMPLES = ("Nap", "Greet", "Branch", "Family", "Racer", "Caller")
+# The signals and the cancels that some runs of a type get: how often, and which signal.
+SIGNALS = {"Family": (0.5, "stop"), "Order": (1.0, "cancel"), "Nap": (0.3, "noise")}
+CANCELS = {"Greet": 0.3}
+OPENINGS = ("activityTaskScheduledEventAttributes", "startChildWorkflowExecutionInitiatedEventAttributes")
+CHILD = "childWorkflowExecutionStartedEventAttributes"
+
+
+class Wrong(Exception):
+    """Why the trial can't go on."""
+
+
+def payloads(*values):
+    """JSON values as payloads."""
+    return {"payloads": [{"metadata": {"encoding": b"json/plain"}, "data": json.dumps(value).encode()} for value in values]}
+
+
+class Client:
+    """The calls of a client of the server."""
+
+    def __init__(self, asked, address):
+        import grpc
+        from google.protobuf import json_format
+        from temporalio.api.workflowservice import v1 as messages
+
+        self.grpc, self.json, self.messages = grpc, json_format, messages
+        self.namespace, self.identity = asked.namespace, f"real_server-{os.getpid()}"
+        self.channel, self.beside = self.connect(asked, address), [("temporal-namespace", asked.namespace)]
+        if asked.api_key:
+            self.beside.append(("authorization", f"Bearer {asked.api_key}"))
+
+    def connect(self, asked, address):
+        """A channel, with TLS where it is asked for or a key is shown."""
+        if not (asked.tls or asked.tls_cert or asked.api_key):
+            return self.grpc.insecure_channel(address)
+        files = asked.tls_ca, asked.tls_key, asked.tls_cert
+        held = [Path(file).read_bytes() if file else None for file in files]
+        return self.grpc.secure_channel(address, self.grpc.ssl_channel_credentials(*held))
+
+    def call(self, method, **params):
+        """Makes a call, and again while it may do better: its response, or none where there is no such run."""
+        request = getattr(self.messages, method + "Request")(namespace=self.namespace, **params)
+        response = getattr(self.messages, method + "Response")
+        ask = self.channel.unary_unary(SERVICE + method, type(request).SerializeToString, response.FromString)
+        until = time.monotonic() + CALL_SECONDS
+        while True:
+            try:
+                return ask(request, timeout=CALL_SECONDS, metadata=self.beside)
+            except self.grpc.RpcError as why:
+                code = why.code().value[0]
+                if code == NOT_FOUND:
+                    return None
+                if code not in PASSING or time.monotonic() > until:
+                    raise Wrong(f"{method}: {why.code().name}: {why.details()}") from why
+            time.sleep(0.2)
+
+    def start(self, kind, workflow_id, queue, input):
+        """Starts a run, and gives its execution."""
+        made = self.call(
+            "StartWorkflowExecution",
+            workflow_id=workflow_id,
+            workflow_type={"name": kind},
+            task_queue={"name": queue},
+            input=input,
+            identity=self.identity,
+            request_id=str(uuid.uuid4()),
+        )
+        return {"workflow_id": workflow_id, "run_id": made.run_id}
+
+    def signal(self, execution, name):
+        same = {"workflow_execution": execution, "identity": self.identity, "request_id": str(uuid.uuid4())}
+        self.call("SignalWorkflowExecution", signal_name=name, **same)
+
+    def request_cancel(self, execution):
+        same = {"workflow_execution": execution, "identity": self.identity, "request_id": str(uuid.uuid4())}
+        self.call("RequestCancelWorkflowExecution", **same)
+
+    def terminate(self, execution):
+        self.call("TerminateWorkflowExecution", workflow_execution=execution, reason="the trial is over", identity=self.identity)
+
+    def is_open(self, execution):
+        found = self.call("DescribeWorkflowExecution", execution=execution)
+        return found is not None and found.workflow_execution_info.status == RUNNING
+
+    def history(self, execution):
+        """The events of a run, in the form of the Temporal CLI's JSON, page by page."""
+        events, token = [], b""
+        while True:
+            page = self.call(
+                "GetWorkflowExecutionHistory", execution=execution, maximum_page_size=PAGE_EVENTS, next_page_token=token
+            )
+            if page is None:
+                return events
+            events += self.json.MessageToDict(page.history).get("events", [])
+            token = page.next_page_token
+            if not token:
+                return events
+
+
+class Worker:
+    """A bridge with a worker behind it."""
+
+    def __init__(self, asked, address, program, queue):
+        words = [sys.executable, str(asked.bridge), "--address", address, "--namespace", asked.namespace]
+        words += ["--tls"] * asked.tls
+        for option in ("tls_cert", "tls_key", "tls_ca", "api_key"):
+            value = getattr(asked, option)
+            words += ["--" + option.replace("_", "-"), value] if value else []
+        words += ["--", *program, "work", "--task-queue", queue, "--namespace", asked.namespace, "--identity", "{identity}"]
+        words += ["--activity-workers", "2", "--cache", "10", "--sticky-timeout", "5"]
+        self.words, self.said, self.child = words, tempfile.TemporaryFile(), None
+
+    def start(self):
+        # In a session of its own, so that it can be killed with all that it has started.
+        self.child = subprocess.Popen(self.words, stdin=subprocess.DEVNULL, stderr=self.said, start_new_session=True)
+
+    def kill(self):
+        """Kills the bridge, and the worker that it has started, at once."""
+        children = subprocess.run(["ps", "-o", "pid=", "--ppid", str(self.child.pid)], capture_output=True, text=True)
+        for pid in [self.child.pid, *map(int, children.stdout.split())]:
+            try:
+                os.kill(pid, signal.SIGKILL)
+            except ProcessLookupError:
+                pass
+        self.child.wait()
+
+    def stop(self):
+        """Ends it as an operator does: its status, or none where it had to be killed."""
+        self.child.terminate()
+        try:
+            return self.child.wait(END_SECONDS)
+        except subprocess.TimeoutExpired:
+            self.kill()
+            return None
+
+    def report(self):
+        """What it has said on standard error."""
+        self.said.seek(0)
+        return self.said.read().decode(errors="replace")
+
+
+class Service:
+    """Some workflow types on a task queue, and the worker that serves them."""
+
+    def __init__(self, asked, address, program, queue, types):
+        self.program, self.queue, self.types = program, queue, types
+        self.worker = Worker(asked, address, program, queue)
+
+
+class Trial:
+    """The whole trial."""
+
+    def __init__(self, asked, address):
+        self.asked, self.client, self.dice = asked, Client(asked, address), random.Random(asked.seed)
+        self.name = f"wfhost-{uuid.uuid4().hex[:8]}"
+        queue = asked.task_queue or self.name
+        self.services = [Service(asked, address, asked.program, queue, SAMPLES)]
+        if asked.orders:
+            self.services.append(Service(asked, address, asked.orders, queue + "-orders", ("Order",)))
+        self.executions, self.wrong, self.done = {}, [], Counter()
+        self.until = time.monotonic() + asked.minutes * 60
+
+    def say(self, text):
+        print(text, flush=True)
+
+    # Runs.
+
+    def start(self, number):
+        """Starts a run."""
+        if time.monotonic() > self.until:
+            raise Wrong(f"the time is over after {number} runs")
+        service = self.services[number % len(self.services)]
+        kind = service.types[number // len(self.services) % len(service.types)]
+        workflow_id = f"{self.name}-{kind.lower()}-{number}"
+        input = payloads({"cents": number}, workflow_id) if kind == "Order" else payloads(f"person {number}")
+        execution = self.client.start(kind, workflow_id, service.queue, input)
+        self.executions[workflow_id] = (service, kind, execution)
+
+    def disturb(self):
+        """Signals some runs, and asks for the cancel of some."""
+        for kind, execution in self.open_ones():
+            chance, name = SIGNALS.get(kind, (0, ""))
+            if self.dice.random() < chance and self.may_be_called_off(kind, execution):
+                self.client.signal(execution, name)
+                self.done["signals"] += 1
+            if self.dice.random() < CANCELS.get(kind, 0) and self.may_be_called_off(kind, execution):
+                self.client.request_cancel(execution)
+                self.done["cancels"] += 1
+
+    def may_be_called_off(self, kind, execution):
+        """Whether a run closes still where something calls it off: a Greet and a Family that are called off in their first
+        task start nothing, and wait for ever."""
+        events = self.client.history(execution) if kind in ("Greet", "Family") else [OPENINGS]
+        return any(name in event for event in events for name in OPENINGS)
+
+    def kill_workers(self):
+        """Kills each bridge with its worker, and starts them again a little later."""
+        for service in self.services:
+            service.worker.kill()
+            self.done["kills"] += 1
+        time.sleep(1)
+        for service in self.services:
+            service.worker.start()
+
+    def open_ones(self):
+        """The types and the executions of the runs that are open."""
+        return [(kind, execution) for _, kind, execution in self.executions.values() if self.client.is_open(execution)]
+
+    def wait(self):
+        """Waits until all runs are closed, or the time is over. A signal that always comes to runs of a type comes again and
+        again: an order that is not charged for yet can't be called off, and one that is would be held for a day."""
+        while time.monotonic() < self.until:
+            left = self.open_ones()
+            if not left:
+                return
+            if any(service.worker.child.poll() is not None for service in self.services):
+                raise Wrong("a bridge has ended by itself")
+            for kind, execution in left:
+                chance, name = SIGNALS.get(kind, (0, ""))
+                if chance == 1:
+                    self.client.signal(execution, name)
+            time.sleep(5)
+
+    def run(self):
+        """Does all of it; what it takes is ended whatever comes."""
+        try:
+            for service in self.services:
+                service.worker.start()
+            for number in range(self.asked.runs):
+                self.start(number)
+            self.say(f"{len(self.executions)} runs started on {', '.join(service.queue for service in self.services)}")
+            time.sleep(self.asked.pause)
+            self.disturb()
+            self.kill_workers()
+            time.sleep(self.asked.pause)
+            self.disturb()
+            self.say(", ".join(f"{count} {what}" for what, count in self.done.items()))
+            self.wait()
+        except (Wrong, KeyboardInterrupt) as why:
+            self.wrong.append(str(why) or "interrupted")
+        finally:
+            self.clean_up()
+
+    def clean_up(self):
+        """Ends the workers, and terminates the runs that are open still."""
+        for service in self.services:
+            if service.worker.child is not None:
+                status = service.worker.stop()
+                if status != 0:
+                    self.wrong.append(f"the worker of {service.queue} ended with {status}: {service.worker.report()[-500:]}")
+        try:
+            left = self.open_ones()
+            self.wrong += [f"not closed: {execution['workflow_id']}" for _, execution in left]
+            for _, execution in left:
+                self.client.terminate(execution)
+        except Wrong as why:
+            self.wrong.append(f"cannot terminate what is open: {why}")
+
+    # Histories.
+
+    def judge(self, folder):
+        """Writes the histories, and replays them: how many there are, and how many of them are closed."""
+        count = closed = 0
+        for at, service in enumerate(self.services):
+            place = Path(folder, str(at))
+            place.mkdir(parents=True, exist_ok=True)
+            histories = dict(self.histories(service))
+            for workflow_id, events in histories.items():
+                Path(place, f"{workflow_id}.json").write_text(json.dumps({"events": events}))
+            count += len(histories)
+            closed += sum(is_closed(events) for events in histories.values())
+            self.replay(service, place, len(histories))
+        return count, closed
+
+    def histories(self, service):
+        """The histories of all runs of a service, and of their children that its worker has code for."""
+        for workflow_id, (own, _, execution) in self.executions.items():
+            if own is service:
+                events = self.client.history(execution)
+                yield workflow_id, events
+                for child in (event[CHILD] for event in events if CHILD in event):
+                    if child["workflowType"]["name"] in service.types:
+                        ids = child["workflowExecution"]
+                        found = {"workflow_id": ids["workflowId"], "run_id": ids["runId"]}
+                        yield f"{workflow_id}-child", self.client.history(found)
+
+    def replay(self, service, folder, count):
+        """Notes what replay has to say against the histories of a folder."""
+        ran = subprocess.run([*service.program, "replay", str(folder)], capture_output=True, text=True, timeout=REPLAY_SECONDS)
+        lines = ran.stdout.splitlines()
+        self.wrong += [line for line in lines if not re.search(r": ok, \d+ tasks$|^\d+ files, \d+ ok$", line)]
+        if lines[-1:] != [f"{count} files, {count} ok"]:
+            self.wrong.append(f"replay ends with {lines[-1:]} {ran.stderr[-300:]}")
+
+
+def is_closed(events):
+    """Whether the last event of a history closes its run."""
+    ends = ("COMPLETED", "FAILED", "CANCELED", "TERMINATED", "TIMED_OUT", "CONTINUED_AS_NEW")
+    return bool(events) and events[-1]["eventType"] in [f"EVENT_TYPE_WORKFLOW_EXECUTION_{end}" for end in ends]
+
+
+class StandIn:
+    """The stand-in as a server."""
+
+    def __init__(self, queues):
+        words = [sys.executable, str(STAND_IN), "--task-queues", ",".join(queues)]
+        self.child = subprocess.Popen(words, stdout=subprocess.PIPE, stderr=subprocess.PIPE, text=True)
+        self.address = "127.0.0.1:" + self.child.stdout.readline().strip()
+
+    def stop(self):
+        """What it has to say against the workers."""
+        self.child.terminate()
+        _, said = self.child.communicate(timeout=END_SECONDS)
+        return said.splitlines()
+
+
+def options():
+    """The command line."""
+    parser = argparse.ArgumentParser(description=__doc__, formatter_class=argparse.RawDescriptionHelpFormatter)
+    where = parser.add_mutually_exclusive_group(required=True)
+    where.add_argument("--address", help="host and port of the server")
+    where.add_argument("--stand-in", action="store_true", help="start the stand-in in place of a server")
+    parser.add_argument("--runs", type=int, default=60, help="runs to start")
+    parser.add_argument("--namespace", default="default")
+    parser.add_argument("--task-queue", help="otherwise one with a name of its own")
+    parser.add_argument("--minutes", type=float, default=10, help="how long it may take")
+    parser.add_argument("--pause", type=float, default=3, help="seconds before and after the kill")
+    parser.add_argument("--program", type=str.split, default=[str(PROGRAM)], help="another program with the samples, as words")
+    parser.add_argument("--orders", type=str.split, help="the program of orders, as words, of which runs are started too")
+    parser.add_argument("--bridge", default=BRIDGE, help="another bridge")
+    parser.add_argument("--keep", help="a folder for the histories")
+    parser.add_argument("--seed", type=int, default=1)
+    parser.add_argument("--tls", action="store_true")
+    for name in ("--tls-cert", "--tls-key", "--tls-ca", "--api-key"):
+        parser.add_argument(name, help="as for the bridge")
+    return parser.parse_args()
+
+
+def use_trimmed():
+    """Takes the stand-in's messages in the place of those of Temporal's package."""
+    sys.path.insert(0, str(TRIMMED))
+    os.environ["PYTHONPATH"] = os.pathsep.join(filter(None, [str(TRIMMED), os.environ.get("PYTHONPATH")]))
+
+
+def try_all(asked, address):
+    """The trial: its runs, and what is wrong."""
+    try:
+        trial = Trial(asked, address)
+    except ImportError as missing:
+        sys.exit(f"{missing}; install it by: pip install temporalio grpcio")
+    trial.run()
+    with tempfile.TemporaryDirectory() as room:
+        try:
+            return (*trial.judge(asked.keep or room), trial.wrong)
+        except Wrong as why:
+            return len(trial.executions), 0, [*trial.wrong, str(why)]
+
+
+def main():
+    signal.signal(signal.SIGTERM, signal.default_int_handler)
+    asked, stand_in = options(), None
+    if asked.stand_in:
+        use_trimmed()
+        asked.task_queue = asked.task_queue or "trial"
+        stand_in = StandIn([asked.task_queue, asked.task_queue + "-orders"])
+    runs, closed, wrong = try_all(asked, stand_in.address if stand_in else asked.address)
+    wrong += stand_in.stop() if stand_in else []
+    for what in wrong:
+        print(f"  {what}")
+    print(f"{runs} runs, {closed} closed, {len(wrong)} wrong")
+    return 1 if wrong or closed < runs else 0
+
+
+if __name__ == "__main__":
+    sys.exit(main())
