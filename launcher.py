@@ -30,8 +30,8 @@ MEMORY = 5_000_000
 FIRST = """proving and building the program, which takes 20 to 35 minutes on four processors, this first time
 wfhost: `./wfhost --unproved` and the same arguments answer in some two minutes, with nothing proved"""
 UNPROVED = "nothing of this program is proved: it is built for this run alone, which ends after a minute or 1 MiB of output"
-# What `rt try` says of its own when a run has ended.
-CLOSING = re.compile(rb"((interpreter|checked|races|call|run)[:=].*\n)+\Z")
+# What `rt try` says of a run that ended.
+CLOSING = re.compile(rb"checked: ended .*\n(races: .*\n)?run=ended .*\n\Z")
 
 
 def say(text):

@@ -62,11 +62,14 @@ class Crate:
         self.of_kit = ["std", *(use for use in uses if use not in crates)]
         self.own = [crates[use] for use in uses if use in crates]
         self.below = [*dict.fromkeys(one for use in self.own for one in (*use.below, use))]
+        self.root = "src/main.rt" if (self.folder / "src/main.rt").exists() else "src/lib.rt"
         self.library = self.folder / f"out/rlib/{name}.rlib"
+        # rt leaves it beside a library that it builds for a developer's checks, but not in the gate.
+        self.stamp = self.library.with_name("stamp")
 
     def is_built(self):
         """Whether its library is there, and newer than all that it is made of."""
-        made = [file.stat().st_mtime for file in (self.library, self.library.with_name("stamp")) if file.exists()]
+        made = [file.stat().st_mtime for file in (self.library, self.stamp) if file.exists()]
         folders = [one.folder / part for one in (self, *self.below) for part in PARTS]
         read = [file.stat().st_mtime for folder in folders for file in folder.rglob("*.*")]
         return self.library.exists() and max(read) < max(made)
@@ -82,11 +85,22 @@ class Crate:
 
     def words(self, kit):
         """The words of a check of it, over the libraries that it stands on."""
-        words = ["--crate-name", self.name, "src/lib.rt", "-L", f"dependency={kit}/rlibs"]
+        words = ["--crate-name", self.name, self.root, "-L", f"dependency={kit}/rlibs"]
         words += [f"--extern={name}={kit}/rlibs/{name}.rlib" for name in self.of_kit]
         words += [f"--extern={one.name}={one.library}" for one in self.own]
         words += [word for one in self.below for word in ("-L", f"dependency={one.library.parent}")]
         return [*words, "--antt-project", f"{kit}/rattle/logic/antt-project.json", "--logic-built", f"{kit}/logic_built"]
+
+
+def build(libraries):
+    """Builds those of these libraries that are not built, all in the one way or in the other: those of the gate don't fit
+    those of a developer's checks."""
+    while True:
+        stamped = any(one.stamp.exists() for one in libraries)
+        left = [one for one in libraries if not one.is_built() or stamped and not one.stamp.exists()]
+        if not left:
+            return
+        left[0].build()
 
 
 def crates_listed():
@@ -393,9 +407,10 @@ def main():
         if not (CRATES / name / "edits").is_dir():
             sys.exit(f"edits: no crates/{name}/edits")
     kit = Path(run(["rt", "doc"], CRATES)[0].stdout.strip()).parent
-    for one in dict.fromkeys(one for name in names for one in crates[name].below):
-        if not one.is_built():
-            one.build()
+    try:
+        build([*dict.fromkeys(one for name in names for one in crates[name].below)])
+    except Wrong as why:
+        sys.exit(f"edits: {why}")
     # The crates that take longest begin first.
     names.sort(key=lambda name: -len(crates[name].below))
     place = CRATES / "wfhost/out"
