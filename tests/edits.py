@@ -89,12 +89,13 @@ class Crate:
         words += [f"--extern={name}={kit}/rlibs/{name}.rlib" for name in self.of_kit]
         words += [f"--extern={one.name}={one.library}" for one in self.own]
         words += [word for one in self.below for word in ("-L", f"dependency={one.library.parent}")]
-        return [*words, "--antt-project", f"{kit}/rattle/logic/antt-project.json", "--logic-built", f"{kit}/logic_built"]
+        words += ["--antt-project", f"{kit}/rattle/logic/antt-project.json"]
+        return [*words, "--logic-built", f"{kit}/logic_built"]
 
 
 def build(libraries):
-    """Builds those of these libraries that are not built, all in the one way or in the other: those of the gate don't fit
-    those of a developer's checks."""
+    """Builds those of these libraries that are not built. All are of the gate or all of a developer's checks, since one
+    fits no other."""
     while True:
         stamped = any(one.stamp.exists() for one in libraries)
         left = [one for one in libraries if not one.is_built() or stamped and not one.stamp.exists()]
@@ -206,13 +207,16 @@ class Check:
     def of(self, function):
         """What it said of a function and of the closures in it, by their names."""
         module, path = function
-        front = "::".join((self.crate.name, *module))
-        *of, name = path
-        # An impl is named by what its trait's arguments are called where they are declared.
-        exact, close = "::".join(path), "::".join([*of[:-1], *(rf"{part}\w*" for part in of[-1:]), name])
-        whole = f"{front}::{exact}" in self.states
-        mine = re.compile(rf"{front}::(fn::)?{exact if whole else close}(::.*|\+.*)?")
-        return {one: state for one, state in self.states.items() if mine.fullmatch(one)}
+        exact = "::".join((self.crate.name, *module, *path))
+        if exact in self.states:
+            front, end = "::".join((self.crate.name, *module)), "::".join(path)
+        else:
+            # A method stands in the module of its type, and an impl is named by where the arguments of its trait stand.
+            *of, name = path
+            close = [re.sub(r"([A-Z]?[a-z0-9_]+)", r"\1\\w*", part) for part in of]
+            front, end = rf"{self.crate.name}(::\w+)*?", "::".join([*close, name])
+        mine = re.compile(rf"{front}::(fn::)?{end}(::.*|\+.*)?")
+        return {name: state for name, state in self.states.items() if mine.fullmatch(name)}
 
     def of_edit(self, edit):
         return {one: state for function in edit.changes for one, state in self.of(function).items()}
@@ -265,6 +269,8 @@ class Trial:
         self.rounds = self.refused = self.wrong = self.seconds = 0
         files = sorted((crate.folder / "src").rglob("*.rt"))
         self.texts = {str(file.relative_to(crate.folder)): file.read_text(encoding="utf-8") for file in files}
+        functions = [rust_items.functions_of(file, text) for file, text in self.texts.items()]
+        self.methods = [path for found in functions for _, path in found]
 
     def note(self, edit, text, is_wrong):
         """Says what came of an edit, and counts it."""
@@ -317,14 +323,18 @@ class Trial:
 
     def check(self, edits, texts):
         """Checks the functions that these edits change, with these texts."""
-        functions = sorted({"::".join((*module, *path)) for edit in edits for module, path in edit.changes})
-        check = self.run(texts, *(f"--only={name}" for name in functions))
+        functions = sorted({function for edit in edits for function in edit.changes})
+        check = self.run(texts, *(f"--only={self.name_of(*function)}" for function in functions))
         # Where rattle names one of them otherwise, all are checked.
         check = self.run(texts) if check.status == 2 else check
         if STALE in check.said:
             raise Wrong("its libraries were not built over one another: run `rt check` in its folder")
         self.rounds += 1
         return check
+
+    def name_of(self, module, path):
+        """A name for a function: its path, without the module where no other method has the same."""
+        return "::".join(path if len(path) > 1 and self.methods.count(path) == 1 else (*module, *path))
 
     def run(self, texts, *flags):
         """Runs a check of these texts."""
