@@ -211,7 +211,7 @@ class Check:
         if exact in self.states:
             front, end = "::".join((self.crate.name, *module)), "::".join(path)
         else:
-            # A method stands in the module of its type, and an impl is named by where the arguments of its trait stand.
+            # A method is named by the module of its type, and an impl by the own names of its trait's arguments.
             *of, name = path
             close = [re.sub(r"([A-Z]?[a-z0-9_]+)", r"\1\\w*", part) for part in of]
             front, end = rf"{self.crate.name}(::\w+)*?", "::".join([*close, name])
