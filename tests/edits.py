@@ -250,11 +250,11 @@ class Check:
     def complaint(self, edit):
         """Why an edit that nothing refuses is wrong."""
         states = self.of_edit(edit)
+        if self.proves(edit):
+            return "NOT REFUSED: each function that it changes is still proved"
         unread = UNREAD.search(self.said)
         if unread:
             return f"BAD EDIT: it doesn't compile: {unread[0].strip()[:200]}"
-        if self.proves(edit):
-            return "NOT REFUSED: each function that it changes is still proved"
         gone = [f"{goal}: {why}" for name in states for goal, why in self.faults(name)]
         if gone:
             return f"BAD EDIT: it only takes away a name that a proof file cites: {gone[0][:200]}"
