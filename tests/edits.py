@@ -341,8 +341,12 @@ class Trial:
         for file, text in texts.items():
             (self.room / file).write_text(text, encoding="utf-8")
         words = [f"{self.kit}/bin/rattle", "check", *self.crate.words(self.kit), "--jobs", "1", "--incremental", "kept"]
-        ran, seconds = run([*words, *flags], self.room)
-        self.seconds += seconds
+        for _ in range(2):
+            ran, seconds = run([*words, *flags], self.room)
+            self.seconds += seconds
+            # It was killed most likely for memory, and may have more of it now.
+            if ran.returncode != -signal.SIGKILL:
+                break
         return Check(self.crate, ran)
 
     def judge(self, edits, check):
