@@ -1,4 +1,3 @@
-#!/usr/bin/env python3
 """Builds wfhost and starts it with these arguments, where `wfhost` beside this file asks it to. The first argument is the
 value of GLIBC_TUNABLES for the program, where the environment has none. With `--unproved` as the next, nothing is proved.
 
