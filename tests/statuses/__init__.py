@@ -1,0 +1,1 @@
+"""The tables of `tests/statuses.py`, by their subjects, and what runs a row."""
