@@ -6,10 +6,11 @@
 
 It starts the command after `--`, reads its requests (JSON-RPC 2.0, an object a line, on the command's standard output),
 makes each call of `temporal.api.workflowservice.v1.WorkflowService`, and writes the response to the command's standard
-input. Each request gets a response, and nothing is decided about a workflow. Among the words of the command `{identity}`
-is replaced by a name that no other process has, and `{namespace}` by the one of --namespace. On SIGTERM and SIGINT it
-tells the command to shut down and waits for its end; a second one ends both. Its status is that of the command, or 2
-where that could not be started or connected.
+input. Each request gets a response. The bridge decides nothing about a workflow. In the command it replaces `{identity}`
+with a name that no other process has, and `{namespace}` with --namespace. On SIGTERM or SIGINT it tells the command to
+shut down, and waits until that has ended; a second signal kills the command. Its exit status is that of the command, 128
+plus the number of the signal that ended the command, or 2 if the command can't be started or the server can't be reached.
+An option that is not given is taken from the environment variable in parentheses.
 
 It needs Python 3.8 or later and two packages: `pip install temporalio grpcio`.
 """
@@ -29,7 +30,7 @@ import uuid
 from collections import deque
 from functools import lru_cache
 
-signal.signal(signal.SIGINT, signal.SIG_DFL)  # Until the command runs there is nothing to be told.
+signal.signal(signal.SIGINT, signal.SIG_DFL)  # Until the command runs there is nothing to shut down.
 os.environ.setdefault("GRPC_VERBOSITY", "NONE")  # What goes wrong is said once, by this program.
 try:
     import grpc
@@ -44,15 +45,15 @@ SERVICE = "/temporal.api.workflowservice.v1.WorkflowService/"
 POLL_SECONDS = 70
 CALL_SECONDS = 10
 FIRST_WAIT, LONGEST_WAIT = 0.1, 2.0
-# A worker has 64 requests open at most, each in a thread.
+# A worker has at most 64 requests open, each in a thread.
 MOST_CALLS = 80
-# What the host reads of a line: so many bytes, and values in one another.
+# The longest line that the host reads, in bytes, and how deep its values may nest.
 MOST_BYTES, MOST_LEVELS = 128 << 20, 127
 CANCELLED, INVALID, DEADLINE, EXHAUSTED, UNIMPLEMENTED, INTERNAL, UNAVAILABLE = 1, 3, 4, 8, 12, 13, 14
-# The codes after which the same call may do better: those that Temporal's own workers try again, and that of a call which
-# a proxy or a server that ends has given up.
+# The codes after which a call is tried again: those after which Temporal's own workers do so, and that of a call which was
+# cancelled by a proxy, or by a server that shuts down.
 PASSING = (CANCELLED, 2, EXHAUSTED, 10, 11, INTERNAL, UNAVAILABLE, 15)
-# How gRPC says, in C and Go or in Java, that a message is too large, which it is the next time too.
+# How gRPC says, in C and Go or in Java, that a message is too large: trying again would not help.
 TOO_LARGE = ("larger than max", "exceeds maximum size")
 CHANNEL = {
     "grpc.max_receive_message_length": MOST_BYTES,
@@ -246,8 +247,8 @@ class Bridge:
             return None, (why.code().value[0], why.details() or why.code().name)
 
     def poll(self, method, request):
-        """A poll that gets no task in time is an empty one. One that is cancelled, but not by a shutdown, was so by a server
-        that ends or by a proxy, and a later one may do better."""
+        """A poll that gets no task in time is an empty one. One that is cancelled, but not by a shutdown, was cancelled by a
+        proxy, or by a server that shuts down: a later one may get a task."""
         try:
             result, error = self.ask(method, request, POLL_SECONDS)
         except ValueError:
@@ -260,7 +261,7 @@ class Bridge:
         return ({}, None) if code == DEADLINE else (result, error)
 
     def insist(self, method, request):
-        """Any other call is tried again while it may do better, but not for long."""
+        """Any other call is tried again for a while, after each code that may pass."""
         until, wait = time.monotonic() + CALL_SECONDS, FIRST_WAIT
         while True:
             result, error = self.ask(method, request, CALL_SECONDS)

@@ -6,14 +6,14 @@
     tests/real_server.py --address localhost:7233 --runs 60
     tests/real_server.py --address localhost:7233 --orders crates/order_worker/out/order_worker
 
-It starts runs of the samples (and of orders, where --orders names the program that has them), signals some and asks for the
-cancel of some, kills the bridge and its worker in the middle of it and starts them again, and waits until all runs are
-closed. Then it gets each history by GetWorkflowExecutionHistory, writes it as a file in the form of the Temporal CLI, and
-replays the folder with the program. The last line is `N runs, N closed, 0 wrong`, and the status is 1 where something is
-wrong. Children are runs too. It uses task queues and workflow ids of its own, ends what it has started, also where it is
-interrupted, and takes no more than so many minutes.
+It starts runs of the samples (and of orders, if --orders names the program that has them), signals some and requests the
+cancellation of some, kills the bridge and its worker meanwhile and starts them again, and waits until all runs are closed.
+Then it fetches each history by GetWorkflowExecutionHistory, writes it to a file in the form of the Temporal CLI, and
+replays the folder with the program. The last line is `N runs, N closed, 0 wrong`, and the exit status is 1 if anything is
+wrong. Children count as runs too. It uses task queues and workflow ids of its own, terminates the runs that are still open
+at its end, also after Ctrl-C, and takes no more than --minutes.
 
-With --stand-in it starts the stand-in of standin/ and takes it for the server.
+With --stand-in it starts the stand-in of standin/ in place of a server. It has been tried against that only.
 """
 
 import argparse
@@ -232,8 +232,8 @@ class Trial:
                 self.done["cancels"] += 1
 
     def may_be_called_off(self, kind, execution):
-        """Whether a run closes still where something calls it off: a Greet and a Family that are called off in their first
-        task start nothing, and wait for ever."""
+        """Whether a run still closes after a signal or a cancel: a Greet and a Family that get one in their first task start
+        nothing, and wait for ever."""
         events = self.client.history(execution) if kind in ("Greet", "Family") else [OPENINGS]
         return any(name in event for event in events for name in OPENINGS)
 
