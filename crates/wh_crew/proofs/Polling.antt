@@ -1,12 +1,12 @@
 -- Which place polls which queue.
-use Rattle.std.proofs.Common.{◌≡◌, ◌+◌, ◌/◌, ◌<◌, ◌≤◌, ◌++◌, ◌∷◌, [], ◌⊎◌, List, ℕ, zero, suc, Bool, true, false, max, ap, arith, inl, inr, refl, subst, sym}
+use Rattle.std.proofs.Common.{◌≡◌, ◌/◌, ◌<◌, ◌≤◌, ◌∷◌, [], ◌⊎◌, ℕ, zero, suc, Bool, true, false, max, arith, inl, inr, refl, subst, sym}
 use Rattle.std.proofs.lemmas.Bool.Decides.{nat_tests}
 use Rattle.std.proofs.lemmas.List.Elements.{Contains-append_left, Contains-append_right}
 use Rattle.std.specs.List.{Contains}
 use Rattle.std.specs.Prelude.{nat_lt}
 use Rattle.wh_client.specs.declared.options.Role.{Role}
 use Rattle.wh_client.specs.declared.options.Role.TheVariants.{Normal, Sticky, Activities}
-use Rattle.wh_crew.specs.Crews.{CrewsPollAll, EveryQueueIsPolled, normal_workers, role_at, roles_of}
+use Rattle.wh_crew.specs.Crews.{CrewsPollAll, normal_workers, role_at, roles_of}
 
 -- a list of one has it
 alone : (role : Role) → Contains (role ∷ []) role
