@@ -1,15 +1,13 @@
 //! The setups of an open host, and a host in one call.
-ghost use Rattle.std.specs.Prelude.{◌≡◌, ◌≤◌, ◌+◌, ◌↔◌, IfOk, Err, map, vec_len};
-ghost use Rattle.wh_ledger.specs.Shares.{sums_of};
+ghost use Rattle.std.specs.Prelude.{◌≡◌, ◌+◌, ◌↔◌, IfOk, Err, OnErr, map, replicate, vec_len};
+ghost use Rattle.wh_ledger.specs.Shares.{no_shares, sums_of};
 ghost use Rattle.wh_host.specs.Machine.{IsConfig, totals_of};
 ghost use Rattle.wh_poll.specs.Ends.{AreEnds, IsHostEnd};
 
-use crate::companion::{Companion, NoCompanion};
-use crate::crew::{run_accompanied, run_crew};
 use crate::observer::Observer;
-use crate::pairs::room_for;
+use crate::pairs::{room_for, unzipped, zipped};
 use crate::setup::{WorkerEnd, WorkerSetup};
-use crate::spare::with_spare;
+use crate::workers::run_in_threads;
 use std::alloc::Global;
 use std::marker::Brand;
 use std::sync::Wait;
@@ -56,14 +54,16 @@ pub fn run_on_host<
     ensures ends { IfOk result (λ ended. AreEnds W.program S.tells S.delivers S.answers S.failures S.comes_from
         A.may O.hears seats.items setups.items ended.1.items) }
 {
-    let room = room_for(alloc, setups.len())?;
-    run_crew(rt, alloc, host, gate, seats, setups, room)
+    let pairs = zipped(alloc, seats, setups)?;
+    let room = room_for(alloc, pairs.len())?;
+    let ended = run_in_threads(rt, alloc, host, gate, pairs)?;
+    Ok(unzipped(ended, room))
 }
 
 /// What is left of a host whose workers have ended.
 #[derive(Drop)]
 pub struct HostEnd<S, A, O> {
-    /// The sizes that were asked for.
+    /// The sizes that the host was opened with.
     pub config: Config,
     /// What each worker left, in the order of their setups.
     pub workers: Vec<WorkerEnd<S, A, O>>,
@@ -77,7 +77,7 @@ pub struct HostEnd<S, A, O> {
 /// Each worker leaves its setup as its turns led to it, with its handler and its observer, which
 /// was notified of each turn; its source comes from the one of the setup, with the same `delivers`
 /// and `tells`, and was sent at most as many answers as the worker took tasks. The totals are the
-/// sums of what the workers counted, and the sizes are those that were asked for. `BadConfig`
+/// sums of what the workers counted, and the sizes are those that it was opened with. `BadConfig`
 /// where a size is not within its range, or the seats are not as many as the setups; `OutOfMemory`
 /// where there was no memory. Then the setups are given up. (Temporal documentation, "Workers": a
 /// Worker Process.)
@@ -99,53 +99,23 @@ pub fn run_host<
     ensures end { IfOk result (IsHostEnd W.program S.tells S.delivers S.answers S.failures S.comes_from
         A.may O.hears config setups) }
 {
-    run_host_beside::<W, R, S, A, O, G, NoCompanion>(rt, alloc, config, setups, gate, None)
-}
-
-/// The same as `run_host`, with a companion that runs beside the workers in one thread more, if there
-/// is one. The host is opened with a seat for it, which counts nothing, unless the workers take all
-/// that a host may have.
-pub fn run_host_beside<
-    W: Workflow + Send,
-    R: Threads + Wait + Sync,
-    S: TaskSource + Send + Drop,
-    A: ActivityHandler + Send + Drop,
-    O: Observer + Send + Drop,
-    G: Gate + Sync,
-    P: Companion + Sync,
->(
-    rt: &R,
-    alloc: Global,
-    config: Config,
-    setups: Vec<WorkerSetup<S, A, O>>,
-    gate: &G,
-    companion: Option<&P>,
-) -> Result<HostEnd<S, A, O>, OpenFault>
-    ensures bad { (result ≡ Err OpenFault.BadConfig) ↔ (¬ (IsConfig config × (config.seats ≡ vec_len setups))) }
-    ensures end { IfOk result (IsHostEnd W.program S.tells S.delivers S.answers S.failures S.comes_from
-        A.may O.hears config setups) }
-{
-    if config.seats != setups.len() {
+    let seats = config.seats;
+    if seats != setups.len() {
         return Err(OpenFault::BadConfig);
     }
-    let opened = with_spare(config, companion.is_some());
-    let parts = opened.seats as u64;
-    let left = run_with::<W, R, S, A, O, G, P, Brand, Brand, Brand>(
+    run_with::<W, R, S, A, O, G, Brand, Brand, Brand>(
         rt,
         alloc,
-        opened,
+        config,
         setups,
         gate,
-        companion,
-        Blank::new(parts),
-        Blank::new(parts),
-        Blank::new(parts),
-    )?;
-    Ok(HostEnd { config, ..left })
+        Blank::new(seats as u64),
+        Blank::new(seats as u64),
+        Blank::new(seats as u64),
+    )
 }
 
-/// Opens a host of these sizes over these ledgers, runs the workers and their companion, and closes
-/// it. There may be a seat beside those of the workers.
+/// Runs a host over these ledgers.
 fn run_with<
     W: Workflow + Send,
     R: Threads + Wait + Sync,
@@ -153,7 +123,6 @@ fn run_with<
     A: ActivityHandler + Send + Drop,
     O: Observer + Send + Drop,
     G: Gate + Sync,
-    P: Companion + Sync,
     T: Ledger + Send,
     C: Ledger + Send,
     F: Ledger + Send,
@@ -163,12 +132,11 @@ fn run_with<
     config: Config,
     setups: Vec<WorkerSetup<S, A, O>>,
     gate: &G,
-    companion: Option<&P>,
     taken: Blank,
     completed: Blank,
     failed: Blank,
 ) -> Result<HostEnd<S, A, O>, OpenFault>
-    requires seats { (vec_len setups ≤ config.seats) × (config.seats ≤ vec_len setups + 1) }
+    requires seats { config.seats ≡ vec_len setups }
     requires taken { (taken.name ≡ T.name) × (taken.parts ≡ T.parts) × (taken.parts ≡ config.seats) }
     requires completed { (completed.name ≡ C.name) × (completed.parts ≡ C.parts)
         × (completed.parts ≡ config.seats) }
@@ -178,7 +146,36 @@ fn run_with<
         A.may O.hears config setups) }
 {
     let (host, seats) = Host::<W, T, C, F>::open(alloc, config, taken, completed, failed)?;
-    let (seats, workers) = run_accompanied(rt, alloc, &host, gate, seats, setups, companion)?;
+    run_open(rt, alloc, config, host, seats, setups, gate)
+}
+
+/// Runs the workers of a host that has just opened with these sizes, and closes it.
+fn run_open<
+    W: Workflow + Send,
+    R: Threads + Wait + Sync,
+    S: TaskSource + Send + Drop,
+    A: ActivityHandler + Send + Drop,
+    O: Observer + Send + Drop,
+    G: Gate + Sync,
+    T: Ledger + Send,
+    C: Ledger + Send,
+    F: Ledger + Send,
+>(
+    rt: &R,
+    alloc: Global,
+    config: Config,
+    host: Host<W, T, C, F>,
+    seats: Vec<Seat<T, C, F>>,
+    setups: Vec<WorkerSetup<S, A, O>>,
+    gate: &G,
+) -> Result<HostEnd<S, A, O>, OpenFault>
+    requires seats { seats.items ≡ replicate (vec_len setups) no_shares }
+    requires parts { T.parts ≡ vec_len setups }
+    ensures fault { OnErr result (result ≡ Err OpenFault.OutOfMemory) }
+    ensures end { IfOk result (IsHostEnd W.program S.tells S.delivers S.answers S.failures S.comes_from
+        A.may O.hears config setups) }
+{
+    let (seats, workers) = run_on_host(rt, alloc, &host, seats, setups, gate)?;
     let totals = close(host, seats);
     Ok(HostEnd {
         config,

@@ -51,7 +51,6 @@ pub(crate) fn unzipped<A: Drop, B: Drop>(
     requires seconds { (room.1.items ≡ []) × (vec_len pairs ≤ vec_capacity room.1) }
     ensures firsts { result.0.items ≡ map (λ pair. pair.0) pairs.items }
     ensures seconds { result.1.items ≡ map (λ pair. pair.1) pairs.items }
-    ensures room { vec_capacity result.0 ≡ vec_capacity room.0 }
 {
     let (mut firsts, mut seconds) = room;
     while let Some((first, second)) = pairs.pop() {

@@ -3,7 +3,7 @@ use Rattle.std.proofs.lemmas.List.{length-map}
 use Rattle.wh_poll.specs.Ends.{IsWorked}
 use Rattle.wh_poll.proofs.Ends.{ends_of_pairs, seats_counted}
 use Rattle.wh_poll.proofs.Zips.{map-map, zip_each}
-use Rattle.wh_poll.proofs.crew.run_crew.Goals as goal
+use Rattle.wh_poll.proofs.hosting.run_on_host.Goals as goal
 
 -- there is a seat for each setup
 pub zipped-requires : goal.zipped-requires
@@ -28,5 +28,4 @@ returns g c =
       counted = firsts ∙ seats_counted R pairs ended all (λ seated end worked. worked.seat) ∙ sym (ap (map (λ end. end.counted)) seconds ∙ map-map (λ end. end.counted) (λ end. end.1) ended);
       ends = ends_of_pairs g.W.Workflow.program S.tells S.delivers S.answers S.failures S.comes_from g.A.ActivityHandler.may g.O.Observer.hears
           pairs ended c.args.seats.items c.args.setups.items c.unzipped.result.1.items c.in_ok-pairs.ensures.firsts c.in_ok-pairs.ensures.seconds seconds all;
-      room = c.unzipped.ensures.room;
     }

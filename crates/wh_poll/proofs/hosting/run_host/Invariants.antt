@@ -1,4 +1,4 @@
-use Rattle.wh_poll.proofs.hosting.run_host_beside.Given as goal
+use Rattle.wh_poll.proofs.hosting.run_host.Given as goal
 
 abbrev pub ghosts-run_with-T-Ledger : goal.ghosts-run_with-T-Ledger
 ghosts-run_with-T-Ledger g a = record { name = a.taken.name; parts = a.taken.parts }
