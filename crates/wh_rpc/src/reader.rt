@@ -1,6 +1,6 @@
 //! The reading of what the bridge writes.
 
-ghost use Rattle.std.specs.Prelude.{◌≡◌, true, IfSome};
+ghost use Rattle.std.specs.Prelude.{◌≡◌, true, IfSome, if◌then◌else◌};
 ghost use Rattle.wh_rpc.specs.Private.Losses.{EndsAtLoss, IsFollowed, may_be_response};
 
 use crate::bad_line::BadLine;
@@ -67,7 +67,7 @@ fn act_on<R: Wait, C: Caller>(rt: &R, calls: &C, line: Line) -> Result<(), Unuse
 
 /// Why a line that says nothing is not used.
 fn unusable(fault: BadLine, bytes: &[u8]) -> Unused
-    ensures { may_be_response fault bytes.now ≡ true → result ≡ Unused.Lost fault }
+    ensures { result ≡ (if may_be_response fault bytes.now then Unused.Lost fault else Unused.Unread fault) }
 {
     if may_be_response(fault, bytes) {
         Unused::Lost(fault)
