@@ -1,7 +1,8 @@
 -- What a refusal says.
-use Rattle.std.specs.Prelude.{string_bytes}
+use Rattle.std.specs.Prelude.{◌≡◌, string_bytes, ⊤}
 use Rattle.wh_client.specs.declared.asking.AskFault.{AskFault}
 use Rattle.wh_client.specs.declared.asking.AskFault.TheVariants as asked
+use Rattle.wh_client.specs.declared.codes.Status.TheVariants.{Other}
 use Rattle.wh_messages.specs.ServerReads as server
 
 -- the call was refused since its request is larger than the server takes
@@ -13,3 +14,14 @@ IsTooLarge asked.Unreadable = ⊥
 IsTooLarge asked.TooManyPages = ⊥
 IsTooLarge (asked.History fault) = ⊥
 IsTooLarge asked.OutOfMemory = ⊥
+
+-- a call that failed says nothing of later polls nor of a task: where it was refused, its status is none of those that a
+-- worker distinguishes
+abbrev pub HasNoMeaning : AskFault → Type 0
+HasNoMeaning asked.Closed = ⊤
+HasNoMeaning asked.Output = ⊤
+HasNoMeaning (asked.Refused status code message) = status ≡ Other
+HasNoMeaning asked.Unreadable = ⊤
+HasNoMeaning asked.TooManyPages = ⊤
+HasNoMeaning (asked.History fault) = ⊤
+HasNoMeaning asked.OutOfMemory = ⊤

@@ -1,11 +1,12 @@
 //! The client of a server's calls, and what it reads from there.
 
-ghost use Rattle.std.specs.Prelude.{◌≡◌, IfOk, Some, map};
+ghost use Rattle.std.specs.Prelude.{◌≡◌, IfErr, IfOk, Some, map};
 ghost use Rattle.serde_json.specs.View.{view};
 ghost use Rattle.wh_messages.specs.Responses.{poll_seen};
 ghost use Rattle.wh_client.specs.Histories.{HandsOn, HasAllMembers, IsWhole, ReadsEvents};
 ghost use Rattle.wh_messages.specs.CarryingOver.{carried_in, carried_seen};
 ghost use Rattle.wh_client.specs.Polls.{IsActivityPoll, IsWorkflowPoll};
+ghost use Rattle.wh_client.specs.Refusals.{HasNoMeaning};
 
 use crate::asking::{AskFault, ask_poll};
 use crate::codes::Status;
@@ -32,7 +33,9 @@ pub struct Client<'a, L> {
 
 /// Why a poll failed whose page could not be had. What the page was refused with says nothing of
 /// later polls.
-fn of_page(fault: AskFault) -> AskFault {
+fn of_page(fault: AskFault) -> AskFault
+    ensures { HasNoMeaning result }
+{
     match fault {
         AskFault::Refused { code, message, .. } => AskFault::Refused {
             status: Status::Other,
@@ -45,8 +48,9 @@ fn of_page(fault: AskFault) -> AskFault {
 
 /// What a run hands on whose history begins with a page.
 fn carried_in_page(page: &HistoryPage) -> Result<CarriedOver, AskFault>
-    ensures { IfOk result (λ carried.
+    ensures carried { IfOk result (λ carried.
         carried_in (map view page.now.members.items) ≡ Some (carried_seen carried)) }
+    ensures refused { IfErr result HasNoMeaning }
 {
     match carried_over(page.members.as_slice())? {
         Some(carried) => Ok(carried),
@@ -105,8 +109,9 @@ impl<L: Connection> Client<'_, L> {
         next_page: Text,
         members: Vec<Value>,
     ) -> Result<Vec<Value>, AskFault>
-        ensures { IfOk result (λ all. HasAllMembers L.gives self.now.options.now.names run.now next_page
+        ensures all { IfOk result (λ all. HasAllMembers L.gives self.now.options.now.names run.now next_page
             (map view members.items) (map view all.items)) }
+        ensures refused { IfErr result HasNoMeaning }
     {
         let mut all = members;
         if next_page.get().is_empty() {
@@ -129,8 +134,9 @@ impl<L: Connection> Client<'_, L> {
     /// event that starts the run. Where the page was refused its status is `Other`, since that says
     /// nothing of the task.
     pub fn fetch_carried(&self, run: &RunKey) -> Result<CarriedOver, AskFault>
-        ensures { IfOk result (λ carried.
+        ensures carried { IfOk result (λ carried.
             HandsOn L.gives self.now.options.now.names run.now (carried_seen carried)) }
+        ensures refused { IfErr result HasNoMeaning }
     {
         let first = Text::new(String::new(self.allocator()));
         match ask_page(self.connection, &self.options.names, run, &first) {
