@@ -86,6 +86,7 @@ pub enum Receipt {
 pub fn refused_answer(status: Status) -> Receipt
     ensures is { result ≡ refused_answer status }
     ensures unacknowledged { result ≢ Receipt.Acknowledged }
+    ensures sent { result ≢ Receipt.Withheld }
 {
     match status {
         Status::NotFound => Receipt::NotFound,

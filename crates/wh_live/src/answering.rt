@@ -10,7 +10,7 @@ ghost use Rattle.wh_tasks.specs.declared.source.Sent.TheVariants.{Workflow as Of
 ghost use Rattle.wh_tasks.specs.Source.{FailsOnly};
 ghost use Rattle.wh_live.specs.Answers.{cause_of, receipt_of};
 ghost use Rattle.wh_live.specs.Private.Answering.{AnswersOpen, CompletesTask, CompletesWith, FailsTask, HasAnswer};
-ghost use Rattle.wh_live.specs.Private.Answering.{IsActivityRequest, IsReplaced, counts_fault};
+ghost use Rattle.wh_live.specs.Private.Answering.{IsActivityRequest, IsKeptBack, IsReplaced, counts_fault};
 ghost use Rattle.wh_live.specs.Private.Answering.{is_reported};
 ghost use Rattle.wh_live.specs.Private.Answering.{receipt_of_sent, reports_refusal, run_use};
 ghost use Rattle.wh_live.specs.Private.Counting.{settled};
@@ -51,6 +51,7 @@ fn cause_of(fault: &Fault) -> FailedCause
 fn receipt_of(fault: &AskFault) -> Receipt
     ensures is { result ≡ receipt_of fault.now }
     ensures unacknowledged { result ≢ Acknowledged }
+    ensures sent { result ≢ Withheld }
 {
     match fault {
         AskFault::Refused { status, .. } => refused_answer(*status),
@@ -125,6 +126,7 @@ fn receive<L: Connection>(
 ) -> Receipt
     ensures is { result ≡ receipt_of_sent sent }
     ensures acknowledged { result ≡ Acknowledged → IsOk sent }
+    ensures sent { result ≢ Withheld }
 {
     match sent {
         Ok(()) => Receipt::Acknowledged,
@@ -143,7 +145,8 @@ fn send_written<L: Connection>(
     task: &OpenTask,
     request: Result<Request, OutOfMemory>,
 ) -> Receipt
-    ensures { result ≡ Acknowledged → IsOkAnd request (λ request. IsAcknowledged L.gives request) }
+    ensures acknowledged { result ≡ Acknowledged → IsOkAnd request (λ request. IsAcknowledged L.gives request) }
+    ensures sent { result ≢ Withheld }
 {
     match request {
         Ok(request) => {
@@ -161,7 +164,7 @@ fn fail<L: Connection>(
     cause: FailedCause,
     message: &str,
 ) -> Receipt
-    ensures later { 1 < task.now.attempt → result ≡ Withheld }
+    ensures later { (result ≡ Withheld) ↔ (1 < task.now.attempt) }
     ensures sent { result ≡ Acknowledged →
         FailsTask L.gives client.now.options.now.names task.now.token cause }
 {
@@ -175,7 +178,8 @@ fn fail<L: Connection>(
 
 /// Fails a workflow task for a fault of replay.
 fn fail_replay<L: Connection>(client: &Client<'_, L>, task: &OpenTask, fault: &Fault) -> Receipt
-    ensures { result ≡ Acknowledged →
+    ensures later { result ≡ Withheld → 1 < task.now.attempt }
+    ensures sent { result ≡ Acknowledged →
         FailsTask L.gives client.now.options.now.names task.now.token (cause_of fault.now) }
 {
     match replay_text(client.allocator(), fault) {
@@ -220,7 +224,8 @@ fn send_completed<L: Connection>(
     task: &OpenTask,
     request: Request,
 ) -> Receipt
-    ensures { result ≡ Acknowledged → IsAcknowledged L.gives request }
+    ensures acknowledged { result ≡ Acknowledged → IsAcknowledged L.gives request }
+    ensures sent { result ≢ Withheld }
 {
     match client.send(request) {
         Err(fault) if fault.is_too_large() => {
@@ -240,7 +245,8 @@ fn complete_with<L: Connection>(
     events: &[Event],
     carried: &CarriedOver,
 ) -> Receipt
-    ensures { result ≡ Acknowledged →
+    ensures sent { result ≢ Withheld }
+    ensures acknowledged { result ≡ Acknowledged →
         CompletesWith L.gives client.now.options.now task.now commands.now events.now (carried_seen carried.now) }
 {
     match client.completed(
@@ -267,7 +273,8 @@ fn complete<L: Connection>(
     commands: &[Command],
     events: &[Event],
 ) -> Receipt
-    ensures { result ≡ Acknowledged →
+    ensures sent { result ≢ Withheld }
+    ensures acknowledged { result ≡ Acknowledged →
         CompletesTask L.gives client.now.options.now task.now commands.now events.now }
 {
     if !continues_as_new(commands) {
@@ -286,7 +293,8 @@ fn respond<L: Connection>(
     answer: &Answer,
     events: &[Event],
 ) -> Receipt
-    ensures { result ≡ Acknowledged →
+    ensures kept_back { result ≡ Withheld → IsKeptBack task.now answer.now }
+    ensures acknowledged { result ≡ Acknowledged →
         HasAnswer L.gives client.now.options.now task.now answer.now events.now }
 {
     match answer {

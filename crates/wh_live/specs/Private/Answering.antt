@@ -1,5 +1,5 @@
 -- What is sent for a task, and what becomes of it.
-use Rattle.std.specs.Prelude.{◌≡◌, ◌⊎◌, ℕ, List, codes, not, Bool, true, false, Option, Some, None, Result, Ok, Err, string_bytes, if◌then◌else◌}
+use Rattle.std.specs.Prelude.{◌≡◌, ◌⊎◌, ◌<◌, ℕ, List, codes, not, Bool, true, false, Option, Some, None, Result, Ok, Err, string_bytes, if◌then◌else◌}
 use Rattle.std.specs.List.{list_any}
 use Rattle.std.specs.Str.{bytes_eq}
 use Rattle.serde_json.specs.Data.{Data}
@@ -65,6 +65,11 @@ pub record FailsTask (gives : Gives) (names : WorkerNames) (token : List ℕ) (c
 abbrev pub HasAnswer : Gives → LiveOptions → OpenTask → Answer → List Event → Type 0
 HasAnswer gives options task (Complete commands) events = CompletesTask gives options task commands events
 HasAnswer gives options task (Fail fault) events = FailsTask gives options.names task.token (cause_of fault)
+
+-- only a failure is kept back, and not that of the first attempt
+abbrev pub IsKeptBack : OpenTask → Answer → Type 0
+IsKeptBack task (Complete commands) = ⊥
+IsKeptBack task (Fail fault) = 1 < task.attempt
 
 -- the open task has this name, and the server gave a result for this answer to it
 pub record AnswersOpen (gives : Gives) (options : LiveOptions) (open_task : Option OpenTask) (name : TaskName)

@@ -10,5 +10,5 @@ returns-in-Some g c =
       task = c.in-Some.task;
       is = c.in-Some.is;
       named = ap (λ n. record { 0 = n }) same;
-      answered = c.respond-receipt.ensures acknowledged;
+      answered = c.respond-receipt.ensures.acknowledged acknowledged;
     }
