@@ -2,12 +2,15 @@
 use Rattle.std.proofs.Common.{◌≡◌, List, [], Bool, true, false, Option, Some, None, Result, Ok, Err, inl, inr, refl, subst, sym}
 use Rattle.std.specs.Prelude.{IfOk, if◌then◌else◌}
 use Rattle.wh_client.specs.Calls.{Gives}
+use Rattle.wh_client.specs.declared.asking.AskFault.{AskFault}
 use Rattle.wh_events.specs.declared.event.Event.{Event}
 use Rattle.wh_events.specs.declared.key.RunKey.{RunKey}
 use Rattle.wh_events.specs.Keys.{same_key, same_key-true}
+use Rattle.wh_live.specs.declared.tasks.Brought.{Brought}
+use Rattle.wh_live.specs.declared.tasks.Brought.TheVariants as brought
 use Rattle.wh_live.specs.declared.tasks.OpenTask.{OpenTask}
 use Rattle.wh_live.specs.Deliveries.{AreLater, FromQueue, HasKept, later_in}
-use Rattle.wh_live.specs.Private.Opening.{HasLater, IsOpened, KeepsLater, later_events}
+use Rattle.wh_live.specs.Private.Opening.{HasLater, IsOpened, KeepsLater, OnTask, later_events}
 use Rattle.wh_messages.specs.declared.names.WorkerNames.{WorkerNames}
 use Rattle.wh_replay.specs.Runs.{follows}
 use Rattle.wh_tasks.specs.declared.source.Polled.{Polled}
@@ -52,3 +55,11 @@ module _ (gives : Gives) (names : WorkerNames) (queue : Option Bool) where
   opened_later (Ok polled.Nothing) old result new is later had = subst (HasLater gives names queue) (sym is.1) had
   opened_later (Ok polled.Closed) old result new is later had = subst (HasLater gives names queue) (sym is.1) had
   opened_later (Err fault) old result new is later had = subst (HasLater gives names queue) (sym is.1) had
+
+-- what holds of the task that a poll brought holds of the one that is given
+pub is_of_brought : {A : Type 0} (p : A → Type 0) (taken : Result (Brought A) AskFault) (given : Result (Polled A) SourceFault)
+    → IfOk taken (OnTask p) → IfOk given (IfTask (λ task. taken ≡ Ok (brought.Task task))) → IfOk given (IfTask p)
+is_of_brought p taken (Ok (polled.Task task)) held is = subst (λ r. IfOk r (OnTask p)) is held
+is_of_brought p taken (Ok polled.Nothing) held is = tt
+is_of_brought p taken (Ok polled.Closed) held is = tt
+is_of_brought p taken (Err fault) held is = tt

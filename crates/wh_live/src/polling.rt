@@ -9,7 +9,8 @@ ghost use Rattle.wh_tasks.specs.Source.{FailsOnly, IfTask};
 ghost use Rattle.wh_live.specs.Deliveries.{AreLater, FromActivities, FromQueue, IsActivityOf, IsActivityTask};
 ghost use Rattle.wh_live.specs.Deliveries.{IsTaskOf, IsWorkflowTask};
 ghost use Rattle.wh_live.specs.Private.Opening.{IsOpened, OnTask, Opens, OpensActivity, StaysOpen};
-ghost use Rattle.wh_live.specs.Private.Opening.{HasLater, later_events};
+ghost use Rattle.wh_live.specs.Private.Opening.{GivesOpened, HasLater, OpensPolled, OpensPolledActivity, OpensQueued};
+ghost use Rattle.wh_live.specs.Private.Opening.{later_events};
 ghost use Rattle.wh_replay.specs.Runs.{follows};
 
 use crate::answering::fail_unreadable;
@@ -142,6 +143,8 @@ fn take_workflow<L: Connection>(
 ) -> Result<Brought<(OpenTask, WorkflowTask)>, AskFault>
     ensures task { IfOk result (OnTask (λ taken.
         IsWorkflowTask L.gives client.now.options.now.names sticky taken.1)) }
+    ensures opened { IfOk result (OnTask (λ taken.
+        OpensPolled L.gives client.now.options.now.names sticky taken.0 taken.1)) }
     ensures later { IfOk result (OnTask (λ taken.
         AreLater L.gives client.now.options.now.names (Some sticky) taken.0.run taken.0.later.items)) }
 {
@@ -194,6 +197,8 @@ fn take_activity<L: Connection>(
 ) -> Result<Brought<(OpenTask, ActivityTask)>, AskFault>
     ensures task { IfOk result (OnTask (λ taken.
         IsActivityTask L.gives client.now.options.now.names taken.1)) }
+    ensures opened { IfOk result (OnTask (λ taken.
+        OpensPolledActivity L.gives client.now.options.now.names taken.0 taken.1)) }
     ensures later { IfOk result (OnTask (λ taken. taken.0.later.items ≡ [])) }
 {
     let (id, poll) = client.ask_activity()?;
@@ -213,6 +218,8 @@ pub(crate) fn poll_workflow<L: Connection>(
 ) -> Result<Polled<WorkflowTask>, SourceFault>
     ensures task { IfOk result (IfTask
         (FromQueue L.gives client.now.options.now.names (polls_sticky role))) }
+    ensures opened { GivesOpened (OpensQueued L.gives client.now.options.now.names (polls_sticky role))
+        result current.new }
     ensures later { HasLater L.gives client.now.options.now.names (polls_sticky role) current.old →
         HasLater L.gives client.now.options.now.names (polls_sticky role) current.new }
     ensures failures { FailsOnly result journal.old.tally.failures journal.new.tally.failures }
@@ -238,6 +245,7 @@ pub(crate) fn poll_activity<L: Connection>(
 ) -> Result<Polled<ActivityTask>, SourceFault>
     ensures task { IfOk result (IfTask
         (FromActivities L.gives client.now.options.now.names role)) }
+    ensures opened { GivesOpened (OpensPolledActivity L.gives client.now.options.now.names) result current.new }
     ensures later { HasLater L.gives client.now.options.now.names (polls_sticky role) current.old →
         HasLater L.gives client.now.options.now.names (polls_sticky role) current.new }
     ensures failures { FailsOnly result journal.old.tally.failures journal.new.tally.failures }

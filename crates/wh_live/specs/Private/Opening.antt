@@ -1,20 +1,26 @@
 -- Tasks that were opened, and are to be answered.
-use Rattle.std.specs.Prelude.{◌≡◌, ◌⊎◌, ℕ, Bool, List, [], Option, Some, None, option_map, Result, Ok, Err, if◌then◌else◌}
+use Rattle.std.specs.Prelude.{◌≡◌, ◌⊎◌, ℕ, Bool, List, [], Option, Some, None, option_map, Result, Ok, Err, IfOk, IsSomeAnd, if◌then◌else◌}
 use Rattle.wh_client.specs.Calls.{Gives}
+use Rattle.wh_client.specs.Polls.{IsActivityPoll, IsWorkflowPoll}
 use Rattle.wh_events.specs.declared.event.Event.{Event}
 use Rattle.wh_events.specs.declared.key.RunKey.{RunKey}
-use Rattle.wh_live.specs.Deliveries.{HasKept, later_in}
+use Rattle.wh_live.specs.Deliveries.{HasKept, IsActivityOf, IsTaskOf, later_in}
 use Rattle.wh_live.specs.declared.tasks.Brought.{Brought}
 use Rattle.wh_live.specs.declared.tasks.Brought.TheVariants as brought
 use Rattle.wh_live.specs.declared.tasks.OpenTask.{OpenTask}
 use Rattle.wh_messages.specs.declared.response.PolledActivity.{PolledActivity}
 use Rattle.wh_messages.specs.declared.names.WorkerNames.{WorkerNames}
+use Rattle.wh_messages.specs.declared.response.ActivityPoll.TheVariants as ActivityPoll
 use Rattle.wh_messages.specs.Responses.{Task}
+use Rattle.wh_messages.specs.Responses as read
 use Rattle.wh_replay.specs.Runs.{follows}
 use Rattle.wh_slots.specs.declared.TaskName.{TaskName}
 use Rattle.wh_tasks.specs.declared.source.Polled.{Polled}
 use Rattle.wh_tasks.specs.declared.source.Polled.TheVariants as polled
 use Rattle.wh_tasks.specs.declared.source.SourceFault.{SourceFault}
+use Rattle.wh_tasks.specs.declared.source.ActivityTask.{ActivityTask}
+use Rattle.wh_tasks.specs.declared.source.WorkflowTask.{WorkflowTask}
+use Rattle.wh_tasks.specs.Source.{IfTask}
 
 -- it holds of the task, where the poll brought one
 abbrev pub OnTask : {A : Type 0} → (A → Type 0) → Brought A → Type 0
@@ -38,6 +44,33 @@ pub record OpensActivity (id : ℕ) (polled : PolledActivity) (opened : OpenTask
   pub name : opened.name ≡ given
   pub token : opened.token ≡ polled.token
   pub run : opened.run ≡ polled.run
+
+-- what a poll of a queue gave is given, and answered as it came
+pub record OpensPolled (gives : Gives) (names : WorkerNames) (sticky : Bool) (opened : OpenTask)
+    (task : WorkflowTask) : Type 0 where
+  pub id : ℕ
+  pub polled : Task
+  pub poll : IsWorkflowPoll gives names sticky (read.task polled)
+  pub is : IsTaskOf gives names polled task
+  pub opens : Opens id polled opened task.name
+
+-- what the queue of a source gave, if it has one
+abbrev pub OpensQueued : Gives → WorkerNames → Option Bool → OpenTask → WorkflowTask → Type 0
+OpensQueued gives names None opened task = ⊥
+OpensQueued gives names (Some sticky) opened task = OpensPolled gives names sticky opened task
+
+-- what a poll of activities gave is given, and answered as it came
+pub record OpensPolledActivity (gives : Gives) (names : WorkerNames) (opened : OpenTask)
+    (task : ActivityTask) : Type 0 where
+  pub id : ℕ
+  pub polled : PolledActivity
+  pub poll : IsActivityPoll gives names (ActivityPoll.Task polled)
+  pub is : IsActivityOf polled task
+  pub opens : OpensActivity id polled opened task.name
+
+-- a task that is given is the one that is to be answered, and both are of one poll
+abbrev pub GivesOpened : {A : Type 0} → (OpenTask → A → Type 0) → Result (Polled A) SourceFault → Option OpenTask → Type 0
+GivesOpened p result open_task = IfOk result (IfTask (λ task. IsSomeAnd open_task (λ opened. p opened task)))
 
 -- the events of a task that does not come with the first event of its run
 abbrev pub later_events : List Event → List Event
