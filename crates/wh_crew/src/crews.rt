@@ -2,6 +2,7 @@
 
 ghost use Rattle.std.specs.Prelude.{◌≡◌, ◌≤◌, ◌<◌, true, IfOk, Some, is_some, map, replicate, vec_len};
 ghost use Rattle.wh_crew.specs.Crews.{normal_workers, role_at, roles_of};
+ghost use Rattle.wh_crew.specs.Private.Counts.{tallies_of};
 
 use std::alloc::Global;
 use std::sync::Wait;
@@ -75,7 +76,9 @@ pub(crate) fn setups_of<'a, L: Connection, A: Drop, O: Drop>(
 }
 
 /// What all sources have counted.
-fn gathered<L: Connection, A, O>(left: &[WorkerEnd<LiveSource<'_, L>, A, O>]) -> Tally {
+fn gathered<L: Connection, A, O>(left: &[WorkerEnd<LiveSource<'_, L>, A, O>]) -> Tally
+    ensures { result ≡ tallies_of (map (λ worker. worker.source.tally) left.now) }
+{
     let mut all = Tally::new();
     for worker in left {
         all.add(worker.source.tally());
