@@ -715,10 +715,15 @@ def ends_of_a_worker():
 
 
 def packages_that_are_missing():
-    """Without its packages it says how to get them."""
-    ran = subprocess.run([sys.executable, "-S", "-E", str(BRIDGE), "--", "true"], capture_output=True, text=True)
-    same("status", ran.returncode, 2)
-    has("said", ran.stderr, "install it by: pip install temporalio grpcio")
+    """Without its packages it says how to get them, and shows its options where it is asked for them."""
+    rows = [
+        (["--", "true"], 2, "stderr", "install it by: pip install temporalio grpcio"),
+        (["--help"], 0, "stdout", "--tls-server-name NAME"),
+    ]
+    for words, status, stream, text in rows:
+        ran = subprocess.run([sys.executable, "-S", "-E", str(BRIDGE), *words], capture_output=True, text=True)
+        same(f"status of {words}", ran.returncode, status)
+        has(f"said for {words}", getattr(ran, stream), text)
 
 
 TRIES = [
