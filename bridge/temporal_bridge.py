@@ -102,7 +102,8 @@ def options():
 
     add("--address", "host and port of the server, otherwise localhost:7233", "TEMPORAL_ADDRESS", otherwise="localhost:7233")
     add("--namespace", "namespace that replaces {namespace}, otherwise default", "TEMPORAL_NAMESPACE", otherwise="default")
-    add("--wait", "seconds to go on trying where the server is not up yet (0: once)", type=seconds, otherwise=0, metavar="SECONDS")
+    wait = "seconds to go on trying where the server is not up yet (0: once)"
+    add("--wait", wait, type=seconds, otherwise=0, metavar="SECONDS")
     add("--tls-cert", "client's certificate, a file", "TEMPORAL_TLS_CLIENT_CERT_PATH", "TEMPORAL_TLS_CERT", metavar="FILE")
     add("--tls-key", "its private key, a file", "TEMPORAL_TLS_CLIENT_KEY_PATH", "TEMPORAL_TLS_KEY", metavar="FILE")
     add("--tls-ca", "server's authority, a file", "TEMPORAL_TLS_SERVER_CA_CERT_PATH", "TEMPORAL_TLS_CA", metavar="FILE")
