@@ -32,13 +32,6 @@ from functools import lru_cache
 
 signal.signal(signal.SIGINT, signal.SIG_DFL)  # Until the command runs there is nothing to shut down.
 os.environ.setdefault("GRPC_VERBOSITY", "NONE")  # What goes wrong is said once, by this program.
-try:
-    import grpc
-    from google.protobuf import json_format
-    from temporalio.api.workflowservice import v1 as messages
-except ImportError as missing:
-    print(f"temporal_bridge: {missing}; install it by: pip install temporalio grpcio", file=sys.stderr)
-    sys.exit(2)
 
 SERVICE = "/temporal.api.workflowservice.v1.WorkflowService/"
 # A poll without a task is answered by the server within a minute.
@@ -69,7 +62,18 @@ SHUTDOWN = b'{"jsonrpc":"2.0","method":"shutdown"}\n'
 
 
 class Unusable(Exception):
-    """Why the options can't be used."""
+    """Why the options, or this Python, can't be used."""
+
+
+def import_packages():
+    """Imports the two packages, without which --help is shown too."""
+    global grpc, json_format, messages
+    try:
+        import grpc
+        from google.protobuf import json_format
+        from temporalio.api.workflowservice import v1 as messages
+    except ImportError as missing:
+        raise Unusable(f"{missing}; install it by: pip install temporalio grpcio") from missing
 
 
 def say(text):
@@ -96,16 +100,17 @@ def options():
         held = next((os.environ[one] for one in names if os.environ.get(one)), otherwise)
         parser.add_argument(name, default=held, help=f"{what} ({names[0]})" if names else what, **how)
 
-    add("--address", "host and port of the server", "TEMPORAL_ADDRESS", otherwise="localhost:7233")
-    add("--namespace", "what {namespace} stands for", "TEMPORAL_NAMESPACE", otherwise="default")
-    add("--wait", "how long to try for a server that is not up yet", type=seconds, otherwise=0, metavar="SECONDS")
+    add("--address", "host and port of the server, otherwise localhost:7233", "TEMPORAL_ADDRESS", otherwise="localhost:7233")
+    add("--namespace", "namespace that replaces {namespace}, otherwise default", "TEMPORAL_NAMESPACE", otherwise="default")
+    wait = "seconds to go on trying where the server is not up yet (0: once)"
+    add("--wait", wait, type=seconds, otherwise=0, metavar="SECONDS")
     add("--tls-cert", "client's certificate, a file", "TEMPORAL_TLS_CLIENT_CERT_PATH", "TEMPORAL_TLS_CERT", metavar="FILE")
     add("--tls-key", "its private key, a file", "TEMPORAL_TLS_CLIENT_KEY_PATH", "TEMPORAL_TLS_KEY", metavar="FILE")
     add("--tls-ca", "server's authority, a file", "TEMPORAL_TLS_SERVER_CA_CERT_PATH", "TEMPORAL_TLS_CA", metavar="FILE")
     add("--tls-server-name", "name in the server's certificate", "TEMPORAL_TLS_SERVER_NAME", metavar="NAME")
     add("--api-key", "key of an account", "TEMPORAL_API_KEY", metavar="KEY")
     tls = os.environ.get("TEMPORAL_TLS", "").lower() in ("1", "true", "yes")
-    use_tls = "use TLS, which a key and each --tls-.. ask for too (TEMPORAL_TLS)"
+    use_tls = "use TLS, which --api-key and each --tls-.. option turn on too (TEMPORAL_TLS)"
     parser.add_argument("--tls", action="store_true", default=tls, help=use_tls)
     parser.add_argument("command", nargs="+", help=argparse.SUPPRESS)
     return parser.parse_args()
@@ -364,6 +369,7 @@ def main():
     found = options()
     identity = f"{socket.gethostname()}-{os.getpid()}-{uuid.uuid4().hex[:8]}"
     try:
+        import_packages()
         bridge = Bridge(found)
     except Unusable as why:
         say(why)

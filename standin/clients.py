@@ -1,7 +1,7 @@
 """What a client asks of the server: runs to start, signals, cancels and ends, and what became of a run."""
 
 from findings import text_of, token_of
-from history import left_out
+from history import carried_over, left_out
 from peers import INVALID, NOT_FOUND, Refused
 
 ALREADY_EXISTS = 6
@@ -41,7 +41,7 @@ class Clients:
         if queue not in self.server.settings.queues:
             raise Refused(INVALID, f"no task queue {queue}")
         runs, kind = self.server.runs, params["workflowType"]["name"]
-        run = runs.start(kind, params["workflowId"], params.get("input"), queue=queue)
+        run = runs.start(kind, params["workflowId"], params.get("input"), queue=queue, carried=carried_over(params))
         if run is None:
             raise Refused(ALREADY_EXISTS, "a run of this id is open")
         return {"runId": run.run_id}

@@ -3,7 +3,7 @@
 import base64
 import json
 
-from history import LAST_OF_ALL, Activity, Child, left_out
+from history import CARRIED_OVER, LAST_OF_ALL, Activity, Child, left_out
 from messages import command_in, milliseconds_of
 
 CLOSINGS = {
@@ -12,8 +12,6 @@ CLOSINGS = {
     "CANCEL_WORKFLOW_EXECUTION": "WorkflowExecutionCanceled",
     "CONTINUE_AS_NEW_WORKFLOW_EXECUTION": "WorkflowExecutionContinuedAsNew",
 }
-# What a run hands on to the one that continues it.
-CARRIED_OVER = ("memo", "retryPolicy", "searchAttributes")
 
 
 class Check:

@@ -26,7 +26,7 @@ StartFailedCause START_CHILD_WORKFLOW_EXECUTION_FAILED_CAUSE_ UNSPECIFIED WORKFL
 CancelFailedCause CANCEL_EXTERNAL_WORKFLOW_EXECUTION_FAILED_CAUSE_ UNSPECIFIED EXTERNAL_WORKFLOW_EXECUTION_NOT_FOUND
 SignalFailedCause SIGNAL_EXTERNAL_WORKFLOW_EXECUTION_FAILED_CAUSE_ UNSPECIFIED EXTERNAL_WORKFLOW_EXECUTION_NOT_FOUND
 WorkflowTaskFailedCause WORKFLOW_TASK_FAILED_CAUSE_ UNSPECIFIED UNHANDLED_COMMAND BAD_SCHEDULE_ACTIVITY_ATTRIBUTES
-    14 WORKFLOW_WORKER_UNHANDLED_FAILURE 17 FORCE_CLOSE_COMMAND 24 NON_DETERMINISTIC_ERROR
+    14 WORKFLOW_WORKER_UNHANDLED_FAILURE 17 FORCE_CLOSE_COMMAND 24 NON_DETERMINISTIC_ERROR 36 GRPC_MESSAGE_TOO_LARGE
 CommandType COMMAND_TYPE_ UNSPECIFIED SCHEDULE_ACTIVITY_TASK REQUEST_CANCEL_ACTIVITY_TASK START_TIMER
     COMPLETE_WORKFLOW_EXECUTION FAIL_WORKFLOW_EXECUTION CANCEL_TIMER CANCEL_WORKFLOW_EXECUTION
     REQUEST_CANCEL_EXTERNAL_WORKFLOW_EXECUTION RECORD_MARKER CONTINUE_AS_NEW_WORKFLOW_EXECUTION
@@ -52,7 +52,10 @@ Payloads payloads 1 *Payload
 WorkflowExecution workflow_id 1 string, run_id 2 string
 WorkflowType name 1 string
 ActivityType name 1 string
-RetryPolicy maximum_attempts 4 int32
+RetryPolicy initial_interval 1 Duration, backoff_coefficient 2 double, maximum_interval 3 Duration, maximum_attempts 4
+    int32, non_retryable_error_types 5 *string
+Memo fields 1 >Payload
+SearchAttributes indexed_fields 1 >Payload
 TaskQueue name 1 string, kind 2 TaskQueueKind, normal_name 3 string
 ApplicationFailureInfo type 1 string, non_retryable 2 bool
 Failure message 1 string, source 2 string, application_failure_info 5 ApplicationFailureInfo
@@ -74,7 +77,7 @@ SignalExternalWorkflowExecutionCommandAttributes namespace 1 string, execution 2
     string, input 4 Payloads
 RecordMarkerCommandAttributes marker_name 1 string, details 2 >Payloads
 ContinueAsNewWorkflowExecutionCommandAttributes workflow_type 1 WorkflowType, task_queue 2 TaskQueue, input 3
-    Payloads
+    Payloads, retry_policy 7 RetryPolicy, memo 13 Memo, search_attributes 14 SearchAttributes
 StartChildWorkflowExecutionCommandAttributes namespace 1 string, workflow_id 2 string, workflow_type 3 WorkflowType,
     task_queue 4 TaskQueue, input 5 Payloads
 Command command_type 1 CommandType, schedule_activity_task_command_attributes 2
@@ -92,7 +95,8 @@ Command command_type 1 CommandType, schedule_activity_task_command_attributes 2
 
 WorkflowExecutionStartedEventAttributes workflow_type 1 WorkflowType, parent_workflow_execution 3 WorkflowExecution,
     parent_initiated_event_id 4 int64, task_queue 5 TaskQueue, input 6 Payloads, continued_execution_run_id 10
-    string, original_execution_run_id 14 string, attempt 18 int32, workflow_id 28 string
+    string, original_execution_run_id 14 string, retry_policy 17 RetryPolicy, attempt 18 int32, memo 22 Memo,
+    search_attributes 23 SearchAttributes, workflow_id 28 string
 WorkflowExecutionCompletedEventAttributes result 1 Payloads, workflow_task_completed_event_id 2 int64
 WorkflowExecutionFailedEventAttributes failure 1 Failure, workflow_task_completed_event_id 3 int64
 WorkflowExecutionTimedOutEventAttributes retry_state 1 RetryState
@@ -127,7 +131,8 @@ RequestCancelExternalWorkflowExecutionFailedEventAttributes cause 1 CancelFailed
 ExternalWorkflowExecutionCancelRequestedEventAttributes initiated_event_id 1 int64, workflow_execution 3
     WorkflowExecution
 WorkflowExecutionContinuedAsNewEventAttributes new_execution_run_id 1 string, workflow_type 2 WorkflowType,
-    task_queue 3 TaskQueue, input 4 Payloads, workflow_task_completed_event_id 7 int64
+    task_queue 3 TaskQueue, input 4 Payloads, workflow_task_completed_event_id 7 int64, memo 13 Memo,
+    search_attributes 14 SearchAttributes
 StartChildWorkflowExecutionInitiatedEventAttributes namespace 1 string, workflow_id 2 string, workflow_type 3
     WorkflowType, task_queue 4 TaskQueue, input 5 Payloads, workflow_task_completed_event_id 11 int64
 StartChildWorkflowExecutionFailedEventAttributes workflow_id 2 string, workflow_type 3 WorkflowType, cause 4
@@ -180,7 +185,8 @@ ShutdownWorkerResponse
 GetSystemInfoRequest
 GetSystemInfoResponse server_version 1 string
 StartWorkflowExecutionRequest namespace 1 string, workflow_id 2 string, workflow_type 3 WorkflowType, task_queue 4
-    TaskQueue, input 5 Payloads, identity 9 string, request_id 10 string
+    TaskQueue, input 5 Payloads, identity 9 string, request_id 10 string, retry_policy 12 RetryPolicy, memo 14 Memo,
+    search_attributes 15 SearchAttributes
 StartWorkflowExecutionResponse run_id 1 string
 SignalWorkflowExecutionRequest namespace 1 string, workflow_execution 2 WorkflowExecution, signal_name 3 string, input 4
     Payloads, identity 5 string, request_id 6 string
@@ -213,7 +219,7 @@ SignalExternalWorkflowExecutionFailed ExternalWorkflowExecutionSignaled
 """
 
 FIELD = descriptor_pb2.FieldDescriptorProto
-PLAIN = {name: getattr(FIELD, "TYPE_" + name.upper()) for name in ("string", "bytes", "bool", "int32", "int64")}
+PLAIN = {name: getattr(FIELD, "TYPE_" + name.upper()) for name in ("string", "bytes", "bool", "int32", "int64", "double")}
 KNOWN = {"Duration": ".google.protobuf.Duration", "Timestamp": ".google.protobuf.Timestamp"}
 
 

@@ -26,8 +26,8 @@ CODES = {code.value[0]: code for code in grpc.StatusCode}
 # What a call of a worker is refused with for good: the bridge tries again after the codes of an outage.
 FINAL_CODES = (9,)
 MOST_THREADS = 400
-# For how many seconds the server is away, and after how many a bridge has found out that its connection is dead.
-AWAY_SECONDS, DEAD_SECONDS = 3, 60
+# After how many seconds a bridge has found out that its connection is dead.
+DEAD_SECONDS = 60
 
 
 class Waiting:
@@ -152,10 +152,10 @@ class Bridged:
 
 
 class Weather:
-    """What happens to the way between the bridges and the server: about so often a second, it goes dead or away."""
+    """What happens to the way between the bridges and the server: it goes dead, or away for so many seconds."""
 
-    def __init__(self, calls):
-        self.calls, self.forwarder = calls, Forwarder(calls.port)
+    def __init__(self, calls, away):
+        self.calls, self.forwarder, self.away = calls, Forwarder(calls.port), away
         self.last, self.until = time.monotonic(), 0
 
     def pass_by(self):
@@ -170,8 +170,8 @@ class Weather:
             self.until = now + DEAD_SECONDS
         elif troubles.happens("away"):
             self.lose_connections()
-            self.forwarder.leave(AWAY_SECONDS)
-            self.until = now + AWAY_SECONDS + 1
+            self.forwarder.leave(self.away)
+            self.until = now + self.away + 1
 
     def lose_connections(self):
         for peer in self.calls.server.peers:
@@ -179,14 +179,14 @@ class Weather:
 
 
 class Front:
-    """All bridges, and the server after its port."""
+    """All bridges, and the server after its port, which is away for so many seconds where that is among the troubles."""
 
-    def __init__(self, server, bridge):
+    def __init__(self, server, bridge, away):
         self.server, self.bridge = server, bridge
         server.final_codes = FINAL_CODES
         self.calls = Calls(server)
         self.calls.listen()
-        self.weather = Weather(self.calls)
+        self.weather = Weather(self.calls, away)
         self.processes, self.is_ending = [], False
 
     def start(self, command, name, pollers):

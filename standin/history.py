@@ -13,6 +13,8 @@ FIRST = datetime(2024, 5, 1, 10, 0, 0, tzinfo=timezone.utc)
 # Ends of activities and children are written after all else that was held back.
 LAST_OF_ALL = ("ActivityTaskCompleted", "ActivityTaskFailed", "ActivityTaskTimedOut", "ActivityTaskCanceled")
 LAST_OF_ALL += tuple(f"ChildWorkflowExecution{end}" for end in ("Completed", "Failed", "Canceled", "TimedOut", "Terminated"))
+# What a run hands on to the one that continues it.
+CARRIED_OVER = ("memo", "retryPolicy", "searchAttributes")
 
 
 def time_text(now):
@@ -35,6 +37,11 @@ def event_of(number, time, kind, attributes):
 def left_out(members):
     """The members without those that have no value, as proto3 JSON leaves them out."""
     return {name: value for name, value in members.items() if value not in (None, "", [], 0)}
+
+
+def carried_over(members):
+    """Of the members that a run begins with, those that the run which continues it begins with too."""
+    return {name: members[name] for name in CARRIED_OVER if name in members}
 
 
 class Activity:
@@ -86,7 +93,7 @@ class Task:
 class Run:
     """One run of a workflow."""
 
-    def __init__(self, server, workflow_id, run_id, kind, queue, parent=None, input=None, continued=None):
+    def __init__(self, server, workflow_id, run_id, kind, queue, parent=None, input=None, continued=None, carried=None):
         self.server = server
         self.workflow_id, self.run_id, self.kind, self.queue = workflow_id, run_id, kind, queue
         self.parent = parent
@@ -105,6 +112,7 @@ class Run:
             "continuedExecutionRunId": continued,
             "attempt": 1,
             "workflowId": workflow_id,
+            **(carried or {}),
         }
         if parent:
             started["parentWorkflowExecution"] = parent[0].execution

@@ -1,6 +1,6 @@
 """Runs from outside: how they start, what comes to them, and what follows where one closes."""
 
-from history import Run, left_out
+from history import Run, carried_over, left_out
 
 
 class Runs:
@@ -10,13 +10,13 @@ class Runs:
         self.server = server
         self.all, self.by_id, self.open = [], {}, set()
 
-    def start(self, kind, workflow_id, input=None, parent=None, queue=None, continued=None):
+    def start(self, kind, workflow_id, input=None, parent=None, queue=None, continued=None, carried=None):
         """Starts a run; none where one of this id is open."""
         if self.open_one(workflow_id) is not None:
             return None
         run_id = f"{len(self.all) + 1:08x}-0000-4000-8000-{self.server.troubles.dice.getrandbits(48):012x}"
         queue = queue or (parent[0].queue if parent else self.server.settings.queues[0])
-        run = Run(self.server, workflow_id, run_id, kind, queue, parent, input, continued)
+        run = Run(self.server, workflow_id, run_id, kind, queue, parent, input, continued, carried)
         self.by_id.setdefault(workflow_id, []).append(run)
         self.all.append(run)
         self.open.add(run)
@@ -88,8 +88,11 @@ class Runs:
     def go_on(self, run, attributes):
         """Starts the run that follows one which continued as new."""
         kind = attributes["workflowType"]["name"]
-        new = self.start(kind, run.workflow_id, attributes.get("input"), run.parent, run.queue, run.run_id)
-        run.events[-1]["workflowExecutionContinuedAsNewEventAttributes"]["newExecutionRunId"] = new.run_id
+        same = {"parent": run.parent, "queue": run.queue, "carried": carried_over(attributes)}
+        new = self.start(kind, run.workflow_id, attributes.get("input"), continued=run.run_id, **same)
+        shown = run.events[-1]["workflowExecutionContinuedAsNewEventAttributes"]
+        shown["newExecutionRunId"] = new.run_id
+        shown.pop("retryPolicy", None)  # It stands in the next run's first event alone.
         parent, number = run.parent or (None, 0)
         if parent and number in parent.children:
             parent.children[number].run = new

@@ -13,6 +13,14 @@ SECOND, DAY = 1_000, 86_400_000
 STRANGE, SAID_OF_STRANGE = "Nobody", "task at 1: UnknownWorkflow"
 OPENINGS = ("activityTaskScheduledEventAttributes", "startChildWorkflowExecutionInitiatedEventAttributes")
 CHILD, TIMER = "startChildWorkflowExecutionCommandAttributes", "startTimerCommandAttributes"
+# What a run begins with that the one which continues it begins with too. None is tried again where it fails.
+CARRIED = {
+    "memo": {"fields": {"team": {"metadata": {"encoding": "anNvbi9wbGFpbg=="}, "data": "InNob3Ai"}}},
+    "retryPolicy": {"initialInterval": "1s", "backoffCoefficient": 2.0, "maximumAttempts": 1},
+    "searchAttributes": {
+        "indexedFields": {"City": {"metadata": {"encoding": "anNvbi9wbGFpbg==", "type": "S2V5d29yZA=="}, "data": "IlBhcmlzIg=="}}
+    },
+}
 NOISE = ("noise", [1, "two"])
 # How many signals a workflow of one's own gets until it has to be closed, and how many milliseconds pass between two.
 MOST_SIGNALS, SIGNAL_GAPS = 40, (100, 10 * SECOND, 600 * SECOND, DAY, 20 * DAY)
@@ -54,6 +62,10 @@ class Workflows:
     def input(self, kind, number, workflow_id):
         """The input of a run, or none."""
         return payloads(f"person {number}") if self.dice.random() < 0.8 else None
+
+    def carried(self):
+        """What a run begins with beside that, and hands on where it continues as new: each of it often, and often not."""
+        return {name: value for name, value in CARRIED.items() if self.dice.random() < 0.3}
 
     def signals(self, run):
         """Signals that may come to a run, each with how often, its name, and its values."""

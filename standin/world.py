@@ -41,7 +41,8 @@ class World:
         if companion:
             self.watch(self.server.runs.start(*companion))
         workflow_id = f"{kind.lower()}-{number}"
-        self.watch(self.server.runs.start(kind, workflow_id, self.workflows.input(kind, number, workflow_id)))
+        input, carried = self.workflows.input(kind, number, workflow_id), self.workflows.carried()
+        self.watch(self.server.runs.start(kind, workflow_id, input, carried=carried))
 
     def watch(self, run):
         """Plans what comes to a run from outside. A run that nobody serves is terminated in the end."""

@@ -28,6 +28,7 @@ os.environ.setdefault("GRPC_VERBOSITY", "NONE")
 try:
     import grpc
     from definitions import CLASSES, SERVICE
+    from google.protobuf import json_format
 except ImportError as missing:
     if sys.executable != SYSTEM and os.access(SYSTEM, os.X_OK):
         os.execv(SYSTEM, [SYSTEM, *sys.argv])
@@ -304,6 +305,36 @@ def answers_tried_again():
             bridge.ask(number, ANSWER, answer_to(token))
         same("outcomes", [outcome(one) for _, one in sorted(bridge.all(len(tokens)).items())], [{}] * len(tokens))
         same("calls", server.calls[ANSWER], 3 * len(tokens))
+        bridge.done()
+
+
+def answer_that_carries_over():
+    """What a run begins with comes to the worker as it is, and goes from there to the server in a Continue-As-New."""
+    payload, kind = {"metadata": {"encoding": "anNvbi9wbGFpbg=="}, "data": "InNob3Ai"}, {"name": "Nap"}
+    carried = {
+        "memo": {"fields": {"team": payload}},
+        "searchAttributes": {"indexedFields": {"City": payload}},
+        "retryPolicy": {
+            "initialInterval": "1s",
+            "backoffCoefficient": 2.5,
+            "maximumInterval": "60.500s",
+            "maximumAttempts": 3,
+            "nonRetryableErrorTypes": ["Lost", "Late"],
+        },
+    }
+    attributes = {"workflowType": kind, "taskQueue": {"name": "q"}, **carried}
+    command = {
+        "commandType": "COMMAND_TYPE_CONTINUE_AS_NEW_WORKFLOW_EXECUTION",
+        "continueAsNewWorkflowExecutionCommandAttributes": attributes,
+    }
+    first = {"eventType": "EVENT_TYPE_WORKFLOW_EXECUTION_STARTED", "workflowExecutionStartedEventAttributes": attributes}
+    task, taken = {"history": {"events": [first]}}, []
+    message = json_format.ParseDict(task, CLASSES[TASK + "Response"]()).SerializeToString()
+    rules = {TASK: lambda *_: message, ANSWER: lambda sent, *_: taken.extend(sent.commands) or b""}
+    with Server(rules) as server, Bridge(server.port) as bridge:
+        same("task", bridge.answered(TASK, POLL), task)
+        same("outcome", bridge.answered(ANSWER, {**answer_to("token"), "commands": [command]}), {})
+        same("commands", [json_format.MessageToDict(one) for one in taken], [command])
         bridge.done()
 
 
@@ -715,10 +746,15 @@ def ends_of_a_worker():
 
 
 def packages_that_are_missing():
-    """Without its packages it says how to get them."""
-    ran = subprocess.run([sys.executable, "-S", "-E", str(BRIDGE), "--", "true"], capture_output=True, text=True)
-    same("status", ran.returncode, 2)
-    has("said", ran.stderr, "install it by: pip install temporalio grpcio")
+    """Without its packages it says how to get them, and shows its options where it is asked for them."""
+    rows = [
+        (["--", "true"], 2, "stderr", "install it by: pip install temporalio grpcio"),
+        (["--help"], 0, "stdout", "--tls-server-name NAME"),
+    ]
+    for words, status, stream, text in rows:
+        ran = subprocess.run([sys.executable, "-S", "-E", str(BRIDGE), *words], capture_output=True, text=True)
+        same(f"status of {words}", ran.returncode, status)
+        has(f"said for {words}", getattr(ran, stream), text)
 
 
 TRIES = [
@@ -731,6 +767,7 @@ TRIES = [
     poll_without_a_task,
     polls_beside_answers,
     answers_tried_again,
+    answer_that_carries_over,
     answers_refused,
     answer_too_large,
     requests_that_are_wrong,

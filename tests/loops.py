@@ -190,7 +190,7 @@ def front(asked, server, troubles):
         from grpc_front import Front
     except ImportError as missing:
         sys.exit(f"{missing}: --grpc needs grpcio and protobuf, such as Debian's python3 has with python3-grpcio")
-    return Front(server, asked.bridge)
+    return Front(server, asked.bridge, asked.away)
 
 
 def numbers(text):
@@ -242,6 +242,7 @@ def options():
     parser.add_argument("--kill", type=float, nargs="?", const=1.0, default=0, help="every so many seconds kills a worker or ends its input")
     parser.add_argument("--grpc", action="store_true", help="through the bridge, over gRPC")
     parser.add_argument("--bridge", default=BRIDGE, help="with --grpc, another bridge")
+    parser.add_argument("--away", type=float, default=3, help="with --grpc, for how many seconds the server is away each time")
     parser.add_argument("--processes", type=int, default=1, help="worker processes on the one queue")
     parser.add_argument("--seeds", type=numbers, default=[1], help="seeds, with commas")
     parser.add_argument("--limit", type=float, default=LIMIT_SECONDS, help="seconds that a loop may take")

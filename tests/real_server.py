@@ -46,6 +46,8 @@ SAMPLES = ("Nap", "Greet", "Branch", "Family", "Racer", "Caller")
 # The signals and the cancels that some runs of a type get: how often, and which signal.
 SIGNALS = {"Family": (0.5, "stop"), "Order": (1.0, "cancel"), "Nap": (0.3, "noise")}
 CANCELS = {"Greet": 0.3}
+# The options that the bridge is given as they are, beside --tls.
+BRIDGE_OPTIONS = ("--tls-cert", "--tls-key", "--tls-ca", "--tls-server-name", "--api-key")
 OPENINGS = ("activityTaskScheduledEventAttributes", "startChildWorkflowExecutionInitiatedEventAttributes")
 CHILD = "childWorkflowExecutionStartedEventAttributes"
 
@@ -71,18 +73,20 @@ class Client:
         self.namespace, self.identity = asked.namespace, f"real_server-{os.getpid()}"
         self.channel, self.beside = self.connect(asked, address), [("temporal-namespace", asked.namespace)]
         if asked.api_key:
-            self.beside.append(("authorization", f"Bearer {asked.api_key}"))
+            self.beside.append(("authorization", f"Bearer {asked.api_key.strip()}"))
 
     def connect(self, asked, address):
-        """A channel, with TLS where it is asked for or a key is shown."""
-        if not (asked.tls or asked.tls_cert or asked.api_key):
-            return self.grpc.insecure_channel(address)
+        """A channel, with TLS where the bridge uses it too: where it or something of it is asked for, or a key is shown."""
         files = asked.tls_ca, asked.tls_key, asked.tls_cert
+        if not (asked.tls or any(files) or asked.tls_server_name or asked.api_key):
+            return self.grpc.insecure_channel(address)
         held = [Path(file).read_bytes() if file else None for file in files]
-        return self.grpc.secure_channel(address, self.grpc.ssl_channel_credentials(*held))
+        name = asked.tls_server_name
+        given = [("grpc.ssl_target_name_override", name)] if name else []
+        return self.grpc.secure_channel(address, self.grpc.ssl_channel_credentials(*held), given)
 
     def call(self, method, **params):
-        """Makes a call, and again while it may do better: its response, or none where there is no such run."""
+        """Makes a call, and again while it may do better: its response, or none where there is no such run or namespace."""
         request = getattr(self.messages, method + "Request")(namespace=self.namespace, **params)
         response = getattr(self.messages, method + "Response")
         ask = self.channel.unary_unary(SERVICE + method, type(request).SerializeToString, response.FromString)
@@ -109,6 +113,8 @@ class Client:
             identity=self.identity,
             request_id=str(uuid.uuid4()),
         )
+        if made is None:
+            raise Wrong(f"there is no such namespace: {self.namespace}")
         return {"workflow_id": workflow_id, "run_id": made.run_id}
 
     def signal(self, execution, name):
@@ -147,16 +153,20 @@ class Worker:
     def __init__(self, asked, address, program, queue):
         words = [sys.executable, str(asked.bridge), "--address", address, "--namespace", asked.namespace]
         words += ["--tls"] * asked.tls
-        for option in ("tls_cert", "tls_key", "tls_ca", "api_key"):
-            value = getattr(asked, option)
-            words += ["--" + option.replace("_", "-"), value] if value else []
+        for option in BRIDGE_OPTIONS:
+            value = getattr(asked, option[2:].replace("-", "_"))
+            words += [option, value] if value else []
         words += ["--", *program, "work", "--task-queue", queue, "--namespace", asked.namespace, "--identity", "{identity}"]
         words += ["--activity-workers", "2", "--cache", "10", "--sticky-timeout", "5"]
         self.words, self.said, self.child = words, tempfile.TemporaryFile(), None
 
     def start(self):
         # In a session of its own, so that it can be killed with all that it has started.
-        self.child = subprocess.Popen(self.words, stdin=subprocess.DEVNULL, stderr=self.said, start_new_session=True)
+        # The environment asks the bridge for nothing that the client of this trial does not know of.
+        environment = {name: value for name, value in os.environ.items() if not name.startswith("TEMPORAL_")}
+        self.child = subprocess.Popen(
+            self.words, stdin=subprocess.DEVNULL, stderr=self.said, start_new_session=True, env=environment
+        )
 
     def kill(self):
         """Kills the bridge, and the worker that it has started, at once."""
@@ -268,10 +278,11 @@ class Trial:
     def run(self):
         """Does all of it; what it takes is ended whatever comes."""
         try:
-            for service in self.services:
-                service.worker.start()
+            # Before the workers, which are not started where the server refuses the first run.
             for number in range(self.asked.runs):
                 self.start(number)
+            for service in self.services:
+                service.worker.start()
             self.say(f"{len(self.executions)} runs started on {', '.join(service.queue for service in self.services)}")
             time.sleep(self.asked.pause)
             self.disturb()
@@ -322,11 +333,11 @@ class Trial:
             if own is service:
                 events = self.client.history(execution)
                 yield workflow_id, events
-                for child in (event[CHILD] for event in events if CHILD in event):
+                for number, child in enumerate((event[CHILD] for event in events if CHILD in event), 1):
                     if child["workflowType"]["name"] in service.types:
                         ids = child["workflowExecution"]
                         found = {"workflow_id": ids["workflowId"], "run_id": ids["runId"]}
-                        yield f"{workflow_id}-child", self.client.history(found)
+                        yield f"{workflow_id}-child-{number}", self.client.history(found)
 
     def replay(self, service, folder, count):
         """Notes what replay has to say against the histories of a folder."""
@@ -364,19 +375,19 @@ def options():
     where = parser.add_mutually_exclusive_group(required=True)
     where.add_argument("--address", help="host and port of the server")
     where.add_argument("--stand-in", action="store_true", help="start the stand-in in place of a server")
-    parser.add_argument("--runs", type=int, default=60, help="runs to start")
-    parser.add_argument("--namespace", default="default")
-    parser.add_argument("--task-queue", help="otherwise one with a name of its own")
-    parser.add_argument("--minutes", type=float, default=10, help="how long it may take")
-    parser.add_argument("--pause", type=float, default=3, help="seconds before and after the kill")
+    parser.add_argument("--runs", type=int, default=60, help="runs to start (60)")
+    parser.add_argument("--namespace", default="default", help="namespace of the runs and the workers (default)")
+    parser.add_argument("--task-queue", help="task queue of the samples (otherwise one with a name of its own)")
+    parser.add_argument("--minutes", type=float, default=10, help="how long it may take (10)")
+    parser.add_argument("--pause", type=float, default=3, help="seconds before and after the kill (3)")
     parser.add_argument("--program", type=str.split, default=[str(PROGRAM)], help="another program with the samples, as words")
     parser.add_argument("--orders", type=str.split, help="the program of orders, as words, of which runs are started too")
     parser.add_argument("--bridge", default=BRIDGE, help="another bridge")
     parser.add_argument("--keep", help="a folder for the histories")
-    parser.add_argument("--seed", type=int, default=1)
-    parser.add_argument("--tls", action="store_true")
-    for name in ("--tls-cert", "--tls-key", "--tls-ca", "--api-key"):
-        parser.add_argument(name, help="as for the bridge")
+    parser.add_argument("--seed", type=int, default=1, help="which runs are signaled and asked to be cancelled (1)")
+    parser.add_argument("--tls", action="store_true", help="as for the bridge, as are the following")
+    for name in BRIDGE_OPTIONS:
+        parser.add_argument(name, metavar="KEY" if name == "--api-key" else "NAME" if name.endswith("-name") else "FILE")
     return parser.parse_args()
 
 
@@ -392,6 +403,8 @@ def try_all(asked, address):
         trial = Trial(asked, address)
     except ImportError as missing:
         sys.exit(f"{missing}; install it by: pip install temporalio grpcio")
+    except OSError as why:
+        sys.exit(f"cannot read {why.filename}: {why.strerror}")
     trial.run()
     with tempfile.TemporaryDirectory() as room:
         try:
