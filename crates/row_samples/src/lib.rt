@@ -10,7 +10,7 @@ mod reminder;
 mod subscription;
 
 pub use family::{FAMILY, Family, FamilyTable};
-pub use nap::{NAP, Nap, NapTable};
+pub use nap::{NAP, Nap, NapTable, does_as_code};
 pub use order::{ORDER, Order, OrderTable};
 pub use plan::{PLAN, Plan, PlanTable, charges_twelve_times_at_most};
 pub use reminder::{REMINDER, Reminder, ReminderTable};

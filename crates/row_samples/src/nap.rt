@@ -1,6 +1,7 @@
 //! Sleeps for a minute.
 ghost use Rattle.std.specs.Prelude.{refl};
 ghost use Rattle.wh_rows.specs.Tables.{seen};
+ghost use Rattle.row_samples.specs.Alike.{NapIsCode};
 ghost use Rattle.row_samples.specs.declared.nap.TheConstants.{NAP};
 
 use wh_rows::rows;
@@ -28,3 +29,9 @@ impl Table for NapTable {
         &NAP
     }
 }
+
+/// Up to the step that closes a run, the table gives what the sample `Nap` in code does, whatever
+/// jobs come.
+pub fn does_as_code()
+    ensures { NapIsCode }
+{}
