@@ -1,0 +1,34 @@
+//! Runs a child, and cancels it at the signal `stop`.
+ghost use Rattle.std.specs.Prelude.{refl};
+ghost use Rattle.wh_rows.specs.Tables.{seen};
+ghost use Rattle.row_samples.specs.declared.family.TheConstants.{FAMILY};
+
+use wh_rows::rows;
+use wh_rows::words::*;
+
+/// The rows of `Family`.
+#[rattlefmt::skip]
+pub static FAMILY: Definition = DefinitionOf { kind: "Family", first: "running", name: Nameless, bounds: UNCOUNTED, rows: rows! {
+    running:  Start                => [StartChild("kid", "Nap", Nothing)];
+    running:  Signal("stop")       => [CancelChild("kid")] => stopping;
+    stopping: Signal("stop")       => [];
+    any:      ChildDone("kid")     => [Complete(Brought)];
+    any:      ChildCanceled("kid") => [Cancel];
+    any:      ChildNotDone("kid")  => [Fail("kid")];
+} };
+
+/// Runs a child, and cancels it at the signal `stop`.
+pub type Family = Rows<FamilyTable>;
+
+/// Its table.
+pub struct FamilyTable;
+
+impl Table for FamilyTable {
+    ghost table = { seen FAMILY };
+
+    ghost faultless = { refl };
+
+    fn table() -> &'static Definition {
+        &FAMILY
+    }
+}

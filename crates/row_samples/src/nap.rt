@@ -1,0 +1,37 @@
+//! Sleeps for a minute.
+ghost use Rattle.std.specs.Prelude.{refl};
+ghost use Rattle.wh_rows.specs.Tables.{seen};
+ghost use Rattle.row_samples.specs.Alike.{NapIsCode};
+ghost use Rattle.row_samples.specs.declared.nap.TheConstants.{NAP};
+
+use wh_rows::rows;
+use wh_rows::words::*;
+
+/// The rows of `Nap`.
+#[rattlefmt::skip]
+pub static NAP: Definition = DefinitionOf { kind: "Nap", first: "asleep", name: Nameless, bounds: UNCOUNTED, rows: rows! {
+    asleep: Start        => [StartTimer("nap", 60)];
+    asleep: Fired("nap") => [Complete(Nothing)];
+} };
+
+/// Sleeps for a minute.
+pub type Nap = Rows<NapTable>;
+
+/// Its table.
+pub struct NapTable;
+
+impl Table for NapTable {
+    ghost table = { seen NAP };
+
+    ghost faultless = { refl };
+
+    fn table() -> &'static Definition {
+        &NAP
+    }
+}
+
+/// Up to the step that closes a run, the table gives what the sample `Nap` in code does, whatever
+/// jobs come.
+pub fn does_as_code()
+    ensures { NapIsCode }
+{}

@@ -1,0 +1,37 @@
+//! Charges for an order, holds it for a day, in which a signal calls it off, and ships it.
+ghost use Rattle.std.specs.Prelude.{refl};
+ghost use Rattle.wh_rows.specs.Tables.{seen};
+ghost use Rattle.row_samples.specs.declared.order.TheConstants.{ORDER};
+
+use wh_rows::rows;
+use wh_rows::words::*;
+
+/// The rows of `Order`.
+#[rattlefmt::skip]
+pub static ORDER: Definition = DefinitionOf { kind: "Order", first: "charging", name: ByPayload(1, "parcel-", "parcel"), bounds: UNCOUNTED, rows: rows! {
+    charging: Start                  => [StartActivity("charge", "ChargeCard", Input)];
+    charging: Done("charge")         => [StartTimer("hold", 86_400)] => held;
+    charging: NotDone("charge")      => [Fail("charge")];
+    held:     Signal("cancel")       => [CancelTimer("hold"), Complete(Nothing)];
+    held:     Fired("hold")          => [Ask("tracked", -1, 1)] => shipping;
+    shipping: Version("tracked", -1) => [StartChild("@", "Ship", Nothing)];
+    shipping: AnyVersion("tracked")  => [StartChild("@", "ShipTracked", Nothing)];
+    shipping: ChildDone("@")         => [Complete(Brought)];
+    shipping: ChildNotDone("@")      => [Fail("parcel")];
+} };
+
+/// Charges for an order, holds it for a day, in which a signal calls it off, and ships it.
+pub type Order = Rows<OrderTable>;
+
+/// Its table.
+pub struct OrderTable;
+
+impl Table for OrderTable {
+    ghost table = { seen ORDER };
+
+    ghost faultless = { refl };
+
+    fn table() -> &'static Definition {
+        &ORDER
+    }
+}

@@ -1,0 +1,44 @@
+//! Charges for twelve months, and never more often, whatever jobs come.
+ghost use Rattle.std.specs.Prelude.{refl, codes};
+ghost use Rattle.wh_rows.specs.Tables.{seen};
+ghost use Rattle.wh_rows.specs.Properties.{AtMost, StartsActivity};
+ghost use Rattle.row_samples.specs.declared.plan.TheConstants.{PLAN};
+
+use wh_rows::rows;
+use wh_rows::words::*;
+
+/// How often the card was charged.
+const CHARGES: Counter = Counter::A;
+
+/// The rows of `Plan`.
+#[rattlefmt::skip]
+pub static PLAN: Definition = DefinitionOf { kind: "Plan", first: "paying", name: Nameless, bounds: Counts { a: 12, b: 0, c: 0, d: 0 }, rows: rows! {
+    paying:  Start, if [Below(CHARGES, 12)]          => [StartActivity("charge", "ChargeCard", Input)], do [Up(CHARGES)];
+    paying:  Done("charge")                          => [StartTimer("month", 2_592_000)], do [Keep] => waiting;
+    paying:  NotDone("charge")                       => [Fail("charge")];
+    waiting: Fired("month"), if [Below(CHARGES, 12)] => [StartActivity("charge", "ChargeCard", Input)], do [Up(CHARGES)] => paying;
+    waiting: Fired("month")                          => [Complete(Kept)];
+    waiting: Signal("cancel")                        => [CancelTimer("month"), Complete(Kept)];
+} };
+
+/// Charges for twelve months.
+pub type Plan = Rows<PlanTable>;
+
+/// Its table.
+pub struct PlanTable;
+
+impl Table for PlanTable {
+    ghost table = { seen PLAN };
+
+    ghost faultless = { refl };
+
+    fn table() -> &'static Definition {
+        &PLAN
+    }
+}
+
+/// A plan charges the card twelve times at most. The rows show it: each that charges raises the
+/// counter, asks for it to be below 12, and no row sets it to 0 (`at_most` of wh_rows).
+pub fn charges_twelve_times_at_most()
+    ensures { AtMost (seen PLAN) (StartsActivity (codes "ChargeCard")) 12 }
+{}

@@ -1,0 +1,4 @@
+pub mod Choosing
+pub mod Closing
+pub mod Counting
+pub mod AtMost

@@ -1,0 +1,168 @@
+//! Which row of a table counts.
+ghost use Rattle.std.specs.Prelude.{◌≡◌, bytes_eq, option_map};
+ghost use Rattle.wh_rows.specs.Tables.{pattern_by, row_by, rows_by};
+ghost use Rattle.wh_rows.specs.Rows.{named, is_for_job, count_of, holds, all_hold, is_for_state, fits, row_for};
+
+use crate::parts::{RowList, RowText};
+use crate::row::{
+    CommandTemplate, Condition, Counter, Counts, Effect, JobPattern, RowOf, RowsState,
+};
+use wh_events::Text;
+use wh_workflow::{ActivityEnd, ChildEnd, Job};
+
+/// A text of a row, where `@` is the name of the run.
+#[tactic(auto, unfolding(crate::specs::Rows::named))]
+pub(crate) fn named<'a>(text: &'a str, state: &'a RowsState) -> &'a str
+    ensures { result.now ≡ named text.now state.now }
+{
+    if text == "@" { state.name.get() } else { text }
+}
+
+/// Whether the text is this one of a row.
+fn is_text<T: RowText>(text: &Text, wanted: &T, state: &RowsState) -> bool
+    ensures { result ≡ bytes_eq text.now (named (T.bytes wanted.now) state.now) }
+{
+    text.get() == named(wanted.text(), state)
+}
+
+/// Whether a row with the pattern is for the job.
+fn is_for_job<T: RowText>(pattern: &JobPattern<T>, state: &RowsState, job: &Job) -> bool
+    ensures { result ≡ is_for_job (pattern_by T.bytes pattern.now) state.now job.now }
+{
+    match pattern {
+        JobPattern::Start => matches!(job, Job::Start { .. }),
+        JobPattern::Signal(wanted) => match job {
+            Job::Signal { name, .. } => is_text(name, wanted, state),
+            _ => false,
+        },
+        JobPattern::CancelRequested => matches!(job, Job::CancelRequested),
+        JobPattern::Done(wanted) => match job {
+            Job::Activity {
+                id,
+                end: ActivityEnd::Completed(_),
+            } => is_text(id, wanted, state),
+            _ => false,
+        },
+        JobPattern::NotDone(wanted) => match job {
+            Job::Activity {
+                end: ActivityEnd::Completed(_),
+                ..
+            } => false,
+            Job::Activity { id, .. } => is_text(id, wanted, state),
+            _ => false,
+        },
+        JobPattern::Fired(wanted) => match job {
+            Job::TimerFired { id } => is_text(id, wanted, state),
+            _ => false,
+        },
+        JobPattern::ChildStarted(wanted) => match job {
+            Job::ChildStarted { workflow_id } => is_text(workflow_id, wanted, state),
+            _ => false,
+        },
+        JobPattern::ChildDone(wanted) => match job {
+            Job::Child {
+                workflow_id,
+                end: ChildEnd::Completed(_),
+            } => is_text(workflow_id, wanted, state),
+            _ => false,
+        },
+        JobPattern::ChildCanceled(wanted) => match job {
+            Job::Child {
+                workflow_id,
+                end: ChildEnd::Canceled,
+            } => is_text(workflow_id, wanted, state),
+            _ => false,
+        },
+        JobPattern::ChildNotDone(wanted) => match job {
+            Job::Child {
+                end: ChildEnd::Completed(_),
+                ..
+            } => false,
+            Job::Child { workflow_id, .. } => is_text(workflow_id, wanted, state),
+            _ => false,
+        },
+        JobPattern::Version(wanted, number) => match job {
+            Job::Version { change_id, version } => {
+                is_text(change_id, wanted, state) && *version == *number
+            }
+            _ => false,
+        },
+        JobPattern::AnyVersion(wanted) => match job {
+            Job::Version { change_id, .. } => is_text(change_id, wanted, state),
+            _ => false,
+        },
+    }
+}
+
+/// The number of a counter.
+pub(crate) fn count_of(counter: Counter, counts: Counts) -> u64
+    ensures { result ≡ count_of counter counts }
+{
+    match counter {
+        Counter::A => counts.a,
+        Counter::B => counts.b,
+        Counter::C => counts.c,
+        Counter::D => counts.d,
+    }
+}
+
+/// Whether a condition holds.
+fn holds(condition: Condition, counts: Counts) -> bool
+    ensures { result ≡ holds condition counts }
+{
+    match condition {
+        Condition::Below(counter, bound) => count_of(counter, counts) < bound,
+        Condition::AtLeast(counter, bound) => bound <= count_of(counter, counts),
+    }
+}
+
+/// Whether each condition holds.
+fn all_hold(conditions: &[Condition], counts: Counts) -> bool
+    ensures { result ≡ all_hold conditions.now counts }
+{
+    for condition in conditions {
+        if !holds(*condition, counts) {
+            return false;
+        }
+    }
+    true
+}
+
+/// Whether a row for that state is for the one that the run is in.
+fn is_for_state(name: &str, state: &RowsState) -> bool
+    ensures { result ≡ is_for_state name.now state.now }
+{
+    !state.closed && (name == "any" || name == state.at.get())
+}
+
+/// Whether a row fits.
+fn fits<T: RowText, C: RowList<Condition>, G: RowList<CommandTemplate<T>>, E: RowList<Effect>>(
+    row: &RowOf<T, C, G, E>,
+    state: &RowsState,
+    job: &Job,
+) -> bool
+    ensures { result ≡ fits (row_by T.bytes C.list G.list E.list row.now) state.now job.now }
+{
+    is_for_state(row.state.text(), state)
+        && is_for_job(&row.job, state, job)
+        && all_hold(row.conditions.list(), state.counts)
+}
+
+/// The first row that fits.
+#[tactic(auto, unfolding(crate::specs::Rows::row_for))]
+pub(crate) fn row_for<
+    't,
+    T: RowText,
+    C: RowList<Condition>,
+    G: RowList<CommandTemplate<T>>,
+    E: RowList<Effect>,
+>(rows: &'t [RowOf<T, C, G, E>], state: &RowsState, job: &Job) -> Option<&'t RowOf<T, C, G, E>>
+    ensures { option_map (λ row. row_by T.bytes C.list G.list E.list row.now) result ≡ row_for (rows_by T.bytes C.list G.list E.list rows.now) state.now job.now }
+{
+    for row in rows {
+        if fits(row, state, job) {
+            return Some(row);
+        }
+    }
+    None
+}

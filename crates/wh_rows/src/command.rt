@@ -1,0 +1,156 @@
+//! The commands of a row.
+ghost use Rattle.std.specs.Prelude.{◌≡◌, IfOk, map};
+ghost use Rattle.wh_rows.specs.Tables.{template_by};
+ghost use Rattle.wh_rows.specs.Rows.{named, brought, payloads, command_of, commands_of, closes, some_closes};
+
+use crate::choose::named;
+use crate::parts::RowText;
+use crate::row::{CommandTemplate, RowsState, Source};
+use std::alloc::Global;
+use wh_events::{Items, OutOfMemory, Payload, Text};
+use wh_workflow::{ActivityEnd, ChildEnd, Command, Job, no_payloads, text_of};
+
+/// What the job came with.
+pub(crate) fn brought(alloc: Global, job: &Job) -> Result<Items<Payload>, OutOfMemory>
+    ensures { IfOk result (λ given. given ≡ brought job.now) }
+{
+    match job {
+        Job::Start { input, .. } => input.try_copy(),
+        Job::Signal { input, .. } => input.try_copy(),
+        Job::Activity {
+            end: ActivityEnd::Completed(given),
+            ..
+        } => given.try_copy(),
+        Job::Child {
+            end: ChildEnd::Completed(given),
+            ..
+        } => given.try_copy(),
+        _ => Ok(no_payloads(alloc)),
+    }
+}
+
+/// An input or a result from where a row says.
+fn payloads(
+    alloc: Global,
+    source: &Source,
+    state: &RowsState,
+    job: &Job,
+) -> Result<Items<Payload>, OutOfMemory>
+    ensures { IfOk result (λ given. given ≡ payloads source.now state.now job.now) }
+{
+    match source {
+        Source::Nothing => Ok(no_payloads(alloc)),
+        Source::Input => state.input.try_copy(),
+        Source::Brought => brought(alloc, job),
+        Source::Kept => state.kept.try_copy(),
+    }
+}
+
+/// An id of a row.
+fn id_of<T: RowText>(alloc: Global, id: &T, state: &RowsState) -> Result<Text, OutOfMemory>
+    ensures { IfOk result (λ text. text ≡ named (T.bytes id.now) state.now) }
+{
+    text_of(alloc, named(id.text(), state))
+}
+
+/// One command of a row.
+fn command<T: RowText>(
+    alloc: Global,
+    template: &CommandTemplate<T>,
+    state: &RowsState,
+    job: &Job,
+) -> Result<Command, OutOfMemory>
+    ensures { IfOk result (λ given. given ≡ command_of (template_by T.bytes template.now) state.now job.now) }
+{
+    match template {
+        CommandTemplate::StartActivity(id, activity, source) => Ok(Command::StartActivity {
+            id: id_of(alloc, id, state)?,
+            activity: text_of(alloc, activity.text())?,
+            input: payloads(alloc, source, state, job)?,
+        }),
+        CommandTemplate::CancelActivity(id) => Ok(Command::CancelActivity {
+            id: id_of(alloc, id, state)?,
+        }),
+        CommandTemplate::StartTimer(id, seconds) => Ok(Command::StartTimer {
+            id: id_of(alloc, id, state)?,
+            seconds: *seconds,
+        }),
+        CommandTemplate::CancelTimer(id) => Ok(Command::CancelTimer {
+            id: id_of(alloc, id, state)?,
+        }),
+        CommandTemplate::StartChild(workflow_id, workflow, source) => Ok(Command::StartChild {
+            workflow_id: id_of(alloc, workflow_id, state)?,
+            workflow: text_of(alloc, workflow.text())?,
+            input: payloads(alloc, source, state, job)?,
+        }),
+        CommandTemplate::CancelChild(workflow_id) => Ok(Command::CancelChild {
+            workflow_id: id_of(alloc, workflow_id, state)?,
+        }),
+        CommandTemplate::SignalExternal(workflow_id, signal, source) => {
+            Ok(Command::SignalExternal {
+                workflow_id: id_of(alloc, workflow_id, state)?,
+                signal: text_of(alloc, signal.text())?,
+                input: payloads(alloc, source, state, job)?,
+            })
+        }
+        CommandTemplate::Ask(change_id, min, max) => Ok(Command::Ask {
+            change_id: id_of(alloc, change_id, state)?,
+            min: *min,
+            max: *max,
+        }),
+        CommandTemplate::Complete(source) => Ok(Command::Complete {
+            result: payloads(alloc, source, state, job)?,
+        }),
+        CommandTemplate::Fail(message) => Ok(Command::Fail {
+            message: text_of(alloc, message.text())?,
+        }),
+        CommandTemplate::Cancel => Ok(Command::Cancel),
+        CommandTemplate::ContinueAsNew(workflow, source) => Ok(Command::ContinueAsNew {
+            workflow: text_of(alloc, workflow.text())?,
+            input: payloads(alloc, source, state, job)?,
+        }),
+    }
+}
+
+/// The commands of a row, in their order.
+#[tactic(auto, unfolding(crate::specs::Rows::commands_of))]
+pub(crate) fn commands<T: RowText>(
+    alloc: Global,
+    templates: &[CommandTemplate<T>],
+    state: &RowsState,
+    job: &Job,
+) -> Result<Vec<Command>, OutOfMemory>
+    ensures { IfOk result (λ given. given.items ≡ commands_of (map (template_by T.bytes) templates.now) state.now job.now) }
+{
+    let mut given = Vec::new(alloc);
+    for template in templates {
+        let command = command(alloc, template, state, job)?;
+        given.push(command)?;
+    }
+    Ok(given)
+}
+
+/// Whether the command closes the run.
+fn closes<T: RowText>(template: &CommandTemplate<T>) -> bool
+    ensures { result ≡ closes (template_by T.bytes template.now) }
+{
+    match template {
+        CommandTemplate::Complete(_)
+        | CommandTemplate::Fail(_)
+        | CommandTemplate::Cancel
+        | CommandTemplate::ContinueAsNew(_, _) => true,
+        _ => false,
+    }
+}
+
+/// Whether one of the commands closes the run.
+pub(crate) fn some_closes<T: RowText>(templates: &[CommandTemplate<T>]) -> bool
+    ensures { result ≡ some_closes (map (template_by T.bytes) templates.now) }
+{
+    for template in templates {
+        if closes(template) {
+            return true;
+        }
+    }
+    false
+}

@@ -1,0 +1,141 @@
+//! What a job leaves of a run that follows rows.
+ghost use Rattle.std.specs.Prelude.{◌≡◌, IfOk, OnOk};
+ghost use Rattle.wh_rows.specs.Tables.{naming_by, row_by, rows_by};
+ghost use Rattle.wh_rows.specs.Naming.{name_by};
+ghost use Rattle.wh_rows.specs.Rows.{raised, with_count, after_one, after_effects, next_state, after_row, after_rows, rows_give, started};
+
+use crate::choose::{count_of, row_for};
+use crate::command::{brought, commands, some_closes};
+use crate::naming::name_by;
+use crate::parts::{RowList, RowText};
+use crate::row::{CommandTemplate, Condition, Counter, Counts, Effect, Naming, RowOf, RowsState};
+use std::alloc::Global;
+use wh_events::OutOfMemory;
+use wh_workflow::{Command, Job};
+
+/// One more than the count, no further than its bound.
+fn raised(count: u64, bound: u64) -> u64
+    ensures { result ≡ raised count bound }
+{
+    if count < bound { count + 1 } else { bound }
+}
+
+/// The counts with another number for one counter.
+fn with_count(counter: Counter, counts: Counts, value: u64) -> Counts
+    ensures { result ≡ with_count counter counts value }
+{
+    match counter {
+        Counter::A => Counts { a: value, ..counts },
+        Counter::B => Counts { b: value, ..counts },
+        Counter::C => Counts { c: value, ..counts },
+        Counter::D => Counts { d: value, ..counts },
+    }
+}
+
+/// Does one thing besides.
+fn apply_one(
+    alloc: Global,
+    effect: Effect,
+    bounds: Counts,
+    state: &mut RowsState,
+    job: &Job,
+) -> Result<(), OutOfMemory>
+    ensures { OnOk result (state.new ≡ after_one effect bounds state.old job.now) }
+{
+    match effect {
+        Effect::Up(counter) => {
+            let count = raised(count_of(counter, state.counts), count_of(counter, bounds));
+            state.counts = with_count(counter, state.counts, count);
+        }
+        Effect::Zero(counter) => state.counts = with_count(counter, state.counts, 0),
+        Effect::Keep => state.kept = brought(alloc, job)?,
+    }
+    Ok(())
+}
+
+/// Does all that a row does besides, in its order.
+#[tactic(auto, unfolding(crate::specs::Rows::after_effects))]
+fn apply(
+    alloc: Global,
+    effects: &[Effect],
+    bounds: Counts,
+    state: &mut RowsState,
+    job: &Job,
+) -> Result<(), OutOfMemory>
+    ensures { OnOk result (state.new ≡ after_effects effects.now bounds state.old job.now) }
+{
+    for effect in effects {
+        apply_one(alloc, *effect, bounds, state, job)?;
+    }
+    Ok(())
+}
+
+/// Goes on in the state of that name, or stays where it is `same`.
+fn go_on<T: RowText>(state: &mut RowsState, next: &T) -> Result<(), OutOfMemory>
+    ensures { OnOk result (state.new ≡ record state.old { at = next_state (T.bytes next.now) state.old.at }) }
+{
+    if next.text() != "same" {
+        state.at = next.state_name()?;
+    }
+    Ok(())
+}
+
+/// Follows a row.
+fn follow<T: RowText, C: RowList<Condition>, G: RowList<CommandTemplate<T>>, E: RowList<Effect>>(
+    alloc: Global,
+    row: &RowOf<T, C, G, E>,
+    bounds: Counts,
+    state: &mut RowsState,
+    job: &Job,
+) -> Result<(), OutOfMemory>
+    ensures { OnOk result (state.new ≡ after_row (row_by T.bytes C.list G.list E.list row.now) bounds state.old job.now) }
+{
+    apply(alloc, row.effects.list(), bounds, state, job)?;
+    state.closed = some_closes(row.gives.list());
+    go_on(state, &row.next)
+}
+
+/// The commands that rows give to a job, and what it leaves of the run. The first row that fits
+/// counts; where none does, nothing is given and nothing changes. `OutOfMemory` where there was no
+/// memory for a command or for what is kept: then the state is given up.
+pub fn answer<
+    T: RowText,
+    C: RowList<Condition>,
+    G: RowList<CommandTemplate<T>>,
+    E: RowList<Effect>,
+>(
+    alloc: Global,
+    rows: &[RowOf<T, C, G, E>],
+    bounds: Counts,
+    state: &mut RowsState,
+    job: &Job,
+) -> Result<Vec<Command>, OutOfMemory>
+    ensures commands { IfOk result (λ given. given.items ≡ rows_give (rows_by T.bytes C.list G.list E.list rows.now) state.old job.now) }
+    ensures state { OnOk result (state.new ≡ after_rows (rows_by T.bytes C.list G.list E.list rows.now) bounds state.old job.now) }
+{
+    match row_for(rows, state, job) {
+        Some(row) => {
+            let given = commands(alloc, row.gives.list(), state, job)?;
+            follow(alloc, row, bounds, state, job)?;
+            Ok(given)
+        }
+        None => Ok(Vec::new(alloc)),
+    }
+}
+
+/// Remembers what the run is started with, and its name, where the job starts it. `OutOfMemory`
+/// where there was no memory for them: then the state is given up.
+pub fn take_start<T: RowText>(
+    alloc: Global,
+    naming: &Naming<T>,
+    state: &mut RowsState,
+    job: &Job,
+) -> Result<(), OutOfMemory>
+    ensures { OnOk result (state.new ≡ started (name_by (naming_by T.bytes naming.now)) state.old job.now) }
+{
+    if let Job::Start { input, .. } = job {
+        state.name = name_by(alloc, naming, input)?;
+        state.input = input.try_copy()?;
+    }
+    Ok(())
+}

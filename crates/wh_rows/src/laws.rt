@@ -1,0 +1,27 @@
+//! What holds of all tables, each law as the contract of a function that does nothing.
+ghost use Rattle.wh_rows.specs.Laws.{FirstRowCounts, NoRowChangesNothing, ClosesForGood, LastCommandCloses, StateChangesByRow, WithinBounds};
+
+use crate::table::Table;
+
+/// The first row that fits decides: what stands behind it counts for nothing. Where none fits,
+/// nothing is given, and no more is left than what a start is remembered by.
+pub fn first_row_counts<T: Table>()
+    ensures first { FirstRowCounts T.table }
+    ensures none { NoRowChangesNothing T.table }
+{}
+
+/// Nothing follows a command that closes the run, neither in its step nor at any later job.
+pub fn closes_for_good<T: Table>()
+    ensures step { LastCommandCloses T.table }
+    ensures later { ClosesForGood T.table }
+{}
+
+/// The run goes from one state to another only by a row that fits and names the other one.
+pub fn state_changes_by_row<T: Table>()
+    ensures { StateChangesByRow T.table }
+{}
+
+/// No counter passes its bound, whatever jobs come.
+pub fn counters_stay_within_bounds<T: Table>()
+    ensures { WithinBounds T.table }
+{}

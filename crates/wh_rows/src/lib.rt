@@ -1,0 +1,33 @@
+//! Workflows as tables of rows: what a row says, and the one workflow that follows a table.
+//!
+//! A row reads `State | Job | If | Gives | Then`, and the macro `rows!` writes it so:
+//!
+//! ```text
+//! charging: NotDone("charge"), if [Below(TRIES, 2)] => [StartTimer("again", 86_400)], do [Up(TRIES)] => retrying;
+//! ```
+//!
+//! The first row that fits counts. What a list of rows can't be is refused where its table is
+//! checked, by `ghost faultless = { refl }`: `found Some (InRow 7 LeadsNowhere)` says that the seventh
+//! row breaks that rule of `specs/Rules.antt`.
+#![tactic(auto)]
+
+mod choose;
+mod command;
+mod follow;
+pub mod laws;
+mod macros;
+mod naming;
+mod parts;
+mod row;
+mod state_name;
+mod table;
+pub mod words;
+
+pub use follow::{answer, take_start};
+pub use parts::{RowList, RowText};
+pub use row::{
+    CommandTemplate, Condition, Counter, Counts, Definition, DefinitionOf, Effect, JobPattern,
+    Naming, Row, RowOf, RowsState, Source, UNCOUNTED,
+};
+pub use state_name::StateName;
+pub use table::{Rows, Table};

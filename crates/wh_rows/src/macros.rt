@@ -1,0 +1,29 @@
+//! Rows, one a line.
+
+/// The rows of a table, each `state: job, if [conditions] => [commands], do [effects] => state;`.
+/// What is not asked or not done is left out, as is the state after a row that closes the run or
+/// stays in its state.
+///
+/// An activity with retries is two rows, of which the first counts while there are tries left:
+///
+/// ```text
+/// charging: NotDone("charge"), if [Below(TRIES, 2)] => [StartActivity("charge", "ChargeCard", Input)], do [Up(TRIES)];
+/// charging: NotDone("charge")                       => [Fail("charge")];
+/// ```
+#[macro_export]
+macro_rules! rows {
+    (@list) => { &[] };
+    (@list [$($one:expr),*]) => { &[$($one),*] };
+    (@next) => { "same" };
+    (@next $next:ident) => { stringify!($next) };
+    ($($state:ident: $job:expr $(, if $conditions:tt)? => [$($give:expr),*] $(, do $effects:tt)? $(=> $next:ident)?;)*) => {
+        &[$($crate::RowOf {
+            state: stringify!($state),
+            job: $job,
+            conditions: $crate::rows!(@list $($conditions)?),
+            gives: &[$($give),*],
+            effects: $crate::rows!(@list $($effects)?),
+            next: $crate::rows!(@next $($next)?),
+        }),*]
+    };
+}

@@ -1,0 +1,86 @@
+//! What the texts and the lists of a row are: borrowed from the program, or owned.
+ghost use Rattle.std.specs.Prelude.{◌≡◌, ℕ, List, IfOk};
+
+use crate::row::{CommandTemplate, Condition, Effect};
+use crate::state_name::StateName;
+use wh_events::{Items, OutOfMemory, Text};
+
+/// A text of a row.
+pub trait RowText {
+    /// Its bytes.
+    ghost bytes: { Self → List ℕ };
+
+    /// The text.
+    fn text(&self) -> &str
+        ensures { result.now ≡ bytes self.now };
+
+    /// The state of this name. `OutOfMemory` where an owned text could not be copied.
+    fn state_name(&self) -> Result<StateName, OutOfMemory>
+        ensures { IfOk result (λ name. name ≡ bytes self.now) };
+}
+
+impl RowText for &'static str {
+    ghost bytes = { λ text. text.now };
+
+    fn text(&self) -> &str {
+        self
+    }
+
+    fn state_name(&self) -> Result<StateName, OutOfMemory> {
+        Ok(StateName::fixed(self))
+    }
+}
+
+impl RowText for Text {
+    ghost bytes = { λ text. text };
+
+    fn text(&self) -> &str {
+        self.get()
+    }
+
+    fn state_name(&self) -> Result<StateName, OutOfMemory> {
+        Ok(StateName::owned(self.try_copy()?))
+    }
+}
+
+/// A list of a row.
+pub trait RowList<A> {
+    /// Its members.
+    ghost list: { Self → List A };
+
+    /// Its members, in their order.
+    fn list(&self) -> &[A]
+        ensures { result.now ≡ list self.now };
+}
+
+impl RowList<Condition> for &'static [Condition] {
+    ghost list = { λ list. list.now };
+
+    fn list(&self) -> &[Condition] {
+        self
+    }
+}
+
+impl RowList<Effect> for &'static [Effect] {
+    ghost list = { λ list. list.now };
+
+    fn list(&self) -> &[Effect] {
+        self
+    }
+}
+
+impl<T> RowList<CommandTemplate<T>> for &'static [CommandTemplate<T>] {
+    ghost list = { λ list. list.now };
+
+    fn list(&self) -> &[CommandTemplate<T>] {
+        self
+    }
+}
+
+impl<A> RowList<A> for Items<A> {
+    ghost list = { λ list. list };
+
+    fn list(&self) -> &[A] {
+        self.get()
+    }
+}
