@@ -19,7 +19,6 @@ count_by_map p f xs = fold-map (λ n y. n + cond (p y) 1 0) f 0 xs
 pub all_of_map : {A B : Type 0} (p : B → Bool) (f : A → B) (xs : List A) → list_all p (map f xs) ≡ list_all (λ x. p (f x)) xs
 all_of_map p f xs = list_all-map p f xs
 
-
 -- an object that members follow, and its end
 open_and_closed_with : (line : Line) (more : List (List ℕ)) → open_line line ++ (following more ++ codes "}\n") ≡ json_line_with line more
 open_and_closed_with line more =

@@ -77,12 +77,7 @@ pub fn check_all<
     R: Threads + Sync,
     T: Send + Drop,
     F: Fn(T) -> Result<(String, Vec<u8>), InputFault> + Copy + Send + Sync,
->(
-    rt: &R,
-    alloc: Global,
-    inputs: Vec<T>,
-    read: F,
-) -> Result<Vec<Record>, InputFault>
+>(rt: &R, alloc: Global, inputs: Vec<T>, read: F) -> Result<Vec<Record>, InputFault>
     requires { F.IsAlwaysCallable read }
     ensures { IfOk result (λ records.
         AreRecordsOf W.program (λ input file. F.post read input (Ok file)) inputs.items records.items) }
@@ -90,13 +85,15 @@ pub fn check_all<
     let Ok(records) = inputs
         .into_par_iter()
         .with_min_len(1)
-        .map(|input: T| -> Result<Record, InputFault>
-            requires { F.IsAlwaysCallable read }
-            ensures { IfOk result (IsRecordOfInput W.program (λ input file. F.post read input (Ok file)) input) }
-        {
-            let file = read(input)?;
-            Ok(record_of::<W>(alloc, file))
-        })
+        .map(
+            |input: T| -> Result<Record, InputFault>
+                requires { F.IsAlwaysCallable read }
+                ensures { IfOk result (IsRecordOfInput W.program (λ input file. F.post read input (Ok file)) input) }
+            {
+                let file = read(input)?;
+                Ok(record_of::<W>(alloc, file))
+            },
+        )
         .collect::<Result<Vec<Record>, InputFault>>(rt, alloc)
     else {
         return Err(InputFault::OutOfMemory);

@@ -69,7 +69,10 @@ fn is_good_file(own: &Record) -> bool
 fn good_count(records: &[Record]) -> usize
     ensures { result ≡ good_count (lines_of records.now) }
 {
-    records.iter().filter(|own| is_good(&own.line.verdict)).count()
+    records
+        .iter()
+        .filter(|own| is_good(&own.line.verdict))
+        .count()
 }
 
 /// Whether each file is good.
@@ -132,11 +135,7 @@ fn write_objects<O: Write>(records: &[Record], writer: &mut O) -> io::Result<()>
 /// `workflowType`, where there is no code for that; and what is sent and what is recorded, where they
 /// differ. Each line goes to the writer as it is made. After an error some of the report may have
 /// been written.
-pub fn write_report<O: Write>(
-    records: &[Record],
-    format: Format,
-    writer: &mut O,
-) -> io::Result<()>
+pub fn write_report<O: Write>(records: &[Record], format: Format, writer: &mut O) -> io::Result<()>
     ensures { OnOk result (Appends (O.contents writer.old) (O.contents writer.new) (report_as format records.now)) }
 {
     let files = records.len();
