@@ -364,7 +364,13 @@ where
             output,
             errors,
         ),
-        Plan::Explain { file, json } => explain_path::<W, R, O, E>(rt, file, format_of(json), output, errors),
+        Plan::Explain { file, json } => explain_path::<W, R, O, E>(
+            rt,
+            file,
+            format_of(json),
+            output,
+            errors,
+        ),
         Plan::Serve {
             dir,
             workers,
