@@ -8,8 +8,8 @@ use Rattle.wh_report.proofs.Lines.{text_of_lines}
 use Rattle.wh_report.proofs.reports.write_report.Goals as goal
 
 -- the lines, and after them the totals
-pub returns-in-Text : goal.returns-in-Text
-returns-in-Text g c =
+pub returns-in_ok-write_lines-in-Text : goal.returns-in_ok-write_lines-in-Text
+returns-in_ok-write_lines-in-Text g c =
     let at = g.O.Write.contents in
     let start = at c.args.writer.now in
     let after = at c.write_lines.new.writer in
@@ -17,4 +17,4 @@ returns-in-Text g c =
     let records = c.args.records.now in
     let text = text_of_lines records c.good_count-good.result c.good_count-good.ensures in
     subst (λ format. OnOk c.write_totals.result (Appends start end (report_as format records))) (sym c.in-Text.is)
-    (on_ok_weaker c.write_totals.result (λ totals. subst (λ t. Appends start end t) text (Appends-trans start after end _ _ c.in_ok-write_lines.ensures totals)) c.write_totals.ensures)
+    (on_ok_weaker c.write_totals.result (λ totals. subst (λ t. Appends start end t) text (Appends-trans start after end _ _ c.in_ok-write_lines-in-Text.ensures totals)) c.write_totals.ensures)
