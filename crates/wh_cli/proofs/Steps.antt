@@ -4,6 +4,7 @@ use Rattle.std.specs.Prelude.{◌||◌, Bool, false, true, Option, Result, Ok, E
 use Rattle.std.specs.Io.KnownBytes.{Appends, Keeps}
 use Rattle.std.proofs.KnownBytes.{Appends-trans}
 use Rattle.std.proofs.lemmas.List.{append-nil, append_assoc}
+use Rattle.wh_file_faults.specs.declared.file_faults.FileFault.{FileFault}
 use Rattle.wh_files.specs.declared.Input.{Input}
 use Rattle.wh_report.specs.declared.format.Format.{Format}
 use Rattle.wh_host.specs.declared.config.Config.{Config}
@@ -13,11 +14,11 @@ use Rattle.wh_service.specs.declared.service.ServiceEnd.{ServiceEnd}
 use Rattle.wh_cli.specs.declared.failures.Failure.{Failure}
 use Rattle.wh_files.specs.Inputs.{IsCalled, IsOf, IsReadFrom, IsSingle}
 use Rattle.wh_cli.specs.Private.Commands.{HasExplained, HasExplainedInput, HasExplainedPath, HasReplayed, HasReplayedPaths, HasServedAll, HasServedFolder}
-use Rattle.wh_cli.specs.Private.Complaints.{Reported, service_told}
+use Rattle.wh_cli.specs.Private.Complaints.{Reported, fault_line, fault_lines, service_told}
 use Rattle.wh_cli.specs.Private.Listings.{AreListed, IsListed, is_by_path}
 use Rattle.wh_cli.specs.Private.Readings.{Gives, IsReadAs}
 use Rattle.wh_service.specs.Services.{IsServiceEndOver}
-use Rattle.wh_file_faults.specs.Faults.{File}
+use Rattle.wh_file_faults.specs.Faults.{File, told_of}
 use Rattle.wh_service.specs.Services.{HostsBy, IsHosted}
 use Rattle.wh_cli.specs.Private.Statuses.{lacks_files, status_with}
 use Rattle.wh_service.proofs.Workers.{by_closure, end_by}
@@ -36,6 +37,19 @@ nothing_more a b xs ys p none = subst (λ l. Appends a b l) (sym (ap (λ l. xs +
 pub something_more : {X E : Type 0} (answer : Result X E) (a b c : Option (List ℕ)) (xs ys zs : List ℕ) → Appends a b xs → OnOk answer (Appends b c ys) → ys ≡ zs → OnOk answer (Appends a c (xs ++ zs))
 something_more (Ok x) a b c xs ys zs p q same = subst (λ l. Appends a c (xs ++ l)) same (Appends-trans a b c xs ys p q)
 something_more (Err e) a b c xs ys zs p q same = tt
+
+-- the line of what is told of a file, and that there is none where nothing is
+pub fault_told : {X E : Type 0} (answer : Result X E) (a b : Option (List ℕ)) (told : Option FileFault) (faults : List FileFault) (fault : FileFault) (name : List ℕ) → told_of told ≡ faults → told ≡ Some fault → OnOk answer (Appends a b (fault_line fault name)) → OnOk answer (Appends a b (fault_lines faults name))
+fault_told (Ok x) a b told faults fault name are is h =
+    subst (λ l. Appends a b (fault_lines l name)) (sym (ap told_of is) ∙ are) (subst (Appends a b) (sym (append-nil (fault_line fault name))) h)
+fault_told (Err e) a b told faults fault name are is h = tt
+
+nothing_added : (a : Option (List ℕ)) → Appends a a []
+nothing_added None = tt
+nothing_added (Some x) = sym (append-nil x)
+
+pub nothing_told_of : (a : Option (List ℕ)) (told : Option FileFault) (faults : List FileFault) (name : List ℕ) → told_of told ≡ faults → told ≡ None → Appends a a (fault_lines faults name)
+nothing_told_of a told faults name are is = subst (λ l. Appends a a (fault_lines l name)) (sym (ap told_of is) ∙ are) (nothing_added a)
 
 or_false : (a : Bool) → a ≡ (a || false)
 or_false true = refl

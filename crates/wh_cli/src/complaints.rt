@@ -7,6 +7,7 @@ ghost use Rattle.wh_cli.specs.Private.Complaints.{entry_line, failed_text};
 ghost use Rattle.wh_cli.specs.Private.Complaints.{failure_line, failure_lines, fault_line, fault_lines};
 ghost use Rattle.wh_cli.specs.Private.Complaints.{path_line, reason_line, service_told, told_line};
 ghost use Rattle.wh_cli.specs.Private.Complaints.{uncompared_told, worker_told};
+ghost use Rattle.wh_file_faults.specs.Faults.{told_of};
 ghost use Rattle.wh_report.specs.Reports.{fault_of, faults_in};
 
 use crate::failures::Failure;
@@ -18,7 +19,7 @@ use wh_file_faults::FileFault;
 use wh_files::Reason;
 use wh_report::Record;
 use wh_service::{FileFailure, ServiceEnd};
-use wh_tester::Shown;
+use wh_tester::{Line, Shown};
 use wh_work::write_live_end;
 
 /// The standard error, as a writer.
@@ -111,20 +112,31 @@ fn tell_faults<E: Write>(faults: Vec<FileFault>, name: &str, writer: &mut E) -> 
     Ok(())
 }
 
+/// Why a file is named beside the report, if it is.
+fn fault_of(own: Record) -> Option<FileFault>
+    ensures { told_of result ≡ fault_of own own.cause }
+{
+    let Record {
+        line,
+        cause,
+        difference,
+    } = own;
+    drop(difference);
+    let Line { name, verdict } = line;
+    drop(verdict);
+    match cause {
+        Some(cause) => Some(FileFault { name, cause }),
+        None => None,
+    }
+}
+
 /// Writes why a file is named beside the report, if it is.
 fn tell_record<E: Write>(own: Record, name: &str, writer: &mut E) -> io::Result<()>
     ensures { OnOk result (Appends (E.contents writer.old) (E.contents writer.new)
         (fault_lines (fault_of own own.cause) name.now)) }
 {
-    let Record { line, cause, .. } = own;
-    match cause {
-        Some(cause) => {
-            let fault = FileFault {
-                name: line.name,
-                cause,
-            };
-            tell_fault(fault, name, writer)
-        }
+    match fault_of(own) {
+        Some(fault) => tell_fault(fault, name, writer),
         None => Ok(()),
     }
 }
