@@ -4,7 +4,9 @@ use Rattle.std.specs.Prelude.{◌||◌, Bool, false, true, Option, Result, Ok, E
 use Rattle.std.specs.Io.KnownBytes.{Appends, Keeps}
 use Rattle.std.proofs.KnownBytes.{Appends-trans}
 use Rattle.std.proofs.lemmas.List.{append-nil, append_assoc}
+use Rattle.wh_file_faults.specs.declared.file_faults.FileFault.{FileFault}
 use Rattle.wh_files.specs.declared.Input.{Input}
+use Rattle.wh_report.specs.declared.format.Format.{Format}
 use Rattle.wh_host.specs.declared.config.Config.{Config}
 use Rattle.wh_workflow.specs.Law.{Program}
 use Rattle.wh_cli.specs.declared.complaints.Complaints.{Complaints}
@@ -12,11 +14,11 @@ use Rattle.wh_service.specs.declared.service.ServiceEnd.{ServiceEnd}
 use Rattle.wh_cli.specs.declared.failures.Failure.{Failure}
 use Rattle.wh_files.specs.Inputs.{IsCalled, IsOf, IsReadFrom, IsSingle}
 use Rattle.wh_cli.specs.Private.Commands.{HasExplained, HasExplainedInput, HasExplainedPath, HasReplayed, HasReplayedPaths, HasServedAll, HasServedFolder}
-use Rattle.wh_cli.specs.Private.Complaints.{Reported, service_told}
+use Rattle.wh_cli.specs.Private.Complaints.{Reported, fault_line, fault_lines, service_told}
 use Rattle.wh_cli.specs.Private.Listings.{AreListed, IsListed, is_by_path}
 use Rattle.wh_cli.specs.Private.Readings.{Gives, IsReadAs}
 use Rattle.wh_service.specs.Services.{IsServiceEndOver}
-use Rattle.wh_file_faults.specs.Faults.{File}
+use Rattle.wh_file_faults.specs.Faults.{File, told_of}
 use Rattle.wh_service.specs.Services.{HostsBy, IsHosted}
 use Rattle.wh_cli.specs.Private.Statuses.{lacks_files, status_with}
 use Rattle.wh_service.proofs.Workers.{by_closure, end_by}
@@ -35,6 +37,19 @@ nothing_more a b xs ys p none = subst (λ l. Appends a b l) (sym (ap (λ l. xs +
 pub something_more : {X E : Type 0} (answer : Result X E) (a b c : Option (List ℕ)) (xs ys zs : List ℕ) → Appends a b xs → OnOk answer (Appends b c ys) → ys ≡ zs → OnOk answer (Appends a c (xs ++ zs))
 something_more (Ok x) a b c xs ys zs p q same = subst (λ l. Appends a c (xs ++ l)) same (Appends-trans a b c xs ys p q)
 something_more (Err e) a b c xs ys zs p q same = tt
+
+-- the line of what is told of a file, and that there is none where nothing is
+pub fault_told : {X E : Type 0} (answer : Result X E) (a b : Option (List ℕ)) (told : Option FileFault) (faults : List FileFault) (fault : FileFault) (name : List ℕ) → told_of told ≡ faults → told ≡ Some fault → OnOk answer (Appends a b (fault_line fault name)) → OnOk answer (Appends a b (fault_lines faults name))
+fault_told (Ok x) a b told faults fault name are is h =
+    subst (λ l. Appends a b (fault_lines l name)) (sym (ap told_of is) ∙ are) (subst (Appends a b) (sym (append-nil (fault_line fault name))) h)
+fault_told (Err e) a b told faults fault name are is h = tt
+
+nothing_added : (a : Option (List ℕ)) → Appends a a []
+nothing_added None = tt
+nothing_added (Some x) = sym (append-nil x)
+
+pub nothing_told_of : (a : Option (List ℕ)) (told : Option FileFault) (faults : List FileFault) (name : List ℕ) → told_of told ≡ faults → told ≡ None → Appends a a (fault_lines faults name)
+nothing_told_of a told faults name are is = subst (λ l. Appends a a (fault_lines l name)) (sym (ap told_of is) ∙ are) (nothing_added a)
 
 or_false : (a : Bool) → a ≡ (a || false)
 or_false true = refl
@@ -66,41 +81,41 @@ listed_push contents by_path (p ∷ ps) path inputs own left_out own_left old be
     (are.0, are.1 ++ own, are.2, are.3 || own_left, are.4, inputs_same, left_same, are.7, rest)
 
 -- an input that was read as a file was explained
-pub explained_input : {S E : Type 0} (gives : Gives) (program : Program S) (input : Input) (file : File) (seen : List ℕ) (json : Bool) (old new : Option (List ℕ)) (contents : E → Option (List ℕ)) (before after : Complaints E) (answer : Result ℕ Failure)
+pub explained_input : {S E : Type 0} (gives : Gives) (program : Program S) (input : Input) (file : File) (seen : List ℕ) (format : Format) (old new : Option (List ℕ)) (contents : E → Option (List ℕ)) (before after : Complaints E) (answer : Result ℕ Failure)
     → IsReadAs gives input file → seen ≡ file.1.items
-    → IfOk answer (HasExplained program (string_bytes file.0) seen json old new contents before after)
-    → IfOk answer (HasExplainedInput gives program input json old new contents before after)
-explained_input gives program input file seen json old new contents before after (Ok status) read same h = record {
+    → IfOk answer (HasExplained program (string_bytes file.0) seen format old new contents before after)
+    → IfOk answer (HasExplainedInput gives program input format old new contents before after)
+explained_input gives program input file seen format old new contents before after (Ok status) read same h = record {
   file = file;
   read = read;
-  explained = subst (λ l. HasExplained program (string_bytes file.0) l json old new contents before after status) same h;
+  explained = subst (λ l. HasExplained program (string_bytes file.0) l format old new contents before after status) same h;
 }
-explained_input gives program input file seen json old new contents before after (Err failure) read same h = tt
+explained_input gives program input file seen format old new contents before after (Err failure) read same h = tt
 
 -- an input of a path was explained
-pub explained_path : {S E : Type 0} (program : Program S) (path : List ℕ) (input : Input) (json : Bool) (old new : Option (List ℕ)) (contents : E → Option (List ℕ)) (before after : Complaints E) (answer : Result ℕ Failure)
+pub explained_path : {S E : Type 0} (program : Program S) (path : List ℕ) (input : Input) (format : Format) (old new : Option (List ℕ)) (contents : E → Option (List ℕ)) (before after : Complaints E) (answer : Result ℕ Failure)
     → IsCalled false input → IsOf path input.origin → IsSingle input.origin
-    → IfOk answer (HasExplainedInput IsReadFrom program input json old new contents before after)
-    → IfOk answer (HasExplainedPath program path json old new contents before after)
-explained_path program path input json old new contents before after (Ok status) called from single h =
+    → IfOk answer (HasExplainedInput IsReadFrom program input format old new contents before after)
+    → IfOk answer (HasExplainedPath program path format old new contents before after)
+explained_path program path input format old new contents before after (Ok status) called from single h =
     record { input = input; called = called; from = from; single = single; explained = h }
-explained_path program path input json old new contents before after (Err failure) called from single h = tt
+explained_path program path input format old new contents before after (Err failure) called from single h = tt
 
 -- the inputs of paths were replayed
-pub replayed_paths : {S E : Type 0} (program : Program S) (first : List ℕ) (more : List (List ℕ)) (json required left_out lacks : Bool) (inputs : List Input) (old new : Option (List ℕ)) (contents : E → Option (List ℕ)) (before between after : Complaints E) (answer : Result ℕ Failure)
+pub replayed_paths : {S E : Type 0} (program : Program S) (first : List ℕ) (more : List (List ℕ)) (format : Format) (required left_out lacks : Bool) (inputs : List Input) (old new : Option (List ℕ)) (contents : E → Option (List ℕ)) (before between after : Complaints E) (answer : Result ℕ Failure)
     → AreListed contents (is_by_path more) (first ∷ more) inputs left_out before between
     → lacks ≡ lacks_files left_out required inputs
-    → IfOk answer (HasReplayed IsReadFrom program inputs json lacks old new contents between after)
-    → IfOk answer (HasReplayedPaths program first more json required old new contents before after)
-replayed_paths program first more json required left_out lacks inputs old new contents before between after (Ok status) listed same h =
+    → IfOk answer (HasReplayed IsReadFrom program inputs format lacks old new contents between after)
+    → IfOk answer (HasReplayedPaths program first more format required old new contents before after)
+replayed_paths program first more format required left_out lacks inputs old new contents before between after (Ok status) listed same h =
     record {
       inputs = inputs;
       left_out = left_out;
       between = between;
       listed = listed;
-      replayed = subst (λ l. HasReplayed IsReadFrom program inputs json l old new contents between after status) same h;
+      replayed = subst (λ l. HasReplayed IsReadFrom program inputs format l old new contents between after status) same h;
     }
-replayed_paths program first more json required left_out lacks inputs old new contents before between after (Err failure) listed same h = tt
+replayed_paths program first more format required left_out lacks inputs old new contents before between after (Err failure) listed same h = tt
 
 -- what was written of a service stays
 pub served_kept : {S T : Type 0} (Reads : T → File → Type 0) (program : Program S) (hosts : HostsBy) (config : Config) (inputs : List T) (old mid new : Option (List ℕ)) (end : ServiceEnd)

@@ -1,4 +1,1 @@
-pub mod Commands
-pub mod Replays
-pub mod Statuses
 pub mod Private

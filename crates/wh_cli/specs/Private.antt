@@ -2,7 +2,6 @@
 pub mod Commands
 pub mod Complaints
 pub mod Listings
-pub mod Noted
 pub mod Outlets
 pub mod Readings
 pub mod Served

@@ -4,7 +4,7 @@ ghost use Rattle.std.specs.Prelude.{◌≡◌, Err, IfOk, Ok, string_bytes, vec_
 ghost use Rattle.std.specs.Io.KnownBytes.{Keeps};
 ghost use Rattle.wh_cli.specs.Private.Commands.{HasExplained, HasExplainedInput, HasExplainedPath};
 ghost use Rattle.wh_cli.specs.Private.Commands.{HasPrinted, HasReplayed, HasReplayedPaths, HasReported};
-ghost use Rattle.wh_cli.specs.Private.Commands.{HasServedAll, HasServedFolder, HasToldOf, HasWorked, Obeys};
+ghost use Rattle.wh_cli.specs.Private.Commands.{HasServedAll, HasServedFolder, HasToldOf, HasWorked, Obeys, format_of};
 ghost use Rattle.wh_cli.specs.Private.Complaints.{Reported, service_told};
 ghost use Rattle.wh_work.specs.Plans.{MayServe, lives};
 ghost use Rattle.wh_cli.specs.Private.Readings.{IsReadAs};
@@ -15,24 +15,21 @@ ghost use Rattle.wh_command_line.specs.Options.{IsWithinLimits, IsWithinWorkLimi
 ghost use Rattle.wh_host.specs.Machine.{IsConfig};
 
 use crate::complaints::{Complaint, Complaints};
-use crate::explaining::explain_file;
 use crate::failures::Failure;
-use crate::inputs::{ReadsInputs, file_from};
+use crate::inputs::{InputReader, file_from};
 use crate::listing::{all_inputs, folder_of, input_of};
-use crate::noted::NotedLine;
-use crate::replaying::{lines_of, report, status_of};
 use std::alloc::Global;
 use std::io::Write;
 use std::rt::Runtime;
-use std::slice;
 use std::sync::Wait;
 use std::thread::Threads;
 use wh_command_line::{Plan, ServeOptions, WorkOptions};
 use wh_crew::LiveEnd;
 use wh_events::{OutOfMemory, Text};
-use wh_file_faults::{CommandFault, FileFault, unread_fault};
+use wh_file_faults::{CommandFault, FileFault, unread_cause};
 use wh_files::{Input, InputFault};
 use wh_host::Config;
+use wh_report::{Format, Record, check_all, explain_file, line_status, report};
 use wh_service::{ServiceEnd, ServiceHost, ServiceSetup, host_of, serve_inputs};
 use wh_tester::Line;
 use wh_work::{LivePlan, live_plan, live_status};
@@ -80,39 +77,38 @@ fn status_with(lacks: bool, status: u8) -> u8
     if lacks { 1 } else { status }
 }
 
-/// Writes the report of lines, and once it is out, reports where files are no JSON and for which
+/// Writes the report of records, and once it is out, reports where files are no JSON and for which
 /// workflow types there is no code.
 fn tell_report<O: Write, E: Write>(
-    lines: Vec<NotedLine>,
-    faults: Vec<FileFault>,
-    json: bool,
+    records: Vec<Record>,
+    format: Format,
     lacks: bool,
     output: &mut O,
     errors: &mut Complaints<'_, E>,
 ) -> Result<u8, Failure>
-    ensures { IfOk result (HasReported lines.items faults.items json lacks
+    ensures { IfOk result (HasReported records.items format lacks
         (O.contents output.old) (O.contents output.new) E.contents errors.old errors.new) }
 {
-    let answer = report(lines.as_slice(), json, output);
+    let answer = report(records.as_slice(), format, output);
     let status = flushed(answer, output)?;
-    errors.tell(Complaint::BadFiles { faults });
+    errors.tell(Complaint::BadFiles { records });
     Ok(status_with(lacks, status))
 }
 
-/// Replays inputs, writes the report of their lines, and once it is out, reports where they are no
+/// Replays inputs, writes the report of their records, and once it is out, reports where they are no
 /// JSON and for which workflow types there is no code.
-fn replay<W: Workflow + Send, R: ReadsInputs + AllocGlobal + Threads + Sync, O: Write, E: Write>(
+fn replay<W: Workflow + Send, R: InputReader + AllocGlobal + Threads + Sync, O: Write, E: Write>(
     rt: &R,
     inputs: Vec<Input>,
-    json: bool,
+    format: Format,
     lacks: bool,
     output: &mut O,
     errors: &mut Complaints<'_, E>,
 ) -> Result<u8, Failure>
-    ensures { IfOk result (HasReplayed R.gives W.program inputs.items json lacks
+    ensures { IfOk result (HasReplayed R.gives W.program inputs.items format lacks
         (O.contents output.old) (O.contents output.new) E.contents errors.old errors.new) }
 {
-    let (lines, faults) = lines_of::<W, R, _, _>(
+    let records = check_all::<W, R, _, _>(
         rt,
         rt.alloc(),
         inputs,
@@ -120,14 +116,18 @@ fn replay<W: Workflow + Send, R: ReadsInputs + AllocGlobal + Threads + Sync, O: 
             ensures { IfOk result (IsReadAs R.gives input) }
         { file_from(rt, input) },
     )?;
-    tell_report(lines, faults, json, lacks, output, errors)
+    tell_report(records, format, lacks, output, errors)
 }
 
 /// Tells where the file of a line is no JSON, if that is its verdict.
-fn tell_if_bad<E: Write>(alloc: Global, line: &Line, bytes: &[u8], errors: &mut Complaints<'_, E>)
-    ensures { HasToldOf line.now.name bytes.now E.contents errors.old errors.new }
+fn tell_if_bad<E: Write>(alloc: Global, line: Line, bytes: &[u8], errors: &mut Complaints<'_, E>)
+    ensures { HasToldOf line.name bytes.now E.contents errors.old errors.new }
 {
-    if let Some(fault) = unread_fault(alloc, line.name.get(), &line.verdict, bytes) {
+    if let Some(cause) = unread_cause(alloc, &line.verdict, bytes) {
+        let fault = FileFault {
+            name: line.name,
+            cause,
+        };
         errors.tell(Complaint::BadJson { fault });
     }
 }
@@ -138,35 +138,35 @@ fn explain<W: Workflow, O: Write, E: Write>(
     alloc: Global,
     name: String,
     bytes: &[u8],
-    json: bool,
+    format: Format,
     output: &mut O,
     errors: &mut Complaints<'_, E>,
 ) -> Result<u8, Failure>
-    ensures { IfOk result (HasExplained W.program (string_bytes name) bytes.now json
+    ensures { IfOk result (HasExplained W.program (string_bytes name) bytes.now format
         (O.contents output.old) (O.contents output.new) E.contents errors.old errors.new) }
 {
-    let line = match explain_file::<W, O>(alloc, name, bytes, json, output) {
+    let line = match explain_file::<W, O>(alloc, name, bytes, format, output) {
         Ok(line) => line,
         Err(fault) => return flushed(Err(fault), output),
     };
-    let status = flushed(Ok(status_of(slice::from_ref(&line))), output)?;
-    tell_if_bad(alloc, &line, bytes, errors);
+    let status = flushed(Ok(line_status(&line)), output)?;
+    tell_if_bad(alloc, line, bytes, errors);
     Ok(status)
 }
 
 /// Reads an input, and explains it.
-fn explain_input<W: Workflow, R: ReadsInputs + AllocGlobal, O: Write, E: Write>(
+fn explain_input<W: Workflow, R: InputReader + AllocGlobal, O: Write, E: Write>(
     rt: &R,
     input: Input,
-    json: bool,
+    format: Format,
     output: &mut O,
     errors: &mut Complaints<'_, E>,
 ) -> Result<u8, Failure>
-    ensures { IfOk result (HasExplainedInput R.gives W.program input json
+    ensures { IfOk result (HasExplainedInput R.gives W.program input format
         (O.contents output.old) (O.contents output.new) E.contents errors.old errors.new) }
 {
     let (name, bytes) = file_from(rt, input)?;
-    explain::<W, O, E>(rt.alloc(), name, bytes.as_slice(), json, output, errors)
+    explain::<W, O, E>(rt.alloc(), name, bytes.as_slice(), format, output, errors)
 }
 
 /// The status of a service, once its report is out and the rest is reported.
@@ -188,7 +188,7 @@ fn end_service<O: Write, E: Write>(
 /// Serves inputs, writes the report, and once it is out, reports the rest.
 fn serve<
     W: Workflow + Send,
-    R: ReadsInputs + AllocGlobal + Threads + Sync,
+    R: InputReader + AllocGlobal + Threads + Sync,
     F: Fn(Config, Vec<ServiceSetup>) -> Result<ServiceHost, OutOfMemory>,
     O: Write,
     E: Write,
@@ -226,7 +226,7 @@ fn replay_paths<W: Workflow + Send, R: Runtime + AllocGlobal + Threads + Sync, O
     rt: &R,
     first: Text,
     more: Vec<Text>,
-    json: bool,
+    format: Format,
     require_files: bool,
     output: &mut O,
     errors: &mut Complaints<'_, E>,
@@ -234,27 +234,27 @@ fn replay_paths<W: Workflow + Send, R: Runtime + AllocGlobal + Threads + Sync, O
 where
     R::File: Send,
     R::Dir: Send,
-    ensures { IfOk result (HasReplayedPaths W.program first more.items json require_files
+    ensures { IfOk result (HasReplayedPaths W.program first more.items format require_files
         (O.contents output.old) (O.contents output.new) E.contents errors.old errors.new) }
 {
     let listed = all_inputs(rt, first, more, errors)?;
     let lacks = lacks_files(listed.left_out, require_files, listed.inputs.as_slice());
-    replay::<W, R, O, E>(rt, listed.inputs, json, lacks, output, errors)
+    replay::<W, R, O, E>(rt, listed.inputs, format, lacks, output, errors)
 }
 
 /// Explains what is at a path.
 fn explain_path<W: Workflow, R: Runtime + AllocGlobal, O: Write, E: Write>(
     rt: &R,
     path: Text,
-    json: bool,
+    format: Format,
     output: &mut O,
     errors: &mut Complaints<'_, E>,
 ) -> Result<u8, Failure>
-    ensures { IfOk result (HasExplainedPath W.program path json
+    ensures { IfOk result (HasExplainedPath W.program path format
         (O.contents output.old) (O.contents output.new) E.contents errors.old errors.new) }
 {
     let input = input_of(rt, path)?;
-    explain_input::<W, R, O, E>(rt, input, json, output, errors)
+    explain_input::<W, R, O, E>(rt, input, format, output, errors)
 }
 
 /// Serves the files of a folder.
@@ -319,6 +319,13 @@ where
     Ok(status)
 }
 
+/// The format that a plan asks for.
+fn format_of(json: bool) -> Format
+    ensures { result ≡ format_of json }
+{
+    if json { Format::Json } else { Format::Text }
+}
+
 /// Does what is asked for, and gives the status. Where there is none, why.
 pub(crate) fn obey<
     W: Workflow + Send,
@@ -348,8 +355,22 @@ where
             more,
             json,
             require_files,
-        } => replay_paths::<W, R, O, E>(rt, dir, more, json, require_files, output, errors),
-        Plan::Explain { file, json } => explain_path::<W, R, O, E>(rt, file, json, output, errors),
+        } => replay_paths::<W, R, O, E>(
+            rt,
+            dir,
+            more,
+            format_of(json),
+            require_files,
+            output,
+            errors,
+        ),
+        Plan::Explain { file, json } => explain_path::<W, R, O, E>(
+            rt,
+            file,
+            format_of(json),
+            output,
+            errors,
+        ),
         Plan::Serve {
             dir,
             workers,

@@ -7,6 +7,8 @@ ghost use Rattle.wh_cli.specs.Private.Complaints.{entry_line, failed_text};
 ghost use Rattle.wh_cli.specs.Private.Complaints.{failure_line, failure_lines, fault_line, fault_lines};
 ghost use Rattle.wh_cli.specs.Private.Complaints.{path_line, reason_line, service_told, told_line};
 ghost use Rattle.wh_cli.specs.Private.Complaints.{uncompared_told, worker_told};
+ghost use Rattle.wh_file_faults.specs.Faults.{told_of};
+ghost use Rattle.wh_report.specs.Reports.{fault_of, faults_in};
 
 use crate::failures::Failure;
 use std::io;
@@ -15,8 +17,9 @@ use wh_crew::LiveEnd;
 use wh_events::Text;
 use wh_file_faults::FileFault;
 use wh_files::Reason;
+use wh_report::Record;
 use wh_service::{FileFailure, ServiceEnd};
-use wh_tester::Shown;
+use wh_tester::{Line, Shown};
 use wh_work::write_live_end;
 
 /// The standard error, as a writer.
@@ -56,8 +59,8 @@ pub(crate) enum Complaint {
     BadNames { dir: Text, names: Vec<String> },
     /// A file is no JSON.
     BadJson { fault: FileFault },
-    /// Files are no JSON.
-    BadFiles { faults: Vec<FileFault> },
+    /// Which of the files of these records are no JSON or lack code.
+    BadFiles { records: Vec<Record> },
     /// What is reported of a service beside its report.
     Served { end: ServiceEnd },
     /// How live tasks ended.
@@ -105,6 +108,46 @@ fn tell_faults<E: Write>(faults: Vec<FileFault>, name: &str, writer: &mut E) -> 
 {
     for fault in faults {
         tell_fault(fault, name, writer)?;
+    }
+    Ok(())
+}
+
+/// Why a file is named beside the report, if it is.
+fn fault_of(own: Record) -> Option<FileFault>
+    ensures { told_of result ≡ fault_of own own.cause }
+{
+    let Record {
+        line,
+        cause,
+        difference,
+    } = own;
+    drop(difference);
+    let Line { name, verdict } = line;
+    drop(verdict);
+    match cause {
+        Some(cause) => Some(FileFault { name, cause }),
+        None => None,
+    }
+}
+
+/// Writes why a file is named beside the report, if it is.
+fn tell_record<E: Write>(own: Record, name: &str, writer: &mut E) -> io::Result<()>
+    ensures { OnOk result (Appends (E.contents writer.old) (E.contents writer.new)
+        (fault_lines (fault_of own own.cause) name.now)) }
+{
+    match fault_of(own) {
+        Some(fault) => tell_fault(fault, name, writer),
+        None => Ok(()),
+    }
+}
+
+/// Writes why files are named beside the report, a line for each.
+fn tell_records<E: Write>(records: Vec<Record>, name: &str, writer: &mut E) -> io::Result<()>
+    ensures { OnOk result (Appends (E.contents writer.old) (E.contents writer.new)
+        (fault_lines (faults_in records.items) name.now)) }
+{
+    for own in records {
+        tell_record(own, name, writer)?;
     }
     Ok(())
 }
@@ -284,7 +327,7 @@ fn tell_complaint<E: Write>(complaint: Complaint, name: &str, writer: &mut E) ->
         Complaint::NoFiles { dir } => tell_no_files(dir.get(), name, writer),
         Complaint::BadNames { dir, names } => tell_bad_names(dir.get(), names, name, writer),
         Complaint::BadJson { fault } => tell_fault(fault, name, writer),
-        Complaint::BadFiles { faults } => tell_faults(faults, name, writer),
+        Complaint::BadFiles { records } => tell_records(records, name, writer),
         Complaint::Served { end } => tell_service(end, name, writer),
         Complaint::Worked { end } => write_live_end(end, writer),
         Complaint::Failed { failure } => tell_failed(&failure, name, writer),

@@ -7,7 +7,7 @@ use std::rt::Files;
 use wh_files::{Input, InputFault, Origin, read_input};
 
 /// What reads inputs. A function over it knows of no bytes but those that it is given here.
-pub(crate) trait ReadsInputs {
+pub(crate) trait InputReader {
     ghost use Rattle.std.specs.Prelude.{IfOk};
     ghost use Rattle.wh_cli.specs.Private.Readings.{Gives};
 
@@ -19,7 +19,7 @@ pub(crate) trait ReadsInputs {
         ensures { IfOk result (gives origin) };
 }
 
-impl<R: Files + AllocGlobal> ReadsInputs for R {
+impl<R: Files + AllocGlobal> InputReader for R {
     ghost use Rattle.wh_files.specs.Inputs.{IsReadFrom};
 
     ghost gives = { IsReadFrom };
@@ -30,7 +30,7 @@ impl<R: Files + AllocGlobal> ReadsInputs for R {
 }
 
 /// An input as a file: its name, and the bytes that are read of it.
-pub(crate) fn file_from<R: ReadsInputs>(
+pub(crate) fn file_from<R: InputReader>(
     rt: &R,
     input: Input,
 ) -> Result<(String, Vec<u8>), InputFault>

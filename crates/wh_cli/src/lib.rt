@@ -5,24 +5,20 @@
 
 mod commands;
 mod complaints;
-mod explaining;
 mod failures;
 mod inputs;
 mod listening;
 mod listing;
-mod noted;
 mod outlet;
 mod program;
-mod replaying;
 mod services;
 
-pub use explaining::explain_command;
 pub use listening::read_input;
 pub use program::{no_memory, run};
-pub use replaying::replay_command;
 pub use services::{serve_command, serve_with_failures};
 pub use wh_command_line::{Plan, Refusal, WorkOptions, parse};
 pub use wh_file_faults::{Cause, CommandFault, FileFault, Mark, Position};
 pub use wh_poll::NoActivities;
+pub use wh_report::{Format, explain_command, replay_command};
 pub use wh_service::{FileFailure, ServiceEnd};
 pub use wh_work::calls_over;

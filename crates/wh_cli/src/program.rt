@@ -3,7 +3,7 @@
 ghost use Rattle.std.specs.Prelude.{◌≡◌, ◌≢◌, Err, IfOk, map, string_bytes};
 ghost use Rattle.wh_command_line.specs.Options.{IsWithinLimits};
 ghost use Rattle.wh_command_line.specs.Plans.{HasFewSlots, IsAskedBy};
-ghost use Rattle.wh_cli.specs.Private.Commands.{Answers, HasFailed, HasObeyed, called, is_unread, name_of};
+ghost use Rattle.wh_cli.specs.Private.Commands.{Answers, HasFailed, ObeysWords, called, is_unread, name_of};
 ghost use Rattle.wh_work.specs.Plans.{MayServe, lives};
 ghost use Rattle.wh_host.specs.Machine.{IsConfig};
 
@@ -116,7 +116,7 @@ fn fail<E: Write>(failure: Failure, closed: bool, errors: &mut Complaints<'_, E>
 }
 
 /// Does what the words of the command line ask for, and gives the status.
-fn obeyed<
+fn obey_words<
     W: Workflow + Send,
     R: Runtime + AllocGlobal + Threads + Wait + Sync,
     O: Write,
@@ -134,7 +134,7 @@ where
     R::Dir: Send,
     F: Drop,
     requires { MayServe (F.pre live) }
-    ensures { IfOk result (HasObeyed W.program (lives (F.post live)) (map string_bytes words.now)
+    ensures { IfOk result (ObeysWords W.program (lives (F.post live)) (map string_bytes words.now)
         (O.contents output.old) (O.contents output.new) E.contents errors.old errors.new) }
 {
     let plan = plan(rt.alloc(), words)?;
@@ -158,7 +158,7 @@ where
     ensures { Answers W.program (lives (F.post live)) (map string_bytes words.now) output.new.closed
         (O.contents output.old.writer) (O.contents output.new.writer) E.contents errors.old errors.new result }
 {
-    match obeyed::<W, R, Outlet<O>, E, F>(rt, words, live, output, errors) {
+    match obey_words::<W, R, Outlet<O>, E, F>(rt, words, live, output, errors) {
         Ok(status) => status,
         Err(failure) => fail(failure, output.is_closed(), errors),
     }

@@ -32,23 +32,6 @@ pub enum Cause {
     },
 }
 
-impl Cause {
-    /// A copy with the same content. `OutOfMemory` where there was no memory for it.
-    pub fn try_copy(&self) -> Result<Cause, OutOfMemory>
-        ensures { IfOk result (λ copy. copy ≡ self.now) }
-    {
-        match self {
-            Cause::NotJson { position, mark } => Ok(Cause::NotJson {
-                position: *position,
-                mark: *mark,
-            }),
-            Cause::NoCode { kind } => Ok(Cause::NoCode {
-                kind: kind.try_copy()?,
-            }),
-        }
-    }
-}
-
 /// A file that is no JSON or has a workflow type that there is no code for. As a text: the name of
 /// the file as the report shows it, and the place or the workflow type.
 #[derive(Drop)]
@@ -107,33 +90,41 @@ impl fmt::Display for FileFault {
     }
 }
 
-/// Where a file is no JSON, if it is none. Nothing is reported where memory for that is refused.
-pub fn json_fault(alloc: Global, name: &str, bytes: &[u8]) -> Option<FileFault>
-    ensures { IfSome result (IsFaultOf IsNoJson name.now bytes.now) }
+/// Where bytes are no JSON, if they are none. Nothing is known where memory for that is refused.
+pub fn json_cause(alloc: Global, bytes: &[u8]) -> Option<Cause>
+    ensures { IfSome result (IsNoJson bytes.now) }
 {
     let Ok(Some(position)) = position_of(alloc, bytes) else {
         return None;
     };
-    let Ok(name) = String::from_str(alloc, name) else {
-        return None;
-    };
-    Some(FileFault {
-        name: Text::new(name),
-        cause: Cause::NotJson {
-            position,
-            mark: mark_of(bytes),
-        },
+    Some(Cause::NotJson {
+        position,
+        mark: mark_of(bytes),
     })
 }
 
-/// Where a file with this verdict is no JSON, if it is unreadable for that. Nothing is reported
-/// where memory for that is refused.
-pub fn unread_fault(alloc: Global, name: &str, verdict: &Verdict, bytes: &[u8]) -> Option<FileFault>
-    ensures { IfSome result (IsFaultOf IsNoJson name.now bytes.now) }
+/// Where bytes with this verdict are no JSON, if they are unreadable for that. They are read once
+/// more for it. Nothing is known where memory for that is refused.
+pub fn unread_cause(alloc: Global, verdict: &Verdict, bytes: &[u8]) -> Option<Cause>
+    ensures { IfSome result (IsNoJson bytes.now) }
 {
     match verdict {
-        Verdict::Unreadable(ReadFault::BadJson) => json_fault(alloc, name, bytes),
+        Verdict::Unreadable(ReadFault::BadJson) => json_cause(alloc, bytes),
         _ => None,
+    }
+}
+
+/// Where a file is no JSON, if it is none. Nothing is reported where memory for that is refused.
+pub fn json_fault(alloc: Global, name: &str, bytes: &[u8]) -> Option<FileFault>
+    ensures { IfSome result (IsFaultOf IsNoJson name.now bytes.now) }
+{
+    let Ok(name) = String::from_str(alloc, name) else {
+        return None;
+    };
+    let name = Text::new(name);
+    match json_cause(alloc, bytes) {
+        Some(cause) => Some(FileFault { name, cause }),
+        None => None,
     }
 }
 

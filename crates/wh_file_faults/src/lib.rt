@@ -8,6 +8,6 @@ mod parallel;
 mod position;
 
 pub use command_fault::CommandFault;
-pub use file_faults::{Cause, FileFault, code_fault, json_fault, unread_fault};
+pub use file_faults::{Cause, FileFault, code_fault, json_fault, unread_cause};
 pub use parallel::all_made;
 pub use position::{Mark, Position};

@@ -3,7 +3,7 @@
 use std::alloc::Global;
 use std::process::Abort;
 use test_support::{bytes_of, same, with_status};
-use wh_cli::explain_command;
+use wh_cli::{Format, explain_command};
 use wh_sample_workflows::All;
 
 /// Histories, each with the lines of JSON below it.
@@ -112,7 +112,7 @@ fn explanation(rt: &impl Abort, alloc: Global, history: &'static str) -> String 
     let bytes = bytes_of(alloc, history).expect(rt, history);
     let name = String::from_str(alloc, "x.json").expect(rt, "memory");
     let mut out = Vec::new(alloc);
-    let status = explain_command::<All, _>(alloc, name, bytes.as_slice(), true, &mut out);
+    let status = explain_command::<All, _>(alloc, name, bytes.as_slice(), Format::Json, &mut out);
     with_status(out, status.expect(rt, "refused")).expect(rt, "a text")
 }
 

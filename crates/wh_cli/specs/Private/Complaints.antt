@@ -6,6 +6,7 @@ use Rattle.std.specs.declared.alloc.Global.{Global}
 use Rattle.wh_files.specs.Reasons.{reason_words}
 use Rattle.wh_files.specs.declared.Reason.{Reason}
 use Rattle.wh_tester.specs.Report.{shown}
+use Rattle.wh_report.specs.Reports.{faults_in}
 use Rattle.wh_cli.specs.declared.complaints.Complaint.{Complaint}
 use Rattle.wh_cli.specs.declared.complaints.Complaint.TheVariants.{NoFiles, BadNames, BadJson, BadFiles, Served, Worked, Failed}
 use Rattle.wh_cli.specs.declared.complaints.Complaints.{Complaints}
@@ -95,7 +96,7 @@ abbrev pub complaint_text : Complaint → List ℕ → List ℕ
 complaint_text (NoFiles dir) name = told_line (codes "no .json file in " ++ dir) name
 complaint_text (BadNames dir names) name = bad_name_lines dir names.items name
 complaint_text (BadJson fault) name = fault_line fault name
-complaint_text (BadFiles faults) name = fault_lines faults.items name
+complaint_text (BadFiles records) name = fault_lines (faults_in records.items) name
 complaint_text (Served end) name = service_told end name
 complaint_text (Worked end) name = live_text end
 complaint_text (Failed failure) name = failed_text failure name

@@ -1,0 +1,3 @@
+pub mod Lines
+pub mod Collected
+pub mod Causes

@@ -1,0 +1,65 @@
+//! The commands `replay` and `explain` over files that are there already.
+
+ghost use Rattle.std.specs.Prelude.{◌≡◌, Err, IfOk, List, Ok, string_bytes};
+ghost use Rattle.std.specs.List.{AllZip};
+ghost use Rattle.std.specs.Io.KnownBytes.{Appends};
+ghost use Rattle.wh_report.specs.Commands.{IsExplained};
+ghost use Rattle.wh_report.specs.Records.{IsRecordOf};
+ghost use Rattle.wh_report.specs.Reports.{lines_of, report_as, status_of};
+ghost use Rattle.wh_report.specs.declared.records.Record.{Record as RecordView};
+
+use crate::explained::explain_file;
+use crate::format::Format;
+use crate::records::check_all;
+use crate::reports::{line_status, report};
+use std::alloc::Global;
+use std::io::Write;
+use std::thread::Threads;
+use wh_file_faults::CommandFault;
+use wh_files::InputFault;
+use wh_workflow::Workflow;
+
+/// Replays files, given by name and bytes, and writes their report. The status is 0 where each file is
+/// good, and else 1. Nothing is written where the answer is `OutOfMemory`.
+pub fn replay_command<W: Workflow + Send, R: Threads + Sync, O: Write>(
+    rt: &R,
+    alloc: Global,
+    files: Vec<(String, Vec<u8>)>,
+    format: Format,
+    writer: &mut O,
+) -> Result<u8, CommandFault>
+    ensures reported { IfOk result (λ status. (records : List RecordView)
+        × AllZip (IsRecordOf W.program) files.items records
+        × Appends (O.contents writer.old) (O.contents writer.new) (report_as format records)
+        × (status ≡ status_of (lines_of records))) }
+    ensures unwritten { result ≡ Err CommandFault.OutOfMemory → writer.new ≡ writer.old }
+{
+    let Ok(records) = check_all::<W, _, _, _>(
+        rt,
+        alloc,
+        files,
+        |file: (String, Vec<u8>)| -> Result<(String, Vec<u8>), InputFault>
+            ensures { IfOk result (λ own. own ≡ file) }
+        { Ok(file) },
+    ) else {
+        return Err(CommandFault::OutOfMemory);
+    };
+    report(records.as_slice(), format, writer)
+}
+
+/// Writes the explanation of a history file, whose last line is that of the file in the report of
+/// replay, and gives the status of that report. Nothing is written where the answer is `OutOfMemory`.
+pub fn explain_command<W: Workflow, O: Write>(
+    alloc: Global,
+    name: String,
+    bytes: &[u8],
+    format: Format,
+    writer: &mut O,
+) -> Result<u8, CommandFault>
+    ensures explained { IfOk result
+        (IsExplained W.program (string_bytes name) bytes.now format (O.contents writer.old) (O.contents writer.new)) }
+    ensures unwritten { result ≡ Err CommandFault.OutOfMemory → writer.new ≡ writer.old }
+{
+    let line = explain_file::<W, O>(alloc, name, bytes, format, writer)?;
+    Ok(line_status(&line))
+}
