@@ -1,6 +1,6 @@
 //! The commands, each as what it writes, what it reports and its status.
 
-ghost use Rattle.std.specs.Prelude.{◌≡◌, Err, IfOk, Ok, string_bytes, vec_len};
+ghost use Rattle.std.specs.Prelude.{◌≡◌, Err, IfOk, IfSome, Ok, string_bytes, vec_len};
 ghost use Rattle.std.specs.Io.KnownBytes.{Keeps};
 ghost use Rattle.wh_cli.specs.Private.Commands.{HasExplained, HasExplainedInput, HasExplainedPath};
 ghost use Rattle.wh_cli.specs.Private.Commands.{HasPrinted, HasReplayed, HasReplayedPaths, HasReported};
@@ -11,6 +11,7 @@ ghost use Rattle.wh_cli.specs.Private.Readings.{IsReadAs};
 ghost use Rattle.wh_cli.specs.Private.Served.{sizes_of};
 ghost use Rattle.wh_service.specs.Services.{IsHost, IsHosted, leaves};
 ghost use Rattle.wh_cli.specs.Private.Statuses.{lacks_files, status_with};
+ghost use Rattle.wh_file_faults.specs.Faults.{IsFaultOf, IsNoJson};
 ghost use Rattle.wh_command_line.specs.Options.{IsWithinLimits, IsWithinWorkLimits};
 ghost use Rattle.wh_host.specs.Machine.{IsConfig};
 
@@ -119,15 +120,22 @@ fn replay<W: Workflow + Send, R: InputReader + AllocGlobal + Threads + Sync, O: 
     tell_report(records, format, lacks, output, errors)
 }
 
+/// Where the file of a line is no JSON, if that is its verdict.
+fn unread_fault(alloc: Global, line: Line, bytes: &[u8]) -> Option<FileFault>
+    ensures { IfSome result (IsFaultOf IsNoJson line.name bytes.now) }
+{
+    let Line { name, verdict } = line;
+    match unread_cause(alloc, &verdict, bytes) {
+        Some(cause) => Some(FileFault { name, cause }),
+        None => None,
+    }
+}
+
 /// Tells where the file of a line is no JSON, if that is its verdict.
 fn tell_if_bad<E: Write>(alloc: Global, line: Line, bytes: &[u8], errors: &mut Complaints<'_, E>)
     ensures { HasToldOf line.name bytes.now E.contents errors.old errors.new }
 {
-    if let Some(cause) = unread_cause(alloc, &line.verdict, bytes) {
-        let fault = FileFault {
-            name: line.name,
-            cause,
-        };
+    if let Some(fault) = unread_fault(alloc, line, bytes) {
         errors.tell(Complaint::BadJson { fault });
     }
 }
