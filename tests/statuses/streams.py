@@ -7,7 +7,7 @@ from .texts import NOT_TAKEN, NO_MEMORY, REPLAYED, SERVED, UNCOMPARED, cannot_re
 
 MOST_BYTES = 67_108_864
 # Too little for a file of this size, and enough for the program to start.
-SMALL_MEMORY = 64 << 20
+SMALL_MEMORY = 48 << 20
 LARGE_FILE = b'{"events":[' + b'"' + b"x" * (60 << 20) + b'"]}'
 
 
