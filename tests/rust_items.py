@@ -98,8 +98,9 @@ def without_parameters(head):
 
 
 def last_name(path):
-    """Returns the last name of a type's or trait's path, before its arguments."""
-    return re.match(r"\s*&?\s*(?:'\w+\s*)?(?:mut\s+)?(?:\w+\s*::\s*)*(\w+)", path)[1]
+    """Returns the last name of a type's or trait's path, before its arguments. A tuple has the name of its first type."""
+    named = re.match(r"\s*&?\s*(?:'\w+\s*)?(?:mut\s+)?(?:\w+\s*::\s*)*(\w+)", path) or re.search(r"(\w+)", path)
+    return named[1]
 
 
 def functions_of(file, text):
