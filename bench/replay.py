@@ -18,7 +18,7 @@ PROGRAM = TOP / "crates/wfhost/out/wfhost"
 LIMIT_SECONDS = 120
 RUNS = 25
 # The functions' names in the program, whatever workflows it is made for.
-FUNCTIONS = ["wh_json::events::read_events*", "wh_replay::checking::replay::*"]
+FUNCTIONS = ["wh_json::events::read_events*", "wh_explain::findings::find_in_events::*"]
 EACH = "{:<42}{:>9.2f} microseconds, instructions: {:,.0f} to read, {:,.0f} to replay"
 ROW = "{:<42}{:>9}{:>9}{:>7}{:>7}  {}"
 TASK = ["WorkflowTaskScheduled", "WorkflowTaskStarted", "WorkflowTaskCompleted"]

@@ -1,8 +1,8 @@
 """What is known of the workflows that are run: their types and inputs, what comes to them from outside, and which answers
 are right.
 
-`Samples` are the six workflows of `wh_sample_workflows` that the program has code for, `Orders` those of `order`, and `Own`
-are workflows of which only the types are known.
+`Samples` are the seven workflows of `wh_sample_workflows` that the program has code for, `Orders` those of `order`, and
+`Own` are workflows of which only the types are known.
 """
 
 import base64
@@ -13,6 +13,8 @@ SECOND, DAY = 1_000, 86_400_000
 STRANGE, SAID_OF_STRANGE = "Nobody", "task at 1: UnknownWorkflow"
 OPENINGS = ("activityTaskScheduledEventAttributes", "startChildWorkflowExecutionInitiatedEventAttributes")
 CHILD, TIMER = "startChildWorkflowExecutionCommandAttributes", "startTimerCommandAttributes"
+CONTINUE, COMPLETE = "continueAsNewWorkflowExecutionCommandAttributes", "completeWorkflowExecutionCommandAttributes"
+STARTED = "workflowExecutionStartedEventAttributes"
 # What a run begins with that the one which continues it begins with too. None is tried again where it fails.
 CARRIED = {
     "memo": {"fields": {"team": {"metadata": {"encoding": "anNvbi9wbGFpbg=="}, "data": "InNob3Ai"}}},
@@ -34,6 +36,11 @@ def payloads(*values):
     """JSON values as payloads."""
     metadata = {"encoding": base64_of("json/plain")}
     return {"payloads": [{"metadata": metadata, "data": base64_of(json.dumps(value))} for value in values]}
+
+
+def payloads_in(attributes):
+    """The payloads of the input of a run, or of a command that continues one."""
+    return attributes.get("input", {}).get("payloads", [])
 
 
 class Workflows:
@@ -100,8 +107,8 @@ class Workflows:
 class Samples(Workflows):
     """The samples."""
 
-    kinds = ("Nap", "Greet", "Branch", "Family", "Racer", "Caller")
-    timers = {"nap": "60s", "t": "30s", "u": "5s"}
+    kinds = ("Nap", "Greet", "Branch", "Family", "Racer", "Caller", "Relay")
+    timers = {"nap": "60s", "t": "30s", "u": "5s", "leg": "5s"}
 
     def next_kind(self, open_runs):
         """The child of a Family has the same id in each, so most wait for the one before."""
@@ -113,17 +120,39 @@ class Samples(Workflows):
     def companion(self, kind):
         return ("Nap", "other") if kind == "Caller" and self.dice.random() < 0.7 else None
 
+    def input(self, kind, number, workflow_id):
+        """A Relay gets up to four values, each for a run."""
+        if kind == "Relay":
+            return payloads(*(f"leg {leg} of {number}" for leg in range(self.dice.randrange(5))))
+        return super().input(kind, number, workflow_id)
+
     def signals(self, run):
         return super().signals(run) + ([(0.6, "stop", [])] if run.kind == "Family" else [])
 
     def cancels(self, run):
         return 0.4 if run.kind == "Greet" else 0
 
+    def fault(self, run, commands):
+        return super().fault(run, commands) or (relay_fault(run, commands) if run.kind == "Relay" else "")
+
     def cannot_close(self, run):
         """Whether its opening was called off in the very task of its start, which drops both, so that its table has no
         way to close."""
         opened = any(name in event for event in run.events for name in OPENINGS)
         return run.kind in ("Greet", "Family") and run.before > 0 and run.task is None and not opened
+
+
+def relay_fault(run, commands):
+    """What is wrong with the commands of a Relay: it goes on with all values but the first, and ends where it has none."""
+    values = payloads_in(run.events[0][STARTED])
+    for command in commands:
+        if COMPLETE in command and values:
+            return f"it ends before {values}"
+        if CONTINUE in command:
+            more, kind = payloads_in(command[CONTINUE]), command[CONTINUE]["workflowType"]["name"]
+            if not values or more != values[1:] or kind != run.kind:
+                return f"after {values} comes {kind} with {more}"
+    return ""
 
 
 class Orders(Workflows):

@@ -3,8 +3,10 @@
 
 Edits of different functions of a crate are tried in one round: one check of a copy of its code, with all of them in
 place, over the libraries as they are built. An edit is refused where a function that it changes has an open goal. A
-function that calls one that is not proved waits for it, so its edit goes into the next round. An edit is wrong that is
-not refused, can't be applied or doesn't compile, or fails only because a proof file cites a name that it took away.
+function that calls one that is not proved waits for it, so its edit goes into the next round. The ghost items of an impl
+count as one function more: an edit of them, or of a constant that they name, is also refused where one of them does not
+hold. An edit is wrong that is not refused, can't be applied or doesn't compile, or fails only because a proof file cites a
+name that it took away.
 
 `rt ci` and `./wfhost` leave the libraries that this needs; any other is built first. The last line is
 `N tried, M wrong`, and the status is 0 where edits were tried and none is wrong."""
@@ -26,11 +28,15 @@ CRATES = Path(__file__).resolve().parent.parent / "crates"
 PARTS = ("src", "specs", "proofs")
 # The memory that one check takes at most, in KiB.
 MEMORY = 4_000_000
-# What rattle says of each function.
+# What rattle says of each function, and of each impl with ghost items.
 STATE = re.compile(r"^fn (\S+): (.*)$", re.MULTILINE)
+IMPL_STATE = re.compile(r"^impl (\S+): (.*)$", re.MULTILINE)
 PROVED = re.compile(r"(proved|no holes)(,|$)")
 WAITS = re.compile(r"(no proof|not proved): it (calls|waits for) ")
 OPEN = re.compile(r"did not prove (`.*)")
+# A ghost item that does not hold.
+UNTRUE = re.compile(r"antt refuses `([\w-]+)-value`")
+UNTRUE_AT = re.compile(r"^(?:\./)?(src/\S+):\d+:\d+: error: `[\w-]+-value`: (.*)$", re.MULTILINE)
 # What it says of an answer in a proof file; and where that says nothing of a contract, since a name is gone.
 FAULT = re.compile(r"^(?:\./)?(proofs/\S+):\d+:\d+: error: (`[^`]*`): (.*)$", re.MULTILINE)
 NAME_IS_GONE = re.compile(r"has no field|is not in scope|has no `|was not admitted")
@@ -197,18 +203,25 @@ def naming_functions(texts, file, old):
     return {function for function, code in found if named.search(rust_items.code_of(code))}
 
 
+def is_ghost(function):
+    """Whether a function of these is the ghost items of an impl."""
+    return function[1][-1] == rust_items.GHOSTS
+
+
 class Check:
     """What a check said of the functions of a crate."""
 
     def __init__(self, crate, ran):
         self.crate, self.said, self.status = crate, ran.stdout, ran.returncode
-        self.states = dict(STATE.findall(ran.stdout))
+        self.states, self.impls = dict(STATE.findall(ran.stdout)), dict(IMPL_STATE.findall(ran.stdout))
 
     def of(self, function):
-        """What it said of a function and of the closures in it, by their names."""
+        """What it said of a function and of the closures in it, or of the ghost items of an impl, by their names."""
         module, path = function
+        states = self.impls if is_ghost(function) else self.states
+        path = path[:-1] if is_ghost(function) else path
         exact = "::".join((self.crate.name, *module, *path))
-        if exact in self.states:
+        if exact in states:
             front, end = "::".join((self.crate.name, *module)), "::".join(path)
         else:
             # A method is named by the module of its type, and an impl by the own names of its trait's arguments.
@@ -216,7 +229,7 @@ class Check:
             close = [re.sub(r"([A-Z]?[a-z0-9_]+)", r"\1\\w*", part) for part in of]
             front, end = rf"{self.crate.name}(::\w+)*?", "::".join([*close, name])
         mine = re.compile(rf"{front}::(fn::)?{end}(::.*|\+.*)?")
-        return {name: state for name, state in self.states.items() if mine.fullmatch(name)}
+        return {name: state for name, state in states.items() if mine.fullmatch(name)}
 
     def of_edit(self, edit):
         return {one: state for function in edit.changes for one, state in self.of(function).items()}
@@ -227,6 +240,9 @@ class Check:
             goals = OPEN.search(state)
             if goals:
                 return f"{name} leaves {goals[1]}"
+            untrue = UNTRUE.search(state)
+            if untrue and name in self.impls and not NAME_IS_GONE.search(self.reason(name)):
+                return f"{name} claims what does not hold, `{untrue[1]}`"
             if not PROVED.match(state) and not WAITS.match(state):
                 for goal, why in self.faults(name):
                     if not NAME_IS_GONE.search(why):
@@ -237,6 +253,11 @@ class Check:
         """The goals whose answers in the proof files of a function are refused, each with the reason."""
         folder = "/".join(("proofs", *name.split("::")[1:], ""))
         return [(goal, why) for file, goal, why in FAULT.findall(self.said) if file.startswith(folder)]
+
+    def reason(self, name):
+        """Why it refuses the ghost items of an impl: its errors in the file of the impl."""
+        file = "/".join(("src", *(name.split("::")[1:-1] or [Path(self.crate.root).stem]))) + ".rt"
+        return "\n".join(why for where, why in UNTRUE_AT.findall(self.said) if where == file)
 
     def proves(self, edit):
         """Whether it proved all functions that an edit changes."""
@@ -324,9 +345,11 @@ class Trial:
     def check(self, edits, texts):
         """Checks the functions that these edits change, with these texts."""
         functions = sorted({function for edit in edits for function in edit.changes})
-        check = self.run(texts, *(f"--only={self.name_of(*function)}" for function in functions))
-        # Where rattle names one of them otherwise, all are checked.
-        check = self.run(texts) if check.status == 2 else check
+        check = None
+        if not any(map(is_ghost, functions)):
+            check = self.run(texts, *(f"--only={self.name_of(*function)}" for function in functions))
+        # Where rattle names one of them otherwise, or nothing but a whole check looks at it, all are checked.
+        check = self.run(texts) if check is None or check.status == 2 else check
         if STALE in check.said:
             raise Wrong("its libraries were not built over one another: run `rt check` in its folder")
         self.rounds += 1

@@ -232,7 +232,7 @@ def options():
     parser.add_argument("--runs", type=int, default=200, help="runs that are started in each loop")
     parser.add_argument("--open", type=int, default=100, help="how many of them are open at once")
     which = parser.add_mutually_exclusive_group()
-    which.add_argument("--samples", action="store_true", help="the six samples of wfhost (otherwise)")
+    which.add_argument("--samples", action="store_true", help="the seven samples of wfhost (otherwise)")
     which.add_argument("--orders", action="store_true", help="orders, by order_worker")
     which.add_argument("--kinds", type=names, help="workflow types, with commas, of the program that --program names")
     parser.add_argument("--workers", type=numbers, default=[4], help="numbers of workers, with commas")

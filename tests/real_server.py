@@ -10,8 +10,8 @@ It starts runs of the samples (and of orders, if --orders names the program that
 cancellation of some, kills the bridge and its worker meanwhile and starts them again, and waits until all runs are closed.
 Then it fetches each history by GetWorkflowExecutionHistory, writes it to a file in the form of the Temporal CLI, and
 replays the folder with the program. The last line is `N runs, N closed, 0 wrong`, and the exit status is 1 if anything is
-wrong. Children count as runs too. It uses task queues and workflow ids of its own, terminates the runs that are still open
-at its end, also after Ctrl-C, and takes no more than --minutes.
+wrong. Children, and runs that continue others as new, count as runs too. It uses task queues and workflow ids of its own,
+terminates the runs that are still open at its end, also after Ctrl-C, and takes no more than --minutes.
 
 With --stand-in it starts the stand-in of standin/ in place of a server. It has been tried against that only.
 """
@@ -42,14 +42,17 @@ NOT_FOUND = 5
 # Codes after which a call may do better a little later.
 PASSING = (2, 4, 8, 10, 14)
 RUNNING = 1
-SAMPLES = ("Nap", "Greet", "Branch", "Family", "Racer", "Caller")
+SAMPLES = ("Nap", "Greet", "Branch", "Family", "Racer", "Caller", "Relay")
 # The signals and the cancels that some runs of a type get: how often, and which signal.
-SIGNALS = {"Family": (0.5, "stop"), "Order": (1.0, "cancel"), "Nap": (0.3, "noise")}
+SIGNALS = {"Family": (0.5, "stop"), "Order": (1.0, "cancel"), "Nap": (0.3, "noise"), "Relay": (0.3, "noise")}
 CANCELS = {"Greet": 0.3}
 # The options that the bridge is given as they are, beside --tls.
 BRIDGE_OPTIONS = ("--tls-cert", "--tls-key", "--tls-ca", "--tls-server-name", "--api-key")
 OPENINGS = ("activityTaskScheduledEventAttributes", "startChildWorkflowExecutionInitiatedEventAttributes")
 CHILD = "childWorkflowExecutionStartedEventAttributes"
+STARTED, CONTINUED = "workflowExecutionStartedEventAttributes", "workflowExecutionContinuedAsNewEventAttributes"
+# What a run hands on to the one that continues it.
+CARRIED_OVER = ("memo", "retryPolicy", "searchAttributes")
 
 
 class Wrong(Exception):
@@ -102,8 +105,14 @@ class Client:
                     raise Wrong(f"{method}: {why.code().name}: {why.details()}") from why
             time.sleep(0.2)
 
+    def memo(self):
+        """A memo of one value."""
+        memo = self.messages.StartWorkflowExecutionRequest().memo
+        memo.fields["team"].metadata["encoding"], memo.fields["team"].data = b"json/plain", b'"shop"'
+        return memo
+
     def start(self, kind, workflow_id, queue, input):
-        """Starts a run, and gives its execution."""
+        """Starts a run with a memo and a retry policy, by which it is not tried again, and gives its execution."""
         made = self.call(
             "StartWorkflowExecution",
             workflow_id=workflow_id,
@@ -112,6 +121,8 @@ class Client:
             input=input,
             identity=self.identity,
             request_id=str(uuid.uuid4()),
+            memo=self.memo(),
+            retry_policy={"maximum_attempts": 1},
         )
         if made is None:
             raise Wrong(f"there is no such namespace: {self.namespace}")
@@ -226,9 +237,14 @@ class Trial:
         service = self.services[number % len(self.services)]
         kind = service.types[number // len(self.services) % len(service.types)]
         workflow_id = f"{self.name}-{kind.lower()}-{number}"
-        input = payloads({"cents": number}, workflow_id) if kind == "Order" else payloads(f"person {number}")
-        execution = self.client.start(kind, workflow_id, service.queue, input)
+        execution = self.client.start(kind, workflow_id, service.queue, self.input(kind, number, workflow_id))
         self.executions[workflow_id] = (service, kind, execution)
+
+    def input(self, kind, number, workflow_id):
+        """What a run is started with."""
+        if kind == "Order":
+            return payloads({"cents": number}, workflow_id)
+        return payloads(*range(self.dice.randrange(4))) if kind == "Relay" else payloads(f"person {number}")
 
     def disturb(self):
         """Signals some runs, and asks for the cancel of some."""
@@ -257,8 +273,9 @@ class Trial:
             service.worker.start()
 
     def open_ones(self):
-        """The types and the executions of the runs that are open."""
-        return [(kind, execution) for _, kind, execution in self.executions.values() if self.client.is_open(execution)]
+        """The types and the executions of the runs that are open: of a run that was continued as new, the last one."""
+        last = [(kind, {"workflow_id": workflow_id}) for workflow_id, (_, kind, _) in self.executions.items()]
+        return [(kind, execution) for kind, execution in last if self.client.is_open(execution)]
 
     def wait(self):
         """Waits until all runs are closed, or the time is over. A signal that always comes to runs of a type comes again and
@@ -328,16 +345,29 @@ class Trial:
         return count, closed
 
     def histories(self, service):
-        """The histories of all runs of a service, and of their children that its worker has code for."""
+        """The histories of all runs of a service, of those that continue them, and of their children that its worker has
+        code for."""
         for workflow_id, (own, _, execution) in self.executions.items():
             if own is service:
                 events = self.client.history(execution)
                 yield workflow_id, events
+                yield from self.continuations(workflow_id, execution, events)
                 for number, child in enumerate((event[CHILD] for event in events if CHILD in event), 1):
                     if child["workflowType"]["name"] in service.types:
                         ids = child["workflowExecution"]
                         found = {"workflow_id": ids["workflowId"], "run_id": ids["runId"]}
                         yield f"{workflow_id}-child-{number}", self.client.history(found)
+
+    def continuations(self, workflow_id, execution, events):
+        """The histories of the runs that continue one with these events as new, of which each has to begin with what the one
+        before hands on."""
+        number = 0
+        while events and CONTINUED in events[-1]:
+            number, before = number + 1, carried_over(events)
+            events = self.client.history({**execution, "run_id": events[-1][CONTINUED]["newExecutionRunId"]})
+            if carried_over(events) != before:
+                self.wrong.append(f"{workflow_id} hands {before} on, and run {number} after it begins with {carried_over(events)}")
+            yield f"{workflow_id}-run-{number + 1}", events
 
     def replay(self, service, folder, count):
         """Notes what replay has to say against the histories of a folder."""
@@ -346,6 +376,12 @@ class Trial:
         self.wrong += [line for line in lines if not re.search(r": ok, \d+ tasks$|^\d+ files, \d+ ok$", line)]
         if lines[-1:] != [f"{count} files, {count} ok"]:
             self.wrong.append(f"replay ends with {lines[-1:]} {ran.stderr[-300:]}")
+
+
+def carried_over(events):
+    """What a run with these events begins with and hands on."""
+    started = events[0][STARTED] if events else {}
+    return {name: started.get(name) for name in CARRIED_OVER}
 
 
 def is_closed(events):

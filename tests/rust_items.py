@@ -1,4 +1,4 @@
-"""The functions of a text of Rattle: where they stand, and how rattle names them."""
+"""The functions of a text of Rattle, and the ghost items of its impls: where they stand, and how rattle names them."""
 
 import re
 
@@ -8,8 +8,10 @@ TOKEN = re.compile(
     r"""|(?P<code>[A-Za-z_]\w*|.)""",
     re.DOTALL,
 )
-# A word that begins an item with a body, or what stands between items.
-ITEM = re.compile(r"\b(fn|impl|mod|trait)\b|[{};]")
+# A word that begins an item with a body, or a ghost item of an impl; or what stands between items.
+ITEM = re.compile(r"\b(fn|impl|mod|trait|ghost(?=\s+\w+\s*=))\b|[{};]")
+# The last name of the path of the ghost items of an impl, which are one item: what the impl claims.
+GHOSTS = "ghost"
 # What stands before a brace that opens a clause, and no body.
 CLAUSE = re.compile(r"\b(requires|ensures)\s*\*?\s*\w*\s*$|\bghost(\s+\w+)?\s*[:=]?\s*$")
 
@@ -56,12 +58,16 @@ def body_of(code, at):
 
 
 def functions_in(code, at=0, end=None, path=()):
-    """Yields the functions with a body of a text without comments and strings: the path, as rattle writes it, and the
-    places where each begins and ends."""
+    """Yields the functions with a body and the ghost items of a text without comments and strings: the path, as rattle
+    writes it, and the places where each begins and ends."""
     end = len(code) if end is None else end
     for item in iter(lambda: ITEM.search(code, at, end), None):
         if item[0] in "{};":
             at = past_braces(code, item.start()) if item[0] == "{" else item.end()
+            continue
+        if item[0] == "ghost":
+            at = past_braces(code, code.index("{", item.end()))
+            yield (*path, GHOSTS), item.start(), at
             continue
         body = body_of(code, item.end())
         at = past_braces(code, body) if code[body : body + 1] == "{" else body + 1
@@ -104,13 +110,16 @@ def last_name(path):
 
 
 def functions_of(file, text):
-    """Returns the code of the functions of a file, by their paths below the crate."""
+    """Returns the code of the functions of a file, and of the ghost items of each impl, by their paths below the crate."""
     *folders, stem = file.split("/")[1:]
     module = (*folders, stem[: -len(".rt")])
     module = module[:-1] if module[-1] in ("lib", "main", "mod") else module
     code = code_of(text)
-    # The code finds them; the text tells two apart that differ in a string.
-    return {(module, path): text[begin:end] for path, begin, end in functions_in(code)}
+    found = {}
+    for path, begin, end in functions_in(code):
+        # The code finds them; the text tells two apart that differ in a string.
+        found[module, path] = found.get((module, path), "") + text[begin:end]
+    return found
 
 
 def item_at(code, at):

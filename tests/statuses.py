@@ -1,17 +1,16 @@
 #!/usr/bin/env python3
 """Starts the built program in the ways that no contract speaks of, and compares its status and both streams with what
 docs/USAGE.md and docs/DEFINITIONS.md say. The tables of rows stand in the folder statuses/, by their subjects. It is a
-part of `./test`: its last line is `N tried, M wrong`, and its status is 1 where something is wrong.
+part of `./test`: its last line is `N tried, M wrong`, and its status is 1 where something is wrong."""
 
-    tests/statuses.py [PROGRAM [GROUP..]]"""
-
+import argparse
 import os
 import sys
 import tempfile
 from functools import partial
 from pathlib import Path
 
-from statuses import command_lines, files, reports, services, streams
+from statuses import command_lines, files, reports, services, streams, views
 from statuses.rooms import Room, TOP
 from statuses.runs import compared
 
@@ -21,6 +20,7 @@ TABLES = [
     command_lines.command_lines,
     command_lines.names,
     reports.reports,
+    views.views,
     files.files,
     files.odd_names,
     files.links_and_pipes,
@@ -33,16 +33,22 @@ MEASURES = [services.cache_options, services.worker_options, services.short_memo
 
 
 def main():
-    program = Path(sys.argv[1]) if sys.argv[1:] else PROGRAM
-    if not program.exists():
-        sys.exit("the program is not built: start ./wfhost once")
     groups = {table.__name__: partial(compared, group=table) for table in TABLES}
     groups |= {measure.__name__: measure for measure in MEASURES}
+    parser = argparse.ArgumentParser(description=__doc__, formatter_class=argparse.RawDescriptionHelpFormatter)
+    parser.add_argument("program", metavar="PROGRAM", nargs="?", type=Path, default=PROGRAM, help="the program to try")
+    parser.add_argument("groups", metavar="GROUP", nargs="*", help="tables: " + ", ".join(groups))
+    options = parser.parse_args()
+    if unknown := [name for name in options.groups if name not in groups]:
+        parser.error(f"no such group: {unknown[0]}")
+    program = options.program
+    if not program.exists():
+        parser.error(f"{program} is not there: ./wfhost builds the program")
     tried = wrong = 0
     os.umask(0o022)
     with tempfile.TemporaryDirectory() as path:
         room = Room(path, program)
-        for name in sys.argv[2:] or groups:
+        for name in options.groups or groups:
             for words, why in groups[name](room):
                 tried += 1
                 if why:

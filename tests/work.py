@@ -1,7 +1,6 @@
 #!/usr/bin/env python3
 """Plays the talks of the folder work/ with `wfhost work`, and compares each request of it, byte for byte, with the one
-that stands there, written by hand. It ends with status 1 where something differs. Words after its name are names of
-talks, all where there is none; --program WORDS tries another program.
+that stands there, written by hand. It ends with status 1 where something differs.
 
 A talk is a file of lines:
 
@@ -24,9 +23,11 @@ A talk is a file of lines:
     hides TEXT       what is within none of them
 """
 
+import argparse
 import os
 import re
 import select
+import shutil
 import subprocess
 import sys
 import time
@@ -204,13 +205,17 @@ class Talk:
 
 
 def main():
-    words = sys.argv[1:]
-    program = [str(PROGRAM)]
-    if words[:1] == ["--program"]:
-        program, words = words[1].split(), words[2:]
-    elif not PROGRAM.exists():
-        sys.exit("the program is not built: start ./wfhost once")
-    talks = sorted(path for path in (HERE / "work").glob("*.txt") if not words or path.stem in words)
+    found = {path.stem: path for path in sorted((HERE / "work").glob("*.txt"))}
+    parser = argparse.ArgumentParser(description=__doc__, formatter_class=argparse.RawDescriptionHelpFormatter)
+    parser.add_argument("--program", metavar="WORDS", default=str(PROGRAM), help="the program to try, with its first words")
+    parser.add_argument("talks", metavar="TALK", nargs="*", help="names of talks, all where there is none")
+    options = parser.parse_args()
+    if unknown := [name for name in options.talks if name not in found]:
+        parser.error(f"no such talk: {unknown[0]}")
+    program = options.program.split()
+    if not shutil.which(program[0]):
+        parser.error(f"{program[0]} is not there: ./wfhost builds the program")
+    talks = [found[name] for name in options.talks] or list(found.values())
     wrong = 0
     for path in talks:
         try:

@@ -43,8 +43,11 @@ Arguments:
   <FILE>  The history file that is read, or - for the standard input
 
 Options:
-      --json  Prints the explanation as JSON
-  -h, --help  Print help
+      --json            Prints the explanation as JSON
+      --recorded        Prints what is recorded, of any workflow type, and replays nothing
+      --around <EVENT>  With --recorded: only the task of this event, two before and two after it
+      --last <N>        With --recorded: only the last N tasks
+  -h, --help            Print help
 """
 SERVE_HELP = """Serves each history of a folder as workflow tasks, and prints how they ended
 

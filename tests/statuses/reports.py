@@ -12,7 +12,7 @@ EXPLAINED_JSON = """{"task":3}
 {"gives":"StartTimer","timerId":"nap","seconds":60}
 {"sends":"StartTimer","timerId":"nap","seconds":60,"recorded":{"event":5,"type":"TimerStarted","timerId":"nap"},"differs":false}
 {"task":8}
-{"told":"Time","time":"2024-05-01T10:00:08Z"}
+{"told":"Time","time":"2024-05-01T10:01:07Z"}
 {"told":"TimerFired","timerId":"nap"}
 {"gives":"Complete"}
 {"sends":"Complete","recorded":{"event":10,"type":"WorkflowExecutionCompleted"},"differs":false}

@@ -14,7 +14,7 @@ EXPLAINED = """task at 3
     gives StartTimer nap (60 s)
   sends StartTimer nap (60 s), recorded 5 TimerStarted nap
 task at 8
-  told Time 2024-05-01T10:00:08Z
+  told Time 2024-05-01T10:01:07Z
   told TimerFired nap
     gives Complete
   sends Complete, recorded 10 WorkflowExecutionCompleted

@@ -10,6 +10,7 @@ ghost use Rattle.wh_workflow.specs.declared.command.Command.TheVariants.{Ask, Co
 
 mod charging;
 mod naming;
+mod status;
 #[cfg(test)]
 mod tests;
 
@@ -37,6 +38,8 @@ use wh_workflow::{
 /// | shipping | `Child` ID, another end | `Fail{parcel}` | closed |
 ///
 /// Other jobs change nothing and give nothing. The child is started without an input.
+///
+/// The query `status` gives the state in JSON: `"charging"`, `"held"`, `"shipping"` or `"closed"`.
 ///
 /// The first payload of the input is the price. The second one names the order: with `"order-1"`,
 /// in JSON, ID is `parcel-order-1`. Without a second payload that is such a text ID is `parcel`, and

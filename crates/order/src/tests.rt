@@ -5,6 +5,7 @@ use crate::{Order, OrderState, receipt};
 use std::alloc::Global;
 use std::process::Abort;
 use wh_events::{Items, Payload, Text};
+use wh_queryable::{QueryResult, Queryable};
 use wh_workflow::{ActivityEnd, ChildEnd, Command, Job, Meter, Workflow, no_payloads, text_of};
 
 fn text(rt: &impl Abort, alloc: Global, content: &str) -> Text {
@@ -219,4 +220,41 @@ fn a_charged_card_gives_back_what_it_was_charged_with(rt: HostRuntime) {
     let charged = price_back(&rt, rt.alloc(), "ChargeCard").expect(&rt, "a receipt");
     assert!(&rt; matches!(charged.get(), [payload] if payload.content.get() == [b'9'].as_slice()));
     assert!(&rt; price_back(&rt, rt.alloc(), "RefundCard").is_none());
+}
+
+/// What a query of an order gives, as a text: that of the only payload, or why there is none.
+fn queried(rt: &impl Abort, alloc: Global, state: &OrderState, query_type: &str) -> String {
+    let given = Order::query(alloc, state, query_type, &[]).expect(rt, "memory");
+    let text = match &given {
+        QueryResult::Answered(payloads) => match payloads.get() {
+            [only] => str::from_utf8(only.content.get()).expect(rt, "a text"),
+            _ => "not one payload",
+        },
+        QueryResult::Failed(reason) => reason.get(),
+    };
+    String::from_str(alloc, text).expect(rt, "memory")
+}
+
+#[test]
+fn an_order_says_how_far_it_has_come(rt: HostRuntime) {
+    let alloc = rt.alloc();
+    let charging = charges(&rt, alloc, no_payloads(alloc));
+    assert_eq!(rt;
+        queried(&rt, alloc, &charging, "status").as_str(),
+        "\"charging\""
+    );
+    let held = holds(&rt, alloc, no_payloads(alloc));
+    assert_eq!(rt; queried(&rt, alloc, &held, "status").as_str(), "\"held\"");
+    let shipping = ships(&rt, alloc, no_payloads(alloc), "parcel");
+    assert_eq!(rt;
+        queried(&rt, alloc, &shipping, "status").as_str(),
+        "\"shipping\""
+    );
+    let closed = calls_off(&rt, alloc);
+    assert_eq!(rt;
+        queried(&rt, alloc, &closed, "status").as_str(),
+        "\"closed\""
+    );
+    let unknown = queried(&rt, alloc, &closed, "price");
+    assert_eq!(rt; unknown.as_str(), "unknown query type price; known: status");
 }

@@ -13,7 +13,7 @@ use Rattle.wh_rows.specs.Rows.{program, named, row_for, commands_of, after_effec
 use Rattle.wh_rows.specs.Laws.{one_closes}
 use Rattle.wh_sample_workflows.specs.Nap.{nap}
 use Rattle.row_samples.specs.declared.nap.TheConstants.{NAP}
-use Rattle.row_samples.specs.Alike.{given_until_closed, NapIsCode}
+use Rattle.row_samples.specs.Alike.{given_until_closed, GivesAsCode}
 
 -- a run that is not closed
 abbrev asleep : List ℕ → List Payload → List Payload → Counts → RowsState
@@ -44,5 +44,5 @@ runs (jobs.TimerFired id ∷ later) name input kept counts =
     refl (runs later name input kept counts)
 runs (_ ∷ later) name input kept counts = runs later name input kept counts
 
-pub nap_is_code : NapIsCode
+pub nap_is_code : GivesAsCode (seen NAP) nap (codes "Nap")
 nap_is_code jobs = runs jobs [] [] [] (record { a = 0; b = 0; c = 0; d = 0 })

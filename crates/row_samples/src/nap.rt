@@ -1,7 +1,8 @@
 //! Sleeps for a minute.
-ghost use Rattle.std.specs.Prelude.{refl};
+ghost use Rattle.std.specs.Prelude.{codes, refl};
 ghost use Rattle.wh_rows.specs.Tables.{seen};
-ghost use Rattle.row_samples.specs.Alike.{NapIsCode};
+ghost use Rattle.wh_sample_workflows.specs.Nap.{nap};
+ghost use Rattle.row_samples.specs.Alike.{GivesAsCode};
 ghost use Rattle.row_samples.specs.declared.nap.TheConstants.{NAP};
 
 use wh_rows::rows;
@@ -33,5 +34,5 @@ impl Table for NapTable {
 /// Up to the step that closes a run, the table gives what the sample `Nap` in code does, whatever
 /// jobs come.
 pub fn does_as_code()
-    ensures { NapIsCode }
+    ensures { GivesAsCode (seen NAP) nap (codes "Nap") }
 {}

@@ -1,4 +1,5 @@
-//! Charges for twelve months, and never more often, whatever jobs come.
+//! Charges for twelve months, and never more often, whatever jobs come. A signal calls it off, once
+//! a charge that is out has ended.
 ghost use Rattle.std.specs.Prelude.{refl, codes};
 ghost use Rattle.wh_rows.specs.Tables.{seen};
 ghost use Rattle.wh_rows.specs.Properties.{AtMost, StartsActivity};
@@ -13,12 +14,15 @@ const CHARGES: Counter = Counter::A;
 /// The rows of `Plan`.
 #[rattlefmt::skip]
 pub static PLAN: Definition = DefinitionOf { kind: "Plan", first: "paying", name: Nameless, bounds: Counts { a: 12, b: 0, c: 0, d: 0 }, rows: rows! {
-    paying:  Start, if [Below(CHARGES, 12)]          => [StartActivity("charge", "ChargeCard", Input)], do [Up(CHARGES)];
-    paying:  Done("charge")                          => [StartTimer("month", 2_592_000)], do [Keep] => waiting;
-    paying:  NotDone("charge")                       => [Fail("charge")];
-    waiting: Fired("month"), if [Below(CHARGES, 12)] => [StartActivity("charge", "ChargeCard", Input)], do [Up(CHARGES)] => paying;
-    waiting: Fired("month")                          => [Complete(Kept)];
-    waiting: Signal("cancel")                        => [CancelTimer("month"), Complete(Kept)];
+    paying:    Start, if [Below(CHARGES, 12)]          => [StartActivity("charge", "ChargeCard", Input)], do [Up(CHARGES)];
+    paying:    Done("charge")                          => [StartTimer("month", 2_592_000)], do [Keep] => waiting;
+    paying:    NotDone("charge")                       => [Fail("charge")];
+    paying:    Signal("cancel")                        => [] => canceling;
+    waiting:   Fired("month"), if [Below(CHARGES, 12)] => [StartActivity("charge", "ChargeCard", Input)], do [Up(CHARGES)] => paying;
+    waiting:   Fired("month")                          => [Complete(Kept)];
+    waiting:   Signal("cancel")                        => [CancelTimer("month"), Complete(Kept)];
+    canceling: Done("charge")                          => [Complete(Brought)];
+    canceling: NotDone("charge")                       => [Complete(Kept)];
 } };
 
 /// Charges for twelve months.

@@ -2,5 +2,6 @@
 
 mod command_lines;
 mod explaining;
+mod querying;
 mod reports;
 mod serve;

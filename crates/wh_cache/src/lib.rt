@@ -111,6 +111,13 @@ impl<W: Workflow> Sticky<W> {
         found
     }
 
+    /// The history of the run of the key, if there is one. The order of use stays.
+    pub fn peek(&self, key: &RunKey) -> Option<&ReplayedHistory<W>>
+        ensures { option_map (λ history. history.now) result ≡ lookup (same_key key.now) self.now.runs }
+    {
+        self.runs.peek(key)
+    }
+
     /// How many events the run of the key holds, if there is one. The order of use stays.
     pub fn peek_len(&self, key: &RunKey) -> Option<usize>
         ensures { result ≡ option_map (λ history. length history.events) (lookup (same_key key.now) self.now.runs) }

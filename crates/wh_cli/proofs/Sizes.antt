@@ -1,8 +1,8 @@
 -- How large a host the options of `serve` ask for.
 use Rattle.std.proofs.Common.{◌≡◌, ◌∙◌, ℕ, ap}
-use Rattle.wh_command_line.specs.declared.options.ServeOptions.{ServeOptions}
-use Rattle.wh_command_line.specs.Options.{config_of}
-use Rattle.wh_cli.specs.Private.Served.{sizes_of}
+use Rattle.wh_command_line.specs.declared.serve_options.ServeOptions.{ServeOptions}
+use Rattle.wh_command_line.specs.Options.{sizes_of}
+use Rattle.wh_command_line.specs.Sizes.{config_of}
 
 -- the sizes that options ask for, by their numbers
 pub same_sizes : (options : ServeOptions) (workers cache cache_events slots : ℕ)

@@ -6,15 +6,16 @@ use Rattle.std.proofs.KnownBytes.{Appends-trans}
 use Rattle.std.proofs.lemmas.List.{append-nil, append_assoc}
 use Rattle.wh_file_faults.specs.declared.file_faults.FileFault.{FileFault}
 use Rattle.wh_files.specs.declared.Input.{Input}
-use Rattle.wh_report.specs.declared.format.Format.{Format}
+use Rattle.wh_console.specs.declared.format.Format.{Format}
 use Rattle.wh_host.specs.declared.config.Config.{Config}
 use Rattle.wh_workflow.specs.Law.{Program}
-use Rattle.wh_cli.specs.declared.complaints.Complaints.{Complaints}
+use Rattle.wh_console.specs.Consoles.{ConsoleView, IsQuiet, Printed, Reported}
+use Rattle.wh_console.proofs.Printing.{printed_kept, quiet_twice, written_kept}
 use Rattle.wh_service.specs.declared.service.ServiceEnd.{ServiceEnd}
 use Rattle.wh_cli.specs.declared.failures.Failure.{Failure}
 use Rattle.wh_files.specs.Inputs.{IsCalled, IsOf, IsReadFrom, IsSingle}
-use Rattle.wh_cli.specs.Private.Commands.{HasExplained, HasExplainedInput, HasExplainedPath, HasReplayed, HasReplayedPaths, HasServedAll, HasServedFolder}
-use Rattle.wh_cli.specs.Private.Complaints.{Reported, fault_line, fault_lines, service_told}
+use Rattle.wh_cli.specs.Private.Commands.{HasEnded, HasExplained, HasExplainedInput, HasExplainedPath, HasPrinted, HasReplayed, HasReplayedPaths, HasReported, HasServedAll, HasServedFolder, HasToldOf, HasViewed, HasViewedInput, HasViewedPath, view_as}
+use Rattle.wh_cli.specs.Private.Complaints.{fault_line, fault_lines, service_told}
 use Rattle.wh_cli.specs.Private.Listings.{AreListed, IsListed, is_by_path}
 use Rattle.wh_cli.specs.Private.Readings.{Gives, IsReadAs}
 use Rattle.wh_service.specs.Services.{IsServiceEndOver}
@@ -22,13 +23,14 @@ use Rattle.wh_file_faults.specs.Faults.{File, told_of}
 use Rattle.wh_service.specs.Services.{HostsBy, IsHosted}
 use Rattle.wh_cli.specs.Private.Statuses.{lacks_files, status_with}
 use Rattle.wh_service.proofs.Workers.{by_closure, end_by}
-
--- what was written stays
-pub written_kept : (a b c : Option (List ℕ)) (text : List ℕ) → Appends a b text → Keeps b c → Appends a c text
-written_kept None b c text p q = tt
-written_kept (Some x) None c text p q = absurd p
-written_kept (Some x) (Some y) None text p q = absurd q
-written_kept (Some x) (Some y) (Some z) text p q = q ∙ p
+use Rattle.wh_file_faults.specs.declared.command_fault.CommandFault.{CommandFault}
+use Rattle.wh_report.specs.Commands.{IsExplained}
+use Rattle.wh_report.specs.Reports.{faults_in, lines_of, report_as, status_of}
+use Rattle.wh_report.specs.declared.records.Record.{Record}
+use Rattle.wh_tester.specs.declared.line.Line.{Line}
+use Rattle.wh_view.specs.Views.{IsViewIn}
+use Rattle.wh_view.specs.declared.view.View.{View}
+use Rattle.wh_view_report.specs.declared.text.Selection.{Selection}
 
 -- what is told after a line, and where nothing is
 pub nothing_more : (a b : Option (List ℕ)) (xs ys : List ℕ) → Appends a b xs → ys ≡ [] → Appends a b (xs ++ ys)
@@ -60,65 +62,147 @@ or_assoc true b c = refl
 or_assoc false b c = refl
 
 -- the inputs of the first path
-pub listed_one : {E : Type 0} (contents : E → Option (List ℕ)) (by_path : Bool) (path : List ℕ) (inputs : List Input) (left_out : Bool) (old new : Complaints E)
-    → IsListed contents by_path path inputs left_out old new → AreListed contents by_path (path ∷ []) inputs left_out old new
-listed_one contents by_path path inputs left_out old new is =
+pub listed_one : (by_path : Bool) (path : List ℕ) (inputs : List Input) (left_out : Bool) (old new : ConsoleView)
+    → IsListed by_path path inputs left_out old new → AreListed by_path (path ∷ []) inputs left_out old new
+listed_one by_path path inputs left_out old new is =
     (inputs, [], left_out, false, new, sym (append-nil inputs), or_false left_out, is, (refl, refl, refl))
 
 -- the inputs of one path more
-pub listed_push : {E : Type 0} (contents : E → Option (List ℕ)) (by_path : Bool) (paths : List (List ℕ)) (path : List ℕ) (inputs own : List Input) (left_out own_left : Bool) (old between new : Complaints E)
-    → AreListed contents by_path paths inputs left_out old between
-    → IsListed contents by_path path own own_left between new
-    → AreListed contents by_path (paths ++ (path ∷ [])) (inputs ++ own) (left_out || own_left) old new
-listed_push contents by_path [] path inputs own left_out own_left old between new are is =
+pub listed_push : (by_path : Bool) (paths : List (List ℕ)) (path : List ℕ) (inputs own : List Input) (left_out own_left : Bool) (old between new : ConsoleView)
+    → AreListed by_path paths inputs left_out old between
+    → IsListed by_path path own own_left between new
+    → AreListed by_path (paths ++ (path ∷ [])) (inputs ++ own) (left_out || own_left) old new
+listed_push by_path [] path inputs own left_out own_left old between new are is =
     let inputs_same = ap (λ l. l ++ own) are.0 ∙ sym (append-nil own) in
     let left_same = ap (λ b. b || own_left) are.1 ∙ or_false own_left in
-    (own, [], own_left, false, new, inputs_same, left_same, subst (λ e. IsListed contents by_path path own own_left e new) are.2 is, (refl, refl, refl))
-listed_push contents by_path (p ∷ ps) path inputs own left_out own_left old between new are is =
-    let rest = listed_push contents by_path ps path are.1 own are.3 own_left are.4 between new are.8 is in
+    (own, [], own_left, false, new, inputs_same, left_same, subst (λ e. IsListed by_path path own own_left e new) are.2 is, (refl, refl, refl))
+listed_push by_path (p ∷ ps) path inputs own left_out own_left old between new are is =
+    let rest = listed_push by_path ps path are.1 own are.3 own_left are.4 between new are.8 is in
     let inputs_same = ap (λ l. l ++ own) are.5 ∙ append_assoc are.0 are.1 own in
     let left_same = ap (λ b. b || own_left) are.6 ∙ or_assoc are.2 are.3 own_left in
     (are.0, are.1 ++ own, are.2, are.3 || own_left, are.4, inputs_same, left_same, are.7, rest)
 
+-- a text was printed, and it is out
+pub text_printed : (text : List ℕ) (old between new : ConsoleView) (answer : Result ℕ CommandFault) (result : Result ℕ Failure)
+    → OnOk answer (Printed old between text) → IfOk answer (λ status. status ≡ 0)
+    → IsQuiet between new → Keeps between.output new.output → IfOk result (λ status. answer ≡ Ok status)
+    → IfOk result (HasPrinted text old new)
+text_printed text old between new (Ok own) (Ok status) printed ends quiet kept is =
+    record { printed = printed_kept old between new text printed quiet kept; ends = (let same : own ≡ status = cc in sym same ∙ ends) }
+text_printed text old between new (Err fault) (Ok status) printed ends quiet kept is = absurd cc
+text_printed text old between new answer (Err failure) printed ends quiet kept is = tt
+
+-- a report was printed, and once it was out the rest was told
+pub report_told : (records seen : List Record) (format : Format) (lacks : Bool) (old first between new : ConsoleView) (answer : Result ℕ CommandFault) (own status : ℕ)
+    → seen ≡ records
+    → OnOk answer (Printed old first (report_as format seen)) → IfOk answer (λ status. status ≡ status_of (lines_of seen))
+    → IsQuiet first between → Keeps first.output between.output → answer ≡ Ok own
+    → Reported between new (fault_lines (faults_in records)) → status ≡ status_with lacks own
+    → HasReported records format lacks old new status
+report_told records seen format lacks old first between new (Ok given) own status same printed ends quiet kept is told given_status = record {
+  between = between;
+  printed = subst (λ l. Printed old between (report_as format l)) same (printed_kept old first between (report_as format seen) printed quiet kept);
+  told = told;
+  ends = (let one : given ≡ own = cc in given_status ∙ ap (status_with lacks) (sym one ∙ ends ∙ ap (λ l. status_of (lines_of l)) same));
+}
+report_told records seen format lacks old first between new (Err fault) own status same printed ends quiet kept is told given_status = absurd cc
+
+-- the explanation of a file that was written stays
+explained_kept : {S : Type 0} (program : Program S) (name bytes : List ℕ) (format : Format) (a b c : Option (List ℕ)) (status : ℕ)
+    → IsExplained program name bytes format a b status → Keeps b c → IsExplained program name bytes format a c status
+explained_kept program name bytes format a b c status h kept = record {
+  explanation = h.explanation;
+  tasks = h.tasks;
+  unknown = h.unknown;
+  named = h.named;
+  verdict = h.verdict;
+  written = written_kept a b c _ h.written kept;
+  ends = h.ends;
+}
+
+-- a file was explained, and once that was out at most one line was told of it
+pub explanation_told : {S : Type 0} (program : Program S) (name bytes : List ℕ) (format : Format) (old first between new : ConsoleView) (line : Line) (answer : Result ℕ CommandFault) (given status : ℕ)
+    → IsQuiet old first → IsExplained program name bytes format old.output first.output (status_of (line ∷ []))
+    → IsQuiet first between → Keeps first.output between.output
+    → line.name ≡ name → HasToldOf line.name bytes between new
+    → given ≡ status_of (line ∷ []) → answer ≡ Ok given → answer ≡ Ok status
+    → HasExplained program name bytes format old new status
+explanation_told program name bytes format old first between new line answer given status quiet explained more kept named told is same_given same_status =
+    let same : given ≡ status = cc in
+    record {
+      between = between;
+      quiet = quiet_twice old first between quiet more;
+      explained = subst (IsExplained program name bytes format old.output between.output) (sym is ∙ same)
+          (explained_kept program name bytes format old.output first.output between.output (status_of (line ∷ [])) explained kept);
+      told = subst (λ n. HasToldOf n bytes between new) named told;
+    }
+
 -- an input that was read as a file was explained
-pub explained_input : {S E : Type 0} (gives : Gives) (program : Program S) (input : Input) (file : File) (seen : List ℕ) (format : Format) (old new : Option (List ℕ)) (contents : E → Option (List ℕ)) (before after : Complaints E) (answer : Result ℕ Failure)
+pub explained_input : {S : Type 0} (gives : Gives) (program : Program S) (input : Input) (file : File) (seen : List ℕ) (format : Format) (old new : ConsoleView) (answer : Result ℕ Failure)
     → IsReadAs gives input file → seen ≡ file.1.items
-    → IfOk answer (HasExplained program (string_bytes file.0) seen format old new contents before after)
-    → IfOk answer (HasExplainedInput gives program input format old new contents before after)
-explained_input gives program input file seen format old new contents before after (Ok status) read same h = record {
+    → IfOk answer (HasExplained program (string_bytes file.0) seen format old new)
+    → IfOk answer (HasExplainedInput gives program input format old new)
+explained_input gives program input file seen format old new (Ok status) read same h = record {
   file = file;
   read = read;
-  explained = subst (λ l. HasExplained program (string_bytes file.0) l format old new contents before after status) same h;
+  explained = subst (λ l. HasExplained program (string_bytes file.0) l format old new status) same h;
 }
-explained_input gives program input file seen format old new contents before after (Err failure) read same h = tt
+explained_input gives program input file seen format old new (Err failure) read same h = tt
 
 -- an input of a path was explained
-pub explained_path : {S E : Type 0} (program : Program S) (path : List ℕ) (input : Input) (format : Format) (old new : Option (List ℕ)) (contents : E → Option (List ℕ)) (before after : Complaints E) (answer : Result ℕ Failure)
+pub explained_path : {S : Type 0} (program : Program S) (path : List ℕ) (input : Input) (format : Format) (old new : ConsoleView) (answer : Result ℕ Failure)
     → IsCalled false input → IsOf path input.origin → IsSingle input.origin
-    → IfOk answer (HasExplainedInput IsReadFrom program input format old new contents before after)
-    → IfOk answer (HasExplainedPath program path format old new contents before after)
-explained_path program path input format old new contents before after (Ok status) called from single h =
+    → IfOk answer (HasExplainedInput IsReadFrom program input format old new)
+    → IfOk answer (HasExplainedPath program path format old new)
+explained_path program path input format old new (Ok status) called from single h =
     record { input = input; called = called; from = from; single = single; explained = h }
-explained_path program path input format old new contents before after (Err failure) called from single h = tt
+explained_path program path input format old new (Err failure) called from single h = tt
+
+-- the view of bytes was printed
+pub view_printed : (bytes : List ℕ) (view : View) (selection : Selection) (format : Format) (old new : ConsoleView) (answer : Result ℕ Failure)
+    → IsViewIn bytes view → IfOk answer (HasPrinted (view_as view selection format) old new)
+    → IfOk answer (HasViewed bytes selection format old new)
+view_printed bytes view selection format old new (Ok status) viewed printed = record { view = view; viewed = viewed; printed = printed }
+view_printed bytes view selection format old new (Err failure) viewed printed = tt
+
+-- the view of an input that was read as a file was printed
+pub viewed_input : (gives : Gives) (input : Input) (file : File) (seen : List ℕ) (selection : Selection) (format : Format) (old new : ConsoleView) (answer : Result ℕ Failure)
+    → IsReadAs gives input file → seen ≡ file.1.items → IfOk answer (HasViewed seen selection format old new)
+    → IfOk answer (HasViewedInput gives input selection format old new)
+viewed_input gives input file seen selection format old new (Ok status) read same h = record {
+  file = file;
+  read = read;
+  viewed = subst (λ l. HasViewed l selection format old new status) same h;
+}
+viewed_input gives input file seen selection format old new (Err failure) read same h = tt
+
+-- the view of an input of a path was printed
+pub viewed_path : (path : List ℕ) (input : Input) (selection : Selection) (format : Format) (old new : ConsoleView) (answer : Result ℕ Failure)
+    → IsCalled false input → IsOf path input.origin → IsSingle input.origin
+    → IfOk answer (HasViewedInput IsReadFrom input selection format old new)
+    → IfOk answer (HasViewedPath path selection format old new)
+viewed_path path input selection format old new (Ok status) called from single h =
+    record { input = input; called = called; from = from; single = single; viewed = h }
+viewed_path path input selection format old new (Err failure) called from single h = tt
 
 -- the inputs of paths were replayed
-pub replayed_paths : {S E : Type 0} (program : Program S) (first : List ℕ) (more : List (List ℕ)) (format : Format) (required left_out lacks : Bool) (inputs : List Input) (old new : Option (List ℕ)) (contents : E → Option (List ℕ)) (before between after : Complaints E) (answer : Result ℕ Failure)
-    → AreListed contents (is_by_path more) (first ∷ more) inputs left_out before between
+pub replayed_paths : {S : Type 0} (program : Program S) (first : List ℕ) (more : List (List ℕ)) (format : Format) (required left_out lacks : Bool) (inputs : List Input) (old between new : ConsoleView) (answer : Result ℕ Failure)
+    → AreListed (is_by_path more) (first ∷ more) inputs left_out old between
     → lacks ≡ lacks_files left_out required inputs
-    → IfOk answer (HasReplayed IsReadFrom program inputs format lacks old new contents between after)
-    → IfOk answer (HasReplayedPaths program first more format required old new contents before after)
-replayed_paths program first more format required left_out lacks inputs old new contents before between after (Ok status) listed same h =
+    → IfOk answer (HasReplayed IsReadFrom program inputs format lacks between new)
+    → IfOk answer (HasReplayedPaths program first more format required old new)
+replayed_paths program first more format required left_out lacks inputs old between new (Ok status) listed same h =
     record {
       inputs = inputs;
       left_out = left_out;
       between = between;
       listed = listed;
-      replayed = subst (λ l. HasReplayed IsReadFrom program inputs format l old new contents between after status) same h;
+      replayed = subst (λ l. HasReplayed IsReadFrom program inputs format l between new status) same h;
     }
-replayed_paths program first more format required left_out lacks inputs old new contents before between after (Err failure) listed same h = tt
+replayed_paths program first more format required left_out lacks inputs old between new (Err failure) listed same h = tt
 
 -- what was written of a service stays
-pub served_kept : {S T : Type 0} (Reads : T → File → Type 0) (program : Program S) (hosts : HostsBy) (config : Config) (inputs : List T) (old mid new : Option (List ℕ)) (end : ServiceEnd)
+served_kept : {S T : Type 0} (Reads : T → File → Type 0) (program : Program S) (hosts : HostsBy) (config : Config) (inputs : List T) (old mid new : Option (List ℕ)) (end : ServiceEnd)
     → IsServiceEndOver Reads program hosts config inputs old mid end → Keeps mid new → IsServiceEndOver Reads program hosts config inputs old new end
 served_kept Reads program hosts config inputs old mid new end h kept = record {
   files = h.files;
@@ -134,28 +218,30 @@ served_kept Reads program hosts config inputs old mid new end h kept = record {
 }
 
 -- inputs were served, and then the rest was reported
-pub served_all : {S E : Type 0} (gives : Gives) (program : Program S) (hosts : HostsBy) (config sizes : Config) (inputs : List Input) (lacks : Bool) (old mid new : Option (List ℕ)) (contents : E → Option (List ℕ)) (before after : Complaints E) (end : ServiceEnd) (result : Result ℕ Failure)
+pub served_all : {S : Type 0} (gives : Gives) (program : Program S) (hosts : HostsBy) (config sizes : Config) (inputs : List Input) (lacks : Bool) (old first new : ConsoleView) (end : ServiceEnd) (result : Result ℕ Failure)
     → config ≡ sizes
-    → IsServiceEndOver (IsReadAs gives) program hosts config inputs old mid end
-    → Keeps mid new
-    → IfOk result (λ status. status ≡ status_with lacks end.status)
-    → IfOk result (λ _. Reported contents before after (service_told end))
-    → IfOk result (HasServedAll gives program hosts sizes inputs lacks old new contents before after)
-served_all gives program hosts config sizes inputs lacks old mid new contents before after end (Ok status) same report kept ends told = record {
+    → IsQuiet old first
+    → IsServiceEndOver (IsReadAs gives) program hosts config inputs old.output first.output end
+    → IfOk result (HasEnded end lacks first new)
+    → IfOk result (HasServedAll gives program hosts sizes inputs lacks old new)
+served_all gives program hosts config sizes inputs lacks old first new end (Ok status) same quiet report ended = record {
   end = end;
-  served = subst (λ c. IsServiceEndOver (IsReadAs gives) program hosts c inputs old new end) same (served_kept (IsReadAs gives) program hosts config inputs old mid new end report kept);
-  told = told;
-  ends = ends;
+  between = ended.between;
+  quiet = quiet_twice old first ended.between quiet ended.quiet;
+  served = subst (λ c. IsServiceEndOver (IsReadAs gives) program hosts c inputs old.output ended.between.output end) same
+      (served_kept (IsReadAs gives) program hosts config inputs old.output first.output ended.between.output end report ended.kept);
+  told = ended.told;
+  ends = ended.ends;
 }
-served_all gives program hosts config sizes inputs lacks old mid new contents before after end (Err failure) same report kept ends told = tt
+served_all gives program hosts config sizes inputs lacks old first new end (Err failure) same quiet report ended = tt
 
 -- the files of a folder were served by a host that runs the program
-pub served_folder : {S E : Type 0} (program : Program S) (dir : List ℕ) (config : Config) (required left_out lacks : Bool) (inputs : List Input) (old new : Option (List ℕ)) (contents : E → Option (List ℕ)) (before between after : Complaints E) (answer : Result ℕ Failure)
-    → IsListed contents false dir inputs left_out before between
+pub served_folder : {S : Type 0} (program : Program S) (dir : List ℕ) (config : Config) (required left_out lacks : Bool) (inputs : List Input) (old between new : ConsoleView) (answer : Result ℕ Failure)
+    → IsListed false dir inputs left_out old between
     → lacks ≡ lacks_files left_out required inputs
-    → IfOk answer (HasServedAll IsReadFrom program (by_closure (IsHosted program)) config inputs lacks old new contents between after)
-    → IfOk answer (HasServedFolder program dir config required old new contents before after)
-served_folder program dir config required left_out lacks inputs old new contents before between after (Ok status) listed same h =
+    → IfOk answer (HasServedAll IsReadFrom program (by_closure (IsHosted program)) config inputs lacks between new)
+    → IfOk answer (HasServedFolder program dir config required old new)
+served_folder program dir config required left_out lacks inputs old between new (Ok status) listed same h =
     record {
       inputs = inputs;
       left_out = left_out;
@@ -163,14 +249,16 @@ served_folder program dir config required left_out lacks inputs old new contents
       listed = listed;
       served = record {
         end = h.end;
+        between = h.between;
+        quiet = h.quiet;
         served = record {
           files = h.served.files;
           from = h.served.from;
-          ended = end_by (by_closure (IsHosted program)) (IsHosted program) config _ old new h.end (λ setups left hosted. hosted.2) h.served.ended;
+          ended = end_by (by_closure (IsHosted program)) (IsHosted program) config _ between.output h.between.output h.end (λ setups left hosted. hosted.2) h.served.ended;
           faults = h.served.faults;
         };
         told = h.told;
         ends = subst (λ l. status ≡ status_with l h.end.status) same h.ends;
       };
     }
-served_folder program dir config required left_out lacks inputs old new contents before between after (Err failure) listed same h = tt
+served_folder program dir config required left_out lacks inputs old between new (Err failure) listed same h = tt

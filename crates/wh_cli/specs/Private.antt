@@ -2,7 +2,5 @@
 pub mod Commands
 pub mod Complaints
 pub mod Listings
-pub mod Outlets
 pub mod Readings
-pub mod Served
 pub mod Statuses

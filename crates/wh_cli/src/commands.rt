@@ -1,67 +1,89 @@
 //! The commands, each as what it writes, what it reports and its status.
 
-ghost use Rattle.std.specs.Prelude.{◌≡◌, Err, IfOk, IfSome, Ok, string_bytes, vec_len};
-ghost use Rattle.std.specs.Io.KnownBytes.{Keeps};
+ghost use Rattle.std.specs.Prelude.{◌≡◌, ◌∷◌, [], Err, IfOk, IfSome, Ok, OnOk, string_bytes, vec_len};
+ghost use Rattle.std.specs.Io.KnownBytes.{Appends, Keeps};
+ghost use Rattle.wh_console.specs.Consoles.{IsQuiet, Printed};
 ghost use Rattle.wh_cli.specs.Private.Commands.{HasExplained, HasExplainedInput, HasExplainedPath};
+ghost use Rattle.wh_cli.specs.Private.Commands.{HasViewed, HasViewedInput, HasViewedPath, view_as};
 ghost use Rattle.wh_cli.specs.Private.Commands.{HasPrinted, HasReplayed, HasReplayedPaths, HasReported};
-ghost use Rattle.wh_cli.specs.Private.Commands.{HasServedAll, HasServedFolder, HasToldOf, HasWorked, Obeys, format_of};
-ghost use Rattle.wh_cli.specs.Private.Complaints.{Reported, service_told};
+ghost use Rattle.wh_cli.specs.Private.Commands.{HasEnded, HasServedAll, HasServedFolder, HasToldOf, HasWorked, Obeys};
 ghost use Rattle.wh_work.specs.Plans.{MayServe, lives};
 ghost use Rattle.wh_cli.specs.Private.Readings.{IsReadAs};
-ghost use Rattle.wh_cli.specs.Private.Served.{sizes_of};
-ghost use Rattle.wh_service.specs.Services.{IsHost, IsHosted, leaves};
+ghost use Rattle.wh_service.specs.Services.{IsHost, IsHosted, IsServiceEndOver, leaves};
 ghost use Rattle.wh_cli.specs.Private.Statuses.{lacks_files, status_with};
 ghost use Rattle.wh_file_faults.specs.Faults.{IsFaultOf, IsNoJson};
-ghost use Rattle.wh_command_line.specs.Options.{IsWithinLimits, IsWithinWorkLimits};
+ghost use Rattle.wh_command_line.specs.Options.{IsWithinLimits, IsWithinWorkLimits, sizes_of};
 ghost use Rattle.wh_host.specs.Machine.{IsConfig};
+ghost use Rattle.wh_report.specs.Commands.{IsExplained};
+ghost use Rattle.wh_report.specs.Reports.{lines_of, report_as, status_of};
 
-use crate::complaints::{Complaint, Complaints};
-use crate::failures::Failure;
+use crate::complaints::Complaint;
+use crate::failures::{Failure, unviewed};
 use crate::inputs::{InputReader, file_from};
 use crate::listing::{all_inputs, folder_of, input_of};
 use std::alloc::Global;
+use std::io;
 use std::io::Write;
 use std::rt::Runtime;
 use std::sync::Wait;
 use std::thread::Threads;
 use wh_command_line::{Plan, ServeOptions, WorkOptions};
+use wh_console::{Console, Format, Outlet};
 use wh_crew::LiveEnd;
 use wh_events::{OutOfMemory, Text};
 use wh_file_faults::{CommandFault, FileFault, unread_cause};
 use wh_files::{Input, InputFault};
 use wh_host::Config;
-use wh_report::{Format, Record, check_all, explain_file, line_status, report};
-use wh_service::{ServiceEnd, ServiceHost, ServiceSetup, host_of, serve_inputs};
+use wh_report::{Record, check_all, explain_file, line_status, report};
+use wh_service::{ServiceEnd, ServiceFault, ServiceHost, ServiceSetup, host_of, serve_inputs};
 use wh_tester::Line;
+use wh_view::{View, view_of};
+use wh_view_report::{Selection, write_json_view, write_view};
 use wh_work::{LivePlan, live_plan, live_status};
 use wh_workflow::Workflow;
 
 /// The status of a command, once all that it wrote is out.
-fn flushed<O: Write>(answer: Result<u8, CommandFault>, output: &mut O) -> Result<u8, Failure>
+fn flushed<O: Write, E: Write>(
+    answer: Result<u8, CommandFault>,
+    console: &mut Console<'_, O, E>,
+) -> Result<u8, Failure>
     ensures status { IfOk result (λ status. answer ≡ Ok status) }
     ensures memory { answer ≡ Err CommandFault.OutOfMemory → result ≡ Err Failure.OutOfMemory }
     ensures output { answer ≡ Err CommandFault.Output → result ≡ Err Failure.Output }
-    ensures kept { Keeps (O.contents output.old) (O.contents output.new) }
+    ensures quiet { IsQuiet console.old console.new }
+    ensures kept { Keeps console.old.output console.new.output }
 {
     let status = match answer {
         Ok(status) => status,
         Err(CommandFault::Output) => return Err(Failure::Output),
         Err(CommandFault::OutOfMemory) => return Err(Failure::OutOfMemory),
     };
-    match output.flush() {
+    match console.output.flush() {
         Ok(()) => Ok(status),
         Err(_) => Err(Failure::Output),
     }
 }
 
-/// Prints a text that was asked for.
-fn print<O: Write>(text: &str, output: &mut O) -> Result<u8, Failure>
-    ensures { IfOk result (HasPrinted text.now (O.contents output.old) (O.contents output.new)) }
+/// Writes a text.
+fn print_text<O: Write, E: Write>(
+    text: &str,
+    console: &mut Console<'_, O, E>,
+) -> Result<u8, CommandFault>
+    ensures printed { OnOk result (Printed console.old console.new text.now) }
+    ensures ends { IfOk result (λ status. status ≡ 0) }
 {
-    match write!(output, "{text}") {
-        Ok(()) => flushed(Ok(0), output),
-        Err(_) => Err(Failure::Output),
+    match write!(console.output, "{text}") {
+        Ok(()) => Ok(0),
+        Err(_) => Err(CommandFault::Output),
     }
+}
+
+/// Prints a text that was asked for.
+fn print<O: Write, E: Write>(text: &str, console: &mut Console<'_, O, E>) -> Result<u8, Failure>
+    ensures { IfOk result (HasPrinted text.now console.old console.new) }
+{
+    let answer = print_text(text, console);
+    flushed(answer, console)
 }
 
 /// Whether files are left out, or there have to be files, and there is none.
@@ -78,21 +100,31 @@ fn status_with(lacks: bool, status: u8) -> u8
     if lacks { 1 } else { status }
 }
 
+/// Writes the report of records, and gives its status.
+fn print_report<O: Write, E: Write>(
+    records: &[Record],
+    format: Format,
+    console: &mut Console<'_, O, E>,
+) -> Result<u8, CommandFault>
+    ensures printed { OnOk result (Printed console.old console.new (report_as format records.now)) }
+    ensures status { IfOk result (λ status. status ≡ status_of (lines_of records.now)) }
+{
+    report(records, format, &mut console.output)
+}
+
 /// Writes the report of records, and once it is out, reports where files are no JSON and for which
 /// workflow types there is no code.
 fn tell_report<O: Write, E: Write>(
     records: Vec<Record>,
     format: Format,
     lacks: bool,
-    output: &mut O,
-    errors: &mut Complaints<'_, E>,
+    console: &mut Console<'_, O, E>,
 ) -> Result<u8, Failure>
-    ensures { IfOk result (HasReported records.items format lacks
-        (O.contents output.old) (O.contents output.new) E.contents errors.old errors.new) }
+    ensures { IfOk result (HasReported records.items format lacks console.old console.new) }
 {
-    let answer = report(records.as_slice(), format, output);
-    let status = flushed(answer, output)?;
-    errors.tell(Complaint::BadFiles { records });
+    let answer = print_report(records.as_slice(), format, console);
+    let status = flushed(answer, console)?;
+    console.report(Complaint::BadFiles { records });
     Ok(status_with(lacks, status))
 }
 
@@ -103,11 +135,9 @@ fn replay<W: Workflow + Send, R: InputReader + AllocGlobal + Threads + Sync, O: 
     inputs: Vec<Input>,
     format: Format,
     lacks: bool,
-    output: &mut O,
-    errors: &mut Complaints<'_, E>,
+    console: &mut Console<'_, O, E>,
 ) -> Result<u8, Failure>
-    ensures { IfOk result (HasReplayed R.gives W.program inputs.items format lacks
-        (O.contents output.old) (O.contents output.new) E.contents errors.old errors.new) }
+    ensures { IfOk result (HasReplayed R.gives W.program inputs.items format lacks console.old console.new) }
 {
     let records = check_all::<W, R, _, _>(
         rt,
@@ -117,7 +147,7 @@ fn replay<W: Workflow + Send, R: InputReader + AllocGlobal + Threads + Sync, O: 
             ensures { IfOk result (IsReadAs R.gives input) }
         { file_from(rt, input) },
     )?;
-    tell_report(records, format, lacks, output, errors)
+    tell_report(records, format, lacks, console)
 }
 
 /// Where the file of a line is no JSON, if that is its verdict.
@@ -132,12 +162,33 @@ fn unread_fault(alloc: Global, line: Line, bytes: &[u8]) -> Option<FileFault>
 }
 
 /// Tells where the file of a line is no JSON, if that is its verdict.
-fn tell_if_bad<E: Write>(alloc: Global, line: Line, bytes: &[u8], errors: &mut Complaints<'_, E>)
-    ensures { HasToldOf line.name bytes.now E.contents errors.old errors.new }
+fn tell_if_bad<O: Write, E: Write>(
+    alloc: Global,
+    line: Line,
+    bytes: &[u8],
+    console: &mut Console<'_, O, E>,
+)
+    ensures { HasToldOf line.name bytes.now console.old console.new }
 {
     if let Some(fault) = unread_fault(alloc, line, bytes) {
-        errors.tell(Complaint::BadJson { fault });
+        console.report(Complaint::BadJson { fault });
     }
+}
+
+/// Writes the explanation of a file, and gives its line.
+fn print_explanation<W: Workflow, O: Write, E: Write>(
+    alloc: Global,
+    name: String,
+    bytes: &[u8],
+    format: Format,
+    console: &mut Console<'_, O, E>,
+) -> Result<Line, CommandFault>
+    ensures quiet { IsQuiet console.old console.new }
+    ensures explained { IfOk result (λ line. IsExplained W.program (string_bytes name) bytes.now format
+        console.old.output console.new.output (status_of (line ∷ []))) }
+    ensures name { IfOk result (λ line. line.name ≡ string_bytes name) }
+{
+    explain_file::<W, Outlet<O>>(alloc, name, bytes, format, &mut console.output)
 }
 
 /// Explains a file, and once that is out, reports where it is no JSON, if that is why it is not
@@ -147,18 +198,16 @@ fn explain<W: Workflow, O: Write, E: Write>(
     name: String,
     bytes: &[u8],
     format: Format,
-    output: &mut O,
-    errors: &mut Complaints<'_, E>,
+    console: &mut Console<'_, O, E>,
 ) -> Result<u8, Failure>
-    ensures { IfOk result (HasExplained W.program (string_bytes name) bytes.now format
-        (O.contents output.old) (O.contents output.new) E.contents errors.old errors.new) }
+    ensures { IfOk result (HasExplained W.program (string_bytes name) bytes.now format console.old console.new) }
 {
-    let line = match explain_file::<W, O>(alloc, name, bytes, format, output) {
+    let line = match print_explanation::<W, O, E>(alloc, name, bytes, format, console) {
         Ok(line) => line,
-        Err(fault) => return flushed(Err(fault), output),
+        Err(fault) => return flushed(Err(fault), console),
     };
-    let status = flushed(Ok(line_status(&line)), output)?;
-    tell_if_bad(alloc, line, bytes, errors);
+    let status = flushed(Ok(line_status(&line)), console)?;
+    tell_if_bad(alloc, line, bytes, console);
     Ok(status)
 }
 
@@ -167,30 +216,132 @@ fn explain_input<W: Workflow, R: InputReader + AllocGlobal, O: Write, E: Write>(
     rt: &R,
     input: Input,
     format: Format,
-    output: &mut O,
-    errors: &mut Complaints<'_, E>,
+    console: &mut Console<'_, O, E>,
 ) -> Result<u8, Failure>
-    ensures { IfOk result (HasExplainedInput R.gives W.program input format
-        (O.contents output.old) (O.contents output.new) E.contents errors.old errors.new) }
+    ensures { IfOk result (HasExplainedInput R.gives W.program input format console.old console.new) }
 {
     let (name, bytes) = file_from(rt, input)?;
-    explain::<W, O, E>(rt.alloc(), name, bytes.as_slice(), format, output, errors)
+    explain::<W, O, E>(rt.alloc(), name, bytes.as_slice(), format, console)
 }
 
-/// The status of a service, once its report is out and the rest is reported.
+/// Writes a view in a form.
+fn write_view_as<O: Write>(
+    view: &View,
+    selection: Selection,
+    format: Format,
+    writer: &mut O,
+) -> io::Result<()>
+    ensures { OnOk result
+        (Appends (O.contents writer.old) (O.contents writer.new) (view_as view.now selection format)) }
+{
+    match format {
+        Format::Text => write_view(view, selection, writer),
+        Format::Json => write_json_view(view, selection, writer),
+    }
+}
+
+/// Writes a view.
+fn print_view<O: Write, E: Write>(
+    view: &View,
+    selection: Selection,
+    format: Format,
+    console: &mut Console<'_, O, E>,
+) -> Result<u8, CommandFault>
+    ensures printed { OnOk result (Printed console.old console.new (view_as view.now selection format)) }
+    ensures ends { IfOk result (λ status. status ≡ 0) }
+{
+    match write_view_as(view, selection, format, &mut console.output) {
+        Ok(()) => Ok(0),
+        Err(_) => Err(CommandFault::Output),
+    }
+}
+
+/// Shows what is recorded in a file.
+fn view<O: Write, E: Write>(
+    alloc: Global,
+    name: String,
+    bytes: &[u8],
+    selection: Selection,
+    format: Format,
+    console: &mut Console<'_, O, E>,
+) -> Result<u8, Failure>
+    ensures { IfOk result (HasViewed bytes.now selection format console.old console.new) }
+{
+    let view = match view_of(alloc, bytes) {
+        Ok(view) => view,
+        Err(fault) => return Err(unviewed(alloc, Text::new(name), fault, bytes)),
+    };
+    let answer = print_view(&view, selection, format, console);
+    flushed(answer, console)
+}
+
+/// Reads an input, and shows what is recorded in it.
+fn view_input<R: InputReader + AllocGlobal, O: Write, E: Write>(
+    rt: &R,
+    input: Input,
+    selection: Selection,
+    format: Format,
+    console: &mut Console<'_, O, E>,
+) -> Result<u8, Failure>
+    ensures { IfOk result (HasViewedInput R.gives input selection format console.old console.new) }
+{
+    let (name, bytes) = file_from(rt, input)?;
+    view(
+        rt.alloc(),
+        name,
+        bytes.as_slice(),
+        selection,
+        format,
+        console,
+    )
+}
+
+/// The status of a service whose report is written, once that is out and the rest is reported.
 fn end_service<O: Write, E: Write>(
     end: ServiceEnd,
     lacks: bool,
-    output: &mut O,
-    errors: &mut Complaints<'_, E>,
+    console: &mut Console<'_, O, E>,
 ) -> Result<u8, Failure>
-    ensures status { IfOk result (λ status. status ≡ status_with lacks end.status) }
-    ensures reported { IfOk result (λ _. Reported E.contents errors.old errors.new (service_told end)) }
-    ensures kept { Keeps (O.contents output.old) (O.contents output.new) }
+    ensures { IfOk result (HasEnded end lacks console.old console.new) }
 {
-    let status = flushed(Ok(end.status), output)?;
-    errors.tell(Complaint::Served { end });
+    let status = flushed(Ok(end.status), console)?;
+    console.report(Complaint::Served { end });
     Ok(status_with(lacks, status))
+}
+
+/// Serves inputs by a host of these sizes, and writes the report.
+fn print_service<
+    W: Workflow + Send,
+    R: InputReader + AllocGlobal + Threads + Sync,
+    F: Fn(Config, Vec<ServiceSetup>) -> Result<ServiceHost, OutOfMemory>,
+    O: Write,
+    E: Write,
+>(
+    rt: &R,
+    inputs: Vec<Input>,
+    config: Config,
+    host: F,
+    console: &mut Console<'_, O, E>,
+) -> Result<ServiceEnd, ServiceFault>
+where
+    F: Drop,
+    requires sizes { IsConfig config }
+    requires runs { IsHost (F.pre host) (leaves (F.post host)) }
+    ensures quiet { IsQuiet console.old console.new }
+    ensures served { IfOk result (IsServiceEndOver (IsReadAs R.gives) W.program (leaves (F.post host)) config
+        inputs.items console.old.output console.new.output) }
+{
+    serve_inputs::<W, R, _, _, F, Outlet<O>>(
+        rt,
+        rt.alloc(),
+        inputs,
+        |input: Input| -> Result<(String, Vec<u8>), InputFault>
+            ensures { IfOk result (IsReadAs R.gives input) }
+        { file_from(rt, input) },
+        config,
+        &mut console.output,
+        host,
+    )
 }
 
 /// Serves inputs, writes the report, and once it is out, reports the rest.
@@ -206,27 +357,16 @@ fn serve<
     options: ServeOptions,
     lacks: bool,
     host: F,
-    output: &mut O,
-    errors: &mut Complaints<'_, E>,
+    console: &mut Console<'_, O, E>,
 ) -> Result<u8, Failure>
 where
     F: Drop,
     requires { IsHost (F.pre host) (leaves (F.post host)) }
     ensures { IfOk result (HasServedAll R.gives W.program (leaves (F.post host)) (sizes_of options) inputs.items lacks
-        (O.contents output.old) (O.contents output.new) E.contents errors.old errors.new) }
+        console.old console.new) }
 {
-    let end = serve_inputs::<W, R, _, _, F, O>(
-        rt,
-        rt.alloc(),
-        inputs,
-        |input: Input| -> Result<(String, Vec<u8>), InputFault>
-            ensures { IfOk result (IsReadAs R.gives input) }
-        { file_from(rt, input) },
-        options.config(),
-        output,
-        host,
-    )?;
-    end_service(end, lacks, output, errors)
+    let end = print_service::<W, R, F, O, E>(rt, inputs, options.config(), host, console)?;
+    end_service(end, lacks, console)
 }
 
 /// Replays what is at paths.
@@ -236,18 +376,16 @@ fn replay_paths<W: Workflow + Send, R: Runtime + AllocGlobal + Threads + Sync, O
     more: Vec<Text>,
     format: Format,
     require_files: bool,
-    output: &mut O,
-    errors: &mut Complaints<'_, E>,
+    console: &mut Console<'_, O, E>,
 ) -> Result<u8, Failure>
 where
     R::File: Send,
     R::Dir: Send,
-    ensures { IfOk result (HasReplayedPaths W.program first more.items format require_files
-        (O.contents output.old) (O.contents output.new) E.contents errors.old errors.new) }
+    ensures { IfOk result (HasReplayedPaths W.program first more.items format require_files console.old console.new) }
 {
-    let listed = all_inputs(rt, first, more, errors)?;
+    let listed = all_inputs(rt, first, more, console)?;
     let lacks = lacks_files(listed.left_out, require_files, listed.inputs.as_slice());
-    replay::<W, R, O, E>(rt, listed.inputs, format, lacks, output, errors)
+    replay::<W, R, O, E>(rt, listed.inputs, format, lacks, console)
 }
 
 /// Explains what is at a path.
@@ -255,14 +393,26 @@ fn explain_path<W: Workflow, R: Runtime + AllocGlobal, O: Write, E: Write>(
     rt: &R,
     path: Text,
     format: Format,
-    output: &mut O,
-    errors: &mut Complaints<'_, E>,
+    console: &mut Console<'_, O, E>,
 ) -> Result<u8, Failure>
-    ensures { IfOk result (HasExplainedPath W.program path format
-        (O.contents output.old) (O.contents output.new) E.contents errors.old errors.new) }
+    ensures { IfOk result (HasExplainedPath W.program path format console.old console.new) }
 {
     let input = input_of(rt, path)?;
-    explain_input::<W, R, O, E>(rt, input, format, output, errors)
+    explain_input::<W, R, O, E>(rt, input, format, console)
+}
+
+/// Shows what is recorded in what is at a path.
+fn view_path<R: Runtime + AllocGlobal, O: Write, E: Write>(
+    rt: &R,
+    path: Text,
+    selection: Selection,
+    format: Format,
+    console: &mut Console<'_, O, E>,
+) -> Result<u8, Failure>
+    ensures { IfOk result (HasViewedPath path selection format console.old console.new) }
+{
+    let input = input_of(rt, path)?;
+    view_input::<R, O, E>(rt, input, selection, format, console)
 }
 
 /// Serves the files of a folder.
@@ -276,16 +426,14 @@ fn serve_folder<
     dir: Text,
     options: ServeOptions,
     require_files: bool,
-    output: &mut O,
-    errors: &mut Complaints<'_, E>,
+    console: &mut Console<'_, O, E>,
 ) -> Result<u8, Failure>
 where
     R::File: Send,
     R::Dir: Send,
-    ensures { IfOk result (HasServedFolder W.program dir (sizes_of options) require_files
-        (O.contents output.old) (O.contents output.new) E.contents errors.old errors.new) }
+    ensures { IfOk result (HasServedFolder W.program dir (sizes_of options) require_files console.old console.new) }
 {
-    let listed = folder_of(rt, dir, errors)?;
+    let listed = folder_of(rt, dir, console)?;
     let lacks = lacks_files(listed.left_out, require_files, listed.inputs.as_slice());
     serve::<W, _, _, _, _>(
         rt,
@@ -297,23 +445,22 @@ where
             requires seats { config.seats ≡ vec_len setups }
             ensures { IfOk result (IsHosted W.program config setups) }
         { host_of::<W, R>(rt, rt.alloc(), config, setups) },
-        output,
-        errors,
+        console,
     )
 }
 
 /// Serves live tasks as options ask for, reports how they ended, and gives the status.
-fn work<F: FnOnce(LivePlan) -> Result<LiveEnd, OutOfMemory>, E: Write>(
+fn work<F: FnOnce(LivePlan) -> Result<LiveEnd, OutOfMemory>, O: Write, E: Write>(
     alloc: Global,
     options: WorkOptions,
     live: F,
-    errors: &mut Complaints<'_, E>,
+    console: &mut Console<'_, O, E>,
 ) -> Result<u8, Failure>
 where
     F: Drop,
     requires limits { IsWithinWorkLimits options }
     requires serves { MayServe (F.pre live) }
-    ensures { IfOk result (HasWorked (lives (F.post live)) options E.contents errors.old errors.new) }
+    ensures { IfOk result (HasWorked (lives (F.post live)) options console.old console.new) }
 {
     let Ok(plan) = live_plan(alloc, options) else {
         drop(live);
@@ -323,15 +470,8 @@ where
         return Err(Failure::OutOfMemory);
     };
     let status = live_status(&end);
-    errors.tell(Complaint::Worked { end });
+    console.report(Complaint::Worked { end });
     Ok(status)
-}
-
-/// The format that a plan asks for.
-fn format_of(json: bool) -> Format
-    ensures { result ≡ format_of json }
-{
-    if json { Format::Json } else { Format::Text }
 }
 
 /// Does what is asked for, and gives the status. Where there is none, why.
@@ -341,56 +481,34 @@ pub(crate) fn obey<
     O: Write,
     E: Write,
     F: FnOnce(LivePlan) -> Result<LiveEnd, OutOfMemory>,
->(
-    rt: &R,
-    plan: Plan,
-    live: F,
-    output: &mut O,
-    errors: &mut Complaints<'_, E>,
-) -> Result<u8, Failure>
+>(rt: &R, plan: Plan, live: F, console: &mut Console<'_, O, E>) -> Result<u8, Failure>
 where
     R::File: Send,
     R::Dir: Send,
     F: Drop,
     requires limits { IsWithinLimits plan }
     requires serves { MayServe (F.pre live) }
-    ensures { IfOk result (Obeys W.program (lives (F.post live)) plan
-        (O.contents output.old) (O.contents output.new) E.contents errors.old errors.new) }
+    ensures { IfOk result (Obeys W.program (lives (F.post live)) plan console.old console.new) }
 {
     match plan {
         Plan::Replay {
             dir,
             more,
-            json,
+            format,
             require_files,
-        } => replay_paths::<W, R, O, E>(
-            rt,
-            dir,
-            more,
-            format_of(json),
-            require_files,
-            output,
-            errors,
-        ),
-        Plan::Explain { file, json } => explain_path::<W, R, O, E>(
-            rt,
+        } => replay_paths::<W, R, O, E>(rt, dir, more, format, require_files, console),
+        Plan::Explain { file, format } => explain_path::<W, R, O, E>(rt, file, format, console),
+        Plan::View {
             file,
-            format_of(json),
-            output,
-            errors,
-        ),
+            selection,
+            format,
+        } => view_path::<R, O, E>(rt, file, selection, format, console),
         Plan::Serve {
             dir,
-            workers,
-            cache,
-            cache_events,
-            slots,
+            options,
             require_files,
-        } => {
-            let options = ServeOptions::new(workers, cache, cache_events, slots);
-            serve_folder::<W, R, O, E>(rt, dir, options, require_files, output, errors)
-        }
-        Plan::Work { options } => work(rt.alloc(), options, live, errors),
-        Plan::Help { text } => print(text.get(), output),
+        } => serve_folder::<W, R, O, E>(rt, dir, options, require_files, console),
+        Plan::Work { options } => work(rt.alloc(), options, live, console),
+        Plan::Help { text } => print(text.get(), console),
     }
 }

@@ -1,54 +1,28 @@
 //! What is reported on standard error.
 
-ghost use Rattle.std.specs.Prelude.{◌≡◌, ◌++◌, OnOk, codes, true};
+ghost use Rattle.std.specs.Prelude.{◌≡◌, ◌++◌, OnOk, codes};
 ghost use Rattle.std.specs.Io.KnownBytes.{Appends};
-ghost use Rattle.wh_cli.specs.Private.Complaints.{Reported, bad_name_line, bad_name_lines, complaint_text};
+ghost use Rattle.wh_cli.specs.Private.Complaints.{bad_name_line, bad_name_lines, complaint_text};
 ghost use Rattle.wh_cli.specs.Private.Complaints.{entry_line, failed_text};
 ghost use Rattle.wh_cli.specs.Private.Complaints.{failure_line, failure_lines, fault_line, fault_lines};
 ghost use Rattle.wh_cli.specs.Private.Complaints.{path_line, reason_line, service_told, told_line};
-ghost use Rattle.wh_cli.specs.Private.Complaints.{uncompared_told, worker_told};
+ghost use Rattle.wh_cli.specs.Private.Complaints.{uncompared_told, unviewed_line, worker_told};
 ghost use Rattle.wh_file_faults.specs.Faults.{told_of};
 ghost use Rattle.wh_report.specs.Reports.{fault_of, faults_in};
 
 use crate::failures::Failure;
 use std::io;
-use std::io::{Eprint, ErrorKind, Write};
+use std::io::Write;
+use wh_console::Message;
 use wh_crew::LiveEnd;
 use wh_events::Text;
 use wh_file_faults::FileFault;
 use wh_files::Reason;
+use wh_json::ReadFault;
 use wh_report::Record;
 use wh_service::{FileFailure, ServiceEnd};
-use wh_tester::{Line, Shown};
+use wh_tester::{FaultText, Line, Shown};
 use wh_work::write_live_end;
-
-/// The standard error, as a writer.
-#[derive(Drop)]
-pub(crate) struct ErrorPrinter<'a, R> {
-    to: &'a R,
-}
-
-impl<'a, R> ErrorPrinter<'a, R> {
-    pub(crate) fn new(to: &'a R) -> ErrorPrinter<'a, R> {
-        ErrorPrinter { to }
-    }
-}
-
-impl<R: Eprint> Write for ErrorPrinter<'_, R> {
-    fn write(&mut self, buf: &[u8]) -> io::Result<usize> {
-        match std::str::from_utf8(buf) {
-            Ok(text) => {
-                self.to.eprint(text)?;
-                Ok(buf.len())
-            }
-            Err(_) => Err(io::Error::from(ErrorKind::InvalidData)),
-        }
-    }
-
-    fn flush(&mut self) -> io::Result<()> {
-        Ok(())
-    }
-}
 
 /// What may be reported of a run.
 #[derive(Drop)]
@@ -94,8 +68,8 @@ fn tell_no_files<E: Write>(dir: &str, name: &str, writer: &mut E) -> io::Result<
 }
 
 /// Writes where a file is no JSON.
-fn tell_fault<E: Write>(fault: FileFault, name: &str, writer: &mut E) -> io::Result<()>
-    ensures { OnOk result (Appends (E.contents writer.old) (E.contents writer.new) (fault_line fault name.now)) }
+fn tell_fault<E: Write>(fault: &FileFault, name: &str, writer: &mut E) -> io::Result<()>
+    ensures { OnOk result (Appends (E.contents writer.old) (E.contents writer.new) (fault_line fault.now name.now)) }
 {
     let name = Shown(name);
     writeln!(writer, "{name}: {fault}")
@@ -107,7 +81,7 @@ fn tell_faults<E: Write>(faults: Vec<FileFault>, name: &str, writer: &mut E) -> 
         (fault_lines faults.items name.now)) }
 {
     for fault in faults {
-        tell_fault(fault, name, writer)?;
+        tell_fault(&fault, name, writer)?;
     }
     Ok(())
 }
@@ -136,7 +110,7 @@ fn tell_record<E: Write>(own: Record, name: &str, writer: &mut E) -> io::Result<
         (fault_lines (fault_of own own.cause) name.now)) }
 {
     match fault_of(own) {
-        Some(fault) => tell_fault(fault, name, writer),
+        Some(fault) => tell_fault(&fault, name, writer),
         None => Ok(()),
     }
 }
@@ -302,6 +276,22 @@ fn tell_unreadable<E: Write>(
     }
 }
 
+/// Writes why the events in a file can't be shown.
+fn tell_not_viewed<E: Write>(
+    file: &str,
+    fault: &ReadFault,
+    name: &str,
+    writer: &mut E,
+) -> io::Result<()>
+    ensures { OnOk result (Appends (E.contents writer.old) (E.contents writer.new)
+        (unviewed_line file.now fault.now name.now)) }
+{
+    let file = Shown(file);
+    let fault = FaultText(fault);
+    let name = Shown(name);
+    writeln!(writer, "{name}: {file}: unreadable, {fault}")
+}
+
 /// Writes why a run has no full report.
 fn tell_failed<E: Write>(failure: &Failure, name: &str, writer: &mut E) -> io::Result<()>
     ensures { OnOk result (Appends (E.contents writer.old) (E.contents writer.new) (failed_text failure.now name.now)) }
@@ -313,6 +303,8 @@ fn tell_failed<E: Write>(failure: &Failure, name: &str, writer: &mut E) -> io::R
         Failure::Unreadable { dir, entry, reason } => {
             tell_unreadable(dir.get(), entry, *reason, name, writer)
         }
+        Failure::NotJson { fault } => tell_fault(fault, name, writer),
+        Failure::NotViewed { file, fault } => tell_not_viewed(file.get(), fault, name, writer),
         Failure::Output => tell_line("cannot write", name, writer),
         Failure::OutOfMemory => tell_line("out of memory", name, writer),
     }
@@ -326,7 +318,7 @@ fn tell_complaint<E: Write>(complaint: Complaint, name: &str, writer: &mut E) ->
     match complaint {
         Complaint::NoFiles { dir } => tell_no_files(dir.get(), name, writer),
         Complaint::BadNames { dir, names } => tell_bad_names(dir.get(), names, name, writer),
-        Complaint::BadJson { fault } => tell_fault(fault, name, writer),
+        Complaint::BadJson { fault } => tell_fault(&fault, name, writer),
         Complaint::BadFiles { records } => tell_records(records, name, writer),
         Complaint::Served { end } => tell_service(end, name, writer),
         Complaint::Worked { end } => write_live_end(end, writer),
@@ -334,36 +326,12 @@ fn tell_complaint<E: Write>(complaint: Complaint, name: &str, writer: &mut E) ->
     }
 }
 
-/// The standard error: the name that the program is called by, with which lines begin, the writer,
-/// and whether that took all that was reported.
-#[derive(Drop)]
-pub(crate) struct Complaints<'a, E> {
-    name: &'a str,
-    writer: E,
-    whole: bool,
-}
+impl Message for Complaint {
+    ghost use Rattle.wh_cli.specs.Private.Complaints.{complaint_text};
 
-impl<'a, E: Write> Complaints<'a, E> {
-    /// A standard error on which nothing was reported yet.
-    pub(crate) fn new(name: &'a str, writer: E) -> Complaints<'a, E>
-        ensures named { result.name ≡ name.entry }
-        ensures writer { result.writer ≡ writer }
-        ensures whole { result.whole ≡ true }
-    {
-        Complaints {
-            name,
-            writer,
-            whole: true,
-        }
-    }
+    ghost text = { complaint_text };
 
-    /// Tells a complaint. Where the writer fails, nothing more comes of that.
-    pub(crate) fn tell(&mut self, complaint: Complaint)
-        ensures { Reported E.contents self.old self.new (complaint_text complaint) }
-    {
-        match tell_complaint(complaint, self.name, &mut self.writer) {
-            Ok(()) => {}
-            Err(_) => self.whole = false,
-        }
+    fn write<E: Write>(self, name: &str, writer: &mut E) -> io::Result<()> {
+        tell_complaint(self, name, writer)
     }
 }

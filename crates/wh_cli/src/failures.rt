@@ -3,9 +3,11 @@
 ghost use Rattle.std.specs.Prelude.{◌≡◌, None};
 ghost use Rattle.wh_files.specs.declared.Reason.{Reason};
 
+use std::alloc::Global;
 use wh_events::Text;
-use wh_file_faults::CommandFault;
+use wh_file_faults::{CommandFault, FileFault, json_fault};
 use wh_files::{FolderFault, InputFault, Reason};
+use wh_json::ReadFault;
 use wh_service::ServiceFault;
 
 /// Why a run ends without a full report.
@@ -24,6 +26,15 @@ pub(crate) enum Failure {
         dir: Text,
         entry: Option<String>,
         reason: Reason,
+    },
+    /// A file whose events are to be shown is no JSON.
+    NotJson {
+        fault: FileFault,
+    },
+    /// A file has no events that can be shown, and why not.
+    NotViewed {
+        file: Text,
+        fault: ReadFault,
     },
     /// The report cannot be written.
     Output,
@@ -93,5 +104,18 @@ pub(crate) fn unreadable(path: Text, fault: FolderFault) -> Failure
             reason,
         },
         FolderFault::OutOfMemory => Failure::OutOfMemory,
+    }
+}
+
+/// Why the events in a file can't be shown.
+pub(crate) fn unviewed(alloc: Global, file: Text, fault: ReadFault, bytes: &[u8]) -> Failure {
+    let place = match fault {
+        ReadFault::OutOfMemory => return Failure::OutOfMemory,
+        ReadFault::BadJson => json_fault(alloc, file.get(), bytes),
+        _ => None,
+    };
+    match place {
+        Some(fault) => Failure::NotJson { fault },
+        None => Failure::NotViewed { file, fault },
     }
 }

@@ -3,14 +3,13 @@
 ghost use Rattle.std.specs.Prelude.{◌≡◌, ◌≢◌, Err, IfOk, map, string_bytes};
 ghost use Rattle.wh_command_line.specs.Options.{IsWithinLimits};
 ghost use Rattle.wh_command_line.specs.Plans.{HasFewSlots, IsAskedBy};
-ghost use Rattle.wh_cli.specs.Private.Commands.{Answers, HasFailed, ObeysWords, called, is_unread, name_of};
+ghost use Rattle.wh_cli.specs.Private.Commands.{Answers, HasFailed, called, is_unread, name_of};
 ghost use Rattle.wh_work.specs.Plans.{MayServe, lives};
 ghost use Rattle.wh_host.specs.Machine.{IsConfig};
 
 use crate::commands::obey;
-use crate::complaints::{Complaint, Complaints, ErrorPrinter};
+use crate::complaints::Complaint;
 use crate::failures::Failure;
-use crate::outlet::Outlet;
 use std::alloc::Global;
 use std::env::Env;
 use std::io::{BufWriter, ErrorKind, Print, Printer, Write};
@@ -21,6 +20,7 @@ use std::sync::Wait;
 use std::thread::Threads;
 use std::{env, io};
 use wh_command_line::{Plan, Refusal, parse};
+use wh_console::{Console, ErrorPrinter};
 use wh_crew::LiveEnd;
 use wh_events::OutOfMemory;
 use wh_poll::ActivityHandler;
@@ -85,9 +85,9 @@ fn plan(alloc: Global, words: &[String]) -> Result<Plan, Failure>
 }
 
 /// The standard output, for a report.
-fn output<R: Print + AllocGlobal>(rt: &R) -> Result<Outlet<BufWriter<Printer<'_, R>>>, Failure> {
+fn output<R: Print + AllocGlobal>(rt: &R) -> Result<BufWriter<Printer<'_, R>>, Failure> {
     match BufWriter::new(rt.alloc(), io::writer(rt)) {
-        Ok(writer) => Ok(Outlet::new(writer)),
+        Ok(writer) => Ok(writer),
         Err(_) => Err(Failure::OutOfMemory),
     }
 }
@@ -104,41 +104,15 @@ fn is_unread(failure: &Failure, closed: bool) -> bool
 }
 
 /// Tells why there is no full report, unless nobody reads on, and gives the status.
-fn fail<E: Write>(failure: Failure, closed: bool, errors: &mut Complaints<'_, E>) -> u8
-    ensures { HasFailed closed E.contents errors.new result }
+fn fail<O: Write, E: Write>(failure: Failure, console: &mut Console<'_, O, E>) -> u8
+    ensures { HasFailed console.new result }
 {
-    if is_unread(&failure, closed) {
+    if is_unread(&failure, console.is_closed()) {
         drop(failure);
     } else {
-        errors.tell(Complaint::Failed { failure });
+        console.report(Complaint::Failed { failure });
     }
     FAILED
-}
-
-/// Does what the words of the command line ask for, and gives the status.
-fn obey_words<
-    W: Workflow + Send,
-    R: Runtime + AllocGlobal + Threads + Wait + Sync,
-    O: Write,
-    E: Write,
-    F: FnOnce(LivePlan) -> Result<LiveEnd, OutOfMemory>,
->(
-    rt: &R,
-    words: &[String],
-    live: F,
-    output: &mut O,
-    errors: &mut Complaints<'_, E>,
-) -> Result<u8, Failure>
-where
-    R::File: Send,
-    R::Dir: Send,
-    F: Drop,
-    requires { MayServe (F.pre live) }
-    ensures { IfOk result (ObeysWords W.program (lives (F.post live)) (map string_bytes words.now)
-        (O.contents output.old) (O.contents output.new) E.contents errors.old errors.new) }
-{
-    let plan = plan(rt.alloc(), words)?;
-    obey::<W, R, O, E, F>(rt, plan, live, output, errors)
 }
 
 /// Does what the words of the command line ask for, or reports why there is no full report, and
@@ -149,19 +123,27 @@ fn answer<
     O: Write,
     E: Write,
     F: FnOnce(LivePlan) -> Result<LiveEnd, OutOfMemory>,
->(rt: &R, words: &[String], live: F, output: &mut Outlet<O>, errors: &mut Complaints<'_, E>) -> u8
+>(rt: &R, words: &[String], live: F, console: &mut Console<'_, O, E>) -> u8
 where
     R::File: Send,
     R::Dir: Send,
     F: Drop,
     requires { MayServe (F.pre live) }
-    ensures { Answers W.program (lives (F.post live)) (map string_bytes words.now) output.new.closed
-        (O.contents output.old.writer) (O.contents output.new.writer) E.contents errors.old errors.new result }
+    ensures { Answers W.program (lives (F.post live)) (map string_bytes words.now) console.old console.new result }
 {
-    match obey_words::<W, R, Outlet<O>, E, F>(rt, words, live, output, errors) {
-        Ok(status) => status,
-        Err(failure) => fail(failure, output.is_closed(), errors),
+    match plan(rt.alloc(), words) {
+        Ok(plan) => match obey::<W, R, O, E, F>(rt, plan, live, console) {
+            Ok(status) => status,
+            Err(failure) => fail(failure, console),
+        },
+        Err(failure) => fail(failure, console),
     }
+}
+
+/// Tells why there is nothing to do, under a name of the program, and gives the status.
+fn fail_under<R: Eprint>(rt: &R, name: &str, failure: Failure) -> u8 {
+    let mut console = Console::new(name, io::sink(), ErrorPrinter::new(rt));
+    fail(failure, &mut console)
 }
 
 /// Does what the words of the command line ask for, with the standard streams, and gives the status.
@@ -176,23 +158,19 @@ where
     F: Drop,
     requires { MayServe (F.pre live) }
 {
-    let mut errors = Complaints::new(called(words), ErrorPrinter::new(rt));
+    let name = called(words);
     match output(rt) {
-        Ok(mut output) => answer::<W, R, _, _, F>(rt, words, live, &mut output, &mut errors),
-        Err(failure) => fail(failure, false, &mut errors),
+        Ok(output) => {
+            let mut console = Console::new(name, output, ErrorPrinter::new(rt));
+            answer::<W, R, _, _, F>(rt, words, live, &mut console)
+        }
+        Err(failure) => fail_under(rt, name, failure),
     }
-}
-
-/// Tells why there is nothing to do, where the words of the command line are not there, and gives
-/// the status.
-fn fail_unnamed<R: Eprint>(rt: &R, failure: Failure) -> ExitCode {
-    let mut errors = Complaints::new(UNCALLED, ErrorPrinter::new(rt));
-    ExitCode::from(fail(failure, false, &mut errors))
 }
 
 /// Tells that there is no memory to begin with, and gives the status.
 pub fn no_memory<R: Eprint>(rt: &R) -> ExitCode {
-    fail_unnamed(rt, Failure::OutOfMemory)
+    ExitCode::from(fail_under(rt, UNCALLED, Failure::OutOfMemory))
 }
 
 /// Runs the program for the workflows of a type: it does what the arguments ask for, writes the
@@ -223,7 +201,7 @@ where
 {
     let words = match words(rt) {
         Ok(words) => words,
-        Err(failure) => return fail_unnamed(rt, failure),
+        Err(failure) => return ExitCode::from(fail_under(rt, UNCALLED, failure)),
     };
     let name = called(words.as_slice());
     let live = |plan: LivePlan| -> Result<LiveEnd, OutOfMemory>

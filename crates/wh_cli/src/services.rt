@@ -2,7 +2,7 @@
 
 ghost use Rattle.std.specs.Prelude.{◌≡◌, Bool, Err, IfOk, List, map};
 ghost use Rattle.std.specs.Io.KnownBytes.{Appends};
-ghost use Rattle.wh_command_line.specs.Options.{AreWithinLimits, config_of};
+ghost use Rattle.wh_command_line.specs.Sizes.{AreWithinLimits, config_of};
 ghost use Rattle.wh_file_faults.specs.Faults.{AreFaultsOf};
 ghost use Rattle.wh_host.specs.declared.reply.Totals.{Totals};
 ghost use Rattle.wh_service.specs.Readings.{reading_of};

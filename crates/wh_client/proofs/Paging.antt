@@ -25,6 +25,11 @@ all_members-append [] page = append-nil page.members
 all_members-append (first ∷ pages) page =
     ap (λ l. first.members ++ l) (all_members-append pages page) ∙ sym (append_assoc first.members (all_members pages) page.members)
 
+-- one page more without an event leaves them without one
+pub none_more : (pages : List Page) (page : Page) → all_members pages ≡ [] → page.members ≡ []
+    → all_members (pages ++ page ∷ []) ≡ []
+none_more pages page empty none = all_members-append pages page ∙ (ap (λ l. l ++ page.members) empty ∙ none)
+
 -- one page more leads on
 pub leads_on : (gives : Gives) (names : WorkerNames) (run : RunKey) (token reached : List ℕ) (pages : List Page) (page : Page)
     → Leads gives names run token pages reached → IsPaged gives names run reached page → page.next_page ≢ []
@@ -50,7 +55,7 @@ pub map-appended : {A B : Type 0} (f : A → B) (xs ys : List A) → map f (xs +
 map-appended f [] ys = refl
 map-appended f (x ∷ xs) ys = ap (λ l. f x ∷ l) (map-appended f xs ys)
 
--- a text of no byte is the empty one
-pub none_left : (xs : List ℕ) → (length xs == 0) ≡ true → xs ≡ []
+-- a list of no item is the empty one
+pub none_left : {A : Type 0} (xs : List A) → (length xs == 0) ≡ true → xs ≡ []
 none_left [] e = refl
 none_left (x ∷ xs) e = absurd (grind (arith, nat_tests))

@@ -7,7 +7,7 @@ use Rattle.wh_json.specs.Events.{members_from}
 use Rattle.wh_json.specs.Outcome.{all_of}
 use Rattle.wh_messages.specs.declared.names.WorkerNames.{WorkerNames}
 use Rattle.wh_client.specs.Calls.{Gives}
-use Rattle.wh_client.specs.Pages.{IsPaged, ReadsOn}
+use Rattle.wh_client.specs.Pages.{BeginsWith, ReadsOn}
 use Rattle.wh_messages.specs.CarryingOver.{Carried, carried_in}
 use Rattle.wh_messages.specs.Responses.{Page}
 
@@ -27,5 +27,5 @@ IsWhole gives names run members = ReadsOn gives names run [] [] members
 -- a run hands this on: it stands in the first event of its history
 pub record HandsOn (gives : Gives) (names : WorkerNames) (run : RunKey) (carried : Carried) : Type 0 where
   pub page : Page
-  pub given : IsPaged gives names run [] page
+  pub begins : BeginsWith gives names run page
   pub read : carried_in page.members ≡ Some carried

@@ -25,6 +25,14 @@ abbrev pub all_members : List Page → List Data
 all_members [] = []
 all_members (page ∷ pages) = page.members ++ all_members pages
 
+-- the history of a run begins with this page: the pages before it, from the first one, have no event
+pub record BeginsWith (gives : Gives) (names : WorkerNames) (run : RunKey) (page : Page) : Type 0 where
+  pub before : List Page
+  pub reached : List ℕ
+  pub lead : Leads gives names run [] before reached
+  pub empty : all_members before ≡ []
+  pub given : IsPaged gives names run reached page
+
 -- all pages after a token: those that lead to the last one, and that one
 pub record AreAllPages (gives : Gives) (names : WorkerNames) (run : RunKey) (token : List ℕ)
     (pages : List Page) : Type 0 where

@@ -12,7 +12,7 @@ use crate::asking::{AskFault, ask_poll};
 use crate::codes::Status;
 use crate::connection::Connection;
 use crate::options::LiveOptions;
-use crate::pages::{append_pages, ask_page};
+use crate::pages::{append_pages, ask_first_page};
 use serde_json::Value;
 use std::alloc::Global;
 use wh_events::{Event, RunKey, Text};
@@ -129,17 +129,17 @@ impl<L: Connection> Client<'_, L> {
         }
     }
 
-    /// What a run hands on to the one that continues it, read from the first page of its history. The
-    /// fault says why it could not be had: `Unreadable` also where that page does not begin with the
-    /// event that starts the run. Where the page was refused its status is `Other`, since that says
+    /// What a run hands on to the one that continues it, read from the first page of its history that
+    /// has an event. The fault says why it could not be had: `Unreadable` also where that event is not
+    /// the one that starts the run, or no page has an event, and `TooManyPages` where 1,000,000 pages
+    /// have none and more are to come. Where a page was refused its status is `Other`, since that says
     /// nothing of the task.
     pub fn fetch_carried(&self, run: &RunKey) -> Result<CarriedOver, AskFault>
         ensures carried { IfOk result (λ carried.
             HandsOn L.gives self.now.options.now.names run.now (carried_seen carried)) }
         ensures refused { IfErr result HasNoMeaning }
     {
-        let first = Text::new(String::new(self.allocator()));
-        match ask_page(self.connection, &self.options.names, run, &first) {
+        match ask_first_page(self.connection, &self.options.names, run) {
             Ok(page) => carried_in_page(&page),
             Err(fault) => Err(of_page(fault)),
         }

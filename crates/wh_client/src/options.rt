@@ -3,15 +3,16 @@
 ghost use Rattle.std.specs.Prelude.{◌≡◌};
 ghost use Rattle.wh_client.specs.Roles.{polls_sticky};
 
-use wh_messages::{ActivityOptions, WorkerNames};
+use wh_messages::WorkerNames;
+use wh_policies::Policies;
 
 /// What all workers of a process share.
 #[derive(Debug, Drop)]
 pub struct LiveOptions {
     /// What they call themselves.
     pub names: WorkerNames,
-    /// What a server is asked for with each activity that a workflow starts.
-    pub activities: ActivityOptions,
+    /// What a server is asked for with the commands of workflows, by the names in them.
+    pub policies: Policies,
     /// How many seconds a task waits in the sticky queue; `None` without a cache, and where one
     /// worker alone serves workflows, since others poll that queue.
     pub sticky: Option<u32>,

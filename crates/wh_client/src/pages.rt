@@ -1,9 +1,9 @@
 //! The pages of a history.
 
-ghost use Rattle.std.specs.Prelude.{◌≡◌, IfOk, OnOk, map};
+ghost use Rattle.std.specs.Prelude.{◌≡◌, [], IfOk, OnOk, map};
 ghost use Rattle.serde_json.specs.View.{view};
 ghost use Rattle.wh_messages.specs.Responses.{page_seen};
-ghost use Rattle.wh_client.specs.Pages.{IsPaged, ReadsOn};
+ghost use Rattle.wh_client.specs.Pages.{BeginsWith, IsPaged, ReadsOn};
 
 use crate::asking::{AskFault, ask};
 use crate::connection::Connection;
@@ -37,6 +37,26 @@ pub(crate) fn ask_page<L: Connection>(
         Some(page) => Ok(page),
         None => Err(AskFault::Unreadable),
     }
+}
+
+/// The first page of a run's history that has an event, or the last one where none has.
+pub(crate) fn ask_first_page<L: Connection>(
+    connection: &L,
+    names: &WorkerNames,
+    run: &RunKey,
+) -> Result<HistoryPage, AskFault>
+    ensures begins { IfOk result (λ page. BeginsWith L.gives names.now run.now (page_seen page)) }
+    ensures last { IfOk result (λ page. page.members.items ≡ [] → page.next_page ≡ []) }
+{
+    let mut token = Text::new(String::new(connection.allocator()));
+    for _page in 0..MOST_PAGES {
+        let page = ask_page(connection, names, run, &token)?;
+        if !page.members.as_slice().is_empty() || page.next_page.get().is_empty() {
+            return Ok(page);
+        }
+        token = page.next_page;
+    }
+    Err(AskFault::TooManyPages)
 }
 
 /// Appends the members of all pages of a run's history after a token, or of the whole history

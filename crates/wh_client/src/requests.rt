@@ -41,7 +41,7 @@ impl<L: Connection> Client<'_, L> {
     ) -> Result<Request, RequestFault>
         ensures { WritesRequest result (codes "RespondWorkflowTaskCompleted") (workflow_completed
             self.now.options.now.names token.now commands.now events.now queries.now
-            self.now.options.now.sticky self.now.options.now.activities (carried_seen carried.now)) }
+            self.now.options.now.sticky self.now.options.now.policies (carried_seen carried.now)) }
     {
         let options = self.options;
         let params = workflow_completed(
@@ -52,7 +52,7 @@ impl<L: Connection> Client<'_, L> {
             events,
             queries,
             options.sticky,
-            options.activities,
+            &options.policies,
             carried,
         )?;
         Ok(Request {

@@ -2,6 +2,8 @@
 use Rattle.std.specs.Prelude.{◌≡◌, ◌⊎◌, ℕ, ◌≤◌, Bool, true, false, List, [], ◌∷◌, codes, Option, Some, None, option_map}
 use Rattle.std.specs.Str.Parse.{IsNumeral, digits_value, without_leading_plus}
 use Rattle.clap.specs.Words.{Row, Text, all_of, first_of, one_of}
+use Rattle.wh_console.specs.declared.format.Format.{Format}
+use Rattle.wh_console.specs.declared.format.Format.TheVariants as formats
 
 -- the rows give a text under a name
 abbrev pub GivesText : Text → List Row → Text → Type 0
@@ -33,6 +35,15 @@ pub record GivesFlag (name : Text) (rows : List Row) (flag : Bool) : Type 0 wher
   pub absent : one_of name rows ≡ None → flag ≡ false
   pub set : one_of name rows ≡ Some (codes "true") → flag ≡ true
   pub unset : one_of name rows ≡ Some (codes "false") → flag ≡ false
+
+-- the form is JSON
+abbrev pub is_json : Format → Bool
+is_json formats.Json = true
+is_json formats.Text = false
+
+-- the rows give the form to write in: JSON where they set the flag for it, and else text
+abbrev pub GivesFormat : List Row → Format → Type 0
+GivesFormat rows format = GivesFlag (codes "json") rows (is_json format)
 
 -- the text is a number, which a plus may precede
 abbrev pub IsNumber : Text → Type 0

@@ -2,9 +2,9 @@
 use Rattle.std.specs.Prelude.{◌≡◌, ◌≢◌, ◌⊎◌, ℕ, ◌+◌, ◌≤◌, ◌<◌, List, [], ◌∷◌, codes, true, Option, Some, IfSome}
 use Rattle.clap.specs.Words.{App, Row, Rule, Text, new_rule, with_rule}
 use Rattle.clap.specs.declared.builder.ArgAction.TheVariants.{Set, SetTrue}
-use Rattle.wh_host.specs.Machine.{IsConfig}
 use Rattle.wh_host.specs.declared.config.Config.{Config}
-use Rattle.wh_command_line.specs.Given.{GivesWithin, value_named}
+use Rattle.wh_command_line.specs.Sizes.{AreWithinLimits, GivesNumbers, config_of}
+use Rattle.wh_command_line.specs.declared.serve_options.ServeOptions.{ServeOptions}
 use Rattle.wh_command_line.specs.declared.command_line.Plan.{Plan}
 use Rattle.wh_command_line.specs.declared.command_line.Plan.TheVariants.{Serve, Work}
 use Rattle.wh_command_line.specs.declared.work.WorkOptions.{WorkOptions}
@@ -53,35 +53,6 @@ with_limits app = with_rule (with_rule (with_rule (with_rule app
 abbrev pub with_reports : App → App
 with_reports app = with_rule (with_rule app (flag (codes "verbose"))) (option (codes "stats"))
 
--- how large a host the numbers ask for
-abbrev pub config_of : (workers cache cache_events slots : ℕ) → Config
-config_of workers cache cache_events slots =
-    record {
-      workflow_slots = slots;
-      activity_slots = slots;
-      cache = cache;
-      cache_events = cache_events;
-      seats = workers;
-    }
-
--- each number is within its limits, which are those of a host
-abbrev pub AreWithinLimits : (workers cache cache_events slots : ℕ) → Type 0
-AreWithinLimits workers cache cache_events slots = IsConfig (config_of workers cache cache_events slots)
-
--- the rows give the numbers
-pub record GivesNumbers (rows : List Row) (workers cache cache_events slots : ℕ) : Type 0 where
-  pub gives_workers : value_named rows (codes "workers") ≡ Some workers
-  pub gives_cache : value_named rows (codes "cache") ≡ Some cache
-  pub gives_cache_events : value_named rows (codes "cache-events") ≡ Some cache_events
-  pub gives_slots : value_named rows (codes "slots") ≡ Some slots
-
--- the rows give a number within its limits under each name
-pub record GivesAllWithin (rows : List Row) : Type 0 where
-  pub workers : GivesWithin rows (codes "workers") 1 64
-  pub cache : GivesWithin rows (codes "cache") 0 10000
-  pub cache_events : GivesWithin rows (codes "cache-events") 0 512000000
-  pub slots : GivesWithin rows (codes "slots") 1 1000
-
 -- the rows give numbers within their limits, with fewer slots than workers
 pub record GivesFewSlots (rows : List Row) : Type 0 where
   pub workers : ℕ
@@ -91,6 +62,10 @@ pub record GivesFewSlots (rows : List Row) : Type 0 where
   pub given : GivesNumbers rows workers cache cache_events slots
   pub limits : AreWithinLimits workers cache cache_events slots
   pub few : slots < workers
+
+-- the sizes of the host that options of `serve` ask for
+abbrev pub sizes_of : ServeOptions → Config
+sizes_of options = config_of options.workers options.cache options.cache_events options.slots
 
 -- so many seconds are a duration that a server can be told, and some time
 abbrev pub IsTime : ℕ → Type 0
@@ -121,7 +96,6 @@ HasSlots options = (options.workers ≤ options.slots) × (options.activity_work
 
 -- the numbers of a plan are within their limits, with at least as many slots as workers
 abbrev pub IsWithinLimits : Plan → Type 0
-IsWithinLimits (Serve dir workers cache cache_events slots require_files) =
-    AreWithinLimits workers cache cache_events slots × (workers ≤ slots)
+IsWithinLimits (Serve dir options require_files) = options.workers ≤ options.slots
 IsWithinLimits (Work options) = IsWithinWorkLimits options × HasSlots options
 IsWithinLimits _ = Unit {0}

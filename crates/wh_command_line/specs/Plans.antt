@@ -3,12 +3,14 @@ use Rattle.std.specs.Prelude.{◌≡◌, ◌≢◌, ◌⊎◌, List, [], codes, 
 use Rattle.clap.specs.Words.{IsAmong, Kinds, Row, Text, fault_of, subcommand_of}
 use Rattle.clap.specs.declared.error.kind.ErrorKind.{ErrorKind}
 use Rattle.clap.specs.declared.error.kind.ErrorKind.TheVariants.{DisplayHelp, DisplayVersion, OutOfMemory}
-use Rattle.wh_command_line.specs.Given.{GivesFile, GivesFlag, GivesFolder, GivesPaths, LacksText}
+use Rattle.wh_command_line.specs.Explanations.{GivesExplanation, LacksExplanation}
+use Rattle.wh_command_line.specs.Given.{GivesFlag, GivesFolder, GivesFormat, GivesPaths, LacksText}
 use Rattle.wh_command_line.specs.Lines.{program}
-use Rattle.wh_command_line.specs.Options.{GivesAllWithin, GivesFewSlots, GivesNumbers}
+use Rattle.wh_command_line.specs.Options.{GivesFewSlots}
+use Rattle.wh_command_line.specs.Sizes.{GivesAllWithin, GivesNumbers}
 use Rattle.wh_command_line.specs.Work.{GivesFewWorkSlots, GivesWork, LacksWork}
 use Rattle.wh_command_line.specs.declared.command_line.Plan.{Plan}
-use Rattle.wh_command_line.specs.declared.command_line.Plan.TheVariants.{Replay, Explain, Serve, Work, Help}
+use Rattle.wh_command_line.specs.declared.command_line.Plan.TheVariants.{Replay, Explain, View, Serve, Work, Help}
 
 -- the plan is to print a text
 abbrev pub IsHelp : Plan → Type 0
@@ -17,13 +19,14 @@ IsHelp _ = ⊥
 
 -- the plan is what the subcommand of a name asks for by its rows
 abbrev pub IsGiven : Text → List Row → Plan → Type 0
-IsGiven name rows (Replay dir more json require_files) = (name ≡ codes "replay")
-    × GivesPaths rows dir more.items × GivesFlag (codes "json") rows json
+IsGiven name rows (Replay dir more format require_files) = (name ≡ codes "replay")
+    × GivesPaths rows dir more.items × GivesFormat rows format
     × GivesFlag (codes "require-files") rows require_files
-IsGiven name rows (Explain file json) = (name ≡ codes "explain") × GivesFile rows file
-    × GivesFlag (codes "json") rows json
-IsGiven name rows (Serve dir workers cache cache_events slots require_files) = (name ≡ codes "serve")
-    × GivesFolder rows dir × GivesNumbers rows workers cache cache_events slots
+IsGiven name rows (Explain file format) = (name ≡ codes "explain") × GivesExplanation rows (Explain file format)
+IsGiven name rows (View file selection format) =
+    (name ≡ codes "explain") × GivesExplanation rows (View file selection format)
+IsGiven name rows (Serve dir options require_files) = (name ≡ codes "serve") × GivesFolder rows dir
+    × GivesNumbers rows options.workers options.cache options.cache_events options.slots
     × GivesFlag (codes "require-files") rows require_files
 IsGiven name rows (Work options) = (name ≡ codes "work") × GivesWork rows options
 IsGiven name rows (Help text) = ⊥
@@ -83,11 +86,11 @@ abbrev pub IsNoCommand : Text → Type 0
 IsNoCommand name = (name ≢ codes "replay") × (name ≢ codes "explain") × (name ≢ codes "serve") × (name ≢ codes "work")
 
 -- the subcommand of a name can't do with its rows: it lacks its path or name, or a number within its
--- limits
+-- limits, or selects tasks twice, or of a replay
 abbrev pub IsBadGiven : Text → List Row → Type 0
 IsBadGiven name rows =
     ((name ≡ codes "replay") × LacksText (codes "DIR") rows)
-    ⊎ (((name ≡ codes "explain") × LacksText (codes "FILE") rows)
+    ⊎ (((name ≡ codes "explain") × LacksExplanation rows)
     ⊎ (((name ≡ codes "serve") × LacksService rows)
     ⊎ (((name ≡ codes "work") × LacksWork rows) ⊎ IsNoCommand name)))
 

@@ -3,7 +3,8 @@ use Rattle.std.specs.Prelude.{◌≡◌, ◌⊎◌, ℕ, ◌+◌, ◌≤◌, Lis
 use Rattle.clap.specs.Words.{Row}
 use Rattle.wh_command_line.specs.Given.{GivesFlag, GivesText, GivesWithin, LacksName, LacksText, MayGiveWithin}
 use Rattle.wh_command_line.specs.Given.{value_named}
-use Rattle.wh_command_line.specs.Options.{GivesAllWithin, GivesNumbers, IsWithinWorkLimits, LacksSlots}
+use Rattle.wh_command_line.specs.Options.{IsWithinWorkLimits, LacksSlots}
+use Rattle.wh_command_line.specs.Sizes.{GivesAllWithin, GivesNumbers}
 use Rattle.wh_command_line.specs.declared.work.WorkOptions.{WorkOptions}
 
 -- the rows give the limits of activities and waits, and the time between counts if they are told

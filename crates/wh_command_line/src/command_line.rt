@@ -5,8 +5,8 @@ ghost use Rattle.std.specs.Prelude.{string_bytes};
 ghost use Rattle.clap.specs.Words.{App, Rule, app_of, new_app, found_of, rows_of, rule_of, kind_of};
 ghost use Rattle.clap.specs.Words.{with_rule, with_subcommand};
 ghost use Rattle.clap.specs.declared.builder.Command.TheViews.{out-Command as fields_of};
-ghost use Rattle.wh_command_line.specs.Given.{GivesFlag, GivesPaths, GivesText, LacksText};
-ghost use Rattle.wh_command_line.specs.Lines.{program, replay, explain, serve, needed, folder, paths};
+ghost use Rattle.wh_command_line.specs.Given.{GivesFlag, GivesFormat, GivesPaths, GivesText, LacksText};
+ghost use Rattle.wh_command_line.specs.Lines.{program, replay, serve, needed, folder, paths};
 ghost use Rattle.wh_command_line.specs.Lines.{StandsFor, with_version};
 ghost use Rattle.wh_command_line.specs.Options.{as_needed, flag, option, option_or, with_default};
 ghost use Rattle.wh_command_line.specs.Options.{with_sizes, with_value_name};
@@ -15,12 +15,16 @@ ghost use Rattle.wh_command_line.specs.Plans.{AsksFewSlots, HasFewSlots, IsAsked
 ghost use Rattle.wh_command_line.specs.Plans.{IsBadGiven, IsBadLine, IsMistake, IsRequest};
 ghost use Rattle.wh_command_line.specs.Refusals.{IfBad};
 
-use crate::options::{CACHE, CACHE_EVENTS, Helps, NumberOption, SLOTS, ServeOptions, WORKERS};
+use crate::explain::{explain, explanation_given};
+use crate::options::{CACHE, CACHE_EVENTS, Helps, NumberOption, SLOTS, WORKERS};
+use crate::serve_options::ServeOptions;
 use crate::work::{WorkOptions, work};
 use clap::error::ErrorKind;
 use clap::{Arg, ArgAction, ArgMatches, Command, Error};
 use std::alloc::{AllocError, Global};
+use wh_console::Format;
 use wh_events::Text;
+use wh_view_report::Selection;
 
 /// What `--version` prints after the program's name.
 const VERSION: &str = "0.1.0";
@@ -42,29 +46,30 @@ pub enum Plan {
         dir: Text,
         /// The other paths, in their order.
         more: Vec<Text>,
-        /// Whether the report is to be JSON.
-        json: bool,
+        /// In which form the report is written.
+        format: Format,
         /// Whether it is a failure that there is no history.
         require_files: bool,
     },
     /// Explain the replay of the history in a file.
     Explain {
         file: Text,
-        /// Whether the explanation is to be JSON.
-        json: bool,
+        /// In which form the explanation is written.
+        format: Format,
     },
-    /// Serve the tasks of each history in a folder. Each number is within the limits of a host, and
-    /// there are at least as many slots as workers.
+    /// Show what is recorded in the history in a file, and replay nothing.
+    View {
+        file: Text,
+        /// Which of its tasks are shown.
+        selection: Selection,
+        /// In which form they are written.
+        format: Format,
+    },
+    /// Serve the tasks of each history in a folder. There are at least as many slots as workers.
     Serve {
         dir: Text,
-        /// How many workers there are.
-        workers: u64,
-        /// How many runs the cache holds.
-        cache: u64,
-        /// How many events the runs of the cache hold together, where 0 is no bound.
-        cache_events: u64,
-        /// How many slots there are of each kind.
-        slots: u64,
+        /// How large the host is.
+        options: ServeOptions,
         /// Whether it is a failure that there is no history.
         require_files: bool,
     },
@@ -137,7 +142,7 @@ fn refused(alloc: Global, error: &Error) -> Result<Plan, Refusal>
 }
 
 /// An argument that has to be there, with its help.
-fn needed_argument<'a>(alloc: Global, name: &'a str, help: &'a str) -> Arg<'a>
+pub(crate) fn needed_argument<'a>(alloc: Global, name: &'a str, help: &'a str) -> Arg<'a>
     ensures rule { rule_of result ≡ needed name.entry.now }
     ensures local { result.global ≡ false }
 {
@@ -283,25 +288,6 @@ fn replay<'a>(alloc: Global) -> Result<Command<'a>, AllocError>
     with_argument(command, require_files_argument(alloc))
 }
 
-/// The subcommand `explain`.
-fn explain<'a>(alloc: Global) -> Result<Command<'a>, AllocError>
-    ensures { IfOk result (StandsFor explain) }
-{
-    let command = subcommand(
-        alloc,
-        "explain",
-        "Replays a history, and prints what the workflow was told and gave, task by task",
-    );
-    let file = needed_argument(
-        alloc,
-        "FILE",
-        "The history file that is read, or - for the standard input",
-    );
-    let command = with_argument(Ok(command), file);
-    let json = flag_argument(alloc, "json", "Prints the explanation as JSON");
-    with_argument(command, json)
-}
-
 /// A subcommand, if there is one, with the options more that say how much a host holds.
 pub(crate) fn with_sizes<'a>(
     alloc: Global,
@@ -367,26 +353,16 @@ fn command<'a>(alloc: Global, name: &str, helps: &'a Helps) -> Result<Command<'a
 /// The plan to serve with these options.
 fn serve_plan(dir: Text, options: ServeOptions, require_files: bool) -> Result<Plan, Refusal>
     ensures limits { IfOk result IsWithinLimits }
-    ensures kept { IfOk result (λ plan. plan
-        ≡ Plan.Serve dir options.workers options.cache options.cache_events options.slots require_files) }
+    ensures kept { IfOk result (λ plan. plan ≡ Plan.Serve dir options require_files) }
     ensures few { (result ≡ Err Refusal.FewSlots) ↔ (options.slots < options.workers) }
     ensures err { IfErr result (λ e. e ≡ Refusal.FewSlots) }
 {
-    let ServeOptions {
-        workers,
-        cache,
-        cache_events,
-        slots,
-    } = options;
-    if slots < workers {
+    if options.slots < options.workers {
         return Err(Refusal::FewSlots);
     }
     Ok(Plan::Serve {
         dir,
-        workers,
-        cache,
-        cache_events,
-        slots,
+        options,
         require_files,
     })
 }
@@ -462,6 +438,17 @@ pub(crate) fn flag_given(given: &ArgMatches<'_>, name: &str) -> bool
     given.get_flag(name)
 }
 
+/// The form that a subcommand is to write in.
+pub(crate) fn format_given(given: &ArgMatches<'_>) -> Format
+    ensures { GivesFormat (rows_of (found_of given.now)) result }
+{
+    if flag_given(given, "json") {
+        Format::Json
+    } else {
+        Format::Text
+    }
+}
+
 /// The refusal of a line without a command.
 fn no_command(alloc: Global, name: &str) -> Refusal
     ensures { result ≢ Refusal.FewSlots }
@@ -484,14 +471,11 @@ fn asked(alloc: Global, name: &str, given: &ArgMatches<'_>) -> Result<Plan, Refu
             Ok(Plan::Replay {
                 dir,
                 more,
-                json: flag_given(given, "json"),
+                format: format_given(given),
                 require_files: flag_given(given, "require-files"),
             })
         }
-        "explain" => Ok(Plan::Explain {
-            file: text_given(alloc, given, "FILE")?,
-            json: flag_given(given, "json"),
-        }),
+        "explain" => explanation_given(alloc, given),
         "serve" => {
             let dir = text_given(alloc, given, "DIR")?;
             let options = ServeOptions::given(alloc, given)?;
@@ -508,7 +492,8 @@ fn asked(alloc: Global, name: &str, given: &ArgMatches<'_>) -> Result<Plan, Refu
 ///
 /// `BadLine` holds what is wrong with the line, as it is shown. It comes only where `clap` finds a
 /// mistake, where the line names no subcommand, and where what it gives is no number or one that is
-/// not within its limits, or is an empty name of a Task Queue. `FewSlots` comes only where the line
+/// not within its limits, or is an empty name of a Task Queue, or where tasks to be shown are selected
+/// twice, or of a replay. `FewSlots` comes only where the line
 /// names numbers within their limits, with fewer slots than workers. `OutOfMemory` comes where there
 /// is no memory to read it.
 pub fn parse<'a>(alloc: Global, name: &str, words: &'a [String]) -> Result<Plan, Refusal>

@@ -1,11 +1,15 @@
-//! The command line of the program: what its words ask for, and the options of `serve` and `work`
-//! with their limits.
+//! The command line of the program: what its words ask for, and the options of `explain`,
+//! `serve` and `work` with their limits.
 #![tactic(auto)]
 
 mod command_line;
+mod explain;
 mod options;
+mod serve_options;
 mod work;
 
 pub use command_line::{Plan, Refusal, parse};
-pub use options::ServeOptions;
+pub use serve_options::ServeOptions;
+pub use wh_console::Format;
+pub use wh_view_report::Selection;
 pub use work::WorkOptions;

@@ -1,10 +1,8 @@
-//! The options of `serve`: their names, their limits, and the sizes of a host that they stand for.
+//! Options that take numbers: their names and their limits.
 
 ghost use Rattle.std.specs.Prelude.{◌≡◌, ◌≢◌, ◌≤◌, ◌<◌, ◌^◌, ℕ, Some, None, Err, IfOk, IfErr, IfSome};
 ghost use Rattle.clap.specs.Words.{found_of, rows_of};
-ghost use Rattle.wh_host.specs.Machine.{IsConfig};
 ghost use Rattle.wh_command_line.specs.Given.{GivesWithin, IsNumber, MayGiveWithin, value_named, value_of};
-ghost use Rattle.wh_command_line.specs.Options.{AreWithinLimits, GivesAllWithin, GivesNumbers, config_of};
 ghost use Rattle.wh_command_line.specs.Refusals.{IfBad};
 
 use crate::command_line::{Refusal, bad_line};
@@ -12,7 +10,7 @@ use crate::work::WorkHelps;
 use clap::ArgMatches;
 use std::alloc::{AllocError, Global};
 use wh_cache::{MOST_CACHED_EVENTS, MOST_RUNS};
-use wh_host::{Config, MOST_SEATS};
+use wh_host::MOST_SEATS;
 use wh_slots::MOST_SLOTS;
 
 /// An option that takes a number.
@@ -162,66 +160,5 @@ impl Helps {
             slots: SLOTS.help(alloc)?,
             work: WorkHelps::new(alloc)?,
         })
-    }
-}
-
-/// The options of `serve`, each within its limits.
-#[derive(Clone, Copy)]
-pub struct ServeOptions {
-    /// How many workers there are.
-    pub workers: u64,
-    /// How many runs the cache holds.
-    pub cache: u64,
-    /// How many events the runs of the cache hold together, where 0 is no bound.
-    pub cache_events: u64,
-    /// How many slots there are of each kind.
-    pub slots: u64,
-    ghost within: { AreWithinLimits workers cache cache_events slots },
-}
-
-impl ServeOptions {
-    /// The options with these numbers.
-    pub fn new(workers: u64, cache: u64, cache_events: u64, slots: u64) -> ServeOptions
-        requires { AreWithinLimits workers cache cache_events slots }
-        ensures workers { result.workers ≡ workers }
-        ensures cache { result.cache ≡ cache }
-        ensures cache_events { result.cache_events ≡ cache_events }
-        ensures slots { result.slots ≡ slots }
-    {
-        ServeOptions {
-            workers,
-            cache,
-            cache_events,
-            slots,
-        }
-    }
-
-    /// The options that a subcommand is given.
-    pub(crate) fn given(alloc: Global, given: &ArgMatches<'_>) -> Result<ServeOptions, Refusal>
-        ensures given { IfOk result (λ o.
-            GivesNumbers (rows_of (found_of given.now)) o.workers o.cache o.cache_events o.slots) }
-        ensures slots { result ≢ Err Refusal.FewSlots }
-        ensures bad { IfErr result (IfBad (¬ (GivesAllWithin (rows_of (found_of given.now))))) }
-    {
-        Ok(ServeOptions {
-            workers: WORKERS.number(alloc, given)?,
-            cache: CACHE.number(alloc, given)?,
-            cache_events: CACHE_EVENTS.number(alloc, given)?,
-            slots: SLOTS.number(alloc, given)?,
-        })
-    }
-
-    /// How large a host they ask for.
-    pub fn config(self) -> Config
-        ensures config { IsConfig result }
-        ensures asked { result ≡ config_of self.workers self.cache self.cache_events self.slots }
-    {
-        Config {
-            workflow_slots: self.slots as usize,
-            activity_slots: self.slots as usize,
-            cache: self.cache as usize,
-            cache_events: self.cache_events,
-            seats: self.workers as usize,
-        }
     }
 }

@@ -7,15 +7,17 @@ ghost use Rattle.wh_host.specs.Machine.{IsConfig};
 ghost use Rattle.wh_command_line.specs.Given.{GivesText, LacksName, value_named};
 ghost use Rattle.wh_command_line.specs.Lines.{StandsFor, work};
 ghost use Rattle.wh_command_line.specs.Refusals.{IfBad};
-ghost use Rattle.wh_command_line.specs.Options.{AreLimits, IsWithinWorkLimits, LacksSlots, config_of};
+ghost use Rattle.wh_command_line.specs.Options.{AreLimits, IsWithinWorkLimits, LacksSlots};
 ghost use Rattle.wh_command_line.specs.Options.{with_names, with_limits, with_reports};
+ghost use Rattle.wh_command_line.specs.Sizes.{config_of};
 ghost use Rattle.wh_command_line.specs.Work.{GivesBeside, GivesLimits, GivesLimitsWithin, GivesWork, LacksWork};
 
 use crate::command_line::{
     Refusal, as_needed, bad_line, flag_argument, flag_given, option_argument, subcommand,
     text_given, with_argument, with_default, with_number, with_sizes,
 };
-use crate::options::{Helps, NumberOption, ServeOptions};
+use crate::options::{Helps, NumberOption};
+use crate::serve_options::ServeOptions;
 use clap::{ArgMatches, Command};
 use std::alloc::{AllocError, Global};
 use wh_events::Text;

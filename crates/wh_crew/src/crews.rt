@@ -5,16 +5,10 @@ ghost use Rattle.wh_crew.specs.Crews.{normal_workers, role_at, roles_of};
 ghost use Rattle.wh_crew.specs.Private.Counts.{tallies_of};
 
 use std::alloc::Global;
-use std::sync::Wait;
-use std::sync::ledger::Ledger;
-use std::thread::Threads;
 use wh_client::{Connection, LiveOptions, Role};
 use wh_events::OutOfMemory;
-use wh_host::Host;
-use wh_ledger::Seat;
 use wh_live::{LiveSource, Tally};
-use wh_poll::{ActivityHandler, Observer, OpenGate, WorkerEnd, WorkerSetup, run_on_host};
-use wh_workflow::Workflow;
+use wh_poll::{WorkerEnd, WorkerSetup};
 
 /// How many of the workflow workers poll the queue that all workers poll: one in five and at least
 /// one, or all of them where runs are not cached. Where runs are cached, two workers or more poll
@@ -76,7 +70,7 @@ pub(crate) fn setups_of<'a, L: Connection, A: Drop, O: Drop>(
 }
 
 /// What all sources have counted.
-fn gathered<L: Connection, A, O>(left: &[WorkerEnd<LiveSource<'_, L>, A, O>]) -> Tally
+pub(crate) fn gathered<L: Connection, A, O>(left: &[WorkerEnd<LiveSource<'_, L>, A, O>]) -> Tally
     ensures { result ≡ tallies_of (map (λ worker. worker.source.tally) left.now) }
 {
     let mut all = Tally::new();
@@ -84,30 +78,4 @@ fn gathered<L: Connection, A, O>(left: &[WorkerEnd<LiveSource<'_, L>, A, O>]) ->
         all.add(worker.source.tally());
     }
     all
-}
-
-/// Runs the workers, and gives the seats back and what their sources have counted.
-pub(crate) fn run_crew<
-    R: Threads + Wait + Sync,
-    W: Workflow + Send,
-    T: Ledger + Send,
-    K: Ledger + Send,
-    F: Ledger + Send,
-    L: Connection + Sync,
-    A: ActivityHandler + Send + Drop,
-    O: Observer + Send + Drop,
->(
-    rt: &R,
-    alloc: Global,
-    host: &Host<W, T, K, F>,
-    seats: Vec<Seat<T, K, F>>,
-    setups: Vec<WorkerSetup<LiveSource<'_, L>, A, O>>,
-) -> Result<(Vec<Seat<T, K, F>>, Tally), OutOfMemory>
-    requires { vec_len seats ≡ vec_len setups }
-    ensures { IfOk result (λ ended. vec_len ended.0 ≡ vec_len setups.entry) }
-{
-    let (seats, left) = run_on_host(rt, alloc, host, seats, setups, &OpenGate)?;
-    let tally = gathered(left.as_slice());
-    drop(left);
-    Ok((seats, tally))
 }

@@ -4,8 +4,6 @@
 mod bridge_connection;
 mod crews;
 pub mod laws;
-mod reports;
 mod serving;
 
-pub use reports::Reporter;
 pub use serving::{LiveEnd, read_input, serve_live};

@@ -32,7 +32,7 @@ use Rattle.wh_explain.specs.declared.explanation.ExplainedTask.{ExplainedTask}
 use Rattle.wh_explain.specs.declared.explanation.RecordedEvent.{RecordedEvent}
 use Rattle.wh_explain.specs.declared.explanation.Pairing.{Pairing}
 use Rattle.wh_explain.specs.declared.explanation.Pairing.TheVariants.{Alike, Different, CommandMissing, CommandExtra}
-use Rattle.wh_explain.specs.Differences.{IsDifferenceIn, StopsAtDifference, difference_at, difference_of, if_differs, last_difference, last_of}
+use Rattle.wh_explain.specs.Differences.{IsDifferenceIn, difference_at, difference_of, if_differs, last_difference, last_of}
 use Rattle.wh_explain.specs.Explaining.{sent_ending, unless_refused, IsTask, AreTasks, all, stopped, passed, AreTasksOf, AreTasksIn, AreTasksPlaced, AreTasksIf}
 use Rattle.wh_explain.specs.Laws.{EndAs, EndsDifferent}
 use Rattle.wh_explain.specs.Pairings.{pairings, recorded_event, differs, difference_from}
@@ -150,6 +150,11 @@ tasks_found {S} program lawful events at mismatch tasks are is =
     let told = subst R known (subst Q placed are) in
     let ends : EndsDifferent at mismatch tasks = subst (λ r. EndAs r tasks) is (ends_as_replay program lawful events tasks placed known are) in
     found_in program events at mismatch tasks (tasks_paired program events 0 (cuts events) (program.initial (workflow_of events)) [] tasks told) ends
+
+-- the verdict on a file is a difference
+abbrev pub StopsAtDifference : {S : Type 0} → Program S → List ℕ → Type 0
+StopsAtDifference program bytes =
+    (at : ℕ) × (mismatch : Mismatch) × (verdict_on program bytes ≡ Faulty (Mismatched at mismatch))
 
 -- where the replay of a file stops at a difference, that is found
 pub difference_found : {S : Type 0} (program : Program S) → IsLawful program → (bytes : List ℕ) (found : Option Pairing) → IsDifferenceIn program bytes found → StopsAtDifference program bytes → IsSome found

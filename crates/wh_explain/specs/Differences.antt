@@ -1,10 +1,6 @@
 -- The difference that a replay stops at.
 use Rattle.std.specs.Prelude.{◌≡◌, ◌-◌, ℕ, List, length, slice_get, Option, Some, None, if◌then◌else◌}
 use Rattle.wh_json.specs.Events.{history}
-use Rattle.wh_replay.specs.declared.fault.Fault.TheVariants.{Mismatch as Mismatched}
-use Rattle.wh_tester.specs.declared.line.Verdict.TheVariants.{Faulty}
-use Rattle.wh_tester.specs.Verdicts.{verdict_on}
-use Rattle.wh_workflow.specs.declared.fault.Mismatch.{Mismatch}
 use Rattle.wh_workflow.specs.Law.{Program}
 use Rattle.wh_explain.specs.declared.explanation.Ending.{Ending}
 use Rattle.wh_explain.specs.declared.explanation.Ending.TheVariants.{Refused, Live, Recorded}
@@ -42,8 +38,3 @@ pub record IsDifferenceIn {S : Type 0} (program : Program S) (bytes : List ℕ) 
   pub tasks : List ExplainedTask
   pub explained : AreTasksIn program (history bytes) tasks
   pub last : found ≡ last_difference tasks
-
--- the verdict on a file is a difference
-abbrev pub StopsAtDifference : {S : Type 0} → Program S → List ℕ → Type 0
-StopsAtDifference program bytes =
-    (at : ℕ) × (mismatch : Mismatch) × (verdict_on program bytes ≡ Faulty (Mismatched at mismatch))

@@ -7,8 +7,8 @@ ghost use Rattle.wh_replay.specs.declared.fault.Fault.TheVariants.{Mismatch as M
 ghost use Rattle.wh_workflow.specs.declared.fault.Mismatch.{Mismatch};
 ghost use Rattle.wh_workflow.specs.declared.fault.WorkflowFault.TheVariants.{UnknownWorkflow};
 ghost use Rattle.wh_tester.specs.Verdicts.{IsVerdict};
-ghost use Rattle.wh_explain.specs.Differences.{IsDifferenceIn, StopsAtDifference};
-ghost use Rattle.wh_explain.specs.Explaining.{AreTasksIn, unknown_in};
+ghost use Rattle.wh_explain.specs.Differences.{IsDifferenceIn};
+ghost use Rattle.wh_explain.specs.Explaining.{AreTasksIn, unknown_in, unknown_placed};
 ghost use Rattle.wh_explain.specs.Private.Findings.{AreFoundIn, AreFoundOf, AreFoundPlaced, verdict_by};
 ghost use Rattle.wh_explain.specs.Private.Tasks.{difference_in, fault_of};
 
@@ -201,27 +201,16 @@ pub fn check_file<W: Workflow>(alloc: Global, bytes: &[u8]) -> Finding
     }
 }
 
-/// The difference that the replay of a history file stops at, with the code of `W`, if it stops at
-/// one, as `check_file` finds it.
-/// `OutOfMemory` where the allocator refused a growth, never for a file that is too long.
-pub fn difference<W: Workflow>(alloc: Global, bytes: &[u8]) -> Result<Option<Pairing>, OutOfMemory>
-    ensures difference { IfOk result (IsDifferenceIn W.program bytes.now) }
-    ensures found { IfOk result (λ found. StopsAtDifference W.program bytes.now → IsSome found) }
-    ensures memory { IfErr result (λ _. length bytes.now ≤ longest) }
+/// The workflow type of a history whose events are in place, if `W` has no code for it, as `explain`
+/// names it. `OutOfMemory` where there was no memory for the copy of its name.
+pub fn unknown_type<W: Workflow>(alloc: Global, track: &Track) -> Result<Option<Text>, OutOfMemory>
+    ensures { IfOk result (λ kind. kind ≡ unknown_placed W.program (Ok track.now)) }
 {
-    let Findings { finding, .. } = find_in_bytes::<W>(alloc, Detail::Verdict, bytes)?;
-    Ok(finding.difference)
-}
-
-/// The workflow type of a history file, if its events are in place and `W` has no code for it, as
-/// `explain` names it.
-/// `OutOfMemory` where the allocator refused a growth, never for a file that is too long.
-pub fn unknown_type<W: Workflow>(alloc: Global, bytes: &[u8]) -> Result<Option<Text>, OutOfMemory>
-    ensures unknown { IfOk result (λ kind. kind ≡ unknown_in W.program (history bytes.now)) }
-    ensures memory { IfErr result (λ _. length bytes.now ≤ longest) }
-{
-    let Findings { finding, .. } = find_in_bytes::<W>(alloc, Detail::Verdict, bytes)?;
-    Ok(finding.unknown)
+    let kind = workflow_of(track.events());
+    if W::handles(kind) {
+        return Ok(None);
+    }
+    Ok(Some(Text::new(String::from_str(alloc, kind)?)))
 }
 
 /// Explains the replay of a history file, given by name and bytes, with the code of `W`: its tasks

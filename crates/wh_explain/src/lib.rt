@@ -15,6 +15,6 @@ mod times;
 mod walk;
 
 pub use explanation::{Ending, ExplainedTask, Explanation, Pairing, RecordedEvent, Step};
-pub use findings::{Finding, check_file, difference, explain, unknown_type};
+pub use findings::{Finding, check_file, explain, unknown_type};
 pub use json_lines::{PairingMembers, write_json_explanation};
 pub use showing::write_explanation;

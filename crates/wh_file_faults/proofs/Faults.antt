@@ -1,12 +1,15 @@
 -- What is told of a file by one of the two causes.
-use Rattle.std.proofs.Common.{ℕ, List, None, Some}
-use Rattle.std.specs.Prelude.{Option, IfSome}
+use Rattle.std.proofs.Common.{◌≡◌, ◌∙◌, ℕ, List, None, Some, ap}
+use Rattle.std.specs.Prelude.{Option, Ok, IfSome}
+use Rattle.wh_events.specs.declared.event.Event.{Event}
+use Rattle.wh_explain.specs.Explaining.{unknown_in, unknown_placed}
+use Rattle.wh_json.specs.Events.{history}
+use Rattle.wh_replay.specs.Tracking.{in_place}
 use Rattle.wh_workflow.specs.Law.{Program}
 use Rattle.wh_file_faults.specs.declared.file_faults.Cause.{Cause}
 use Rattle.wh_file_faults.specs.declared.file_faults.Cause.TheVariants.{NotJson, NoCode}
 use Rattle.wh_file_faults.specs.declared.file_faults.FileFault.{FileFault}
-use Rattle.wh_file_faults.specs.Faults.{IsCauseOf, IsFaultOf}
-use Rattle.wh_file_faults.specs.Faults.{IsNoJson, IsUncoded}
+use Rattle.wh_file_faults.specs.Faults.{HasHistory, IsCauseOf, IsFaultOf, IsNoJson, IsUncoded}
 
 -- either cause is a cause
 json_cause : {S : Type 0} (program : Program S) (bytes : List ℕ) (cause : Cause) → IsNoJson bytes cause → IsCauseOf program bytes cause
@@ -30,3 +33,8 @@ of_code program name bytes (Some fault) h = record { named = h.named; causes = c
 pub has_cause : {S : Type 0} (program : Program S) (name bytes : List ℕ) (told : Option FileFault) → IfSome told (IsFaultOf (IsCauseOf program) name bytes) → IfSome told (λ fault. IsCauseOf program bytes fault.cause)
 has_cause program name bytes None h = tt
 has_cause program name bytes (Some fault) h = h.causes
+
+-- the workflow type without code of a history in place is that of the bytes that it is read of
+pub uncoded : {S : Type 0} (program : Program S) (bytes : List ℕ) (events : List Event) → HasHistory bytes events → unknown_in program (history bytes) ≡ unknown_placed program (Ok events)
+uncoded program bytes events has =
+    ap (unknown_in program) has.0 ∙ ap (λ fault. unknown_placed program (in_place fault events)) has.1

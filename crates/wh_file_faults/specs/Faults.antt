@@ -1,7 +1,9 @@
 -- What is told of files that are no JSON or lack code, and what is made of files beside it.
-use Rattle.std.specs.Prelude.{◌≡◌, ◌||◌, ℕ, List, [], ◌∷◌, nat_eq, Option, Some, None, IfSome, if◌then◌else◌, String, string_bytes, Vec}
+use Rattle.std.specs.Prelude.{◌≡◌, ◌||◌, ℕ, List, [], ◌∷◌, nat_eq, Option, Some, None, Ok, IfSome, if◌then◌else◌, String, string_bytes, Vec}
 use Rattle.std.specs.List.{AllZip, flat_map, starts_with}
 use Rattle.std.specs.declared.alloc.Global.{Global}
+use Rattle.wh_events.specs.Places.{history_fault}
+use Rattle.wh_events.specs.declared.event.Event.{Event}
 use Rattle.wh_explain.specs.Explaining.{unknown_in}
 use Rattle.wh_json.specs.Events.{history}
 use Rattle.wh_json.specs.Fields.{document}
@@ -42,6 +44,10 @@ IsNoJson bytes (NoCode kind) = ⊥
 abbrev pub IsUncoded : {S : Type 0} → Program S → List ℕ → Cause → Type 0
 IsUncoded program bytes (NotJson position mark) = ⊥
 IsUncoded program bytes (NoCode kind) = unknown_in program (history bytes) ≡ Some kind
+
+-- the history that is read of bytes has these events, and they are in place
+abbrev pub HasHistory : List ℕ → List Event → Type 0
+HasHistory bytes events = (history bytes ≡ Ok events) × (history_fault events ≡ None)
 
 -- a fault of a file by its name and bytes: it has the name, and a cause of the bytes
 pub record IsFaultOf (IsCause : List ℕ → Cause → Type 0) (name bytes : List ℕ) (fault : FileFault) : Type 0 where

@@ -1,9 +1,9 @@
 //! Files that are no JSON, and where, and files of workflow types that there is no code for.
 
-ghost use Rattle.std.specs.Prelude.{◌≡◌, ◌++◌, [], ◌∷◌, IfOk, OnOk, IfSome, Some, map};
+ghost use Rattle.std.specs.Prelude.{◌≡◌, ℕ, List, ◌++◌, [], ◌∷◌, IfOk, OnOk, IfSome, Some, map};
 ghost use Rattle.std.specs.List.{flat_map};
 ghost use Rattle.wh_file_faults.specs.Faults.{IsFaultOf, told_of};
-ghost use Rattle.wh_file_faults.specs.Faults.{IsNoJson, IsUncoded};
+ghost use Rattle.wh_file_faults.specs.Faults.{HasHistory, IsNoJson, IsUncoded};
 ghost use Rattle.wh_file_faults.specs.Texts.{cause_text, file_fault_text, mark_text};
 
 use crate::position::{Mark, Position, mark_of, position_of};
@@ -12,6 +12,7 @@ use std::fmt;
 use wh_events::{OutOfMemory, Text};
 use wh_explain::unknown_type;
 use wh_json::ReadFault;
+use wh_machines::Track;
 use wh_tester::{Shown, Verdict};
 use wh_workflow::Workflow;
 
@@ -128,15 +129,17 @@ pub fn json_fault(alloc: Global, name: &str, bytes: &[u8]) -> Option<FileFault>
     }
 }
 
-/// The workflow type of a file, if there is no code for it. Nothing is reported where memory for
-/// that is refused.
-pub fn code_fault<W: Workflow>(alloc: Global, name: &str, bytes: &[u8]) -> Option<FileFault>
-    ensures { IfSome result (IsFaultOf (IsUncoded W.program) name.now bytes.now) }
+/// The workflow type of a history whose events are in place, if there is no code for it, as the fault
+/// of the file that it was read of. Nothing is reported where memory for that is refused.
+#[tactic(auto, using(crate::proofs::Faults::uncoded))]
+pub fn code_fault<W: Workflow>(alloc: Global, name: &str, track: &Track) -> Option<FileFault>
+    ensures { (bytes : List ℕ) → HasHistory bytes track.now
+        → IfSome result (IsFaultOf (IsUncoded W.program) name.now bytes) }
 {
     let Ok(name) = String::from_str(alloc, name) else {
         return None;
     };
-    let Ok(Some(kind)) = unknown_type::<W>(alloc, bytes) else {
+    let Ok(Some(kind)) = unknown_type::<W>(alloc, track) else {
         return None;
     };
     Some(FileFault {

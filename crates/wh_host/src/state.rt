@@ -3,7 +3,7 @@ ghost use Rattle.std.specs.Prelude.{◌≡◌, ◌<◌, ◌+◌, ◌-◌, ◌^�
 ghost use Rattle.std.specs.Prelude.{map};
 ghost use Rattle.std.specs.Prelude.{option_map, slice_get, replicate, IsTrue, IfOk, IfErr, OnOk};
 ghost use Rattle.std.specs.Prelude.{IsErr, Err, MatchOption, MatchResult, vec_len};
-ghost use Rattle.std.specs.Map.{lookup_entry, remove_entry};
+ghost use Rattle.std.specs.Map.{lookup, lookup_entry, remove_entry};
 ghost use Rattle.wh_events.specs.Keys.{same_key};
 ghost use Rattle.wh_cache.specs.Cache.{cache_view, held_of, Puts, put_reply_of};
 ghost use Rattle.wh_ledger.specs.Shares.{no_shares, sums_of, IsWithin};
@@ -24,7 +24,7 @@ use std::sync::ledger::{Blank, Ledger};
 use wh_cache::{Put, Sticky};
 use wh_events::{OutOfMemory, RunKey};
 use wh_ledger::{Books, Seat, SeatsMissing};
-use wh_replay::Run;
+use wh_replay::{ReplayedHistory, Run};
 use wh_slots::{
     Held, NotHeld, NotReserved, Permit, ReserveFault, SlotKind, Slots, TaskName, UseFault,
 };
@@ -267,6 +267,14 @@ impl<W: Workflow, T: Ledger, C: Ledger, F: Ledger> HostState<W, T, C, F> {
             workflow: self.workflow.count(),
             activity: self.activity.count(),
         }
+    }
+
+    /// The history of the run that is cached for the key, if one is. Nothing changes: no slot is
+    /// used, nothing is counted, and the order of use stays.
+    pub fn cached(&self, key: &RunKey) -> Option<&ReplayedHistory<W>>
+        ensures { option_map (λ history. history.now) result ≡ lookup (same_key key.now) self.now.cache.runs }
+    {
+        self.cache.peek(key)
     }
 
     /// Does nothing. Its contract says what holds of every state.

@@ -8,7 +8,7 @@ use Rattle.wh_events.specs.declared.event.Payload.{Payload}
 use Rattle.wh_json.specs.Fields.{list_of}
 use Rattle.wh_workflow.specs.declared.command.Command.{Command}
 use Rattle.wh_messages.specs.declared.fault.RequestFault.{RequestFault}
-use Rattle.wh_messages.specs.declared.names.ActivityOptions.{ActivityOptions}
+use Rattle.wh_policies.specs.declared.policies.Policies.{Policies}
 use Rattle.wh_messages.specs.declared.names.WorkerNames.{WorkerNames}
 use Rattle.wh_messages.specs.declared.request.FailedCause.{FailedCause}
 use Rattle.wh_messages.specs.declared.request.FailedCause.TheVariants.{Nondeterministic, TooLarge, Unhandled}
@@ -45,12 +45,12 @@ somes_same (c ∷ cs) [] e = cc
 somes_same (c ∷ cs) (x ∷ es) e =
     cons_same c x cs es (heads_same c x (map Some cs) (map Some es) e) (somes_same cs es (tails_same c x (map Some cs) (map Some es) e))
 
-module _ (names : WorkerNames) (options : ActivityOptions) (carried : Carried) (events : List Event) (history : IsHistory events) where
+module _ (names : WorkerNames) (policies : Policies) (carried : Carried) (events : List Event) (history : IsHistory events) where
   lists_same : (r : Result (List Data) RequestFault) (a b : List Data) → r ≡ Ok a → r ≡ Ok b → a ≡ b
   lists_same r a b e f = cc
 
   abbrev write : Command → Result Data RequestFault
-  write = written names options carried events
+  write = written names policies carried events
 
   abbrev reads : List Data → List (Option Command)
   reads = map (command_in events)
@@ -62,7 +62,7 @@ module _ (names : WorkerNames) (options : ActivityOptions) (carried : Carried) (
   after_one c cs before ds sent others (Err fault) e is = cc
   after_one c cs before ds sent others (Ok d) e is =
       others (before ++ d ∷ []) is
-      ∙ ap (λ xs. xs ++ map Some cs) (map_append (command_in events) before (d ∷ []) ∙ ap (λ x. reads before ++ x ∷ []) (command_back names options carried events c d history sent e))
+      ∙ ap (λ xs. xs ++ map Some cs) (map_append (command_in events) before (d ∷ []) ∙ ap (λ x. reads before ++ x ∷ []) (command_back names policies carried events c d history sent e))
       ∙ append_assoc (reads before) (Some c ∷ []) (map Some cs)
 
   -- commands that were written after others are read after them
@@ -90,11 +90,11 @@ module _ (names : WorkerNames) (options : ActivityOptions) (carried : Carried) (
   answers_same r a b e f = cc
 
   completion_back : (token : List ℕ) (cs : List Command) (queries : List (List ℕ)) (sticky : Option ℕ) (d : Data) → AreSent cs
-      → workflow_completed names token cs events queries sticky options carried ≡ Ok d
+      → workflow_completed names token cs events queries sticky policies carried ≡ Ok d
       → (text_at (codes "taskToken") d ≡ Some token) × (listed d ≡ Some (map Some cs))
-  completion_back token cs queries sticky d sent is = by (written_after (written names options carried events) [] cs) refl is
+  completion_back token cs queries sticky d sent is = by (written_after (written names policies carried events) [] cs) refl is
     where
-      by : (r : Result (List Data) RequestFault) → written_after (written names options carried events) [] cs ≡ r
+      by : (r : Result (List Data) RequestFault) → written_after (written names policies carried events) [] cs ≡ r
           → on_written r (λ ds. Ok (completed_with names token queries sticky ds)) ≡ Ok d
           → (text_at (codes "taskToken") d ≡ Some token) × (listed d ≡ Some (map Some cs))
       by (Err fault) e is = cc
@@ -107,8 +107,8 @@ module _ (names : WorkerNames) (options : ActivityOptions) (carried : Carried) (
 
   pub completions_differ : (token other_token : List ℕ) (cs es : List Command) (queries other_queries : List (List ℕ)) (sticky other_sticky : Option ℕ)
       (d : Data) → AreSent cs → AreSent es
-      → workflow_completed names token cs events queries sticky options carried ≡ Ok d
-      → workflow_completed names other_token es events other_queries other_sticky options carried ≡ Ok d
+      → workflow_completed names token cs events queries sticky policies carried ≡ Ok d
+      → workflow_completed names other_token es events other_queries other_sticky policies carried ≡ Ok d
       → (token ≡ other_token) × (cs ≡ es)
   completions_differ token other_token cs es queries other_queries sticky other_sticky d sent other is other_is =
       let one = completion_back token cs queries sticky d sent is in

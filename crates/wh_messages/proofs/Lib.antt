@@ -1,6 +1,8 @@
 pub mod Answering
 pub mod Bytes
 pub mod Lists
+pub mod Members
+pub mod ByName
 pub mod Reading
 pub mod Serving
 pub mod Tasks

@@ -41,16 +41,24 @@ use Rattle.wh_json.specs.declared.fault.ReadFault.{ReadFault}
 use Rattle.wh_workflow.specs.declared.command.Command.{Command}
 use Rattle.wh_workflow.specs.declared.command.Command.TheVariants as commands
 use Rattle.wh_workflow.specs.Jobs.{id_at}
+use Rattle.wh_policies.specs.declared.policies.ActivityPolicy.{ActivityPolicy}
+use Rattle.wh_policies.specs.declared.policies.ChildPolicy.{ChildPolicy}
+use Rattle.wh_policies.specs.declared.policies.ContinuePolicy.{ContinuePolicy}
+use Rattle.wh_policies.specs.declared.policies.Policies.{Policies}
+use Rattle.wh_policies.specs.Tables.{policy_of}
 use Rattle.wh_messages.specs.declared.fault.RequestFault.{RequestFault}
-use Rattle.wh_messages.specs.declared.names.ActivityOptions.{ActivityOptions}
 use Rattle.wh_messages.specs.declared.names.WorkerNames.{WorkerNames}
 use Rattle.wh_messages.specs.CarryingOver.{Carried}
 use Rattle.wh_messages.specs.Commands as spec
-use Rattle.wh_messages.specs.Commands.{delay_text, duration_text, longest_duration, written, cancel_scheduled}
-use Rattle.wh_messages.specs.Objects.{object_of}
+use Rattle.wh_messages.specs.Commands.{carried_asked, written, cancel_scheduled}
+use Rattle.wh_messages.specs.Durations.{delay_text, duration_text, longest_duration}
+use Rattle.wh_messages.specs.Objects.{object_of, put_given}
 use Rattle.wh_messages.specs.Payloads.{base64_text, json_payloads, payload_written, payloads_written}
-use Rattle.wh_messages.specs.ReadBack.{leading_digits, seconds_of, command_in, IsSent, IsHistory, HaveBytes}
+use Rattle.wh_messages.specs.Policies.{activity_asked, child_asked, continued_asked}
+use Rattle.wh_messages.specs.ReadBack.{leading_digits, seconds_of, command_in, IsSent, IsHistory, HaveBytes, PoliciesAreUnseen}
 use Rattle.wh_messages.proofs.Bytes.{bytes_utf8}
+use Rattle.wh_messages.proofs.Members.{given_at, same_three, same_two}
+use Rattle.wh_messages.proofs.ByName.{activity_of, child_of, continued_of}
 
 -- ---- JSON texts
 
@@ -244,58 +252,99 @@ mark_back id v some text is =
 
 -- ---- All commands
 
-continued : (workflow : List ℕ) (input : List Payload) → HaveBytes input
-    → option_map (commands.ContinueAsNew workflow) (result_ok (payloads_at 0 (Some (payloads_written input)))) ≡ Some (commands.ContinueAsNew workflow input)
-continued workflow input sent = ap (λ r. option_map (commands.ContinueAsNew workflow) (result_ok r)) (payloads_back input sent)
+-- what is asked for stands beside what the workflow gave
+activity_back : (names : WorkerNames) (policy : ActivityPolicy) (events : List Event) (id activity : List ℕ) (input : List Payload) → HaveBytes input
+    → command_in events (spec.start_activity names policy id activity input) ≡ Some (commands.StartActivity id activity input)
+activity_back names policy events id activity input sent =
+    let asked = activity_asked policy in
+    let members = spec.activity_members names policy id activity input in
+    same_three activity_of _ _ _ _ _ _ (given_at (codes "activityId") asked members) (given_at (codes "activityType") asked members) (given_at (codes "input") asked members)
+    ∙ ap (λ r. option_map (commands.StartActivity id activity) (result_ok r)) (payloads_back input sent)
 
--- what the run hands on stands beside type and input
-continue_with : (names : WorkerNames) (memo attributes policy : Option Data) (events : List Event) (workflow : List ℕ) (input : List Payload) → HaveBytes input
-    → command_in events (spec.continue_as_new names (record { memo = memo; search_attributes = attributes; retry_policy = policy }) workflow input) ≡ Some (commands.ContinueAsNew workflow input)
-continue_with names None None None events workflow input sent = continued workflow input sent
-continue_with names None None (Some p) events workflow input sent = continued workflow input sent
-continue_with names None (Some a) None events workflow input sent = continued workflow input sent
-continue_with names None (Some a) (Some p) events workflow input sent = continued workflow input sent
-continue_with names (Some m) None None events workflow input sent = continued workflow input sent
-continue_with names (Some m) None (Some p) events workflow input sent = continued workflow input sent
-continue_with names (Some m) (Some a) None events workflow input sent = continued workflow input sent
-continue_with names (Some m) (Some a) (Some p) events workflow input sent = continued workflow input sent
+child_back : (names : WorkerNames) (policy : ChildPolicy) (events : List Event) (workflow_id workflow : List ℕ) (input : List Payload) → HaveBytes input
+    → command_in events (spec.start_child names policy workflow_id workflow input) ≡ Some (commands.StartChild workflow_id workflow input)
+child_back names policy events workflow_id workflow input sent =
+    let asked = child_asked policy in
+    let members = spec.child_members names policy workflow_id workflow input in
+    same_three child_of _ _ _ _ _ _ (given_at (codes "workflowId") asked members) (given_at (codes "workflowType") asked members) (given_at (codes "input") asked members)
+    ∙ ap (λ r. option_map (commands.StartChild workflow_id workflow) (result_ok r)) (payloads_back input sent)
 
-continue_back : (names : WorkerNames) (carried : Carried) (events : List Event) (workflow : List ℕ) (input : List Payload) → HaveBytes input
-    → command_in events (spec.continue_as_new names carried workflow input) ≡ Some (commands.ContinueAsNew workflow input)
-continue_back names carried events workflow input sent =
-    continue_with names carried.memo carried.search_attributes carried.retry_policy events workflow input sent
+-- so does what the run hands on
+continue_back : (names : WorkerNames) (policy : ContinuePolicy) (carried : Carried) (events : List Event) (workflow : List ℕ) (input : List Payload) → HaveBytes input
+    → command_in events (spec.continue_as_new names policy carried workflow input) ≡ Some (commands.ContinueAsNew workflow input)
+continue_back names policy carried events workflow input sent =
+    let asked = continued_asked policy in
+    let members = spec.continued_members names policy workflow input in
+    let handed = put_given (carried_asked carried) members in
+    same_two continued_of _ _ _ _
+    (given_at (codes "workflowType") asked handed ∙ given_at (codes "workflowType") (carried_asked carried) members)
+    (given_at (codes "input") asked handed ∙ given_at (codes "input") (carried_asked carried) members)
+    ∙ ap (λ r. option_map (commands.ContinueAsNew workflow) (result_ok r)) (payloads_back input sent)
 
-pub command_back : (names : WorkerNames) (options : ActivityOptions) (carried : Carried) (events : List Event) (command : Command) (d : Data)
-    → IsHistory events → IsSent command → written names options carried events command ≡ Ok d → command_in events d ≡ Some command
-command_back names options carried events (commands.StartActivity id activity input) d history sent is =
-    from_written events _ (Ok (spec.start_activity names options id activity input)) (spec.start_activity names options id activity input) d refl is
-    (ap (λ r. option_map (commands.StartActivity id activity) (result_ok r)) (payloads_back input sent))
-command_back names options carried events (commands.CancelActivity id) d history sent is = cancel_back events id d history is
-command_back names options carried events (commands.StartTimer id seconds) d history sent is = timer_back events id seconds d is
-command_back names options carried events (commands.CancelTimer id) d history sent is = from_written events _ (Ok (spec.cancel_timer id)) (spec.cancel_timer id) d refl is refl
-command_back names options carried events (commands.StartChild workflow_id workflow input) d history sent is =
-    from_written events _ (Ok (spec.start_child names workflow_id workflow input)) (spec.start_child names workflow_id workflow input) d refl is
-    (ap (λ r. option_map (commands.StartChild workflow_id workflow) (result_ok r)) (payloads_back input sent))
-command_back names options carried events (commands.CancelChild workflow_id) d history sent is = from_written events _ (Ok (spec.cancel_child names workflow_id)) (spec.cancel_child names workflow_id) d refl is refl
-command_back names options carried events (commands.SignalExternal workflow_id signal input) d history sent is =
+pub command_back : (names : WorkerNames) (policies : Policies) (carried : Carried) (events : List Event) (command : Command) (d : Data)
+    → IsHistory events → IsSent command → written names policies carried events command ≡ Ok d → command_in events d ≡ Some command
+command_back names policies carried events (commands.StartActivity id activity input) d history sent is =
+    let policy = policy_of policies.activities activity in
+    let whole = spec.start_activity names policy id activity input in
+    from_written events _ (Ok whole) whole d refl is (activity_back names policy events id activity input sent)
+command_back names policies carried events (commands.CancelActivity id) d history sent is = cancel_back events id d history is
+command_back names policies carried events (commands.StartTimer id seconds) d history sent is = timer_back events id seconds d is
+command_back names policies carried events (commands.CancelTimer id) d history sent is = from_written events _ (Ok (spec.cancel_timer id)) (spec.cancel_timer id) d refl is refl
+command_back names policies carried events (commands.StartChild workflow_id workflow input) d history sent is =
+    let policy = policy_of policies.children workflow in
+    let whole = spec.start_child names policy workflow_id workflow input in
+    from_written events _ (Ok whole) whole d refl is (child_back names policy events workflow_id workflow input sent)
+command_back names policies carried events (commands.CancelChild workflow_id) d history sent is = from_written events _ (Ok (spec.cancel_child names workflow_id)) (spec.cancel_child names workflow_id) d refl is refl
+command_back names policies carried events (commands.SignalExternal workflow_id signal input) d history sent is =
     from_written events _ (Ok (spec.signal_external names workflow_id signal input)) (spec.signal_external names workflow_id signal input) d refl is
     (ap (λ r. option_map (commands.SignalExternal workflow_id signal) (result_ok r)) (payloads_back input sent))
-command_back names options carried events (commands.Ask change_id min max) d history sent is = cc
-command_back names options carried events (commands.Marker change_id version) d history sent is =
+command_back names policies carried events (commands.Ask change_id min max) d history sent is = cc
+command_back names policies carried events (commands.Marker change_id version) d history sent is =
     from_written events _ (Ok (spec.marker change_id version)) (spec.marker change_id version) d refl is
     (ap (λ r. option_map (λ mark. commands.Marker mark.0 mark.1) (result_ok r)) (mark_back change_id version sent.0 sent.1 sent.2))
-command_back names options carried events (commands.Complete outcome) d history sent is =
+command_back names policies carried events (commands.Complete outcome) d history sent is =
     from_written events _ (Ok (spec.complete outcome)) (spec.complete outcome) d refl is (ap (λ r. option_map commands.Complete (result_ok r)) (payloads_back outcome sent))
-command_back names options carried events (commands.Fail message) d history sent is = from_written events _ (Ok (spec.fail message)) (spec.fail message) d refl is refl
-command_back names options carried events commands.Cancel d history sent is = from_written events _ (Ok spec.cancel) spec.cancel d refl is refl
-command_back names options carried events (commands.ContinueAsNew workflow input) d history sent is =
-    from_written events _ (Ok (spec.continue_as_new names carried workflow input)) (spec.continue_as_new names carried workflow input) d refl is
-    (continue_back names carried events workflow input sent)
+command_back names policies carried events (commands.Fail message) d history sent is =
+    let whole = spec.fail (policy_of policies.failures message) message in
+    from_written events _ (Ok whole) whole d refl is refl
+command_back names policies carried events commands.Cancel d history sent is = from_written events _ (Ok spec.cancel) spec.cancel d refl is refl
+command_back names policies carried events (commands.ContinueAsNew workflow input) d history sent is =
+    let policy = policy_of policies.continued workflow in
+    let whole = spec.continue_as_new names policy carried workflow input in
+    from_written events _ (Ok whole) whole d refl is (continue_back names policy carried events workflow input sent)
 
 some_same : {A : Type 0} (a b : A) → Some a ≡ Some b → a ≡ b
 some_same a b e = cc
 
-pub commands_differ : (names : WorkerNames) (options : ActivityOptions) (carried : Carried) (events : List Event) (c e : Command) (d : Data)
-    → IsHistory events → IsSent c → IsSent e → written names options carried events c ≡ Ok d → written names options carried events e ≡ Ok d → c ≡ e
-commands_differ names options carried events c e d history sent other is_c is_e =
-    some_same c e (sym (command_back names options carried events c d history sent is_c) ∙ command_back names options carried events e d history other is_e)
+pub commands_differ : (names : WorkerNames) (policies : Policies) (carried : Carried) (events : List Event) (c e : Command) (d : Data)
+    → IsHistory events → IsSent c → IsSent e → written names policies carried events c ≡ Ok d → written names policies carried events e ≡ Ok d → c ≡ e
+commands_differ names policies carried events c e d history sent other is_c is_e =
+    some_same c e (sym (command_back names policies carried events c d history sent is_c) ∙ command_back names policies carried events e d history other is_e)
+
+-- ---- Policies
+
+module _ (names : WorkerNames) (policies others : Policies) (carried : Carried) (events : List Event) (command : Command) (history : IsHistory events) (sent : IsSent command) where
+  -- two that are written of one command are read alike
+  alike : (d e : Data) → written names policies carried events command ≡ Ok d → written names others carried events command ≡ Ok e
+      → command_in events e ≡ command_in events d
+  alike d e is other =
+      command_back names others carried events command e history sent other ∙ sym (command_back names policies carried events command d history sent is)
+
+pub policies_unseen : PoliciesAreUnseen
+policies_unseen names policies others carried events (commands.StartActivity id activity input) d history sent is =
+    (_, refl, alike names policies others carried events (commands.StartActivity id activity input) history sent d _ is refl)
+policies_unseen names policies others carried events (commands.CancelActivity id) d history sent is = (d, is, refl)
+policies_unseen names policies others carried events (commands.StartTimer id seconds) d history sent is = (d, is, refl)
+policies_unseen names policies others carried events (commands.CancelTimer id) d history sent is = (d, is, refl)
+policies_unseen names policies others carried events (commands.StartChild workflow_id workflow input) d history sent is =
+    (_, refl, alike names policies others carried events (commands.StartChild workflow_id workflow input) history sent d _ is refl)
+policies_unseen names policies others carried events (commands.CancelChild workflow_id) d history sent is = (d, is, refl)
+policies_unseen names policies others carried events (commands.SignalExternal workflow_id signal input) d history sent is = (d, is, refl)
+policies_unseen names policies others carried events (commands.Ask change_id min max) d history sent is = cc
+policies_unseen names policies others carried events (commands.Marker change_id version) d history sent is = (d, is, refl)
+policies_unseen names policies others carried events (commands.Complete outcome) d history sent is = (d, is, refl)
+policies_unseen names policies others carried events (commands.Fail message) d history sent is =
+    (_, refl, alike names policies others carried events (commands.Fail message) history sent d _ is refl)
+policies_unseen names policies others carried events commands.Cancel d history sent is = (d, is, refl)
+policies_unseen names policies others carried events (commands.ContinueAsNew workflow input) d history sent is =
+    (_, refl, alike names policies others carried events (commands.ContinueAsNew workflow input) history sent d _ is refl)

@@ -1,7 +1,7 @@
 -- What is read of a request by the names of its fields is what was written.
 use Rattle.std.proofs.Common.{◌≡◌, ◌⊎◌, ◌<◌, ◌==◌, ◌^◌, ℕ, ◌+◌, List, [], ◌∷◌, ◌++◌, get_or, length, map, codes, decimal, Bool, true, false, cond, nat_lt, Option, Some, None, option_map, Result, Ok, Err, refl, sym, ap, subst, ◌∙◌, arith, inl, inr}
-use Rattle.serde_json.specs.Data.{Data, Members, no_members, object, put}
-use Rattle.serde_json.specs.Find.{get_member}
+use Rattle.serde_json.specs.Data.{Data, Members, no_members, number, object, put, string, unsigned}
+use Rattle.serde_json.specs.Find.{as_bool, as_number, as_str, as_u64, get, get_member}
 use Rattle.serde_json.proofs.Views.{get_member-put, get_member-put_other}
 use Rattle.std.proofs.lemmas.Bool.{true≢false}
 use Rattle.std.proofs.lemmas.Fmt.{decimal_is_IsNumeral, first_decimal}
@@ -14,22 +14,31 @@ use Rattle.wh_events.specs.declared.event.Event.{Event}
 use Rattle.wh_events.specs.declared.event.Payload.{Payload}
 use Rattle.wh_workflow.specs.declared.command.Command.{Command}
 use Rattle.wh_workflow.specs.declared.command.Command.TheVariants as commands
+use Rattle.wh_policies.specs.declared.policies.ActivityPolicy.{ActivityPolicy}
+use Rattle.wh_policies.specs.declared.policies.ChildPolicy.{ChildPolicy}
+use Rattle.wh_policies.specs.declared.policies.ContinuePolicy.{ContinuePolicy}
+use Rattle.wh_policies.specs.declared.policies.FailurePolicy.{FailurePolicy}
+use Rattle.wh_policies.specs.declared.policies.Policies.{Policies}
+use Rattle.wh_policies.specs.declared.policies.RetryPolicy.{RetryPolicy}
+use Rattle.wh_policies.specs.Tables.{policy_of}
 use Rattle.wh_messages.specs.declared.fault.RequestFault.{RequestFault}
-use Rattle.wh_messages.specs.declared.names.ActivityOptions.{ActivityOptions}
 use Rattle.wh_messages.specs.declared.names.WorkerNames.{WorkerNames}
 use Rattle.wh_messages.specs.CarryingOver.{Carried}
 use Rattle.wh_events.specs.declared.place.Thing.TheVariants.{Activity}
 use Rattle.wh_events.specs.Machines.{last_named}
 use Rattle.wh_messages.specs.Commands as spec
-use Rattle.wh_messages.specs.Commands.{cancel_scheduled, delay_text, duration_text, longest_duration, written, written_after}
-use Rattle.wh_messages.specs.Objects.{put_all}
+use Rattle.wh_messages.specs.Commands.{cancel_scheduled, carried_asked, written, written_after}
+use Rattle.wh_messages.specs.Durations.{delay_text, duration_text, longest_duration}
+use Rattle.wh_messages.specs.Objects.{object_of, put_all, put_given, value_or}
 use Rattle.wh_messages.specs.Options.{◌>>=◌}
 use Rattle.wh_messages.specs.Outcome.{on_written}
+use Rattle.wh_messages.specs.Policies.{activity_asked, child_asked, continued_asked, failure_asked, failure_info, float_written, id_reuse_name, non_retryable, parent_close_name, retry_asked, retry_written, seconds_written, texts_given}
 use Rattle.wh_messages.specs.ReadBack.{seconds_of, text_at}
 use Rattle.wh_messages.specs.Requests as requests
 use Rattle.wh_messages.specs.Requests.{query_refused}
 use Rattle.wh_messages.specs.ServerReads.{PollsAreRead, EndIsRead, HistoryIsRead, IsHistory, FailuresAreRead, QueryFailedIsRead}
-use Rattle.wh_messages.specs.ServerReads.{Fits, IsRefused, IsCompletion, CompletionIsRead, IsPositive, IsTimer, IsContinued, Says, CommandsAreRead, sticky}
+use Rattle.wh_messages.specs.ServerReads.{Fits, IsRefused, IsCompletion, CompletionIsRead, IsPositive, IsTimer, IsActivity, IsChild, IsContinued, IsFailure, IsRetry, HasRetry, HasSeconds, Queue, queue_at, Says, CommandsAreRead, sticky}
+use Rattle.wh_messages.proofs.Members.{asked_at, given_at, or_none}
 use Rattle.wh_messages.proofs.Reading.{seconds_of-duration}
 
 -- ---- Polls, histories, the end
@@ -117,7 +126,7 @@ written_same : {A : Type 0} (r : Result A RequestFault) (a b : A) → r ≡ Ok a
 written_same r a b e f = cc
 
 pub completion_read : CompletionIsRead
-completion_read names token cs events queries timeout options carried d fits is = by (written_after (written names options carried events) [] cs) is
+completion_read names token cs events queries timeout policies carried d fits is = by (written_after (written names policies carried events) [] cs) is
   where
     by : (r : Result (List Data) RequestFault) → on_written r (λ ds. Ok (requests.completed_with names token queries timeout ds)) ≡ Ok d
         → IsCompletion names token queries timeout d
@@ -144,28 +153,148 @@ timer_text n small = by (n == 0) refl
     by true e = inl refl
     by false e = inr (positive_duration n (grind (arith, e)) small)
 
-timer_read : (names : WorkerNames) (options : ActivityOptions) (carried : Carried) (id : List ℕ) (n : ℕ) (d : Data)
-    → spec.start_timer_within id n ≡ Ok d → Says names options carried (commands.StartTimer id n) d
-timer_read names options carried id n d is = by (nat_lt longest_duration n) refl is
+timer_read : (names : WorkerNames) (policies : Policies) (carried : Carried) (id : List ℕ) (n : ℕ) (d : Data)
+    → spec.start_timer_within id n ≡ Ok d → Says names policies carried (commands.StartTimer id n) d
+timer_read names policies carried id n d is = by (nat_lt longest_duration n) refl is
   where
     by : (b : Bool) → nat_lt longest_duration n ≡ b → cond b (Err (RequestFault.TooLong id)) (Ok (spec.start_timer id n)) ≡ Ok d
-        → Says names options carried (commands.StartTimer id n) d
+        → Says names policies carried (commands.StartTimer id n) d
     by true e is = cc
     by false e is =
-        subst (Says names options carried (commands.StartTimer id n)) (written_same (Ok (spec.start_timer id n)) (spec.start_timer id n) d refl is)
+        subst (Says names policies carried (commands.StartTimer id n)) (written_same (Ok (spec.start_timer id n)) (spec.start_timer id n) d refl is)
         (_, refl, (delay_text n, refl, timer_text n (grind (arith, e))))
 
-continued_with : (names : WorkerNames) (memo attributes policy : Option Data) (input : List Payload) (workflow : List ℕ) (options : ActivityOptions)
-    → let carried : Carried = record { memo = memo; search_attributes = attributes; retry_policy = policy } in
-    Says names options carried (commands.ContinueAsNew workflow input) (spec.continue_as_new names carried workflow input)
-continued_with names None None None input workflow options = (_, refl, record { queue = refl; memo = refl; search_attributes = refl; retry_policy = refl })
-continued_with names None None (Some p) input workflow options = (_, refl, record { queue = refl; memo = refl; search_attributes = refl; retry_policy = refl })
-continued_with names None (Some a) None input workflow options = (_, refl, record { queue = refl; memo = refl; search_attributes = refl; retry_policy = refl })
-continued_with names None (Some a) (Some p) input workflow options = (_, refl, record { queue = refl; memo = refl; search_attributes = refl; retry_policy = refl })
-continued_with names (Some m) None None input workflow options = (_, refl, record { queue = refl; memo = refl; search_attributes = refl; retry_policy = refl })
-continued_with names (Some m) None (Some p) input workflow options = (_, refl, record { queue = refl; memo = refl; search_attributes = refl; retry_policy = refl })
-continued_with names (Some m) (Some a) None input workflow options = (_, refl, record { queue = refl; memo = refl; search_attributes = refl; retry_policy = refl })
-continued_with names (Some m) (Some a) (Some p) input workflow options = (_, refl, record { queue = refl; memo = refl; search_attributes = refl; retry_policy = refl })
+-- ---- Policies
+
+-- a queue in the object that names it
+abbrev as_queue : Data → Option Queue
+as_queue queue = do
+  name ← text_at (codes "name") queue
+  Some (record { name = name; kind = text_at (codes "kind") queue; normal_name = text_at (codes "normalName") queue })
+
+seconds_read : (field : List ℕ) (seconds : Option ℕ) (d : Data) → get field d ≡ option_map seconds_written seconds → HasSeconds field seconds d
+seconds_read field seconds d is fits = ap (λ o. option_map seconds_of (o >>= as_str)) is ∙ by seconds fits
+  where
+    by : (s : Option ℕ) → Fits s → option_map seconds_of (option_map seconds_written s >>= as_str) ≡ s
+    by None fits = refl
+    by (Some n) fits = ap Some (seconds_of-duration n (fits n refl))
+
+text_read : {A : Type 0} (f : A → List ℕ) (field : List ℕ) (o : Option A) (d : Data)
+    → get field d ≡ option_map (λ x. string (f x)) o → text_at field d ≡ option_map f o
+text_read {A} f field o d is = ap (λ o. o >>= as_str) is ∙ by o
+  where
+    by : (o : Option A) → (option_map (λ x. string (f x)) o >>= as_str) ≡ option_map f o
+    by None = refl
+    by (Some x) = refl
+
+type_read : (field : List ℕ) (o : Option (List ℕ)) (d : Data) → get field d ≡ option_map string o → text_at field d ≡ o
+type_read field o d is = ap (λ o. o >>= as_str) is ∙ by o
+  where
+    by : (o : Option (List ℕ)) → (option_map string o >>= as_str) ≡ o
+    by None = refl
+    by (Some x) = refl
+
+final_read : (retryable : Bool) (d : Data) → get (codes "nonRetryable") d ≡ non_retryable retryable
+    → (get (codes "nonRetryable") d >>= as_bool) ≡ cond retryable None (Some true)
+final_read retryable d is = ap (λ o. o >>= as_bool) is ∙ by retryable
+  where
+    by : (b : Bool) → (non_retryable b >>= as_bool) ≡ cond b None (Some true)
+    by true = refl
+    by false = refl
+
+retry_read : (retry : RetryPolicy) → IsRetry retry (retry_written retry)
+retry_read retry =
+    let asked = retry_asked retry in
+    let members = put_all ((codes "maximumAttempts", number (unsigned retry.maximum_attempts)) ∷ []) no_members in
+    let d = retry_written retry in
+    record {
+      attempts = ap (λ o. o >>= as_number >>= as_u64) (given_at (codes "maximumAttempts") asked members);
+      initial = seconds_read (codes "initialInterval") retry.initial_interval d (asked_at (codes "initialInterval") asked members (option_map seconds_written retry.initial_interval) refl);
+      maximum = seconds_read (codes "maximumInterval") retry.maximum_interval d (asked_at (codes "maximumInterval") asked members (option_map seconds_written retry.maximum_interval) refl);
+      coefficient = asked_at (codes "backoffCoefficient") asked members (option_map float_written retry.backoff_coefficient) refl;
+      final_types = asked_at (codes "nonRetryableErrorTypes") asked members (texts_given retry.non_retryable) refl;
+    }
+
+retry_at : (retry : Option RetryPolicy) (before : Option Data) (d : Data)
+    → get (codes "retryPolicy") d ≡ value_or (option_map retry_written retry) before → HasRetry retry before d
+retry_at None before d is = is
+retry_at (Some retry) before d is = (retry_written retry, is, retry_read retry)
+
+-- a queue that stands among the members is read as there
+queue_read : (field : List ℕ) (d : Data) (members : Members) → get field d ≡ get_member field members → queue_at field d ≡ queue_at field (object members)
+queue_read field d members is = ap (λ o. o >>= as_queue) is
+
+activity_read : (names : WorkerNames) (policy : ActivityPolicy) (id activity : List ℕ) (input : List Payload)
+    → IsActivity names policy (object (put_given (activity_asked policy) (spec.activity_members names policy id activity input)))
+activity_read names policy id activity input =
+    let asked = activity_asked policy in
+    let members = spec.activity_members names policy id activity input in
+    let d = object (put_given asked members) in
+    let seconds = λ (field : List ℕ) (value : Option ℕ) (is : get field d ≡ option_map seconds_written value). seconds_read field value d is in
+    record {
+      queue = queue_read (codes "taskQueue") d members (given_at (codes "taskQueue") asked members);
+      to_start = seconds (codes "scheduleToStartTimeout") policy.schedule_to_start (asked_at (codes "scheduleToStartTimeout") asked members (option_map seconds_written policy.schedule_to_start) refl);
+      attempt = seconds (codes "startToCloseTimeout") (Some policy.start_to_close) (given_at (codes "startToCloseTimeout") asked members);
+      to_close = seconds (codes "scheduleToCloseTimeout") policy.schedule_to_close (asked_at (codes "scheduleToCloseTimeout") asked members (option_map seconds_written policy.schedule_to_close) refl);
+      heartbeat = seconds (codes "heartbeatTimeout") policy.heartbeat (asked_at (codes "heartbeatTimeout") asked members (option_map seconds_written policy.heartbeat) refl);
+      retry = retry_at (Some policy.retry) None d (given_at (codes "retryPolicy") asked members);
+    }
+
+child_read : (names : WorkerNames) (policy : ChildPolicy) (workflow_id workflow : List ℕ) (input : List Payload)
+    → IsChild names policy (object (put_given (child_asked policy) (spec.child_members names policy workflow_id workflow input)))
+child_read names policy workflow_id workflow input =
+    let asked = child_asked policy in
+    let members = spec.child_members names policy workflow_id workflow input in
+    let d = object (put_given asked members) in
+    record {
+      namespace = ap (λ o. o >>= as_str) (given_at (codes "namespace") asked members);
+      queue = queue_read (codes "taskQueue") d members (given_at (codes "taskQueue") asked members);
+      execution = seconds_read (codes "workflowExecutionTimeout") policy.execution_timeout d (asked_at (codes "workflowExecutionTimeout") asked members (option_map seconds_written policy.execution_timeout) refl);
+      run = seconds_read (codes "workflowRunTimeout") policy.run_timeout d (asked_at (codes "workflowRunTimeout") asked members (option_map seconds_written policy.run_timeout) refl);
+      task = seconds_read (codes "workflowTaskTimeout") policy.task_timeout d (asked_at (codes "workflowTaskTimeout") asked members (option_map seconds_written policy.task_timeout) refl);
+      parent_close = text_read parent_close_name (codes "parentClosePolicy") policy.parent_close d (asked_at (codes "parentClosePolicy") asked members (option_map (λ p. string (parent_close_name p)) policy.parent_close) refl);
+      id_reuse = text_read id_reuse_name (codes "workflowIdReusePolicy") policy.id_reuse d (asked_at (codes "workflowIdReusePolicy") asked members (option_map (λ p. string (id_reuse_name p)) policy.id_reuse) refl);
+      retry = retry_at policy.retry None d (given_at (codes "retryPolicy") asked members);
+    }
+
+failure_read : (policy : FailurePolicy) (message : List ℕ)
+    → IsFailure policy (object_of ((codes "failure", spec.failure_with (failure_info policy) message) ∷ []))
+failure_read policy message =
+    let asked = failure_asked policy in
+    let d = failure_info policy in
+    record {
+      info = d;
+      told = refl;
+      failure_type = type_read (codes "type") policy.failure_type d (asked_at (codes "type") asked no_members (option_map string policy.failure_type) refl);
+      final = final_read policy.retryable d (asked_at (codes "nonRetryable") asked no_members (non_retryable policy.retryable) refl);
+    }
+
+continued_read : (names : WorkerNames) (policy : ContinuePolicy) (carried : Carried) (workflow : List ℕ) (input : List Payload)
+    → IsContinued names policy carried (object (put_given (continued_asked policy) (put_given (carried_asked carried) (spec.continued_members names policy workflow input))))
+continued_read names policy carried workflow input =
+    let asked = continued_asked policy in
+    let handed = carried_asked carried in
+    let members = spec.continued_members names policy workflow input in
+    let inner = put_given handed members in
+    let d = object (put_given asked inner) in
+    record {
+      queue = queue_read (codes "taskQueue") d members (given_at (codes "taskQueue") asked inner ∙ given_at (codes "taskQueue") handed members);
+      run = seconds_read (codes "workflowRunTimeout") policy.run_timeout d
+          (given_at (codes "workflowRunTimeout") asked inner
+          ∙ ap (value_or (option_map seconds_written policy.run_timeout)) (given_at (codes "workflowRunTimeout") handed members)
+          ∙ or_none (option_map seconds_written policy.run_timeout));
+      task = seconds_read (codes "workflowTaskTimeout") policy.task_timeout d
+          (given_at (codes "workflowTaskTimeout") asked inner
+          ∙ ap (value_or (option_map seconds_written policy.task_timeout)) (given_at (codes "workflowTaskTimeout") handed members)
+          ∙ or_none (option_map seconds_written policy.task_timeout));
+      memo = given_at (codes "memo") asked inner ∙ asked_at (codes "memo") handed members carried.memo refl;
+      search_attributes = given_at (codes "searchAttributes") asked inner ∙ asked_at (codes "searchAttributes") handed members carried.search_attributes refl;
+      retry = retry_at policy.retry carried.retry_policy d
+          (given_at (codes "retryPolicy") asked inner
+          ∙ ap (value_or (option_map retry_written policy.retry)) (asked_at (codes "retryPolicy") handed members carried.retry_policy refl));
+    }
+
+-- ---- All commands
 
 abbrev whole : Data → Result Data RequestFault
 whole d = Ok d
@@ -175,26 +304,32 @@ of_written : (P : Data → Type 0) (a d : Data) → whole a ≡ whole d → P a 
 of_written P a d is holds = subst P (written_same (Ok a) a d refl is) holds
 
 pub commands_read : CommandsAreRead
-commands_read names options carried events (commands.StartActivity id activity input) d fits is =
-    of_written (Says names options carried (commands.StartActivity id activity input)) (spec.start_activity names options id activity input) d is
-    (_, refl, record { queue = refl; timeout = ap Some (seconds_of-duration options.timeout fits); attempts = refl })
-commands_read names options carried events (commands.CancelActivity id) d fits is = tt
-commands_read names options carried events (commands.StartTimer id seconds) d fits is = timer_read names options carried id seconds d is
-commands_read names options carried events (commands.CancelTimer id) d fits is = tt
-commands_read names options carried events (commands.StartChild workflow_id workflow input) d fits is =
-    of_written (Says names options carried (commands.StartChild workflow_id workflow input)) (spec.start_child names workflow_id workflow input) d is
-    (_, refl, record { namespace = refl; queue = refl })
-commands_read names options carried events (commands.CancelChild workflow_id) d fits is =
-    of_written (Says names options carried (commands.CancelChild workflow_id)) (spec.cancel_child names workflow_id) d is
+commands_read names policies carried events (commands.StartActivity id activity input) d is =
+    let policy = policy_of policies.activities activity in
+    of_written (Says names policies carried (commands.StartActivity id activity input)) (spec.start_activity names policy id activity input) d is
+    (_, refl, activity_read names policy id activity input)
+commands_read names policies carried events (commands.CancelActivity id) d is = tt
+commands_read names policies carried events (commands.StartTimer id seconds) d is = timer_read names policies carried id seconds d is
+commands_read names policies carried events (commands.CancelTimer id) d is = tt
+commands_read names policies carried events (commands.StartChild workflow_id workflow input) d is =
+    let policy = policy_of policies.children workflow in
+    of_written (Says names policies carried (commands.StartChild workflow_id workflow input)) (spec.start_child names policy workflow_id workflow input) d is
+    (_, refl, child_read names policy workflow_id workflow input)
+commands_read names policies carried events (commands.CancelChild workflow_id) d is =
+    of_written (Says names policies carried (commands.CancelChild workflow_id)) (spec.cancel_child names workflow_id) d is
     (_, refl, record { namespace = refl; of_child = refl })
-commands_read names options carried events (commands.SignalExternal workflow_id signal input) d fits is =
-    of_written (Says names options carried (commands.SignalExternal workflow_id signal input)) (spec.signal_external names workflow_id signal input) d is
+commands_read names policies carried events (commands.SignalExternal workflow_id signal input) d is =
+    of_written (Says names policies carried (commands.SignalExternal workflow_id signal input)) (spec.signal_external names workflow_id signal input) d is
     (_, refl, refl)
-commands_read names options carried events (commands.Ask change_id min max) d fits is = tt
-commands_read names options carried events (commands.Marker change_id version) d fits is = tt
-commands_read names options carried events (commands.Complete outcome) d fits is = tt
-commands_read names options carried events (commands.Fail message) d fits is = tt
-commands_read names options carried events commands.Cancel d fits is = tt
-commands_read names options carried events (commands.ContinueAsNew workflow input) d fits is =
-    of_written (Says names options carried (commands.ContinueAsNew workflow input)) (spec.continue_as_new names carried workflow input) d is
-    (continued_with names carried.memo carried.search_attributes carried.retry_policy input workflow options)
+commands_read names policies carried events (commands.Ask change_id min max) d is = tt
+commands_read names policies carried events (commands.Marker change_id version) d is = tt
+commands_read names policies carried events (commands.Complete outcome) d is = tt
+commands_read names policies carried events (commands.Fail message) d is =
+    let policy = policy_of policies.failures message in
+    of_written (Says names policies carried (commands.Fail message)) (spec.fail policy message) d is
+    (_, refl, failure_read policy message)
+commands_read names policies carried events commands.Cancel d is = tt
+commands_read names policies carried events (commands.ContinueAsNew workflow input) d is =
+    let policy = policy_of policies.continued workflow in
+    of_written (Says names policies carried (commands.ContinueAsNew workflow input)) (spec.continue_as_new names policy carried workflow input) d is
+    (_, refl, continued_read names policy carried workflow input)

@@ -2,7 +2,9 @@ pub mod Objects
 pub mod Options
 pub mod Outcome
 pub mod Payloads
+pub mod Durations
 pub mod CarryingOver
+pub mod Policies
 pub mod Commands
 pub mod Requests
 pub mod Responses

@@ -1,5 +1,5 @@
 -- Objects of JSON by their members.
-use Rattle.std.specs.Prelude.{List, [], ◌∷◌, ℕ, Option, Some, None}
+use Rattle.std.specs.Prelude.{List, [], ◌∷◌, ℕ, Option, Some, None, bytes_eq, if◌then◌else◌}
 use Rattle.serde_json.specs.Data.{Data, object, Members, no_members, put}
 
 -- the members, with each of these at its name
@@ -15,3 +15,18 @@ object_of ms = object (put_all ms no_members)
 abbrev pub with_member : List ℕ → Option Data → Members → Members
 with_member name None members = members
 with_member name (Some d) members = put name d members
+
+-- the members, with each of these values that is there at its name
+abbrev pub put_given : List (List ℕ × Option Data) → Members → Members
+put_given [] members = members
+put_given (m ∷ ms) members = put_given ms (with_member m.0 m.1 members)
+
+-- the value, else the one before
+abbrev pub value_or : Option Data → Option Data → Option Data
+value_or (Some d) before = Some d
+value_or None before = before
+
+-- what stands at a name once these values are put, where this stood there before
+abbrev pub found_at : List ℕ → List (List ℕ × Option Data) → Option Data → Option Data
+found_at name [] before = before
+found_at name (m ∷ ms) before = found_at name ms (if bytes_eq name m.0 then value_or m.1 before else before)

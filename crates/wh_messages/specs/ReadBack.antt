@@ -15,7 +15,7 @@ use Rattle.wh_json.specs.Payloads.{payloads_at}
 use Rattle.wh_workflow.specs.declared.command.Command.{Command}
 use Rattle.wh_workflow.specs.declared.command.Command.TheVariants as commands
 use Rattle.wh_workflow.specs.Jobs.{id_at}
-use Rattle.wh_messages.specs.declared.names.ActivityOptions.{ActivityOptions}
+use Rattle.wh_policies.specs.declared.policies.Policies.{Policies}
 use Rattle.wh_messages.specs.declared.names.WorkerNames.{WorkerNames}
 use Rattle.wh_messages.specs.CarryingOver.{Carried}
 use Rattle.wh_messages.specs.Commands.{written}
@@ -161,15 +161,21 @@ IsHistory events = InPlace events × (length events ≤ most_events)
 
 -- a command that is written after the events of a history is read back
 abbrev pub ReadsBack : Type 0
-ReadsBack = (names : WorkerNames) (options : ActivityOptions) (carried : Carried) (events : List Event) (command : Command) (d : Data)
-    → IsHistory events → IsSent command → written names options carried events command ≡ Ok d
+ReadsBack = (names : WorkerNames) (policies : Policies) (carried : Carried) (events : List Event) (command : Command) (d : Data)
+    → IsHistory events → IsSent command → written names policies carried events command ≡ Ok d
     → command_in events d ≡ Some command
 
 -- two commands are never written alike
 abbrev pub CommandsDiffer : Type 0
-CommandsDiffer = (names : WorkerNames) (options : ActivityOptions) (carried : Carried) (events : List Event) (c e : Command) (d : Data)
+CommandsDiffer = (names : WorkerNames) (policies : Policies) (carried : Carried) (events : List Event) (c e : Command) (d : Data)
     → IsHistory events → IsSent c → IsSent e
-    → written names options carried events c ≡ Ok d → written names options carried events e ≡ Ok d → c ≡ e
+    → written names policies carried events c ≡ Ok d → written names policies carried events e ≡ Ok d → c ≡ e
+
+-- whichever the policies, a command is written or not, and is read back alike: what replay compares is the command
+abbrev pub PoliciesAreUnseen : Type 0
+PoliciesAreUnseen = (names : WorkerNames) (policies others : Policies) (carried : Carried) (events : List Event)
+    (command : Command) (d : Data) → IsHistory events → IsSent command → written names policies carried events command ≡ Ok d
+    → (e : Data) × (written names others carried events command ≡ Ok e) × (command_in events e ≡ command_in events d)
 
 -- ---- Answers
 
@@ -180,11 +186,11 @@ AreSent (command ∷ commands) = IsSent command × AreSent commands
 
 -- two completions of workflow tasks are never written alike
 abbrev pub CompletionsDiffer : Type 0
-CompletionsDiffer = (names : WorkerNames) (options : ActivityOptions) (carried : Carried) (events : List Event)
+CompletionsDiffer = (names : WorkerNames) (policies : Policies) (carried : Carried) (events : List Event)
     (token other_token : List ℕ) (cs es : List Command) (queries other_queries : List (List ℕ)) (sticky other_sticky : Option ℕ)
     (d : Data) → IsHistory events → AreSent cs → AreSent es
-    → workflow_completed names token cs events queries sticky options carried ≡ Ok d
-    → workflow_completed names other_token es events other_queries other_sticky options carried ≡ Ok d
+    → workflow_completed names token cs events queries sticky policies carried ≡ Ok d
+    → workflow_completed names other_token es events other_queries other_sticky policies carried ≡ Ok d
     → (token ≡ other_token) × (cs ≡ es)
 
 -- two failures of workflow tasks are never written alike

@@ -6,12 +6,13 @@ use Rattle.wh_events.specs.declared.event.Event.{Event}
 use Rattle.wh_events.specs.declared.event.Payload.{Payload}
 use Rattle.wh_workflow.specs.declared.command.Command.{Command}
 use Rattle.wh_messages.specs.declared.fault.RequestFault.{RequestFault}
-use Rattle.wh_messages.specs.declared.names.ActivityOptions.{ActivityOptions}
+use Rattle.wh_policies.specs.declared.policies.Policies.{Policies}
 use Rattle.wh_messages.specs.declared.names.WorkerNames.{WorkerNames}
 use Rattle.wh_messages.specs.declared.request.FailedCause.{FailedCause}
 use Rattle.wh_messages.specs.declared.request.FailedCause.TheVariants.{Nondeterministic, TooLarge, Unhandled}
 use Rattle.wh_messages.specs.CarryingOver.{Carried}
-use Rattle.wh_messages.specs.Commands.{duration_text, failure, written, written_after}
+use Rattle.wh_messages.specs.Commands.{failure, written, written_after}
+use Rattle.wh_messages.specs.Durations.{duration_text}
 use Rattle.wh_messages.specs.Objects.{object_of, put_all}
 use Rattle.wh_messages.specs.Outcome.{on_written}
 use Rattle.wh_messages.specs.Payloads.{payloads_written}
@@ -101,9 +102,9 @@ completed_with names token queries sticky commands = object (with_sticky names s
     (answer_of names token)))
 
 -- a workflow task, completed with commands; or the fault of the first command that can't be written
-abbrev pub workflow_completed : WorkerNames → List ℕ → List Command → List Event → List (List ℕ) → Option ℕ → ActivityOptions → Carried → Result Data RequestFault
-workflow_completed names token commands events queries sticky options carried =
-    on_written (written_after (written names options carried events) [] commands)
+abbrev pub workflow_completed : WorkerNames → List ℕ → List Command → List Event → List (List ℕ) → Option ℕ → Policies → Carried → Result Data RequestFault
+workflow_completed names token commands events queries sticky policies carried =
+    on_written (written_after (written names policies carried events) [] commands)
     (λ values. Ok (completed_with names token queries sticky values))
 
 abbrev pub cause_name : FailedCause → List ℕ

@@ -6,20 +6,26 @@ ghost use Rattle.serde_json.specs.View.{view, members_view};
 ghost use Rattle.wh_events.specs.Machines.{last_named, opens};
 ghost use Rattle.wh_messages.specs.Outcome.{Writes, WritesAll};
 ghost use Rattle.wh_messages.specs.Commands as spec;
-ghost use Rattle.wh_messages.specs.Commands.{cancel_scheduled, command_form, delay_text, retry_policy};
-ghost use Rattle.wh_messages.specs.Commands.{start_timer_within, with_carried, written, written_after};
+ghost use Rattle.wh_messages.specs.Commands.{cancel_scheduled, carried_asked, command_form};
+ghost use Rattle.wh_messages.specs.Commands.{start_timer_within, written, written_after};
 ghost use Rattle.wh_messages.specs.CarryingOver.{carried_seen};
+ghost use Rattle.wh_messages.specs.Durations.{delay_text};
+ghost use Rattle.wh_messages.specs.Objects.{put_given};
 
 use crate::carrying::CarriedOver;
 use crate::fault::RequestFault;
-use crate::names::{ActivityOptions, WorkerNames};
+use crate::names::WorkerNames;
 use crate::object::{
-    Members, put_copy, put_duration, put_failure, put_named, put_payloads, put_text,
+    Members, failure_with, put_copy, put_duration, put_named, put_payloads, put_text,
 };
 use crate::payload::json_payloads;
+use crate::policies::{
+    failure_info, put_activity, put_child, put_continued, queue_asked, retry_written,
+};
 use serde_json::{Map, Value, json, put};
 use std::alloc::{AllocError, Global};
 use wh_events::{Event, EventNo, Items, Payload, Role, Text, Thing};
+use wh_policies::{ActivityPolicy, ChildPolicy, ContinuePolicy, FailurePolicy, Policies};
 use wh_workflow::Command;
 
 /// The longest duration of protobuf, in seconds.
@@ -40,41 +46,32 @@ fn command_form(
     Ok(Value::Object(command))
 }
 
-/// How an activity is tried again.
-fn retry_policy(alloc: Global, attempts: u16) -> Result<Value, AllocError>
-    ensures { IfOk result (λ policy. view policy ≡ retry_policy attempts) }
-{
-    json!(in alloc; {"maximumAttempts": attempts})
-}
-
 /// Starts an activity.
 fn start_activity(
     alloc: Global,
     names: &WorkerNames,
-    options: ActivityOptions,
+    policy: &ActivityPolicy,
     id: &Text,
     activity: &Text,
     input: &Items<Payload>,
 ) -> Result<Value, RequestFault>
-    ensures { Writes result (Ok (spec.start_activity names.now options id.now activity.now input.now)) }
+    ensures { Writes result (Ok (spec.start_activity names.now policy.now id.now activity.now input.now)) }
 {
+    let queue = queue_asked(names, &policy.task_queue);
     let mut attributes = Map::new(alloc);
     put_text(&mut attributes, alloc, "activityId", id.get())?;
     put_named(&mut attributes, alloc, "activityType", activity.get())?;
-    put_named(&mut attributes, alloc, "taskQueue", names.task_queue.get())?;
+    put_named(&mut attributes, alloc, "taskQueue", queue)?;
     put_payloads(&mut attributes, alloc, "input", input.get())?;
     put_duration(
         &mut attributes,
         alloc,
         "startToCloseTimeout",
-        options.timeout as u64,
+        policy.start_to_close as u64,
     )?;
-    put(
-        &mut attributes,
-        alloc,
-        "retryPolicy",
-        retry_policy(alloc, options.attempts)?,
-    )?;
+    let retry = retry_written(alloc, &policy.retry)?;
+    put(&mut attributes, alloc, "retryPolicy", retry)?;
+    put_activity(&mut attributes, alloc, policy)?;
     command_form(
         alloc,
         "COMMAND_TYPE_SCHEDULE_ACTIVITY_TASK",
@@ -195,18 +192,22 @@ fn cancel_timer(alloc: Global, id: &Text) -> Result<Value, RequestFault>
 fn start_child(
     alloc: Global,
     names: &WorkerNames,
+    policy: &ChildPolicy,
     workflow_id: &Text,
     workflow: &Text,
     input: &Items<Payload>,
 ) -> Result<Value, RequestFault>
-    ensures { Writes result (Ok (spec.start_child names.now workflow_id.now workflow.now input.now)) }
+    ensures { Writes result
+        (Ok (spec.start_child names.now policy.now workflow_id.now workflow.now input.now)) }
 {
+    let queue = queue_asked(names, &policy.task_queue);
     let mut attributes = Map::new(alloc);
     put_text(&mut attributes, alloc, "namespace", names.namespace.get())?;
     put_text(&mut attributes, alloc, "workflowId", workflow_id.get())?;
     put_named(&mut attributes, alloc, "workflowType", workflow.get())?;
-    put_named(&mut attributes, alloc, "taskQueue", names.task_queue.get())?;
+    put_named(&mut attributes, alloc, "taskQueue", queue)?;
     put_payloads(&mut attributes, alloc, "input", input.get())?;
+    put_child(&mut attributes, alloc, policy)?;
     command_form(
         alloc,
         "COMMAND_TYPE_START_CHILD_WORKFLOW_EXECUTION",
@@ -332,11 +333,13 @@ fn complete(alloc: Global, outcome: &Items<Payload>) -> Result<Value, RequestFau
 }
 
 /// Closes the run with a failure.
-fn fail(alloc: Global, message: &Text) -> Result<Value, RequestFault>
-    ensures { Writes result (Ok (spec.fail message.now)) }
+fn fail(alloc: Global, policy: &FailurePolicy, message: &Text) -> Result<Value, RequestFault>
+    ensures { Writes result (Ok (spec.fail policy.now message.now)) }
 {
     let mut attributes = Map::new(alloc);
-    put_failure(&mut attributes, alloc, message.get())?;
+    let info = failure_info(alloc, policy)?;
+    let failure = failure_with(alloc, info, message.get())?;
+    put(&mut attributes, alloc, "failure", failure)?;
     command_form(
         alloc,
         "COMMAND_TYPE_FAIL_WORKFLOW_EXECUTION",
@@ -364,7 +367,7 @@ fn put_carried(
     carried: &CarriedOver,
 ) -> Result<(), AllocError>
     ensures { OnOk result (members_view members.new.entries
-        ≡ with_carried (carried_seen carried.now) (members_view members.old.entries)) }
+        ≡ put_given (carried_asked (carried_seen carried.now)) (members_view members.old.entries)) }
 {
     put_copy(members, alloc, "memo", &carried.memo)?;
     put_copy(
@@ -380,17 +383,21 @@ fn put_carried(
 fn continue_as_new(
     alloc: Global,
     names: &WorkerNames,
+    policy: &ContinuePolicy,
     carried: &CarriedOver,
     workflow: &Text,
     input: &Items<Payload>,
 ) -> Result<Value, RequestFault>
-    ensures { Writes result (Ok (spec.continue_as_new names.now (carried_seen carried.now) workflow.now input.now)) }
+    ensures { Writes result
+        (Ok (spec.continue_as_new names.now policy.now (carried_seen carried.now) workflow.now input.now)) }
 {
+    let queue = queue_asked(names, &policy.task_queue);
     let mut attributes = Map::new(alloc);
     put_named(&mut attributes, alloc, "workflowType", workflow.get())?;
-    put_named(&mut attributes, alloc, "taskQueue", names.task_queue.get())?;
+    put_named(&mut attributes, alloc, "taskQueue", queue)?;
     put_payloads(&mut attributes, alloc, "input", input.get())?;
     put_carried(&mut attributes, alloc, carried)?;
+    put_continued(&mut attributes, alloc, policy)?;
     command_form(
         alloc,
         "COMMAND_TYPE_CONTINUE_AS_NEW_WORKFLOW_EXECUTION",
@@ -413,19 +420,22 @@ fn never_sent(change_id: &Text) -> RequestFault
 fn command_value(
     alloc: Global,
     names: &WorkerNames,
-    options: ActivityOptions,
+    policies: &Policies,
     carried: &CarriedOver,
     events: &[Event],
     command: &Command,
 ) -> Result<Value, RequestFault>
-    ensures { Writes result (written names.now options (carried_seen carried.now) events.now command.now) }
+    ensures { Writes result (written names.now policies.now (carried_seen carried.now) events.now command.now) }
 {
     match command {
         Command::StartActivity {
             id,
             activity,
             input,
-        } => start_activity(alloc, names, options, id, activity, input),
+        } => {
+            let policy = policies.activities.policy_of(activity.get());
+            start_activity(alloc, names, policy, id, activity, input)
+        }
         Command::CancelActivity { id } => cancel_activity(alloc, events, id),
         Command::StartTimer { id, seconds } => start_timer(alloc, id, *seconds),
         Command::CancelTimer { id } => cancel_timer(alloc, id),
@@ -433,7 +443,10 @@ fn command_value(
             workflow_id,
             workflow,
             input,
-        } => start_child(alloc, names, workflow_id, workflow, input),
+        } => {
+            let policy = policies.children.policy_of(workflow.get());
+            start_child(alloc, names, policy, workflow_id, workflow, input)
+        }
         Command::CancelChild { workflow_id } => cancel_child(alloc, names, workflow_id),
         Command::SignalExternal {
             workflow_id,
@@ -443,11 +456,14 @@ fn command_value(
         Command::Ask { change_id, .. } => Err(never_sent(change_id)),
         Command::Marker { change_id, version } => marker(alloc, change_id, *version),
         Command::Complete { result } => complete(alloc, result),
-        Command::Fail { message } => fail(alloc, message),
+        Command::Fail { message } => {
+            fail(alloc, policies.failures.policy_of(message.get()), message)
+        }
         Command::Cancel => cancel(alloc),
-        Command::ContinueAsNew { workflow, input } => continue_as_new(
-            alloc, names, carried, workflow, input,
-        ),
+        Command::ContinueAsNew { workflow, input } => {
+            let policy = policies.continued.policy_of(workflow.get());
+            continue_as_new(alloc, names, policy, carried, workflow, input)
+        }
     }
 }
 
@@ -455,17 +471,17 @@ fn command_value(
 pub(crate) fn commands_value(
     alloc: Global,
     names: &WorkerNames,
-    options: ActivityOptions,
+    policies: &Policies,
     carried: &CarriedOver,
     events: &[Event],
     commands: &[Command],
 ) -> Result<Vec<Value>, RequestFault>
     ensures { WritesAll result
-        (written_after (written names.now options (carried_seen carried.now) events.now) [] commands.now) }
+        (written_after (written names.now policies.now (carried_seen carried.now) events.now) [] commands.now) }
 {
     let mut values = Vec::new(alloc);
     for command in commands {
-        let value = command_value(alloc, names, options, carried, events, command)?;
+        let value = command_value(alloc, names, policies, carried, events, command)?;
         values.push(value)?;
     }
     Ok(values)

@@ -1,5 +1,6 @@
 //! What holds of all commands and answers, each law as the contract of a function that does nothing.
 ghost use Rattle.wh_messages.specs.ReadBack.{ReadsBack, CommandsDiffer, CompletionsDiffer, FailuresDiffer};
+ghost use Rattle.wh_messages.specs.ReadBack.{PoliciesAreUnseen};
 ghost use Rattle.wh_messages.specs.ReadBack.{ResultsDiffer, ActivityFailuresDiffer, FailureIsNoResult};
 ghost use Rattle.wh_messages.specs.ServerReads.{CommandsAreRead, CompletionIsRead, EndIsRead, FailuresAreRead};
 ghost use Rattle.wh_messages.specs.ServerReads.{HistoryIsRead, PollsAreRead, QueryFailedIsRead};
@@ -10,6 +11,12 @@ ghost use Rattle.wh_messages.specs.Served.{PageIsRead, TaskIsRead, ActivityIsRea
 pub fn commands_are_read_back()
     ensures read { ReadsBack }
     ensures apart { CommandsDiffer }
+{}
+
+/// Which policies a command is written with can't be told from what is read of it, nor from whether it
+/// is written. So they may change between two tasks of a run, and replay does not see them.
+pub fn policies_are_unseen()
+    ensures { PoliciesAreUnseen }
 {}
 
 /// Two answers to workflow tasks are never written alike: neither two completions, nor two failures.
@@ -53,9 +60,9 @@ pub fn answers_are_read()
     ensures query { QueryFailedIsRead }
 {}
 
-/// What a server reads of a command beside what its workflow gave: namespace and queue, the timeout
-/// and the attempts of an activity, that a timer fires after some time, and what a run hands on to
-/// the one that continues it.
+/// What a server reads of a command beside what its workflow gave: namespace and queue, what the policy
+/// of its name asks for, that a timer fires after some time, and what a run hands on to the one that
+/// continues it.
 pub fn commands_are_read()
     ensures { CommandsAreRead }
 {}

@@ -13,13 +13,14 @@ pub mod laws;
 mod names;
 mod object;
 mod payload;
+mod policies;
 mod refusals;
 mod request;
 mod response;
 
 pub use carrying::{CarriedOver, carried_over, continues_as_new};
 pub use fault::RequestFault;
-pub use names::{ActivityOptions, WorkerNames};
+pub use names::WorkerNames;
 pub use refusals::is_too_large;
 pub use request::{
     FailedCause, NO_QUERIES, activity_completed, activity_failed, history, poll_activity,

@@ -1,4 +1,4 @@
-//! What a worker calls itself, and what it says of the activities that it starts.
+//! What a worker calls itself.
 
 ghost use Rattle.std.specs.Prelude.{◌≡◌, IfOk, string_bytes};
 ghost use Rattle.wh_messages.specs.Requests.{sticky_queue_of};
@@ -43,14 +43,4 @@ impl WorkerNames {
             sticky_queue: Text::new(sticky_queue),
         })
     }
-}
-
-/// What a server is asked for with each activity that a workflow starts (Temporal documentation,
-/// "Detecting Activity failures" and "Retry Policies").
-#[derive(Clone, Copy, Debug)]
-pub struct ActivityOptions {
-    /// How many seconds one attempt may take.
-    pub timeout: u32,
-    /// How often it is attempted at most; 0 leaves it to the server, which tries without end.
-    pub attempts: u16,
 }

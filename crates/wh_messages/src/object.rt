@@ -3,7 +3,8 @@
 ghost use Rattle.std.specs.Prelude.{◌≡◌, IfOk, OnOk, codes, option_map};
 ghost use Rattle.serde_json.specs.Data.{string, put};
 ghost use Rattle.serde_json.specs.View.{view, members_view};
-ghost use Rattle.wh_messages.specs.Commands.{duration_text, failure, named};
+ghost use Rattle.wh_messages.specs.Commands.{failure, failure_with, named};
+ghost use Rattle.wh_messages.specs.Durations.{duration_text};
 ghost use Rattle.wh_messages.specs.Objects.{with_member};
 ghost use Rattle.wh_messages.specs.Payloads.{payloads_written};
 
@@ -85,6 +86,13 @@ pub(crate) fn put_payloads(
 {
     let payloads = payloads_value(alloc, payloads)?;
     put(members, alloc, name, payloads)
+}
+
+/// Why something failed, with what is told of it beside that.
+pub(crate) fn failure_with(alloc: Global, info: Value, message: &str) -> Result<Value, AllocError>
+    ensures { IfOk result (λ value. view value ≡ failure_with (view info) message.now) }
+{
+    json!(in alloc; {"message": message, "source": "wfhost", "applicationFailureInfo": info})
 }
 
 /// Why something failed.

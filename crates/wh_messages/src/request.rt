@@ -9,11 +9,12 @@ ghost use Rattle.wh_messages.specs.Requests as spec;
 use crate::carrying::CarriedOver;
 use crate::command::commands_value;
 use crate::fault::RequestFault;
-use crate::names::{ActivityOptions, WorkerNames};
+use crate::names::WorkerNames;
 use crate::object::{Members, put_duration, put_failure, put_payloads, put_text};
 use serde_json::{Map, Value, json, put};
 use std::alloc::{AllocError, Global};
 use wh_events::{Event, OutOfMemory, Payload, Text};
+use wh_policies::Policies;
 use wh_workflow::Command;
 
 /// Why a workflow task failed (Temporal's `WorkflowTaskFailedCause`).
@@ -231,7 +232,8 @@ fn completed_with(
 /// The request of `RespondWorkflowTaskCompleted`: the commands after the events that they were
 /// replayed from, and the names of the queries that came with the task, none of which is answered.
 /// With a number of seconds in `sticky` the run is kept for its next task, which waits that long in
-/// the sticky queue. What the run hands on stands in a Continue-As-New alone.
+/// the sticky queue. What the run hands on stands in a Continue-As-New alone. What the server is asked
+/// for with a command is the policy of its name.
 ///
 /// The fault is that of the first command that can't be written: `TooLong` for a timer, `NotScheduled`
 /// for the cancel of an activity, `NeverSent` for an ask. `OutOfMemory` can come in place of each.
@@ -243,14 +245,14 @@ pub fn workflow_completed(
     events: &[Event],
     queries: &[Text],
     sticky: Option<u32>,
-    options: ActivityOptions,
+    policies: &Policies,
     carried: &CarriedOver,
 ) -> Result<Value, RequestFault>
     ensures { Writes result
-        (spec.workflow_completed names.now token.now commands.now events.now queries.now sticky options
+        (spec.workflow_completed names.now token.now commands.now events.now queries.now sticky policies.now
         (carried_seen carried.now)) }
 {
-    let commands = commands_value(alloc, names, options, carried, events, commands)?;
+    let commands = commands_value(alloc, names, policies, carried, events, commands)?;
     let params = completed_with(alloc, names, token, queries, sticky, commands)?;
     Ok(params)
 }

@@ -1,34 +1,42 @@
 //! The setups of an open host, and a host in one call.
-ghost use Rattle.std.specs.Prelude.{◌≡◌, ◌+◌, ◌↔◌, IfOk, Err, OnErr, map, replicate, vec_len};
-ghost use Rattle.wh_ledger.specs.Shares.{no_shares, sums_of};
+ghost use Rattle.std.specs.Prelude.{◌≡◌, ◌≤◌, ◌+◌, ◌↔◌, IfOk, Err, map, vec_capacity, vec_len};
+ghost use denote.Param.Send.{IsSend};
+ghost use Rattle.wh_ledger.specs.Shares.{sums_of};
 ghost use Rattle.wh_host.specs.Machine.{IsConfig, totals_of};
 ghost use Rattle.wh_poll.specs.Ends.{AreEnds, IsHostEnd};
 
 use crate::observer::Observer;
-use crate::pairs::{room_for, unzipped, zipped};
+use crate::pairs::{unzipped, zipped};
 use crate::setup::{WorkerEnd, WorkerSetup};
 use crate::workers::run_in_threads;
 use std::alloc::Global;
 use std::marker::Brand;
 use std::sync::Wait;
 use std::sync::ledger::{Blank, Ledger};
+use std::thread;
 use std::thread::Threads;
+use wh_companion::{
+    Companion, EndSignal, NoCompanion, accompany, put_spare, take_spare, with_spare,
+};
 use wh_events::OutOfMemory;
 use wh_host::{Config, Host, OpenFault, Totals};
 use wh_ledger::Seat;
 use wh_tasks::{ActivityHandler, Gate, TaskSource};
 use wh_workflow::Workflow;
 
+/// The seats of workers that have ended, and what each of them leaves.
+type Ended<T, C, F, S, A, O> = (Vec<Seat<T, C, F>>, Vec<WorkerEnd<S, A, O>>);
+
 /// Runs a worker in a thread of its own for each setup, on a host that stays the caller's: another
 /// thread may lock it meanwhile, to evict runs or to drain it, and it is closed with the seats that
 /// come back. There is a seat for each setup, in their order.
 ///
-/// The seats and what the workers leave come back in the order of the setups. Each worker leaves
-/// its setup as its turns led to it, with its handler and its observer, which was notified of each
-/// turn; its source comes from the one of the setup, with the same `delivers` and `tells`, and was
-/// sent at most as many answers as the worker took tasks. `OutOfMemory` where there was no memory.
-/// Then the seats and the setups are given up, so the host can't be closed any more, and what
-/// workers did until then they have done.
+/// The seats and what the workers leave come back in the order of the setups, and the list of the
+/// seats has the room that it had. Each worker leaves its setup as its turns led to it, with its
+/// handler and its observer, which was notified of each turn; its source comes from the one of the
+/// setup, with the same `delivers` and `tells`, and was sent at most as many answers as the worker
+/// took tasks. `OutOfMemory` where there was no memory. Then the seats and the setups are given up,
+/// so the host can't be closed any more, and what workers did until then they have done.
 pub fn run_on_host<
     R: Threads + Wait + Sync,
     W: Workflow + Send,
@@ -43,27 +51,29 @@ pub fn run_on_host<
     rt: &R,
     alloc: Global,
     host: &Host<W, T, C, F>,
-    seats: Vec<Seat<T, C, F>>,
+    mut seats: Vec<Seat<T, C, F>>,
     setups: Vec<WorkerSetup<S, A, O>>,
     gate: &G,
 ) -> Result<(Vec<Seat<T, C, F>>, Vec<WorkerEnd<S, A, O>>), OutOfMemory>
     requires seats { vec_len seats ≡ vec_len setups }
     ensures seats { IfOk result (λ ended. vec_len ended.0 ≡ vec_len setups) }
+    ensures room { IfOk result (λ ended. vec_capacity ended.0 ≡ vec_capacity seats) }
     ensures count { IfOk result (λ ended. vec_len ended.1 ≡ vec_len setups) }
     ensures counted { IfOk result (λ ended. ended.0.items ≡ map (λ end. end.counted) ended.1.items) }
     ensures ends { IfOk result (λ ended. AreEnds W.program S.tells S.delivers S.answers S.failures S.comes_from
         A.may O.hears seats.items setups.items ended.1.items) }
 {
-    let pairs = zipped(alloc, seats, setups)?;
-    let room = room_for(alloc, pairs.len())?;
+    let mut ends = Vec::new(alloc);
+    ends.reserve(setups.len())?;
+    let pairs = zipped(alloc, &mut seats, setups)?;
     let ended = run_in_threads(rt, alloc, host, gate, pairs)?;
-    Ok(unzipped(ended, room))
+    Ok(unzipped(ended, (seats, ends)))
 }
 
 /// What is left of a host whose workers have ended.
 #[derive(Drop)]
 pub struct HostEnd<S, A, O> {
-    /// The sizes that the host was opened with.
+    /// The sizes that were asked for.
     pub config: Config,
     /// What each worker left, in the order of their setups.
     pub workers: Vec<WorkerEnd<S, A, O>>,
@@ -77,7 +87,7 @@ pub struct HostEnd<S, A, O> {
 /// Each worker leaves its setup as its turns led to it, with its handler and its observer, which
 /// was notified of each turn; its source comes from the one of the setup, with the same `delivers`
 /// and `tells`, and was sent at most as many answers as the worker took tasks. The totals are the
-/// sums of what the workers counted, and the sizes are those that it was opened with. `BadConfig`
+/// sums of what the workers counted, and the sizes are those that were asked for. `BadConfig`
 /// where a size is not within its range, or the seats are not as many as the setups; `OutOfMemory`
 /// where there was no memory. Then the setups are given up. (Temporal documentation, "Workers": a
 /// Worker Process.)
@@ -99,23 +109,52 @@ pub fn run_host<
     ensures end { IfOk result (IsHostEnd W.program S.tells S.delivers S.answers S.failures S.comes_from
         A.may O.hears config setups) }
 {
-    let seats = config.seats;
-    if seats != setups.len() {
-        return Err(OpenFault::BadConfig);
-    }
-    run_with::<W, R, S, A, O, G, Brand, Brand, Brand>(
-        rt,
-        alloc,
-        config,
-        setups,
-        gate,
-        Blank::new(seats as u64),
-        Blank::new(seats as u64),
-        Blank::new(seats as u64),
-    )
+    run_host_beside::<W, R, S, A, O, G, NoCompanion>(rt, alloc, config, setups, gate, None)
 }
 
-/// Runs a host over these ledgers.
+/// The same as `run_host`, with a companion in one thread more, if there is one. The host is opened
+/// with a seat for it, which counts nothing, unless the workers take all that a host may have.
+pub fn run_host_beside<
+    W: Workflow + Send,
+    R: Threads + Wait + Sync,
+    S: TaskSource + Send + Drop,
+    A: ActivityHandler + Send + Drop,
+    O: Observer + Send + Drop,
+    G: Gate + Sync,
+    P: Companion + Sync,
+>(
+    rt: &R,
+    alloc: Global,
+    config: Config,
+    setups: Vec<WorkerSetup<S, A, O>>,
+    gate: &G,
+    companion: Option<&P>,
+) -> Result<HostEnd<S, A, O>, OpenFault>
+    ensures bad { (result ≡ Err OpenFault.BadConfig) ↔ (¬ (IsConfig config × (config.seats ≡ vec_len setups))) }
+    ensures end { IfOk result (IsHostEnd W.program S.tells S.delivers S.answers S.failures S.comes_from
+        A.may O.hears config setups) }
+{
+    if config.seats != setups.len() {
+        return Err(OpenFault::BadConfig);
+    }
+    let opened = with_spare(config, companion.is_some());
+    let parts = opened.seats as u64;
+    let end = run_with::<W, R, S, A, O, G, P, Brand, Brand, Brand>(
+        rt,
+        alloc,
+        opened,
+        setups,
+        gate,
+        companion,
+        Blank::new(parts),
+        Blank::new(parts),
+        Blank::new(parts),
+    )?;
+    Ok(HostEnd { config, ..end })
+}
+
+/// Opens a host of these sizes over these ledgers, runs its workers, and the companion beside them,
+/// and closes it. There may be a seat beside those of the workers.
 fn run_with<
     W: Workflow + Send,
     R: Threads + Wait + Sync,
@@ -123,6 +162,7 @@ fn run_with<
     A: ActivityHandler + Send + Drop,
     O: Observer + Send + Drop,
     G: Gate + Sync,
+    P: Companion + Sync,
     T: Ledger + Send,
     C: Ledger + Send,
     F: Ledger + Send,
@@ -132,11 +172,12 @@ fn run_with<
     config: Config,
     setups: Vec<WorkerSetup<S, A, O>>,
     gate: &G,
+    companion: Option<&P>,
     taken: Blank,
     completed: Blank,
     failed: Blank,
 ) -> Result<HostEnd<S, A, O>, OpenFault>
-    requires seats { config.seats ≡ vec_len setups }
+    requires seats { (vec_len setups ≤ config.seats) × (config.seats ≤ vec_len setups + 1) }
     requires taken { (taken.name ≡ T.name) × (taken.parts ≡ T.parts) × (taken.parts ≡ config.seats) }
     requires completed { (completed.name ≡ C.name) × (completed.parts ≡ C.parts)
         × (completed.parts ≡ config.seats) }
@@ -145,43 +186,79 @@ fn run_with<
     ensures end { IfOk result (IsHostEnd W.program S.tells S.delivers S.answers S.failures S.comes_from
         A.may O.hears config setups) }
 {
-    let (host, seats) = Host::<W, T, C, F>::open(alloc, config, taken, completed, failed)?;
-    run_open(rt, alloc, config, host, seats, setups, gate)
-}
-
-/// Runs the workers of a host that has just opened with these sizes, and closes it.
-fn run_open<
-    W: Workflow + Send,
-    R: Threads + Wait + Sync,
-    S: TaskSource + Send + Drop,
-    A: ActivityHandler + Send + Drop,
-    O: Observer + Send + Drop,
-    G: Gate + Sync,
-    T: Ledger + Send,
-    C: Ledger + Send,
-    F: Ledger + Send,
->(
-    rt: &R,
-    alloc: Global,
-    config: Config,
-    host: Host<W, T, C, F>,
-    seats: Vec<Seat<T, C, F>>,
-    setups: Vec<WorkerSetup<S, A, O>>,
-    gate: &G,
-) -> Result<HostEnd<S, A, O>, OpenFault>
-    requires seats { seats.items ≡ replicate (vec_len setups) no_shares }
-    requires parts { T.parts ≡ vec_len setups }
-    ensures fault { OnErr result (result ≡ Err OpenFault.OutOfMemory) }
-    ensures end { IfOk result (IsHostEnd W.program S.tells S.delivers S.answers S.failures S.comes_from
-        A.may O.hears config setups) }
-{
-    let (seats, workers) = run_on_host(rt, alloc, &host, seats, setups, gate)?;
+    let (host, mut seats) = Host::<W, T, C, F>::open(alloc, config, taken, completed, failed)?;
+    let spare = take_spare(&mut seats, setups.len());
+    let (spare, ended) = run_beside(rt, alloc, &host, seats, spare, setups, gate, companion);
+    let (mut seats, workers) = ended?;
+    put_spare(&mut seats, spare);
     let totals = close(host, seats);
     Ok(HostEnd {
         config,
         workers,
         totals,
     })
+}
+
+/// Runs the workers of an open host, and the companion in a thread beside them, if there is one. The
+/// seat that is there for it comes back as it was.
+fn run_beside<
+    R: Threads + Wait + Sync,
+    W: Workflow + Send,
+    T: Ledger + Send,
+    C: Ledger + Send,
+    F: Ledger + Send,
+    S: TaskSource + Send + Drop,
+    A: ActivityHandler + Send + Drop,
+    O: Observer + Send + Drop,
+    G: Gate + Sync,
+    P: Companion + Sync,
+>(
+    rt: &R,
+    alloc: Global,
+    host: &Host<W, T, C, F>,
+    seats: Vec<Seat<T, C, F>>,
+    spare: Option<Seat<T, C, F>>,
+    setups: Vec<WorkerSetup<S, A, O>>,
+    gate: &G,
+    companion: Option<&P>,
+) -> (
+    Option<Seat<T, C, F>>,
+    Result<Ended<T, C, F, S, A, O>, OutOfMemory>,
+)
+    requires seats { vec_len seats ≡ vec_len setups }
+    ensures spare { result.0 ≡ spare }
+    ensures seats { IfOk result.1 (λ ended. vec_len ended.0 ≡ vec_len setups) }
+    ensures room { IfOk result.1 (λ ended. vec_capacity ended.0 ≡ vec_capacity seats) }
+    ensures count { IfOk result.1 (λ ended. vec_len ended.1 ≡ vec_len setups) }
+    ensures counted { IfOk result.1 (λ ended. ended.0.items ≡ map (λ end. end.counted) ended.1.items) }
+    ensures ends { IfOk result.1 (λ ended. AreEnds W.program S.tells S.delivers S.answers S.failures S.comes_from
+        A.may O.hears seats.items setups.items ended.1.items) }
+{
+    let Some(companion) = companion else {
+        return (spare, run_on_host(rt, alloc, host, seats, setups, gate));
+    };
+    let signal = &EndSignal::new();
+    thread::join(
+        rt,
+        move || -> Option<Seat<T, C, F>>
+            requires { IsSend W.row × IsSend W.State.row }
+            ensures { result ≡ spare }
+        { accompany(rt, host, spare, signal, companion) },
+        move || -> Result<Ended<T, C, F, S, A, O>, OutOfMemory>
+            requires { vec_len seats ≡ vec_len setups }
+            ensures seats { IfOk result (λ ended. vec_len ended.0 ≡ vec_len setups) }
+            ensures room { IfOk result (λ ended. vec_capacity ended.0 ≡ vec_capacity seats) }
+            ensures count { IfOk result (λ ended. vec_len ended.1 ≡ vec_len setups) }
+            ensures counted { IfOk result (λ ended. ended.0.items ≡ map (λ end. end.counted) ended.1.items) }
+            ensures ends { IfOk result (λ ended. AreEnds W.program S.tells S.delivers S.answers S.failures
+                S.comes_from A.may O.hears seats.items setups.items ended.1.items) }
+        {
+            signal.begin(rt);
+            let ended = run_on_host(rt, alloc, host, seats, setups, gate);
+            signal.end(rt);
+            ended
+        },
+    )
 }
 
 /// Closes a host with all of its seats.

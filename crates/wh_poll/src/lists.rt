@@ -107,7 +107,7 @@ pub fn run_workers<
     rt: &R,
     alloc: Global,
     host: &Host<W, T, C, F>,
-    seats: Vec<Seat<T, C, F>>,
+    mut seats: Vec<Seat<T, C, F>>,
     sources: Vec<S>,
     handlers: Vec<A>,
     gate: &G,
@@ -130,7 +130,7 @@ pub fn run_workers<
         seats.items sources.items handlers.items turns.items workers.items) }
 {
     let setups = setups_of(alloc, sources, handlers, turns)?;
-    let pairs = zipped(alloc, seats, setups)?;
+    let pairs = zipped(alloc, &mut seats, setups)?;
     let mut room = Vec::new(alloc);
     room.reserve(pairs.len())?;
     let ended = run_in_threads(rt, alloc, host, gate, pairs)?;

@@ -1,19 +1,22 @@
 //! Lists of pairs, made of two lists and taken apart.
-ghost use Rattle.std.specs.Prelude.{◌≡◌, ◌≤◌, [], IfOk, map, vec_capacity, vec_len};
+ghost use Rattle.std.specs.Prelude.{◌≡◌, ◌≤◌, [], IfOk, OnOk, map, vec_capacity, vec_len};
 
 use std::alloc::Global;
 use wh_events::OutOfMemory;
 
-/// Pairs each of the first with the second in its place.
+/// Pairs each of the first with the second in its place. The list of the firsts is left empty, with
+/// the room that it had. `OutOfMemory` where there was no memory for the pairs.
 pub(crate) fn zipped<A: Drop, B: Drop>(
     alloc: Global,
-    mut firsts: Vec<A>,
+    firsts: &mut Vec<A>,
     mut seconds: Vec<B>,
 ) -> Result<Vec<(A, B)>, OutOfMemory>
-    requires { vec_len seconds ≡ vec_len firsts }
-    ensures count { IfOk result (λ pairs. vec_len pairs ≡ vec_len firsts) }
-    ensures firsts { IfOk result (λ pairs. map (λ pair. pair.0) pairs.items ≡ firsts.items) }
+    requires { vec_len seconds ≡ vec_len firsts.old }
+    ensures count { IfOk result (λ pairs. vec_len pairs ≡ vec_len firsts.old) }
+    ensures firsts { IfOk result (λ pairs. map (λ pair. pair.0) pairs.items ≡ firsts.old.items) }
     ensures seconds { IfOk result (λ pairs. map (λ pair. pair.1) pairs.items ≡ seconds.items) }
+    ensures empty { OnOk result (firsts.new.items ≡ []) }
+    ensures room { vec_capacity firsts.new ≡ vec_capacity firsts.old }
 {
     let mut pairs = Vec::new(alloc);
     pairs.reserve(firsts.len())?;
@@ -27,21 +30,6 @@ pub(crate) fn zipped<A: Drop, B: Drop>(
     Ok(pairs)
 }
 
-/// Two empty lists with room for so many.
-pub(crate) fn room_for<A: Drop, B: Drop>(
-    alloc: Global,
-    count: usize,
-) -> Result<(Vec<A>, Vec<B>), OutOfMemory>
-    ensures firsts { IfOk result (λ room. (room.0.items ≡ []) × (count ≤ vec_capacity room.0)) }
-    ensures seconds { IfOk result (λ room. (room.1.items ≡ []) × (count ≤ vec_capacity room.1)) }
-{
-    let mut firsts = Vec::new(alloc);
-    firsts.reserve(count)?;
-    let mut seconds = Vec::new(alloc);
-    seconds.reserve(count)?;
-    Ok((firsts, seconds))
-}
-
 /// The firsts of the pairs and their seconds, in two empty lists with room for them.
 pub(crate) fn unzipped<A: Drop, B: Drop>(
     mut pairs: Vec<(A, B)>,
@@ -51,6 +39,7 @@ pub(crate) fn unzipped<A: Drop, B: Drop>(
     requires seconds { (room.1.items ≡ []) × (vec_len pairs ≤ vec_capacity room.1) }
     ensures firsts { result.0.items ≡ map (λ pair. pair.0) pairs.items }
     ensures seconds { result.1.items ≡ map (λ pair. pair.1) pairs.items }
+    ensures room { vec_capacity result.0 ≡ vec_capacity room.0 }
 {
     let (mut firsts, mut seconds) = room;
     while let Some((first, second)) = pairs.pop() {

@@ -97,7 +97,7 @@ impl<W: Workflow> ReplayedHistory<W> {
     }
 
     /// Does nothing. Its contract says what holds of every replayed history.
-    pub(crate) fn invariant(&self)
+    pub fn invariant(&self)
         ensures { IsReplayed W.program self.now }
     {
         let _track = &self.track;
@@ -126,7 +126,7 @@ impl<W: Workflow> ReplayedHistory<W> {
     }
 
     /// The state of the workflow.
-    pub(crate) fn state(&self) -> &W::State
+    pub fn state(&self) -> &W::State
         ensures { IsOkAnd (run_of W.program self.now.events) (λ replayed. result.now ≡ replayed.state) }
     {
         &self.replayed.state

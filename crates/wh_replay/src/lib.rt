@@ -14,7 +14,7 @@ mod run;
 mod state;
 
 pub use activation::{Activation, IssueFault};
-pub use checking::{check, workflow_of};
+pub use checking::{check, state_after, workflow_of};
 pub use continuing::ends_in_task;
 pub use cut::{Cut, Span};
 pub use cuts::cut_after;

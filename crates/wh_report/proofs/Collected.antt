@@ -8,7 +8,7 @@ use Rattle.wh_workflow.specs.Law.{Program}
 use Rattle.wh_file_faults.specs.Faults.{File}
 use Rattle.wh_report.specs.declared.records.Record.{Record}
 use Rattle.wh_file_faults.specs.declared.command_fault.CommandFault.{CommandFault}
-use Rattle.wh_report.specs.declared.format.Format.{Format}
+use Rattle.wh_console.specs.declared.format.Format.{Format}
 use Rattle.wh_report.specs.Reports.{lines_of, report_as, status_of}
 use Rattle.wh_report.specs.Records.{AreRecordsOf, IsRecordOf, IsRecordOfInput}
 

@@ -8,8 +8,8 @@ use Rattle.wh_explain.specs.Explaining.{AreTasksIn, unknown_in}
 use Rattle.wh_explain.specs.Json.{json_explanation}
 use Rattle.wh_explain.specs.Texts.{explanation_text}
 use Rattle.wh_explain.specs.declared.explanation.Explanation.{Explanation}
-use Rattle.wh_report.specs.declared.format.Format.{Format}
-use Rattle.wh_report.specs.declared.format.Format.TheVariants.{Text, Json}
+use Rattle.wh_console.specs.declared.format.Format.{Format}
+use Rattle.wh_console.specs.declared.format.Format.TheVariants.{Text, Json}
 use Rattle.wh_report.specs.Reports.{status_of}
 
 -- the explanation, as text or as JSON

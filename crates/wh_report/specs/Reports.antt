@@ -9,8 +9,8 @@ use Rattle.wh_explain.specs.declared.explanation.Pairing.{Pairing}
 use Rattle.wh_file_faults.specs.declared.file_faults.Cause.{Cause}
 use Rattle.wh_file_faults.specs.declared.file_faults.Cause.TheVariants.{NotJson, NoCode}
 use Rattle.wh_file_faults.specs.declared.file_faults.FileFault.{FileFault}
-use Rattle.wh_report.specs.declared.format.Format.{Format}
-use Rattle.wh_report.specs.declared.format.Format.TheVariants.{Text, Json}
+use Rattle.wh_console.specs.declared.format.Format.{Format}
+use Rattle.wh_console.specs.declared.format.Format.TheVariants.{Text, Json}
 use Rattle.wh_report.specs.declared.records.Record.{Record}
 
 -- the members of a cause: `"line":LINE` and `"column":COLUMN` of a file that is no JSON, or `"workflowType":"TYPE"`

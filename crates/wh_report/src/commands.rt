@@ -9,12 +9,12 @@ ghost use Rattle.wh_report.specs.Reports.{lines_of, report_as, status_of};
 ghost use Rattle.wh_report.specs.declared.records.Record.{Record as RecordView};
 
 use crate::explained::explain_file;
-use crate::format::Format;
 use crate::records::check_all;
 use crate::reports::{line_status, report};
 use std::alloc::Global;
 use std::io::Write;
 use std::thread::Threads;
+use wh_console::Format;
 use wh_file_faults::CommandFault;
 use wh_files::InputFault;
 use wh_workflow::Workflow;

@@ -5,10 +5,10 @@ ghost use Rattle.std.specs.Io.KnownBytes.{Appends};
 ghost use Rattle.wh_report.specs.Commands.{IsExplained, explanation_as};
 ghost use Rattle.wh_report.specs.Reports.{status_of};
 
-use crate::format::Format;
 use std::alloc::Global;
 use std::io;
 use std::io::Write;
+use wh_console::Format;
 use wh_explain::{Explanation, explain, write_explanation, write_json_explanation};
 use wh_file_faults::CommandFault;
 use wh_tester::Line;

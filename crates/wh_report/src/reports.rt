@@ -8,10 +8,10 @@ ghost use Rattle.wh_tester.specs.Report.{all_good, good_count, is_good, line_tex
 ghost use Rattle.wh_report.specs.Reports.{cause_members, difference_members, json_record, lines_of};
 ghost use Rattle.wh_report.specs.Reports.{report_as, status_of};
 
-use crate::format::Format;
 use crate::records::Record;
 use std::io::Write;
 use std::{fmt, io};
+use wh_console::Format;
 use wh_explain::{Pairing, PairingMembers};
 use wh_file_faults::{Cause, CommandFault, Position};
 use wh_tester::{
@@ -130,11 +130,11 @@ fn write_objects<O: Write>(records: &[Record], writer: &mut O) -> io::Result<()>
 }
 
 /// Writes the report of records: a line for each file, in their order, and then a line with the
-/// number of files and of good ones. As JSON it is that of `wh_tester::write_json_report`, where the
-/// object of a file has after the text of its fault: `line` and `column`, where it is no JSON;
-/// `workflowType`, where there is no code for that; and what is sent and what is recorded, where they
-/// differ. Each line goes to the writer as it is made. After an error some of the report may have
-/// been written.
+/// number of files and of good ones. As JSON (RFC 8259) each is an object, that of a file as
+/// `wh_tester::write_json_line` writes it, and that of the totals with `files` and `ok`. The object of
+/// a file has after the text of its fault: `line` and `column`, where it is no JSON; `workflowType`,
+/// where there is no code for that; and what is sent and what is recorded, where they differ. Each
+/// line goes to the writer as it is made. After an error some of the report may have been written.
 pub fn write_report<O: Write>(records: &[Record], format: Format, writer: &mut O) -> io::Result<()>
     ensures { OnOk result (Appends (O.contents writer.old) (O.contents writer.new) (report_as format records.now)) }
 {

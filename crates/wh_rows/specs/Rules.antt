@@ -1,5 +1,5 @@
 -- What a list of rows can't be.
-use Rattle.std.specs.Prelude.{ℕ, zero, suc, Bool, true, false, not, ◌&&◌, ◌||◌, List, [], ◌∷◌, length, Option, Some, None, bytes_eq, codes, leb, nat_eq, if◌then◌else◌}
+use Rattle.std.specs.Prelude.{ℕ, zero, suc, ◌-◌, ℤ, pos, negsuc, Bool, true, false, not, ◌&&◌, ◌||◌, List, [], ◌∷◌, length, Option, Some, None, bytes_eq, codes, leb, nat_eq, int_lt, if◌then◌else◌}
 use Rattle.std.specs.Ordering.{int_eq}
 use Rattle.wh_events.specs.Machines.{or_else}
 use Rattle.wh_rows.specs.declared.row.JobPattern.TheVariants as patterns
@@ -22,11 +22,16 @@ pub data Rule : Type 0 where
   CommandAfterLast : Rule
   -- two of its commands start an activity, a timer or a child under one id
   OpensTwice : Rule
+  -- it asks for a range of versions that is none: from below -1, to below 0, or with its greatest below its least
+  BadRange : Rule
+  -- it is for a state of the name `same`, which is none: after `=>` it means the state that the row is for
+  NoState : Rule
   -- it does not close the run, and no row is for the state after it
   LeadsNowhere : Rule
   -- no row of another state leads to its state, and runs do not begin there
   NeverReached : Rule
-  -- it asks for the version of a change, and no row for the state after it is for a version of that
+  -- it asks for the version of a change, and one that may come has no row in the state after it, but for rows with
+  -- conditions
   AsksInVain : Rule
   -- it raises a counter that has no bound, or asks for a number past the bound of one
   Unbounded : Rule
@@ -68,6 +73,17 @@ abbrev pub opens_once : List CommandTemplate → Bool
 opens_once [] = true
 opens_once (one ∷ rest) = not (opens_again one rest) && opens_once rest
 
+-- code may run the versions from the least to the greatest
+abbrev pub is_range : ℤ → ℤ → Bool
+is_range least greatest =
+    not (int_lt greatest least || (int_lt least (negsuc 0) || int_lt greatest (pos 0)))
+
+-- each range of versions that the commands ask for is one
+abbrev pub are_ranges : List CommandTemplate → Bool
+are_ranges [] = true
+are_ranges (templates.Ask _ least greatest ∷ rest) = is_range least greatest && are_ranges rest
+are_ranges (one ∷ rest) = are_ranges rest
+
 -- a row is for the state
 abbrev pub has_state : List ℕ → List Row → Bool
 has_state name [] = false
@@ -79,55 +95,16 @@ leads_on rows row =
     some_closes row.gives
     || (bytes_eq row.next (codes "same") || (not (bytes_eq row.next (codes "any")) && has_state row.next rows))
 
--- a row of another state leads to the state
+-- a row of another state, which does not close the run, leads to the state
 abbrev pub is_led_to : List ℕ → List Row → Bool
 is_led_to name [] = false
-is_led_to name (row ∷ rows) = (bytes_eq row.next name && not (bytes_eq row.state name)) || is_led_to name rows
+is_led_to name (row ∷ rows) =
+    (bytes_eq row.next name && (not (bytes_eq row.state name) && not (some_closes row.gives))) || is_led_to name rows
 
--- a run may come to the state
+-- the state is `any`, or that in which a run begins, or a row of another one leads to it: whether that one is reached is
+-- not asked
 abbrev pub is_reached : List ℕ → List ℕ → List Row → Bool
 is_reached first name rows = bytes_eq name (codes "any") || (bytes_eq name first || is_led_to name rows)
-
--- a row with the pattern is for a version of the change
-abbrev pub is_of_change : List ℕ → JobPattern → Bool
-is_of_change change (patterns.Version other _) = bytes_eq other change
-is_of_change change (patterns.AnyVersion other) = bytes_eq other change
-is_of_change change _ = false
-
--- a row for the state is for a version of the change
-abbrev pub hears_version : List ℕ → List ℕ → List Row → Bool
-hears_version change name [] = false
-hears_version change name (row ∷ rows) =
-    ((bytes_eq row.state (codes "any") || bytes_eq row.state name) && is_of_change change row.job)
-    || hears_version change name rows
-
--- the state after the row
-abbrev pub state_after : Row → List ℕ
-state_after row = if bytes_eq row.next (codes "same") then row.state else row.next
-
--- in the state, each version that the commands ask for is heard
-abbrev pub are_heard : List ℕ → List Row → List CommandTemplate → Bool
-are_heard name rows [] = true
-are_heard name rows (templates.Ask change _ _ ∷ rest) = hears_version change name rows && are_heard name rows rest
-are_heard name rows (one ∷ rest) = are_heard name rows rest
-
--- no condition asks for a number past the bound of its counter
-abbrev pub condition_bounded : Counts → Condition → Bool
-condition_bounded bounds (conditions.Below counter number) = leb number (count_of counter bounds)
-condition_bounded bounds (conditions.AtLeast counter number) = leb number (count_of counter bounds)
-
-abbrev pub conditions_bounded : Counts → List Condition → Bool
-conditions_bounded bounds [] = true
-conditions_bounded bounds (one ∷ rest) = condition_bounded bounds one && conditions_bounded bounds rest
-
--- no effect raises a counter without a bound
-abbrev pub effect_bounded : Counts → Effect → Bool
-effect_bounded bounds (effects.Up counter) = leb 1 (count_of counter bounds)
-effect_bounded bounds _ = true
-
-abbrev pub effects_bounded : Counts → List Effect → Bool
-effects_bounded bounds [] = true
-effects_bounded bounds (one ∷ rest) = effect_bounded bounds one && effects_bounded bounds rest
 
 -- each job that the second pattern is for is one that the first is for
 abbrev pub covers : JobPattern → JobPattern → Bool
@@ -147,6 +124,70 @@ covers (patterns.Version change number) (patterns.Version other version) =
 covers (patterns.AnyVersion change) (patterns.AnyVersion other) = bytes_eq change other
 covers (patterns.AnyVersion change) (patterns.Version other _) = bytes_eq change other
 covers _ _ = false
+
+-- there is no condition
+abbrev pub is_unconditional : List Condition → Bool
+is_unconditional [] = true
+is_unconditional (one ∷ rest) = false
+
+-- a row for the state, without a condition, is for each job that the pattern is for
+abbrev pub hears : JobPattern → List ℕ → List Row → Bool
+hears wanted name [] = false
+hears wanted name (row ∷ rows) =
+    ((bytes_eq row.state (codes "any") || bytes_eq row.state name)
+    && (is_unconditional row.conditions && covers row.job wanted))
+    || hears wanted name rows
+
+-- the place of a version, counted from that of -1
+abbrev pub version_place : ℤ → ℕ
+version_place (pos number) = suc number
+version_place (negsuc _) = 0
+
+-- the version at a place
+abbrev pub version_at : ℕ → ℤ
+version_at zero = negsuc 0
+version_at (suc number) = pos number
+
+-- in the state, each of so many versions of the change is heard, from that at the place on
+abbrev pub hears_each : List ℕ → ℕ → ℕ → List ℕ → List Row → Bool
+hears_each change zero place name rows = true
+hears_each change (suc more) place name rows =
+    hears (patterns.Version change (version_at place)) name rows && hears_each change more (suc place) name rows
+
+-- in the state, each version of the change from the least to the greatest is heard
+abbrev pub hears_versions : List ℕ → ℤ → ℤ → List ℕ → List Row → Bool
+hears_versions change least greatest name rows =
+    hears (patterns.AnyVersion change) name rows
+    || hears_each change (suc (version_place greatest) - version_place least) (version_place least) name rows
+
+-- the state after the row
+abbrev pub state_after : Row → List ℕ
+state_after row = if bytes_eq row.next (codes "same") then row.state else row.next
+
+-- in the state, each version that the commands ask for is heard
+abbrev pub are_heard : List ℕ → List Row → List CommandTemplate → Bool
+are_heard name rows [] = true
+are_heard name rows (templates.Ask change least greatest ∷ rest) =
+    hears_versions change least greatest name rows && are_heard name rows rest
+are_heard name rows (one ∷ rest) = are_heard name rows rest
+
+-- no condition asks for a number past the bound of its counter
+abbrev pub condition_bounded : Counts → Condition → Bool
+condition_bounded bounds (conditions.Below counter number) = leb number (count_of counter bounds)
+condition_bounded bounds (conditions.AtLeast counter number) = leb number (count_of counter bounds)
+
+abbrev pub conditions_bounded : Counts → List Condition → Bool
+conditions_bounded bounds [] = true
+conditions_bounded bounds (one ∷ rest) = condition_bounded bounds one && conditions_bounded bounds rest
+
+-- no effect raises a counter without a bound
+abbrev pub effect_bounded : Counts → Effect → Bool
+effect_bounded bounds (effects.Up counter) = leb 1 (count_of counter bounds)
+effect_bounded bounds _ = true
+
+abbrev pub effects_bounded : Counts → List Effect → Bool
+effects_bounded bounds [] = true
+effects_bounded bounds (one ∷ rest) = effect_bounded bounds one && effects_bounded bounds rest
 
 -- the place of a counter among the four
 abbrev pub place_of : Counter → ℕ
@@ -199,11 +240,13 @@ row_rule table before row =
     unless (leb (length row.gives) 64) TooManyCommands
     (unless (ends_well row.gives) CommandAfterLast
     (unless (opens_once row.gives) OpensTwice
+    (unless (are_ranges row.gives) BadRange
+    (unless (not (bytes_eq row.state (codes "same"))) NoState
     (unless (leads_on table.rows row) LeadsNowhere
     (unless (is_reached table.first row.state table.rows) NeverReached
     (unless (are_heard (state_after row) table.rows row.gives) AsksInVain
     (unless (conditions_bounded table.bounds row.conditions && effects_bounded table.bounds row.effects) Unbounded
-    (hidden_from 1 before table.rows row)))))))
+    (hidden_from 1 before table.rows row)))))))))
 
 -- the fault of a row by the rule that it breaks
 abbrev pub in_row : ℕ → Option Rule → Option TableFault

@@ -157,7 +157,8 @@ pub(crate) fn row_for<
     G: RowList<CommandTemplate<T>>,
     E: RowList<Effect>,
 >(rows: &'t [RowOf<T, C, G, E>], state: &RowsState, job: &Job) -> Option<&'t RowOf<T, C, G, E>>
-    ensures { option_map (λ row. row_by T.bytes C.list G.list E.list row.now) result ≡ row_for (rows_by T.bytes C.list G.list E.list rows.now) state.now job.now }
+    ensures { option_map (λ row. row_by T.bytes C.list G.list E.list row.now) result
+        ≡ row_for (rows_by T.bytes C.list G.list E.list rows.now) state.now job.now }
 {
     for row in rows {
         if fits(row, state, job) {

@@ -120,7 +120,8 @@ pub(crate) fn commands<T: RowText>(
     state: &RowsState,
     job: &Job,
 ) -> Result<Vec<Command>, OutOfMemory>
-    ensures { IfOk result (λ given. given.items ≡ commands_of (map (template_by T.bytes) templates.now) state.now job.now) }
+    ensures { IfOk result (λ given.
+        given.items ≡ commands_of (map (template_by T.bytes) templates.now) state.now job.now) }
 {
     let mut given = Vec::new(alloc);
     for template in templates {

@@ -2,7 +2,8 @@
 ghost use Rattle.std.specs.Prelude.{◌≡◌, IfOk, OnOk};
 ghost use Rattle.wh_rows.specs.Tables.{naming_by, row_by, rows_by};
 ghost use Rattle.wh_rows.specs.Naming.{name_by};
-ghost use Rattle.wh_rows.specs.Rows.{raised, with_count, after_one, after_effects, next_state, after_row, after_rows, rows_give, started};
+ghost use Rattle.wh_rows.specs.Rows.{raised, with_count, after_one, after_effects, next_state};
+ghost use Rattle.wh_rows.specs.Rows.{after_row, after_rows, rows_give, started};
 
 use crate::choose::{count_of, row_for};
 use crate::command::{brought, commands, some_closes};
@@ -88,7 +89,8 @@ fn follow<T: RowText, C: RowList<Condition>, G: RowList<CommandTemplate<T>>, E: 
     state: &mut RowsState,
     job: &Job,
 ) -> Result<(), OutOfMemory>
-    ensures { OnOk result (state.new ≡ after_row (row_by T.bytes C.list G.list E.list row.now) bounds state.old job.now) }
+    ensures { OnOk result (state.new
+        ≡ after_row (row_by T.bytes C.list G.list E.list row.now) bounds state.old job.now) }
 {
     apply(alloc, row.effects.list(), bounds, state, job)?;
     state.closed = some_closes(row.gives.list());
@@ -110,8 +112,10 @@ pub fn answer<
     state: &mut RowsState,
     job: &Job,
 ) -> Result<Vec<Command>, OutOfMemory>
-    ensures commands { IfOk result (λ given. given.items ≡ rows_give (rows_by T.bytes C.list G.list E.list rows.now) state.old job.now) }
-    ensures state { OnOk result (state.new ≡ after_rows (rows_by T.bytes C.list G.list E.list rows.now) bounds state.old job.now) }
+    ensures commands { IfOk result (λ given.
+        given.items ≡ rows_give (rows_by T.bytes C.list G.list E.list rows.now) state.old job.now) }
+    ensures state { OnOk result (state.new
+        ≡ after_rows (rows_by T.bytes C.list G.list E.list rows.now) bounds state.old job.now) }
 {
     match row_for(rows, state, job) {
         Some(row) => {

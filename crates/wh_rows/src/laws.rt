@@ -1,5 +1,6 @@
 //! What holds of all tables, each law as the contract of a function that does nothing.
-ghost use Rattle.wh_rows.specs.Laws.{FirstRowCounts, NoRowChangesNothing, ClosesForGood, LastCommandCloses, StateChangesByRow, WithinBounds};
+ghost use Rattle.wh_rows.specs.Laws.{FirstRowCounts, NoRowChangesNothing, ClosesForGood, LastCommandCloses};
+ghost use Rattle.wh_rows.specs.Laws.{StateChangesByRow, WithinBounds};
 
 use crate::table::Table;
 

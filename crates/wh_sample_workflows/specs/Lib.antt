@@ -4,6 +4,7 @@ pub mod Greet
 pub mod Branch
 pub mod Family
 pub mod Racer
+pub mod Relay
 pub mod Caller
 pub mod Flood
 pub mod Asker

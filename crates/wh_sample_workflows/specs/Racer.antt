@@ -1,5 +1,5 @@
 -- The sample Racer.
-use Rattle.std.specs.Prelude.{List, [], ◌∷◌, codes, bytes_eq, refl, if◌then◌else◌}
+use Rattle.std.specs.Prelude.{ℕ, List, [], ◌∷◌, codes, bytes_eq, refl, if◌then◌else◌}
 use Rattle.wh_workflow.specs.declared.job.ActivityEnd.{ActivityEnd}
 use Rattle.wh_workflow.specs.declared.job.ActivityEnd.TheVariants.{Completed}
 use Rattle.wh_workflow.specs.declared.command.Command.{Command}
@@ -9,6 +9,7 @@ use Rattle.wh_workflow.specs.declared.job.Job.TheVariants.{Start, Activity, Time
 use Rattle.wh_workflow.specs.Law.{Program, IsAnswer, IsLawful}
 use Rattle.wh_sample_workflows.specs.Endings.{result_or_failure}
 use Rattle.wh_workflow.specs.Answering.{none_is_answer, one_is_answer, two_are_answer, either_is_answer}
+use Rattle.wh_queryable.specs.Queries.{Queries, json_result, unknown_query}
 use Rattle.wh_sample_workflows.specs.declared.racer.Phase.{Phase}
 use Rattle.wh_sample_workflows.specs.declared.racer.Phase.TheVariants.{Racing, Late, Done}
 
@@ -60,3 +61,15 @@ racer_lawful Racing (Activity id end) =
     either_is_answer (bytes_eq id (codes "1")) _ _ (endings end) none_is_answer
 racer_lawful Late (TimerFired id) = either_is_answer (bytes_eq id (codes "u")) _ _ (one_is_answer _ refl) none_is_answer
 racer_lawful _ _ = none_is_answer
+
+-- a phase, as a JSON text
+abbrev pub phase_text : Phase → List ℕ
+phase_text Racing = codes "\"racing\""
+phase_text Late = codes "\"late\""
+phase_text Done = codes "\"done\""
+
+-- `phase` gives that, and no other query type is known
+abbrev pub racer_queries : Queries Phase
+racer_queries phase query_type input =
+    if bytes_eq query_type (codes "phase") then json_result (phase_text phase)
+    else unknown_query query_type (codes "phase")

@@ -10,6 +10,7 @@ mod flood;
 mod greet;
 mod nap;
 mod racer;
+mod relay;
 mod stateless;
 
 pub use asker::Asker;
@@ -20,9 +21,20 @@ pub use flood::{Flood, FloodState};
 pub use greet::{Greet, GreetState};
 pub use nap::Nap;
 pub use racer::{Phase, Racer};
+pub use relay::{Relay, RelayState};
 pub use stateless::NoState;
+use wh_queryable::NoQueries;
 use wh_workflow::Pair;
 
 /// The samples that the program has code for. Flood and Asker, which only go past limits, are not
-/// among them.
-pub type All = Pair<Nap, Pair<Greet, Pair<Branch, Pair<Family, Pair<Racer, Caller>>>>>;
+/// among them. Racer answers a query, and no other sample knows one.
+pub type All = Pair<
+    NoQueries<Nap>,
+    Pair<
+        NoQueries<Greet>,
+        Pair<
+            NoQueries<Branch>,
+            Pair<NoQueries<Family>, Pair<Racer, Pair<NoQueries<Caller>, NoQueries<Relay>>>>,
+        >,
+    >,
+>;

@@ -1,10 +1,12 @@
 //! Racer: runs an activity against a timer.
 ghost use Rattle.std.specs.Prelude.{◌≡◌, [], ◌∷◌, IfOk};
 ghost use Rattle.wh_sample_workflows.specs.Racer.{racer, racer_after, racer_gives, racer_lawful, race, lateness, ending};
+ghost use Rattle.wh_sample_workflows.specs.Racer.{phase_text};
 
 use crate::endings::result_or_failure;
 use std::alloc::Global;
-use wh_events::OutOfMemory;
+use wh_events::{OutOfMemory, Payload};
+use wh_queryable::{QueryResult, Queryable, json_result, unknown_query};
 use wh_workflow::{
     ActivityEnd, Command, Job, Meter, Workflow, give_all, no_payloads, text_of, texts_of,
 };
@@ -20,6 +22,8 @@ use wh_workflow::{
 /// | late | `TimerFired` of `u` | `Complete`, without a result | done |
 ///
 /// Other jobs change nothing and give nothing.
+///
+/// The query `phase` gives the phase in JSON: `"racing"`, `"late"` or `"done"`.
 pub struct Racer;
 
 /// How far the race has come.
@@ -135,5 +139,34 @@ impl Workflow for Racer {
         let given = given(alloc, *state, job)?;
         *state = after(*state, job);
         give_all(out, given)
+    }
+}
+
+/// A phase, as a JSON text.
+fn phase_text(phase: Phase) -> &'static str
+    ensures { result.now ≡ phase_text phase }
+{
+    match phase {
+        Phase::Racing => "\"racing\"",
+        Phase::Late => "\"late\"",
+        Phase::Done => "\"done\"",
+    }
+}
+
+impl Queryable for Racer {
+    ghost use Rattle.wh_sample_workflows.specs.Racer.{racer_queries};
+
+    ghost queries = { racer_queries };
+
+    fn query(
+        alloc: Global,
+        state: &Phase,
+        query_type: &str,
+        _input: &[Payload],
+    ) -> Result<QueryResult, OutOfMemory> {
+        match query_type {
+            "phase" => json_result(alloc, String::from_str(alloc, phase_text(*state))?),
+            _ => unknown_query(alloc, query_type, "phase"),
+        }
     }
 }

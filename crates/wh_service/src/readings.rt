@@ -3,6 +3,7 @@
 ghost use Rattle.std.specs.Prelude.{◌≡◌, IfOk, IfSome, Ok, string_bytes};
 ghost use Rattle.wh_file_faults.specs.Faults.{IsCauseOf, IsFaultOf, MayBeTold};
 ghost use Rattle.wh_file_faults.specs.Made.{IsMadeOf};
+ghost use Rattle.wh_json.specs.Events.{history};
 ghost use Rattle.wh_service.specs.Readings.{AreRead, IsReading};
 
 use std::alloc::Global;
@@ -11,6 +12,7 @@ use wh_events::{Event, EventKind};
 use wh_file_faults::{FileFault, all_made, code_fault, json_fault};
 use wh_files::InputFault;
 use wh_json::{ReadFault, read_events};
+use wh_replay::track_of;
 use wh_workflow::Workflow;
 
 /// A file that was read: its name, with its history or why it cannot be read.
@@ -20,16 +22,8 @@ pub(crate) struct ReadFile {
     pub(crate) outcome: Result<Vec<Event>, ReadFault>,
 }
 
-/// Whether a file is no JSON.
-fn is_bad_json(file: &ReadFile) -> bool {
-    matches!(file.outcome, Err(ReadFault::BadJson))
-}
-
-/// Whether there is no code for the workflow type of a file.
-fn lacks_code<W: Workflow>(file: &ReadFile) -> bool {
-    let Ok(events) = &file.outcome else {
-        return false;
-    };
+/// Whether there is no code for the workflow type that a history begins with.
+fn lacks_code<W: Workflow>(events: &[Event]) -> bool {
     let Some(event) = events.first() else {
         return false;
     };
@@ -39,31 +33,68 @@ fn lacks_code<W: Workflow>(file: &ReadFile) -> bool {
     }
 }
 
-/// What is reported of a file with these bytes, which was read.
-#[tactic(auto, using(wh_file_faults::proofs::Faults::of_json, wh_file_faults::proofs::Faults::of_code))]
-fn fault_in<W: Workflow>(alloc: Global, file: &ReadFile, bytes: &[u8]) -> Option<FileFault>
-    ensures { IfSome result (IsFaultOf (IsCauseOf W.program) (string_bytes file.now.name) bytes.now) }
+/// The history of bytes that were parsed before, once more.
+fn read_again(alloc: Global, bytes: &[u8]) -> Result<Vec<Event>, InputFault>
+    ensures { IfOk result (λ events. history bytes.now ≡ Ok events.items) }
 {
-    if is_bad_json(file) {
-        json_fault(alloc, file.name.as_str(), bytes)
-    } else if lacks_code::<W>(file) {
-        code_fault::<W>(alloc, file.name.as_str(), bytes)
-    } else {
-        None
+    match read_events(alloc, bytes) {
+        Ok(events) => Ok(events),
+        Err(_) => Err(InputFault::OutOfMemory),
     }
 }
 
-/// What was read of a file with these bytes, and beside it what is reported of the file.
+/// A history, and its workflow type, for which there is no code, if its events are in place. Only
+/// where they are not, its bytes are parsed once more.
+#[tactic(auto, using(wh_file_faults::proofs::Faults::of_code))]
+fn placed<W: Workflow>(
+    alloc: Global,
+    name: &str,
+    events: Vec<Event>,
+    bytes: &[u8],
+) -> Result<(Vec<Event>, Option<FileFault>), InputFault>
+    requires { history bytes.now ≡ Ok events.items }
+    ensures events { IfOk result (λ own. history bytes.now ≡ Ok own.0.items) }
+    ensures fault { IfOk result (λ own. IfSome own.1 (IsFaultOf (IsCauseOf W.program) name.now bytes.now)) }
+{
+    let Ok(track) = track_of(alloc, events) else {
+        return Ok((read_again(alloc, bytes)?, None));
+    };
+    let fault = code_fault::<W>(alloc, name, &track);
+    Ok((track.into_events(), fault))
+}
+
+/// A history, and what is reported of its file: its workflow type, where there is no code for it.
 fn with_fault<W: Workflow>(
     alloc: Global,
-    file: ReadFile,
+    name: &str,
+    events: Vec<Event>,
     bytes: &[u8],
-) -> (ReadFile, Option<FileFault>)
-    ensures file { result.0 ≡ file }
-    ensures fault { IfSome result.1 (IsFaultOf (IsCauseOf W.program) (string_bytes file.name) bytes.now) }
+) -> Result<(Vec<Event>, Option<FileFault>), InputFault>
+    requires { history bytes.now ≡ Ok events.items }
+    ensures events { IfOk result (λ own. history bytes.now ≡ Ok own.0.items) }
+    ensures fault { IfOk result (λ own. IfSome own.1 (IsFaultOf (IsCauseOf W.program) name.now bytes.now)) }
 {
-    let fault = fault_in::<W>(alloc, &file, bytes);
-    (file, fault)
+    if lacks_code::<W>(events.as_slice()) {
+        placed::<W>(alloc, name, events, bytes)
+    } else {
+        Ok((events, None))
+    }
+}
+
+/// What is reported of a file that can't be read: where it is no JSON.
+#[tactic(auto, using(wh_file_faults::proofs::Faults::of_json))]
+fn unread_fault<W: Workflow>(
+    alloc: Global,
+    name: &str,
+    fault: &ReadFault,
+    bytes: &[u8],
+) -> Option<FileFault>
+    ensures { IfSome result (IsFaultOf (IsCauseOf W.program) name.now bytes.now) }
+{
+    match fault {
+        ReadFault::BadJson => json_fault(alloc, name, bytes),
+        _ => None,
+    }
 }
 
 /// Parses a file, whose bytes are dropped then. Beside it is what is reported of it.
@@ -76,8 +107,17 @@ fn read_file<W: Workflow>(
 {
     let (name, bytes) = file;
     match read_events(alloc, bytes.as_slice()) {
+        Ok(events) => {
+            let own = with_fault::<W>(alloc, name.as_str(), events, bytes.as_slice())?;
+            let outcome = Ok(own.0);
+            Ok((ReadFile { name, outcome }, own.1))
+        }
         Err(ReadFault::OutOfMemory) => Err(InputFault::OutOfMemory),
-        outcome => Ok(with_fault::<W>(alloc, ReadFile { name, outcome }, bytes.as_slice())),
+        Err(fault) => {
+            let own = unread_fault::<W>(alloc, name.as_str(), &fault, bytes.as_slice());
+            let outcome = Err(fault);
+            Ok((ReadFile { name, outcome }, own))
+        }
     }
 }
 

@@ -84,7 +84,3 @@ totals_object files good =
 -- the line of totals
 abbrev pub json_totals : List Line → List ℕ
 json_totals lines = totals_object (length lines) (good_count lines)
-
--- the whole report
-unfoldable pub json_report : List Line → List ℕ
-json_report lines = flat_map json_line lines ++ json_totals lines

@@ -1,15 +1,15 @@
-//! The report of a run as JSON.
+//! The lines of the report of a run as JSON.
 
 ghost use Rattle.std.specs.Prelude.{◌≡◌, ◌∷◌, ◌++◌, [], Some, OnOk};
 ghost use Rattle.std.specs.Fmt.{DisplaysOnOk};
 ghost use Rattle.std.specs.Io.KnownBytes.{Appends};
 ghost use Rattle.wh_tester.specs.Report.{shown, fault_text};
 ghost use Rattle.wh_tester.specs.Json.{escaped_char, escaped, following, event_members, subject_members};
-ghost use Rattle.wh_tester.specs.Json.{verdict_members, json_line, json_report, open_line, totals_object};
+ghost use Rattle.wh_tester.specs.Json.{verdict_members, json_line, open_line, totals_object};
 
 use crate::faults::ReplayFaultText;
 use crate::line::{Line, Verdict};
-use crate::report::{EventText, event_of, good_count, name_of, shown_char, words_of};
+use crate::report::{EventText, event_of, name_of, shown_char, words_of};
 use std::io::Write;
 use std::{fmt, io};
 use wh_json::ReadFault;
@@ -147,7 +147,15 @@ pub fn write_open_json_line<W: Write>(line: &Line, writer: &mut W) -> io::Result
     write!(writer, "{{\"file\":\"{name}\"{members}")
 }
 
-/// Writes the object of a file, on a line. After an error some of the line may have been written.
+/// Writes the object of a file (RFC 8259), on a line, with no spaces between its parts and one line
+/// feed. Its members, in this order:
+/// - `file`, the name, shown as in the report in words;
+/// - `verdict`, one of `ok`, `unreadable`, `fault` and `out of memory`;
+/// - of `ok`: `tasks`, their number, and `live`, whether the last is live;
+/// - of `unreadable` and `fault`: `event` or `task`, the number of the one that the fault is about,
+///   if there is one; and `fault`, in the words of the other report.
+///
+/// After an error some of the line may have been written.
 pub fn write_json_line<W: Write>(line: &Line, writer: &mut W) -> io::Result<()>
     ensures { OnOk result (Appends (W.contents writer.old) (W.contents writer.new) (json_line line.now)) }
 {
@@ -162,27 +170,4 @@ pub fn write_json_totals<W: Write>(files: usize, good: usize, writer: &mut W) ->
     ensures { OnOk result (Appends (W.contents writer.old) (W.contents writer.new) (totals_object files good)) }
 {
     write!(writer, "{{\"files\":{files},\"ok\":{good}}}\n")
-}
-
-/// Writes the report as lines of JSON (RFC 8259): for each file an object, in the order given, and
-/// then an object with the number of files (`files`) and of good ones (`ok`). Each object stands on
-/// a line of its own, with no spaces between its parts, and each line ends with one line feed.
-///
-/// The members of a file's object, in this order:
-/// - `file`, the name, shown as in the report in words;
-/// - `verdict`, one of `ok`, `unreadable`, `fault` and `out of memory`;
-/// - of `ok`: `tasks`, their number, and `live`, whether the last is live;
-/// - of `unreadable` and `fault`: `event` or `task`, the number of the one that the fault is about,
-///   if there is one; and `fault`, in the words of the other report.
-///
-/// Each line goes to the writer as it is made. After an error some of the report may have been
-/// written.
-#[tactic(auto, unfolding(crate::specs::Json::json_report))]
-pub fn write_json_report<W: Write>(lines: &[Line], writer: &mut W) -> io::Result<()>
-    ensures { OnOk result (Appends (W.contents writer.old) (W.contents writer.new) (json_report lines.now)) }
-{
-    for line in lines {
-        write_json_line(line, writer)?;
-    }
-    write_json_totals(lines.len(), good_count(lines), writer)
 }

@@ -1,7 +1,8 @@
 -- How options ask to serve live tasks.
 use Rattle.std.specs.Prelude.{◌≡◌, ℕ, ◌+◌, ◌<◌, ◌≤◌, ◌&&◌, Bool, IsSome, Option, Some, None, Result, Ok, if◌then◌else◌, leb}
-use Rattle.wh_command_line.specs.Options.{config_of}
+use Rattle.wh_command_line.specs.Sizes.{config_of}
 use Rattle.wh_command_line.specs.declared.work.WorkOptions.{WorkOptions}
+use Rattle.wh_policies.specs.Defaults as plain
 use Rattle.wh_host.specs.Machine.{IsConfig}
 use Rattle.wh_host.specs.declared.config.Config.{Config}
 use Rattle.wh_client.specs.declared.options.LiveOptions.{LiveOptions}
@@ -21,13 +22,12 @@ live_config options = config_of (options.workers + options.activity_workers)
 abbrev pub sticky_of : WorkOptions → Option ℕ
 sticky_of options = if keeps_runs options then Some options.sticky_timeout else None
 
--- what the workers poll and say of themselves is what the options name
+-- what the workers poll and say of themselves is what the options name, and so is what is asked for with activities
 pub record AreLiveOptions (options : WorkOptions) (live : LiveOptions) : Type 0 where
   pub namespace : live.names.namespace ≡ options.namespace
   pub task_queue : live.names.task_queue ≡ options.task_queue
   pub identity : live.names.identity ≡ options.identity
-  pub timeout : live.activities.timeout ≡ options.activity_timeout
-  pub attempts : live.activities.attempts ≡ options.activity_attempts
+  pub policies : live.policies ≡ plain.policies options.activity_timeout options.activity_attempts
   pub sticky : live.sticky ≡ sticky_of options
   pub verbose : live.verbose ≡ options.verbose
 

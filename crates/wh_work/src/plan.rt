@@ -3,6 +3,7 @@
 ghost use Rattle.std.specs.Prelude.{◌≡◌, IfOk};
 ghost use Rattle.wh_command_line.specs.Options.{IsWithinWorkLimits};
 ghost use Rattle.wh_host.specs.Machine.{IsConfig};
+ghost use Rattle.wh_policies.specs.Defaults as plain;
 ghost use Rattle.wh_work.specs.Plans.{AreLiveOptions, IsLivePlan, keeps_runs, live_config};
 
 use std::alloc::Global;
@@ -10,7 +11,8 @@ use wh_client::LiveOptions;
 use wh_command_line::WorkOptions;
 use wh_events::OutOfMemory;
 use wh_host::Config;
-use wh_messages::{ActivityOptions, WorkerNames};
+use wh_messages::WorkerNames;
+use wh_policies::Policies;
 
 /// How live tasks are served.
 #[derive(Drop)]
@@ -47,19 +49,29 @@ fn live_config(options: &WorkOptions) -> Config
     }
 }
 
+/// The policies that the options ask for: for each activity a time for one attempt and a number of
+/// attempts.
+fn plain_policies(alloc: Global, options: &WorkOptions) -> Policies
+    requires { IsWithinWorkLimits options.now }
+    ensures { result ≡ plain.policies options.now.activity_timeout options.now.activity_attempts }
+{
+    Policies::plain(
+        alloc,
+        options.activity_timeout as u32,
+        options.activity_attempts as u32,
+    )
+}
+
 /// What the workers poll, and what they say of themselves and of their tasks.
 fn live_options(alloc: Global, options: WorkOptions) -> Result<LiveOptions, OutOfMemory>
     requires { IsWithinWorkLimits options }
     ensures { IfOk result (AreLiveOptions options) }
 {
+    let policies = plain_policies(alloc, &options);
     let sticky = if keeps_runs(&options) {
         Some(options.sticky_timeout as u32)
     } else {
         None
-    };
-    let activities = ActivityOptions {
-        timeout: options.activity_timeout as u32,
-        attempts: options.activity_attempts as u16,
     };
     let WorkOptions {
         task_queue,
@@ -76,7 +88,7 @@ fn live_options(alloc: Global, options: WorkOptions) -> Result<LiveOptions, OutO
     )?;
     Ok(LiveOptions {
         names,
-        activities,
+        policies,
         sticky,
         verbose,
     })

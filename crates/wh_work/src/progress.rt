@@ -3,8 +3,8 @@
 use std::fmt;
 use std::fmt::{Display, Formatter};
 use std::sync::{Mutex, Wait};
-use std::time::Clock;
-use wh_crew::Reporter;
+use std::time::{Clock, Duration};
+use wh_companion::{Companion, EndSignal};
 use wh_host::{Counts, Outcome};
 use wh_poll::{Served, SourceFault};
 use wh_tester::Shown;
@@ -132,17 +132,18 @@ impl Display for Report {
 
 /// Reports from time to time how many tasks were answered, and what the host holds and caches.
 #[derive(Drop)]
-pub(crate) struct Progress<'a> {
+pub(crate) struct Progress<'a, R> {
+    rt: &'a R,
     /// What the program is called.
     name: &'a str,
-    /// In seconds.
-    period: u64,
+    /// How long it is from one report to the next.
+    period: Duration,
     turns: Mutex<Turns>,
 }
 
-impl<'a> Progress<'a> {
+impl<'a, R: Wait + Clock> Progress<'a, R> {
     /// One that begins now, and is reported under the program's name after so many seconds each.
-    pub(crate) fn new<R: Clock>(rt: &R, name: &'a str, period: u64) -> Progress<'a> {
+    pub(crate) fn new(rt: &'a R, name: &'a str, seconds: u64) -> Progress<'a, R> {
         let turns = Turns {
             completed: 0,
             failed: 0,
@@ -152,28 +153,29 @@ impl<'a> Progress<'a> {
             before: 0,
         };
         Progress {
+            rt,
             name,
-            period,
+            period: Duration::from_secs(seconds),
             turns: Mutex::new(turns),
         }
     }
 
     /// Counts a turn.
-    pub(crate) fn count<R: Wait>(&self, rt: &R, turn: Result<Served, SourceFault>) {
-        self.turns.lock(rt).add(turn);
+    pub(crate) fn count(&self, turn: Result<Served, SourceFault>) {
+        self.turns.lock(self.rt).add(turn);
     }
 }
 
-impl Reporter for Progress<'_> {
-    fn period(&self) -> u64 {
-        self.period
+impl<R: Wait + Clock + Eprint> Companion for Progress<'_, R> {
+    fn wait(&self, signal: &EndSignal) -> bool {
+        signal.wait(self.rt, self.period)
     }
 
     /// Writes a line on standard error.
-    fn report<R: Wait + Clock + Eprint>(&self, rt: &R, counts: Option<Counts>) {
-        let now = milliseconds(rt);
-        let report = self.turns.lock(rt).report(now, counts);
+    fn report(&self, counts: Option<Counts>) {
+        let now = milliseconds(self.rt);
+        let report = self.turns.lock(self.rt).report(now, counts);
         let name = Shown(self.name);
-        let _ = eprintln!(rt; "{name}: {report}");
+        let _ = eprintln!(self.rt; "{name}: {report}");
     }
 }

@@ -2,23 +2,21 @@
 
 use crate::progress::Progress;
 use std::sync::Wait;
+use std::time::Clock;
 use wh_poll::{Observer, Served, SourceFault};
 
 /// Counts the tasks of its worker, if they are counted.
 #[derive(Drop)]
-pub(crate) struct Watch<'a, R> {
-    pub(crate) rt: &'a R,
-    pub(crate) progress: Option<&'a Progress<'a>>,
-}
+pub(crate) struct Watch<'a, R>(pub(crate) Option<&'a Progress<'a, R>>);
 
-impl<R: Wait> Observer for Watch<'_, R> {
+impl<R: Wait + Clock> Observer for Watch<'_, R> {
     ghost use Rattle.std.specs.Prelude.{◌≡◌};
 
     ghost hears = { λ old turn new. new ≡ old };
 
     fn observe(&mut self, turn: Result<Served, SourceFault>) {
-        if let Some(progress) = self.progress {
-            progress.count(self.rt, turn);
+        if let Some(progress) = self.0 {
+            progress.count(turn);
         }
     }
 }

@@ -19,18 +19,17 @@ use wh_workflow::Workflow;
 
 /// A handler and a watch for each worker.
 fn crew_of<'a, R, A: Drop, M: Fn() -> A>(
-    rt: &'a R,
     alloc: Global,
     make: &M,
     seats: usize,
-    progress: Option<&'a Progress<'a>>,
+    progress: Option<&'a Progress<'a, R>>,
 ) -> Result<Vec<(A, Watch<'a, R>)>, OutOfMemory>
     requires { M.IsAlwaysCallable make.now }
     ensures { IfOk result (λ crew. vec_len crew ≡ seats) }
 {
     let mut crew = Vec::new(alloc);
     for _seat in 0..seats {
-        crew.push((make(), Watch { rt, progress }))?;
+        crew.push((make(), Watch(progress)))?;
     }
     Ok(crew)
 }
@@ -75,11 +74,11 @@ where
         Some(seconds) => Some(Progress::new(rt, name, seconds)),
         None => None,
     };
-    let crew = crew_of(rt, alloc, make, config.seats, progress.as_ref())?;
+    let crew = crew_of(alloc, make, config.seats, progress.as_ref())?;
     if !listen() {
         return Err(OutOfMemory);
     }
-    let end = serve_live::<W, R, C, A, Watch<R>, Progress>(
+    let end = serve_live::<W, R, C, A, Watch<R>, Progress<R>>(
         rt,
         alloc,
         name,

@@ -4,10 +4,12 @@ use crate::calls::saying::{say, say_answer, say_nothing};
 use std::alloc::Global;
 use std::io::Print;
 use std::thread::Threads;
+use wh_files::InputFault;
 use wh_histories::json;
 use wh_json::read_events;
+use wh_report::{Record, check_all};
 use wh_sample_workflows::Nap;
-use wh_tester::check_all;
+use wh_tester::Line;
 
 /// Reads a history.
 pub(crate) fn read<R: Print>(rt: &R, alloc: Global, name: &str) -> Option<()> {
@@ -31,6 +33,15 @@ fn push_file(
     files.push((name, text.into_bytes())).ok()
 }
 
+/// Prints the lines of the records of two files.
+fn say_lines<R: Print>(rt: &R, name: &str, records: Vec<Record>) {
+    if let [nap, live] = records.as_slice() {
+        let lines: Result<[&Line; 2], InputFault> = Ok([&nap.line, &live.line]);
+        say(rt, name, "answer", &lines);
+    }
+    drop(records);
+}
+
 /// Checks two files.
 pub(crate) fn check<R: Print + Threads + Sync>(rt: &R, alloc: Global, name: &str) -> Option<()> {
     let mut files = Vec::new(alloc);
@@ -38,7 +49,16 @@ pub(crate) fn check<R: Print + Threads + Sync>(rt: &R, alloc: Global, name: &str
     let live = push_file(alloc, &mut files, "live", "nap/8");
     let files = nap.and(live).and(Some(files))?;
     say_nothing(rt, name, "before");
-    say_answer(rt, name, check_all::<Nap>(rt, alloc, files));
+    let checked = check_all::<Nap, _, _, _>(
+        rt,
+        alloc,
+        files,
+        |file: (String, Vec<u8>)| -> Result<(String, Vec<u8>), InputFault> { Ok(file) },
+    );
+    match checked {
+        Ok(records) => say_lines(rt, name, records),
+        Err(fault) => say_answer(rt, name, Err::<(), InputFault>(fault)),
+    }
     say_nothing(rt, name, "after");
     Some(())
 }

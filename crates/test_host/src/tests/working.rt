@@ -8,14 +8,17 @@ use crate::tests::hosting::{Day, close, left, pass, spent};
 use std::alloc::Global;
 use std::marker::Brand;
 use std::process::Abort;
-use std::sync::Wait;
 use std::sync::ledger::{Blank, Ledger};
+use std::sync::{Mutex, Wait};
 use std::thread::Threads;
+use std::time::{Clock, Duration};
 use test_support::{cut, next_number, push, wants};
+use wh_companion::{Companion, EndSignal};
 use wh_host::{Config, Counts};
 use wh_ledger::Seat;
 use wh_poll::{
-    ActivityHandler, NoActivities, NoObserver, Worker, WorkerSetup, run_on_host, run_workers,
+    ActivityHandler, NoActivities, NoObserver, OpenGate, Worker, WorkerSetup, run_host_beside,
+    run_on_host, run_workers,
 };
 use wh_recorded::ScriptSource;
 
@@ -372,4 +375,59 @@ fn setups_are_run_again(rt: HostRuntime) {
         "Counts taken: 5, completed: 5, failed: 0, in_hand: 0, cached: 4, cached_events: 17, \
         workflow: SlotCount free: 2, reserved: 0, held: 0, activity: SlotCount free: 1, reserved: 0, held: 0";
     wants(alloc, counts, text).expect(&rt, "setups run twice");
+}
+
+/// Waits until the workers have ended, and then wants to know once what they counted.
+#[derive(Drop)]
+struct Onlooker<'r, R> {
+    rt: &'r R,
+    seen: Mutex<Option<Counts>>,
+}
+
+impl<R: Wait + Clock> Companion for Onlooker<'_, R> {
+    fn wait(&self, signal: &EndSignal) -> bool {
+        !signal.wait(self.rt, Duration::from_secs(50)) && self.seen.lock(self.rt).is_none()
+    }
+
+    fn report(&self, counts: Option<Counts>) {
+        *self.seen.lock(self.rt) = counts;
+    }
+}
+
+/// A companion is told at its seat what the workers have counted, and counts nothing itself.
+#[test]
+fn a_companion_looks_on(rt: HostRuntime) {
+    let config = Config {
+        workflow_slots: 2,
+        activity_slots: 1,
+        cache: 10,
+        cache_events: 0,
+        seats: 2,
+    };
+    let alloc = rt.alloc();
+    let setups = setups_of(&rt, alloc, "0 a => nap/3; 1 b => nap");
+    let companion = Onlooker {
+        rt: &rt,
+        seen: Mutex::new(None),
+    };
+    let left = run_host_beside::<Workflows, _, _, _, _, _, _>(
+        &rt,
+        alloc,
+        config,
+        setups,
+        &OpenGate,
+        Some(&companion),
+    ).expect(&rt, "a host");
+    assert!(&rt; left.config == config && left.workers.len() == 2);
+    wants(
+        alloc,
+        left.totals,
+        "Totals taken: 3, completed: 3, failed: 0, in_hand: 0",
+    )
+    .expect(&rt, "the totals");
+    let seen = *companion.seen.lock(&rt);
+    let text =
+        "Some(Counts taken: 3, completed: 3, failed: 0, in_hand: 0, cached: 2, cached_events: 11, \
+        workflow: SlotCount free: 2, reserved: 0, held: 0, activity: SlotCount free: 1, reserved: 0, held: 0)";
+    wants(alloc, seen, text).expect(&rt, "what is seen beside them");
 }

@@ -3,7 +3,7 @@
 use std::alloc::Global;
 use std::process::Abort;
 use test_support::{push, row, same, shown};
-use wh_cli::{Plan, Refusal, WorkOptions, parse};
+use wh_cli::{Format, Plan, Refusal, ServeOptions, WorkOptions, parse};
 use wh_events::Text;
 
 /// What a line after the program's name asks for.
@@ -21,6 +21,19 @@ replay --require-files d e --json => replay d e as JSON, which needs a history
 explain d/x.json => explain d/x.json
 explain - => explain -
 explain --json d/x.json => explain d/x.json as JSON
+explain --recorded d/x.json => view All of d/x.json
+explain - --json --recorded => view All of - as JSON
+explain x --recorded --last 1 => view Last(1) of x
+explain --last 67108864 --recorded x => view Last(67108864) of x
+explain --recorded --last 67108865 x => bad line
+explain --recorded --last 0 x => bad line
+explain --recorded --around 9223372036854775808 x => bad line
+explain --recorded --around 0 x => bad line
+explain --recorded --around two x => bad line
+explain --recorded --around 2 --last 2 x => bad line
+explain --around 2 x => bad line
+explain --last 2 x => bad line
+explain --recorded => bad line
 serve d => serve d, workers 1, cache 100, cache events 0, slots 100
 serve d --workers 64 --cache 0 --cache-events 512000000 --slots 1000 => serve d, workers 64, cache 0, cache events 512000000, slots 1000
 serve d --workers 1 --cache 10000 --slots 1 => serve d, workers 1, cache 10000, cache events 0, slots 1
@@ -162,16 +175,14 @@ fn replay_text(rt: &impl Abort, alloc: Global, dir: &Text, more: &[Text]) -> Str
 }
 
 /// A plan to serve, in words.
-fn serve_text(
-    rt: &impl Abort,
-    alloc: Global,
-    dir: &Text,
-    workers: u64,
-    cache: u64,
-    cache_events: u64,
-    slots: u64,
-) -> String {
+fn serve_text(rt: &impl Abort, alloc: Global, dir: &Text, options: &ServeOptions) -> String {
     let dir = dir.get();
+    let ServeOptions {
+        workers,
+        cache,
+        cache_events,
+        slots,
+    } = *options;
     let text = format!(in alloc;
         "serve {dir}, workers {workers}, cache {cache}, cache events {cache_events}, slots {slots}"
     );
@@ -218,27 +229,36 @@ fn plan_text(rt: &impl Abort, alloc: Global, plan: &Plan) -> String {
         Plan::Replay {
             dir,
             more,
-            json,
+            format,
             require_files,
         } => {
             let mut text = replay_text(rt, alloc, dir, more);
-            add_flags(rt, &mut text, *json, *require_files);
+            add_flags(rt, &mut text, *format == Format::Json, *require_files);
             text
         }
-        Plan::Explain { file, json } => {
+        Plan::Explain { file, format } => {
             let mut text = joined(rt, alloc, "explain ", file.get());
-            add_flags(rt, &mut text, *json, false);
+            add_flags(rt, &mut text, *format == Format::Json, false);
+            text
+        }
+        Plan::View {
+            file,
+            selection,
+            format,
+        } => {
+            let selection = shown(alloc, selection).expect(rt, "memory");
+            let view = joined(rt, alloc, "view ", selection.as_str());
+            let view = joined(rt, alloc, view.as_str(), " of ");
+            let mut text = joined(rt, alloc, view.as_str(), file.get());
+            add_flags(rt, &mut text, *format == Format::Json, false);
             text
         }
         Plan::Serve {
             dir,
-            workers,
-            cache,
-            cache_events,
-            slots,
+            options,
             require_files,
         } => {
-            let mut text = serve_text(rt, alloc, dir, *workers, *cache, *cache_events, *slots);
+            let mut text = serve_text(rt, alloc, dir, options);
             add_flags(rt, &mut text, false, *require_files);
             text
         }

@@ -2,11 +2,10 @@
 
 use std::alloc::Global;
 use std::process::Abort;
-use std::slice;
 use test_support::{Scripted, bytes_of, row, same, with_status};
 use wh_explain::{explain, write_explanation};
+use wh_report::line_status;
 use wh_sample_workflows::{All, Asker, Nap};
-use wh_tester::all_good;
 use wh_workflow::Workflow;
 
 /// Histories without a fault, each with its text below it.
@@ -128,6 +127,20 @@ task at 8
   told SignalSent other go
     gives Complete
   sends Complete, recorded 10 WorkflowExecutionCompleted
+x.json: ok, 2 tasks
+status 0
+
+start:Relay S T C timer:leg timer_fired:5 S T C continued | {'workflowType' -> {'input':{'payloads':[{'data':'AQ=='},{'data':'Ag=='}]},'workflowType'
+task at 3
+  told Time 2024-05-01T10:00:03Z
+  told Start Relay
+    gives StartTimer leg (5 s)
+  sends StartTimer leg (5 s), recorded 5 TimerStarted leg
+task at 8
+  told Time 2024-05-01T10:00:08Z
+  told TimerFired leg
+    gives ContinueAsNew Relay
+  sends ContinueAsNew Relay, recorded 10 WorkflowExecutionContinuedAsNew
 x.json: ok, 2 tasks
 status 0
 
@@ -408,8 +421,7 @@ fn explanation<W: Workflow>(rt: &impl Abort, alloc: Global, history: &'static st
     let explanation = explain::<W>(alloc, name, bytes.as_slice()).expect(rt, "memory");
     let mut out = Vec::new(alloc);
     write_explanation(&explanation, &mut out).expect(rt, "written");
-    let status = u8::from(!all_good(slice::from_ref(&explanation.line)));
-    with_status(out, status).expect(rt, "a text")
+    with_status(out, line_status(&explanation.line)).expect(rt, "a text")
 }
 
 /// Explains the history that each block begins with, and compares the text with the block's.

@@ -14,6 +14,11 @@ branch => x.json: ok, 2 tasks
 family => x.json: ok, 3 tasks
 racer => x.json: ok, 4 tasks
 caller => x.json: ok, 2 tasks
+start:Relay S T C completed => x.json: ok, 1 tasks
+start:Relay S T C continued => x.json: fault, event 5 differs
+start:Relay S T C timer:leg timer_fired:5 S T C continued | {'workflowType' -> {'input':{'payloads':[{'data':'AQ=='},{'data':'Ag=='}]},'workflowType' => x.json: ok, 2 tasks
+start:Relay S T C timer:leg timer_fired:5 S T C completed | {'workflowType' -> {'input':{'payloads':[{'data':'AQ=='},{'data':'Ag=='}]},'workflowType' => x.json: fault, event 10 differs
+start:Relay S T C completed | {'workflowType' -> {'input':{'payloads':[{'data':'AQ=='},{'data':'Ag=='}]},'workflowType' => x.json: fault, event 5 differs
 nap | 'timerId':'nap' -> 'timerId':'x' => x.json: fault, event 5 differs
 greet | 'name':'greet' -> 'name':'greets' => x.json: fault, event 5 differs
 caller | 'signalName':'go' -> 'signalName':'stop' => x.json: fault, event 5 differs

@@ -4,18 +4,28 @@ use std::alloc::Global;
 use std::process::Abort;
 use std::slice;
 use test_support::{bytes_of, row, same, with_status};
-use wh_tester::{Line, all_good, verdict, write_report};
+use wh_report::{Format, Record, report};
+use wh_tester::{Line, verdict};
 use wh_workflow::{Workflow, text_of};
+
+/// The record of a file of which its line alone is known.
+pub(crate) fn record_with(line: Line) -> Record {
+    Record {
+        line,
+        cause: None,
+        difference: None,
+    }
+}
 
 /// The report of one file, `x.json`, and below it the status: 0 where the file is good, and else 1.
 fn report_of<W: Workflow>(rt: &impl Abort, alloc: Global, bytes: &[u8]) -> String {
     let name = text_of(alloc, "x.json").expect(rt, "memory");
     let verdict = verdict::<W>(alloc, bytes);
-    let line = Line { name, verdict };
-    let lines = slice::from_ref(&line);
+    let record = record_with(Line { name, verdict });
+    let records = slice::from_ref(&record);
     let mut out = Vec::new(alloc);
-    write_report(lines, &mut out).expect(rt, "written");
-    with_status(out, u8::from(!all_good(lines))).expect(rt, "a text")
+    let status = report(records, Format::Text, &mut out).expect(rt, "written");
+    with_status(out, status).expect(rt, "a text")
 }
 
 /// A line of one file, the totals that fit it, and the status.

@@ -1,12 +1,14 @@
 //! What the report looks like.
 
+use crate::tests::replaying::record_with;
 use std::alloc::Global;
 use std::process::Abort;
 use test_support::{push, repeated, same};
 use wh_events::{EventNo, PlaceFault};
 use wh_json::ReadFault;
 use wh_replay::{Checked, Fault};
-use wh_tester::{Line, Verdict, all_good, write_json_report, write_report};
+use wh_report::{Format, Record, status_of, write_report};
+use wh_tester::{Line, Verdict};
 use wh_workflow::{Mismatch, WorkflowFault, text_of};
 
 /// The faults of place.
@@ -118,99 +120,99 @@ a: ok, 2 tasks: out of memory
 8 files, 0 ok
 ";
 
-fn add(rt: &impl Abort, alloc: Global, lines: &mut Vec<Line>, name: &str, verdict: Verdict) {
+fn add(rt: &impl Abort, alloc: Global, records: &mut Vec<Record>, name: &str, verdict: Verdict) {
     let name = text_of(alloc, name).expect(rt, "memory");
-    push(lines, Line { name, verdict }).expect(rt, "memory");
+    push(records, record_with(Line { name, verdict })).expect(rt, "memory");
 }
 
-/// The report of these lines.
-fn report_of(rt: &impl Abort, alloc: Global, lines: &[Line]) -> String {
+/// The report of these records.
+fn report_of(rt: &impl Abort, alloc: Global, records: &[Record]) -> String {
     let mut out = Vec::new(alloc);
-    write_report(lines, &mut out).expect(rt, "written");
+    write_report(records, Format::Text, &mut out).expect(rt, "written");
     String::from_utf8(out).expect(rt, "a text")
 }
 
-/// The report of these lines is this text.
-fn reports(rt: &impl Abort, alloc: Global, lines: &[Line], wanted: &str) {
-    let report = report_of(rt, alloc, lines);
+/// The report of these records is this text.
+fn reports(rt: &impl Abort, alloc: Global, records: &[Record], wanted: &str) {
+    let report = report_of(rt, alloc, records);
     same(alloc, report.as_str(), wanted).expect(rt, "a report");
 }
 
 /// A file whose replay met a fault.
-fn add_fault(rt: &impl Abort, alloc: Global, lines: &mut Vec<Line>, fault: Fault) {
-    add(rt, alloc, lines, "x.json", Verdict::Faulty(fault));
+fn add_fault(rt: &impl Abort, alloc: Global, records: &mut Vec<Record>, fault: Fault) {
+    add(rt, alloc, records, "x.json", Verdict::Faulty(fault));
 }
 
 /// A file whose task at 8 differs from its record.
-fn add_mismatch(rt: &impl Abort, alloc: Global, lines: &mut Vec<Line>, mismatch: Mismatch) {
-    add_fault(rt, alloc, lines, Fault::Mismatch { at: 8, mismatch });
+fn add_mismatch(rt: &impl Abort, alloc: Global, records: &mut Vec<Record>, mismatch: Mismatch) {
+    add_fault(rt, alloc, records, Fault::Mismatch { at: 8, mismatch });
 }
 
-fn add_mismatches(rt: &impl Abort, alloc: Global, lines: &mut Vec<Line>) {
+fn add_mismatches(rt: &impl Abort, alloc: Global, records: &mut Vec<Record>) {
     let event = EventNo::new(5).expect(rt, "a number");
-    add_mismatch(rt, alloc, lines, Mismatch::Different { event });
-    add_mismatch(rt, alloc, lines, Mismatch::CommandMissing { event });
-    add_mismatch(rt, alloc, lines, Mismatch::CommandExtra { index: 2 });
+    add_mismatch(rt, alloc, records, Mismatch::Different { event });
+    add_mismatch(rt, alloc, records, Mismatch::CommandMissing { event });
+    add_mismatch(rt, alloc, records, Mismatch::CommandExtra { index: 2 });
 }
 
 #[test]
 fn shows_faults(rt: HostRuntime) {
     let alloc = rt.alloc();
-    let mut lines = Vec::new(alloc);
+    let mut records = Vec::new(alloc);
     for fault in &PLACE_FAULTS {
         let at = 9_223_372_036_854_775_807;
         let fault = Fault::Place { at, fault: *fault };
-        add_fault(&rt, alloc, &mut lines, fault);
+        add_fault(&rt, alloc, &mut records, fault);
     }
     for fault in &WORKFLOW_FAULTS {
         let fault = Fault::Workflow {
             at: 67,
             fault: *fault,
         };
-        add_fault(&rt, alloc, &mut lines, fault);
+        add_fault(&rt, alloc, &mut records, fault);
     }
-    add_mismatches(&rt, alloc, &mut lines);
-    add_fault(&rt, alloc, &mut lines, Fault::NotATask);
-    reports(&rt, alloc, lines.as_slice(), FAULTS);
+    add_mismatches(&rt, alloc, &mut records);
+    add_fault(&rt, alloc, &mut records, Fault::NotATask);
+    reports(&rt, alloc, records.as_slice(), FAULTS);
 }
 
 /// A file that could not be read for this fault.
-fn add_unreadable(rt: &impl Abort, alloc: Global, lines: &mut Vec<Line>, fault: ReadFault) {
-    add(rt, alloc, lines, "x.json", Verdict::Unreadable(fault));
+fn add_unreadable(rt: &impl Abort, alloc: Global, records: &mut Vec<Record>, fault: ReadFault) {
+    add(rt, alloc, records, "x.json", Verdict::Unreadable(fault));
 }
 
 /// Files that are no lists of events.
-fn add_no_lists(rt: &impl Abort, alloc: Global, lines: &mut Vec<Line>) {
-    add_unreadable(rt, alloc, lines, ReadFault::TooLong);
-    add_unreadable(rt, alloc, lines, ReadFault::BadJson);
-    add_unreadable(rt, alloc, lines, ReadFault::NoEvents);
-    add_unreadable(rt, alloc, lines, ReadFault::OutOfMemory);
+fn add_no_lists(rt: &impl Abort, alloc: Global, records: &mut Vec<Record>) {
+    add_unreadable(rt, alloc, records, ReadFault::TooLong);
+    add_unreadable(rt, alloc, records, ReadFault::BadJson);
+    add_unreadable(rt, alloc, records, ReadFault::NoEvents);
+    add_unreadable(rt, alloc, records, ReadFault::OutOfMemory);
 }
 
 /// Files with an event that is not read.
-fn add_bad_events(rt: &impl Abort, alloc: Global, lines: &mut Vec<Line>) {
-    add_unreadable(rt, alloc, lines, ReadFault::BadNumber { at: 1 });
-    add_unreadable(rt, alloc, lines, ReadFault::OutOfOrder { at: 3 });
-    add_unreadable(rt, alloc, lines, ReadFault::MissingField { at: 5 });
-    add_unreadable(rt, alloc, lines, ReadFault::BadTime { at: 2 });
-    add_unreadable(rt, alloc, lines, ReadFault::BadPayload { at: 7 });
-    add_unreadable(rt, alloc, lines, ReadFault::ShorthandPayload { at: 7 });
+fn add_bad_events(rt: &impl Abort, alloc: Global, records: &mut Vec<Record>) {
+    add_unreadable(rt, alloc, records, ReadFault::BadNumber { at: 1 });
+    add_unreadable(rt, alloc, records, ReadFault::OutOfOrder { at: 3 });
+    add_unreadable(rt, alloc, records, ReadFault::MissingField { at: 5 });
+    add_unreadable(rt, alloc, records, ReadFault::BadTime { at: 2 });
+    add_unreadable(rt, alloc, records, ReadFault::BadPayload { at: 7 });
+    add_unreadable(rt, alloc, records, ReadFault::ShorthandPayload { at: 7 });
 }
 
 /// Files with an event that is not supported.
-fn add_unsupported(rt: &impl Abort, alloc: Global, lines: &mut Vec<Line>) {
+fn add_unsupported(rt: &impl Abort, alloc: Global, records: &mut Vec<Record>) {
     let name = text_of(alloc, "A\nB").expect(rt, "memory");
     add_unreadable(
         rt,
         alloc,
-        lines,
+        records,
         ReadFault::UnsupportedEvent { at: 4, name },
     );
     let name = text_of(alloc, "Side\u{e9}ffect").expect(rt, "memory");
     add_unreadable(
         rt,
         alloc,
-        lines,
+        records,
         ReadFault::UnsupportedMarker { at: 5, name },
     );
 }
@@ -218,28 +220,28 @@ fn add_unsupported(rt: &impl Abort, alloc: Global, lines: &mut Vec<Line>) {
 #[test]
 fn shows_what_is_unreadable(rt: HostRuntime) {
     let alloc = rt.alloc();
-    let mut lines = Vec::new(alloc);
-    add_no_lists(&rt, alloc, &mut lines);
-    add_bad_events(&rt, alloc, &mut lines);
-    add_unsupported(&rt, alloc, &mut lines);
-    reports(&rt, alloc, lines.as_slice(), UNREADABLE);
+    let mut records = Vec::new(alloc);
+    add_no_lists(&rt, alloc, &mut records);
+    add_bad_events(&rt, alloc, &mut records);
+    add_unsupported(&rt, alloc, &mut records);
+    reports(&rt, alloc, records.as_slice(), UNREADABLE);
 }
 
 #[test]
 fn shows_names(rt: HostRuntime) {
     let alloc = rt.alloc();
-    let mut lines = Vec::new(alloc);
+    let mut records = Vec::new(alloc);
     for name in &NAMES {
-        add(&rt, alloc, &mut lines, name, Verdict::OutOfMemory);
+        add(&rt, alloc, &mut records, name, Verdict::OutOfMemory);
     }
-    reports(&rt, alloc, lines.as_slice(), SHOWN_NAMES);
+    reports(&rt, alloc, records.as_slice(), SHOWN_NAMES);
 }
 
 /// A file with a good verdict.
 fn add_good(
     rt: &impl Abort,
     alloc: Global,
-    lines: &mut Vec<Line>,
+    records: &mut Vec<Record>,
     name: &str,
     tasks: u64,
     live: bool,
@@ -247,7 +249,7 @@ fn add_good(
     add(
         rt,
         alloc,
-        lines,
+        records,
         name,
         Verdict::Good(Checked { tasks, live }),
     );
@@ -258,9 +260,9 @@ fn cuts(rt: &impl Abort, alloc: Global, character: &str, shown: &str) {
     let name = repeated(alloc, character, 256, "").expect(rt, "memory");
     let end = ": ok, 1 tasks, last live\n1 files, 1 ok\n";
     let wanted = repeated(alloc, shown, 255, end).expect(rt, "memory");
-    let mut lines = Vec::new(alloc);
-    add_good(rt, alloc, &mut lines, name.as_str(), 1, true);
-    reports(rt, alloc, lines.as_slice(), wanted.as_str());
+    let mut records = Vec::new(alloc);
+    add_good(rt, alloc, &mut records, name.as_str(), 1, true);
+    reports(rt, alloc, records.as_slice(), wanted.as_str());
 }
 
 #[test]
@@ -280,58 +282,58 @@ c.json: unreadable, not JSON
 #[test]
 fn keeps_the_order(rt: HostRuntime) {
     let alloc = rt.alloc();
-    let mut lines = Vec::new(alloc);
-    reports(&rt, alloc, lines.as_slice(), "0 files, 0 ok\n");
-    add_good(&rt, alloc, &mut lines, "b.json", 2, false);
-    add_good(&rt, alloc, &mut lines, "a.json", 0, false);
-    assert!(rt; all_good(lines.as_slice()));
+    let mut records = Vec::new(alloc);
+    reports(&rt, alloc, records.as_slice(), "0 files, 0 ok\n");
+    add_good(&rt, alloc, &mut records, "b.json", 2, false);
+    add_good(&rt, alloc, &mut records, "a.json", 0, false);
+    assert!(rt; status_of(records.as_slice()) == 0);
     let verdict = Verdict::Unreadable(ReadFault::BadJson);
-    add(&rt, alloc, &mut lines, "c.json", verdict);
-    assert!(rt; !all_good(lines.as_slice()));
-    reports(&rt, alloc, lines.as_slice(), ORDERED);
+    add(&rt, alloc, &mut records, "c.json", verdict);
+    assert!(rt; status_of(records.as_slice()) == 1);
+    reports(&rt, alloc, records.as_slice(), ORDERED);
 }
 
 #[test]
 fn reports_many_files(rt: HostRuntime) {
     let alloc = rt.alloc();
-    let mut lines = Vec::new(alloc);
+    let mut records = Vec::new(alloc);
     for _ in 0..3000 {
-        add_good(&rt, alloc, &mut lines, "nap.json", 2, false);
+        add_good(&rt, alloc, &mut records, "nap.json", 2, false);
     }
     let line = "nap.json: ok, 2 tasks\n";
     let wanted = repeated(alloc, line, 3000, "3000 files, 3000 ok\n").expect(&rt, "memory");
-    reports(&rt, alloc, lines.as_slice(), wanted.as_str());
+    reports(&rt, alloc, records.as_slice(), wanted.as_str());
 }
 
 /// Files of each verdict but `OutOfMemory`, and names with what JSON escapes.
-fn add_each(rt: &impl Abort, alloc: Global, lines: &mut Vec<Line>) {
-    add_good(rt, alloc, lines, "a\"b\\c\n.json", 3, false);
-    add_good(rt, alloc, lines, "", 0, true);
-    add_unreadable(rt, alloc, lines, ReadFault::BadJson);
-    add_unreadable(rt, alloc, lines, ReadFault::MissingField { at: 4 });
+fn add_each(rt: &impl Abort, alloc: Global, records: &mut Vec<Record>) {
+    add_good(rt, alloc, records, "a\"b\\c\n.json", 3, false);
+    add_good(rt, alloc, records, "", 0, true);
+    add_unreadable(rt, alloc, records, ReadFault::BadJson);
+    add_unreadable(rt, alloc, records, ReadFault::MissingField { at: 4 });
     let name = text_of(alloc, "\"\\\u{1}").expect(rt, "memory");
     add_unreadable(
         rt,
         alloc,
-        lines,
+        records,
         ReadFault::UnsupportedEvent { at: 6, name },
     );
-    add_fault(rt, alloc, lines, Fault::NotATask);
+    add_fault(rt, alloc, records, Fault::NotATask);
     let fault = PlaceFault::NoSuchRef;
-    add_fault(rt, alloc, lines, Fault::Place { at: 5, fault });
+    add_fault(rt, alloc, records, Fault::Place { at: 5, fault });
     let fault = WorkflowFault::NotOpen;
-    add_fault(rt, alloc, lines, Fault::Workflow { at: 7, fault });
-    add_mismatches(rt, alloc, lines);
+    add_fault(rt, alloc, records, Fault::Workflow { at: 7, fault });
+    add_mismatches(rt, alloc, records);
 }
 
 #[test]
 fn json_lines(rt: HostRuntime) {
     let alloc = rt.alloc();
-    let mut lines = Vec::new(alloc);
-    add_each(&rt, alloc, &mut lines);
-    add(&rt, alloc, &mut lines, "x.json", Verdict::OutOfMemory);
+    let mut records = Vec::new(alloc);
+    add_each(&rt, alloc, &mut records);
+    add(&rt, alloc, &mut records, "x.json", Verdict::OutOfMemory);
     let mut out = Vec::new(alloc);
-    write_json_report(lines.as_slice(), &mut out).expect(&rt, "written");
+    write_report(records.as_slice(), Format::Json, &mut out).expect(&rt, "written");
     let report = String::from_utf8(out).expect(&rt, "a text");
     same(rt.alloc(), report.as_str(), JSON).expect(&rt, "a report");
 }

@@ -1,17 +1,16 @@
 -- What is reported on standard error.
 use Rattle.std.specs.Prelude.{◌≡◌, ℕ, List, [], ◌++◌, codes, Bool, true, false, Option, Some, None, String, string_bytes}
 use Rattle.std.specs.List.{flat_map}
-use Rattle.std.specs.Io.KnownBytes.{Appends}
 use Rattle.std.specs.declared.alloc.Global.{Global}
 use Rattle.wh_files.specs.Reasons.{reason_words}
 use Rattle.wh_files.specs.declared.Reason.{Reason}
-use Rattle.wh_tester.specs.Report.{shown}
+use Rattle.wh_json.specs.declared.fault.ReadFault.{ReadFault}
+use Rattle.wh_tester.specs.Report.{fault_text, shown}
 use Rattle.wh_report.specs.Reports.{faults_in}
 use Rattle.wh_cli.specs.declared.complaints.Complaint.{Complaint}
 use Rattle.wh_cli.specs.declared.complaints.Complaint.TheVariants.{NoFiles, BadNames, BadJson, BadFiles, Served, Worked, Failed}
-use Rattle.wh_cli.specs.declared.complaints.Complaints.{Complaints}
 use Rattle.wh_cli.specs.declared.failures.Failure.{Failure}
-use Rattle.wh_cli.specs.declared.failures.Failure.TheVariants.{BadLine, BadArguments, FewSlots, Unreadable, Output, OutOfMemory}
+use Rattle.wh_cli.specs.declared.failures.Failure.TheVariants.{BadLine, BadArguments, FewSlots, Unreadable, NotJson, NotViewed, Output, OutOfMemory}
 use Rattle.wh_file_faults.specs.declared.file_faults.FileFault.{FileFault}
 use Rattle.wh_service.specs.declared.failures.FileFailure.{FileFailure}
 use Rattle.wh_service.specs.declared.service.ServiceEnd.{ServiceEnd}
@@ -81,6 +80,11 @@ abbrev pub reason_line : List ℕ → Option (String Global) → Reason → List
 reason_line path None reason name = path_line path (reason_words reason) name
 reason_line path (Some entry) reason name = entry_line path (string_bytes entry) (reason_words reason) name
 
+-- `<name>: <file>: unreadable, <fault>`
+abbrev pub unviewed_line : List ℕ → ReadFault → List ℕ → List ℕ
+unviewed_line file fault name =
+    shown name ++ (codes ": " ++ (shown file ++ (codes ": unreadable, " ++ (fault_text fault ++ codes "\n"))))
+
 -- why there is no full report: what is wrong with the command line, in its own words, or a line of the program's
 abbrev pub failed_text : Failure → List ℕ → List ℕ
 failed_text (BadLine text) name = text
@@ -88,6 +92,8 @@ failed_text BadArguments name = told_line (codes "arguments must be UTF-8 text")
 failed_text FewSlots name = told_line (codes "slots must be at least workers") name
 failed_text (Unreadable dir entry reason) name =
     told_line (codes "cannot read " ++ dir) name ++ reason_line dir entry reason name
+failed_text (NotJson fault) name = fault_line fault name
+failed_text (NotViewed file fault) name = unviewed_line file fault name
 failed_text Output name = told_line (codes "cannot write") name
 failed_text OutOfMemory name = told_line (codes "out of memory") name
 
@@ -100,11 +106,3 @@ complaint_text (BadFiles records) name = fault_lines (faults_in records.items) n
 complaint_text (Served end) name = service_told end name
 complaint_text (Worked end) name = live_text end
 complaint_text (Failed failure) name = failed_text failure name
-
--- the standard error was told what a text is under its name, after what it was told before: where it took all, it
--- holds just that more
-pub record Reported {E : Type 0} (contents : E → Option (List ℕ)) (old new : Complaints E)
-    (text : List ℕ → List ℕ) : Type 0 where
-  pub named : new.name ≡ old.name
-  pub told : new.whole ≡ true
-      → (old.whole ≡ true) × Appends (contents old.writer) (contents new.writer) (text old.name.now)

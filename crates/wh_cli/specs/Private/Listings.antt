@@ -1,11 +1,11 @@
 -- What paths name, and what is told of them.
-use Rattle.std.specs.Prelude.{◌≡◌, ◌==◌, ◌||◌, ℕ, List, [], ◌∷◌, ◌++◌, length, not, All, Bool, false, Option, String, codes, if◌then◌else◌}
+use Rattle.std.specs.Prelude.{◌≡◌, ◌==◌, ◌||◌, ℕ, List, [], ◌∷◌, ◌++◌, length, not, All, Bool, false, String, codes, if◌then◌else◌}
 use Rattle.std.specs.declared.alloc.Global.{Global}
 use Rattle.wh_files.specs.Inputs.{IsCalled, IsOf}
 use Rattle.wh_files.specs.Names.{IsBadName}
 use Rattle.wh_files.specs.declared.Input.{Input}
-use Rattle.wh_cli.specs.declared.complaints.Complaints.{Complaints}
-use Rattle.wh_cli.specs.Private.Complaints.{Reported, bad_name_lines, told_line}
+use Rattle.wh_console.specs.Consoles.{ConsoleView, Reported}
+use Rattle.wh_cli.specs.Private.Complaints.{bad_name_lines, told_line}
 
 -- files are called by their paths where there is more than one path
 abbrev pub is_by_path : List (List ℕ) → Bool
@@ -20,24 +20,24 @@ listing_told path inputs names name =
 
 -- the inputs are those of a path, called as is asked for; files are left out where there are bad names, which were told;
 -- where there is no file, that was told
-pub record IsListed {E : Type 0} (contents : E → Option (List ℕ)) (by_path : Bool) (path : List ℕ) (inputs : List Input)
-    (left_out : Bool) (old new : Complaints E) : Type 0 where
+pub record IsListed (by_path : Bool) (path : List ℕ) (inputs : List Input) (left_out : Bool)
+    (old new : ConsoleView) : Type 0 where
   pub called : All (IsCalled by_path) inputs
   pub from : All (λ input. IsOf path input.origin) inputs
   pub names : List (String Global)
   pub bad : All IsBadName names
   pub left : left_out ≡ not (length names == 0)
-  pub told : Reported contents old new (listing_told path inputs names)
+  pub told : Reported old new (listing_told path inputs names)
 
 -- the inputs are those of paths, in their order, files are left out where those of a path are, and what was told of the
 -- paths was told in their order
-abbrev pub AreListed : {E : Type 0} → (E → Option (List ℕ)) → Bool → List (List ℕ) → List Input → Bool → Complaints E → Complaints E → Type 0
-AreListed contents by_path [] inputs left_out old new = (inputs ≡ []) × (left_out ≡ false) × (new ≡ old)
-AreListed contents by_path (path ∷ more) inputs left_out old new =
+abbrev pub AreListed : Bool → List (List ℕ) → List Input → Bool → (old new : ConsoleView) → Type 0
+AreListed by_path [] inputs left_out old new = (inputs ≡ []) × (left_out ≡ false) × (new ≡ old)
+AreListed by_path (path ∷ more) inputs left_out old new =
     (own rest : List Input)
     × (own_left rest_left : Bool)
-    × (between : Complaints _)
+    × (between : ConsoleView)
     × (inputs ≡ own ++ rest)
     × (left_out ≡ (own_left || rest_left))
-    × IsListed contents by_path path own own_left old between
-    × AreListed contents by_path more rest rest_left between new
+    × IsListed by_path path own own_left old between
+    × AreListed by_path more rest rest_left between new

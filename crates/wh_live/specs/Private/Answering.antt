@@ -39,7 +39,7 @@ pub record CompletesWith (gives : Gives) (options : LiveOptions) (task : OpenTas
     (events : List Event) (carried : Carried) : Type 0 where
   pub params : Data
   pub written :
-      workflow_completed options.names task.token commands events task.queries.items options.sticky options.activities carried
+      workflow_completed options.names task.token commands events task.queries.items options.sticky options.policies carried
       ≡ Ok params
   pub result : Data
   pub given : gives (codes "RespondWorkflowTaskCompleted") params result

@@ -5,5 +5,4 @@ use Rattle.wh_cli.proofs.commands.explain_input.Goals as goal
 pub returns : goal.returns
 returns g c =
     explained_input g.R.InputReader.gives g.W.Workflow.program c.args.input (c.in_ok-name.name, c.in_ok-name.bytes) c.as_slice.result.now c.args.format
-    (g.O.Write.contents c.args.output.now) (g.O.Write.contents c.explain.new.output) g.E.Write.contents c.args.errors.now c.explain.new.errors
-    c.explain.result c.in_ok-name.ensures c.as_slice.ensures.value c.explain.ensures
+    c.args.console.now c.explain.new.console c.explain.result c.in_ok-name.ensures c.as_slice.ensures.value c.explain.ensures

@@ -5,6 +5,5 @@ use Rattle.wh_cli.proofs.commands.explain_path.Goals as goal
 pub returns : goal.returns
 returns g c =
     let input = c.in_ok-input in
-    explained_path g.W.Workflow.program c.args.path input.input c.args.format
-    (g.O.Write.contents c.args.output.now) (g.O.Write.contents c.explain_input.new.output) g.E.Write.contents c.args.errors.now c.explain_input.new.errors
+    explained_path g.W.Workflow.program c.args.path input.input c.args.format c.args.console.now c.explain_input.new.console
     c.explain_input.result input.ensures.called input.ensures.from input.ensures.single c.explain_input.ensures

@@ -8,5 +8,5 @@ pub returns : goal.returns
 returns g c =
     let listed = c.in_ok-listed.listed in
     replayed_paths g.W.Workflow.program c.args.first c.args.more.items c.args.format c.args.require_files listed.left_out c.lacks_files-lacks.result listed.inputs.items
-    (g.O.Write.contents c.args.output.now) (g.O.Write.contents c.replay.new.output) g.E.Write.contents c.args.errors.now c.all_inputs.new.errors c.replay.new.errors
+    c.args.console.now c.all_inputs.new.console c.replay.new.console
     c.replay.result c.in_ok-listed.ensures (c.lacks_files-lacks.ensures ∙ ap (lacks_files listed.left_out c.args.require_files) c.as_slice.ensures.value) c.replay.ensures

@@ -1,5 +1,5 @@
 use Rattle.std.proofs.Common.{ap, ◌∙◌}
-use Rattle.wh_cli.specs.Private.Served.{sizes_of}
+use Rattle.wh_command_line.specs.Options.{sizes_of}
 use Rattle.wh_cli.specs.Private.Statuses.{lacks_files}
 use Rattle.wh_cli.proofs.Steps.{served_folder}
 use Rattle.wh_cli.proofs.commands.serve_folder.Goals as goal
@@ -9,6 +9,5 @@ pub returns : goal.returns
 returns g c =
     let listed = c.in_ok-listed.listed in
     served_folder g.W.Workflow.program c.args.dir (sizes_of c.args.options) c.args.require_files listed.left_out c.lacks_files-lacks.result listed.inputs.items
-    (g.O.Write.contents c.args.output.now) (g.O.Write.contents c.serve.new.output)
-    g.E.Write.contents c.args.errors.now c.folder_of.new.errors c.serve.new.errors c.serve.result
+    c.args.console.now c.folder_of.new.console c.serve.new.console c.serve.result
     c.in_ok-listed.ensures (c.lacks_files-lacks.ensures ∙ ap (lacks_files listed.left_out c.args.require_files) c.as_slice.ensures.value) c.serve.ensures

@@ -4,4 +4,4 @@ use Rattle.wh_cli.proofs.listing.all_inputs.Given as goal
 
 -- the inputs so far are those of the paths so far
 abbrev pub invariant-loop-path : goal.invariant-loop-path
-invariant-loop-path g l = AreListed g.E.Write.contents l.by_path (l.fn.first ∷ l.yielded) l.inputs.items l.left_out l.fn.errors l.errors
+invariant-loop-path g l = AreListed l.by_path (l.fn.first ∷ l.yielded) l.inputs.items l.left_out l.fn.console l.console

@@ -6,8 +6,8 @@ use Rattle.wh_cli.proofs.program.fail.Goals as goal
 pub returns-then-is_unread : goal.returns-then-is_unread
 returns-then-is_unread g c = record {
   failure = c.args.failure;
-  between = c.args.errors.now;
-  told = nothing_told g.E.Write.contents c.args.errors.now c.args.failure c.args.closed (search rules);
+  between = c.args.console.now;
+  told = nothing_told c.args.console.now c.args.failure c.args.console.now.closed (search rules);
   ends = refl;
 }
 
@@ -15,7 +15,7 @@ returns-then-is_unread g c = record {
 pub returns-else-is_unread : goal.returns-else-is_unread
 returns-else-is_unread g c = record {
   failure = c.args.failure;
-  between = c.args.errors.now;
-  told = why_told g.E.Write.contents c.args.errors.now c.tell.new.self c.args.failure c.args.closed (search rules) c.tell.ensures;
+  between = c.args.console.now;
+  told = why_told c.args.console.now c.report.new.self c.args.failure c.report.new.self.closed (search rules) c.report.ensures;
   ends = refl;
 }

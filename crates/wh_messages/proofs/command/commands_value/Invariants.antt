@@ -7,5 +7,5 @@ use Rattle.wh_messages.proofs.command.commands_value.Given as goal
 -- the rest, written after what has been written, is all
 abbrev pub invariant-loop-command : goal.invariant-loop-command
 invariant-loop-command l =
-    written_after (written l.names l.options (carried_seen l.carried) l.events) (map view l.values.items) (drop l.command-index l.commands)
-    ≡ written_after (written l.names l.options (carried_seen l.carried) l.events) [] l.commands
+    written_after (written l.names l.policies (carried_seen l.carried) l.events) (map view l.values.items) (drop l.command-index l.commands)
+    ≡ written_after (written l.names l.policies (carried_seen l.carried) l.events) [] l.commands

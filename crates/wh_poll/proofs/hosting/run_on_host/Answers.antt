@@ -28,4 +28,5 @@ returns g c =
       counted = firsts ∙ seats_counted R pairs ended all (λ seated end worked. worked.seat) ∙ sym (ap (map (λ end. end.counted)) seconds ∙ map-map (λ end. end.counted) (λ end. end.1) ended);
       ends = ends_of_pairs g.W.Workflow.program S.tells S.delivers S.answers S.failures S.comes_from g.A.ActivityHandler.may g.O.Observer.hears
           pairs ended c.args.seats.items c.args.setups.items c.unzipped.result.1.items c.in_ok-pairs.ensures.firsts c.in_ok-pairs.ensures.seconds seconds all;
+      room = c.unzipped.ensures.room ∙ c.zipped.ensures.room;
     }

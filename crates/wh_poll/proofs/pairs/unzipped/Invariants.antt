@@ -6,6 +6,7 @@ invariant-loop-first g l = record {
   firsts : map (λ pair. pair.0) l.pairs.items ++ reverse l.firsts.items ≡ map (λ pair. pair.0) l.fn.pairs.items;
   seconds : map (λ pair. pair.1) l.pairs.items ++ reverse l.seconds.items ≡ map (λ pair. pair.1) l.fn.pairs.items;
   room : vec_len l.firsts + vec_len l.pairs ≤ vec_capacity l.firsts;
+  same : vec_capacity l.firsts ≡ vec_capacity l.fn.room.0;
   more : vec_len l.seconds + vec_len l.pairs ≤ vec_capacity l.seconds;
 }
 

@@ -6,7 +6,7 @@ use Rattle.wh_poll.proofs.pairs.zipped.Goals as goal
 pub returns-clause-firsts : goal.returns-clause-firsts
 returns-clause-firsts g c =
     let none : length c.loop-first.firsts.items ≡ 0 = grind (arith, common_steps) in
-    in_order (λ pair. pair.0) c.loop-first.firsts.items c.args.firsts.items c.loop-first.pairs.items c.reverse.new.self.items c.loop-first.invariant.firsts none c.reverse.ensures.items
+    in_order (λ pair. pair.0) c.loop-first.firsts.items c.args.firsts.now.items c.loop-first.pairs.items c.reverse.new.self.items c.loop-first.invariant.firsts none c.reverse.ensures.items
 
 pub returns-clause-seconds : goal.returns-clause-seconds
 returns-clause-seconds g c =

@@ -8,6 +8,7 @@ invariant-loop-first g l = record {
   counts : vec_len l.seconds ≡ vec_len l.firsts;
   all : vec_len l.pairs + vec_len l.firsts ≡ vec_len l.fn.firsts;
   room : vec_len l.pairs + vec_len l.firsts ≤ vec_capacity l.pairs;
+  same : vec_capacity l.firsts ≡ vec_capacity l.fn.firsts;
 }
 
 abbrev pub decreases-loop-first : goal.decreases-loop-first

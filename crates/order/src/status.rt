@@ -1,0 +1,38 @@
+//! What an order answers to queries.
+ghost use Rattle.std.specs.Prelude.{◌≡◌};
+ghost use Rattle.order.specs.Status.{status};
+
+use crate::{Order, OrderState};
+use std::alloc::Global;
+use wh_events::{OutOfMemory, Payload};
+use wh_queryable::{QueryResult, Queryable, json_result, unknown_query};
+
+/// How far an order has come, as a JSON text.
+fn status(state: &OrderState) -> &'static str
+    ensures { result.now ≡ status state.now }
+{
+    match state {
+        OrderState::Charging { .. } => "\"charging\"",
+        OrderState::Held { .. } => "\"held\"",
+        OrderState::Shipping { .. } => "\"shipping\"",
+        OrderState::Closed => "\"closed\"",
+    }
+}
+
+impl Queryable for Order {
+    ghost use Rattle.order.specs.Status.{order_queries};
+
+    ghost queries = { order_queries };
+
+    fn query(
+        alloc: Global,
+        state: &OrderState,
+        query_type: &str,
+        _input: &[Payload],
+    ) -> Result<QueryResult, OutOfMemory> {
+        match query_type {
+            "status" => json_result(alloc, String::from_str(alloc, status(state))?),
+            _ => unknown_query(alloc, query_type, "status"),
+        }
+    }
+}

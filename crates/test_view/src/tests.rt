@@ -1,0 +1,3 @@
+//! A module for each file of `src/tests`.
+
+mod viewing;

@@ -1,0 +1,11 @@
+use Rattle.wh_cli.specs.Private.Commands.{view_as}
+use Rattle.wh_cli.proofs.Steps.{text_printed, view_printed}
+use Rattle.wh_cli.proofs.commands.view.Goals as goal
+
+-- what was printed is the text of the view, and it is out
+pub returns : goal.returns
+returns g c =
+    let own = c.in-Ok in
+    let printed = text_printed (view_as own.view c.args.selection c.args.format) c.args.console.now c.print_view-answer.new.console c.flushed.new.console c.print_view-answer.result c.flushed.result
+    c.print_view-answer.ensures.printed c.print_view-answer.ensures.ends c.flushed.ensures.quiet c.flushed.ensures.kept c.flushed.ensures.status in
+    view_printed c.args.bytes.now own.view c.args.selection c.args.format c.args.console.now c.flushed.new.console c.flushed.result own.ensures.ok printed

@@ -1,0 +1,56 @@
+//! A seat beside those of the workers.
+
+ghost use Rattle.std.specs.Prelude.{◌≡◌, ◌≤◌, ◌<◌, ◌+◌, ◌++◌, ◌↔◌, length, vec_capacity, vec_len};
+ghost use Rattle.wh_host.specs.Machine.{IsConfig};
+ghost use Rattle.wh_companion.specs.Spares.{spare_seats, with_spare};
+
+use std::sync::ledger::Ledger;
+use wh_host::{Config, MOST_SEATS};
+use wh_ledger::Seat;
+
+/// The sizes of a host that has one seat beside those of its workers, where it is wanted and a host
+/// may have as many.
+pub fn with_spare(config: Config, is_wanted: bool) -> Config
+    ensures sizes { result ≡ with_spare config is_wanted }
+    ensures seats { (config.seats ≤ result.seats) × (result.seats ≤ config.seats + 1) }
+    ensures fits { IsConfig result ↔ IsConfig config }
+{
+    if is_wanted && 0 < config.seats && config.seats < MOST_SEATS {
+        Config {
+            seats: config.seats + 1,
+            ..config
+        }
+    } else {
+        config
+    }
+}
+
+/// Takes the seat out that is there beside one for each of so many workers, if there is one. The room
+/// for it stays.
+pub fn take_spare<T: Ledger, C: Ledger, F: Ledger>(
+    seats: &mut Vec<Seat<T, C, F>>,
+    workers: usize,
+) -> Option<Seat<T, C, F>>
+    requires { (workers ≤ vec_len seats.old) × (vec_len seats.old ≤ workers + 1) }
+    ensures workers { vec_len seats.new ≡ workers }
+    ensures all { seats.old.items ≡ seats.new.items ++ spare_seats result }
+    ensures room { vec_len seats.new + length (spare_seats result) ≤ vec_capacity seats.new }
+{
+    if seats.len() <= workers {
+        return None;
+    }
+    seats.pop()
+}
+
+/// Puts the seat back that was taken out, if one was. There is room for it.
+pub fn put_spare<T: Ledger, C: Ledger, F: Ledger>(
+    seats: &mut Vec<Seat<T, C, F>>,
+    spare: Option<Seat<T, C, F>>,
+)
+    requires { vec_len seats.old + length (spare_seats spare) ≤ vec_capacity seats.old }
+    ensures { seats.new.items ≡ seats.old.items ++ spare_seats spare }
+{
+    if let Some(seat) = spare {
+        seats.push_reserved(seat);
+    }
+}

@@ -1,0 +1,5 @@
+pub mod Each
+pub mod Harmless
+pub mod Reading
+pub mod Alike
+pub mod Inner

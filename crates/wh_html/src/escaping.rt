@@ -1,0 +1,120 @@
+//! Texts within HTML.
+
+ghost use Rattle.std.specs.Prelude.{◌≡◌, Some, MatchOption, length};
+ghost use Rattle.std.specs.Str.{chars};
+ghost use Rattle.std.specs.Fmt.{DisplaysOnOk};
+ghost use Rattle.wh_html.specs.Escaping.{is_unseen, seen, reference_of, escaped_char, escaped_first, rest_of, escaped};
+
+use std::fmt;
+use wh_events::Text;
+
+/// A text within HTML, by its first characters. `&`, `<`, `>` and quotation marks stand as
+/// character references (<https://html.spec.whatwg.org/multipage/syntax.html#character-references>).
+/// In place of a control character of ASCII stands its picture (U+2400 to U+2421), and U+FFFD in
+/// place of another one, and of one that turns the direction of writing. A text that is longer ends
+/// with `…`.
+#[derive(Drop)]
+pub struct Escaped<'a> {
+    /// The text.
+    pub text: &'a Text,
+    /// How many of its characters are shown at most.
+    pub most: usize,
+}
+
+/// Whether the character would not be seen as what it is: a control character beyond ASCII, or one
+/// that turns the direction of writing.
+fn is_unseen(c: char) -> bool
+    ensures { result ≡ is_unseen c }
+{
+    matches!(
+        c,
+        '\u{80}'..='\u{9f}'
+            | '\u{200e}'..='\u{200f}'
+            | '\u{2028}'..='\u{202e}'
+            | '\u{2066}'..='\u{2069}'
+            | '\u{61c}'
+            | '\u{feff}'
+    )
+}
+
+/// A character as it is shown.
+fn seen(c: char) -> char
+    ensures { result ≡ seen c }
+{
+    if c < ' ' {
+        char::from_u32(0x2400 + c as u32).unwrap_or('\u{fffd}')
+    } else if c == '\u{7f}' {
+        '\u{2421}'
+    } else if is_unseen(c) {
+        '\u{fffd}'
+    } else {
+        c
+    }
+}
+
+/// The character reference of a character that is shown, if it can't stand as itself.
+fn reference_of(c: char) -> Option<&'static str>
+    ensures { MatchOption result (reference_of c ≡ None) (λ reference. reference_of c ≡ Some reference.now) }
+{
+    match c {
+        '&' => Some("&amp;"),
+        '<' => Some("&lt;"),
+        '>' => Some("&gt;"),
+        '"' => Some("&quot;"),
+        '\'' => Some("&#39;"),
+        _ => None,
+    }
+}
+
+/// A character within HTML.
+#[derive(Clone, Copy)]
+struct EscapedChar(char);
+
+impl fmt::Display for EscapedChar {
+    ghost output = { λ e. Some (escaped_char e.0) };
+
+    fn fmt<W: fmt::Write>(&self, f: &mut fmt::Formatter<W>) -> fmt::Result {
+        let c = seen(self.0);
+        match reference_of(c) {
+            Some(reference) => write!(f, "{reference}"),
+            None => write!(f, "{c}"),
+        }
+    }
+}
+
+/// Writes the first characters of a text.
+#[tactic(auto, unfolding(crate::specs::Escaping::escaped_first))]
+fn write_first<W: fmt::Write>(text: &str, most: usize, f: &mut fmt::Formatter<W>) -> fmt::Result
+    ensures { DisplaysOnOk W.write_str_gives f.old result (Some (escaped_first most text.now)) f.new }
+{
+    for c in text.chars().take(most) {
+        let c = EscapedChar(c);
+        write!(f, "{c}")?;
+    }
+    Ok(())
+}
+
+/// How many characters a text has.
+fn char_count(text: &str) -> usize
+    ensures { result ≡ length (chars text.now) }
+{
+    text.chars().count()
+}
+
+/// What stands after the first characters of a text: `…` where it has more.
+fn rest_of(text: &str, most: usize) -> &'static str
+    ensures { result.now ≡ rest_of most text.now }
+{
+    if most < char_count(text) { "…" } else { "" }
+}
+
+impl fmt::Display for Escaped<'_> {
+    ghost output = { λ e. Some (escaped e.most e.text.now) };
+
+    fn fmt<W: fmt::Write>(&self, f: &mut fmt::Formatter<W>) -> fmt::Result {
+        let text = self.text.get();
+        write_first(text, self.most, f)?;
+        let rest = rest_of(text, self.most);
+        write!(f, "{rest}")
+    }
+}

@@ -1,0 +1,146 @@
+//! Reads what can be read of an event, whatever it lacks.
+
+ghost use Rattle.std.specs.Prelude.{◌≡◌, option_map, IfOk};
+ghost use Rattle.serde_json.specs.View.{view};
+ghost use Rattle.wh_json.specs.Events.{event_at, rule_for};
+ghost use Rattle.wh_json.specs.Types.{rule_of};
+ghost use Rattle.wh_json.specs.Partial.{attributes_in, first_text, partial_fields, partial_kind};
+ghost use Rattle.wh_json.specs.Partial.{kind_from, fault_from, name_of, partial_event};
+
+use crate::events::{event_at, event_number, number_or_zero, read_path, row_for, type_name};
+use crate::fault::ReadFault;
+use crate::fields::{field, text_of, time_of};
+use crate::types::{Fields, TypeRow, is_marker, kind_of};
+use serde_json::Value;
+use std::alloc::Global;
+use wh_events::{EventKind, EventNo, Items, OutOfMemory, Text};
+
+/// What can be read of an event of a history that may hold anything.
+#[derive(Drop)]
+pub struct PartialEvent {
+    /// Its number, if it is one from 1 to 2^63 - 1.
+    pub number: Option<EventNo>,
+    /// When it happened, in nanoseconds since 1970-01-01T00:00:00Z, if `eventTime` is an instant.
+    pub time: Option<i128>,
+    /// The plain name of its type, as `TimerStarted`; that which the event gives, where the type is
+    /// not read; empty where there is none.
+    pub name: Text,
+    /// What happened, where its type is read. Of an event with a fault a text that is absent is
+    /// empty, a reference is 0 where it is absent or no number, and there are no payloads; a marker
+    /// has its name in place of a change id, and the version 0.
+    pub kind: Option<EventKind>,
+    /// Why `read_members` refuses the event after that before it, if it does. `at` in it is the place
+    /// that was given.
+    pub fault: Option<ReadFault>,
+}
+
+/// The attributes of an event whose type is read, wherever they are no null.
+pub fn attributes_in(member: &Value) -> Option<&Value>
+    ensures { option_map (λ v. view v.now) result ≡ attributes_in (view member.now) }
+{
+    let row = row_for(member)?;
+    field(Some(member), row.attributes)
+}
+
+/// A text of its own.
+fn copied(alloc: Global, text: &str) -> Result<Text, OutOfMemory>
+    ensures { IfOk result (λ copy. copy ≡ text.now) }
+{
+    Ok(Text::new(String::from_str(alloc, text)?))
+}
+
+/// The text that a marker, or an event of another type, names first.
+fn first_text<'v>(row: &TypeRow, attributes: Option<&'v Value>) -> &'v str
+    ensures { result.now ≡ first_text (rule_of row.now) (option_map (λ v. view v.now) attributes.entry) }
+{
+    if is_marker(row.event_type) {
+        text_of(field(attributes, "markerName"))
+    } else {
+        text_of(read_path(attributes, row.first))
+    }
+}
+
+/// What is read of an event by the row of its type.
+fn partial_fields(
+    alloc: Global,
+    row: &TypeRow,
+    attributes: Option<&Value>,
+) -> Result<Fields, OutOfMemory>
+    ensures { IfOk result (λ fields.
+        fields ≡ partial_fields (rule_of row.now) (option_map (λ v. view v.now) attributes.entry)) }
+{
+    let reference = number_or_zero(read_path(attributes, row.reference)).unwrap_or(0);
+    let first = copied(alloc, first_text(row, attributes))?;
+    let second = copied(alloc, text_of(read_path(attributes, row.second)))?;
+    Ok(Fields {
+        reference,
+        first,
+        second,
+        payloads: Items::new(Vec::new(alloc)),
+        version: 0,
+    })
+}
+
+/// The kind of an event by the row of its type, if the type is read.
+fn partial_kind(alloc: Global, member: &Value) -> Result<Option<EventKind>, OutOfMemory>
+    ensures { IfOk result (λ kind.
+        kind ≡ option_map (partial_kind (view member.now)) (rule_for (view member.now))) }
+{
+    let Some(row) = row_for(member) else {
+        return Ok(None);
+    };
+    let fields = partial_fields(alloc, row, field(Some(member), row.attributes))?;
+    Ok(Some(kind_of(row.event_type, fields)))
+}
+
+/// The kind and the fault of the event at a place, after the number before.
+fn kind_and_fault(
+    alloc: Global,
+    at: u64,
+    before: Option<EventNo>,
+    member: &Value,
+) -> Result<(Option<EventKind>, Option<ReadFault>), OutOfMemory>
+    ensures kind { IfOk result (λ read. read.0 ≡ kind_from (event_at at before (view member.now))
+        (option_map (partial_kind (view member.now)) (rule_for (view member.now)))) }
+    ensures fault { IfOk result (λ read. read.1 ≡ fault_from (event_at at before (view member.now))) }
+{
+    match event_at(alloc, at, before, member) {
+        Ok(event) => Ok((Some(event.body), None)),
+        Err(ReadFault::OutOfMemory) => Err(OutOfMemory),
+        Err(fault) => {
+            let kind = partial_kind(alloc, member)?;
+            Ok((kind, Some(fault)))
+        }
+    }
+}
+
+/// The plain name of a type that is read, or else the name that the event gives.
+fn name_of(member: &Value) -> &str
+    ensures { result.now ≡ name_of (view member.now) }
+{
+    match row_for(member) {
+        Some(row) => row.name,
+        None => type_name(member),
+    }
+}
+
+/// What can be read of the event of a history at a place, counted from 1, after an event of the
+/// number before, if that has one. `OutOfMemory` where there was no memory for it.
+pub fn partial_event(
+    alloc: Global,
+    at: u64,
+    before: Option<EventNo>,
+    member: &Value,
+) -> Result<PartialEvent, OutOfMemory>
+    ensures { IfOk result (λ event. event ≡ partial_event at before (view member.now)) }
+{
+    let (kind, fault) = kind_and_fault(alloc, at, before, member)?;
+    let name = copied(alloc, name_of(member))?;
+    Ok(PartialEvent {
+        number: event_number(member),
+        time: time_of(text_of(field(Some(member), "eventTime"))),
+        name,
+        kind,
+        fault,
+    })
+}

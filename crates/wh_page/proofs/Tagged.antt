@@ -1,0 +1,159 @@
+-- The tags of a page are those of the page without its texts.
+use Rattle.std.proofs.Common.{◌≡◌, ◌+◌, ◌-◌, ◌/◌, ℕ, Bool, true, false, cond, Option, Some, None, List, [], ◌∷◌, ◌++◌, ◌∙◌, map, take, drop, length, refl, ap, append-nil, sym}
+use Rattle.std.proofs.lemmas.List.{length-map, take-map, drop-map}
+use Rattle.std.specs.Prelude.{◌==◌, nat_le, nat_lt, min, count_by, codes, decimal}
+use Rattle.std.specs.Option.{option_map}
+use Rattle.std.specs.List.{list_all}
+use Rattle.wh_html.specs.Html.{Html, nothing, markup, plain, hole, ◌⊕◌, bytes, number, stamp, span, each}
+use Rattle.wh_html.specs.Tags.{tags}
+use Rattle.wh_html.proofs.Alike.{Alike, is_inner, last, words, texts, both, none, mark, word, text, num, each-alike, each-same, decimal-inner}
+use Rattle.wh_html.proofs.Inner.{time, lapse, last-time, last-lapse}
+use Rattle.wh_timeline.specs.declared.axis.Gap.{Gap}
+use Rattle.wh_timeline.specs.declared.axis.Stop.{Stop}
+use Rattle.wh_timeline.specs.declared.page.Difference.{Difference}
+use Rattle.wh_timeline.specs.declared.page.Fact.{Fact}
+use Rattle.wh_timeline.specs.declared.page.Lane.{Lane}
+use Rattle.wh_timeline.specs.declared.page.Line.{Line}
+use Rattle.wh_timeline.specs.declared.page.Moment.{Moment}
+use Rattle.wh_timeline.specs.declared.page.Page.{Page}
+use Rattle.wh_timeline.specs.declared.page.Task.{Task}
+use Rattle.wh_timeline.specs.Axes.{place_of}
+use Rattle.wh_timeline.specs.Views.{left_out, shown, middle, shown_lanes, shown_tasks}
+use Rattle.wh_timeline.specs.Words.{kind_word, outcome_class, side_word}
+use Rattle.wh_timeline.specs.Without.{without_fact, without_difference, without_lane, without_line, without_task, without_texts}
+use Rattle.wh_timeline.specs.Lanes.{is_hit, hit_class, event_html, after_html, title_html, bar_html, end_of, bars_html, dot_html, is_at_once, sign_html, below, classes_html, said_html, lane_html, lanes_html}
+use Rattle.wh_timeline.specs.Pictures.{bottom_of, opening_html, gap_word_html, gap_html, mark_html, mark_at_html, before_html, stop_html, first_time, tick_html, fault_html, closing_html, picture_html}
+use Rattle.wh_timeline.proofs.WordsInner.{kind-inner, outcome-inner, side-inner, hit-inner}
+use Rattle.wh_timeline.proofs.Drawn.{IsClosed, choose, classes-alike, picture-alike, lanes-shown, tasks-shown}
+use Rattle.wh_page.specs.Frames.{head_html, verdict_class, verdict_html, fact_html, at_html, sides_html, difference_html, frame_html}
+use Rattle.wh_page.specs.Tables.{count_html, moment_html, took_html, type_html, attempts_html, row_head_html, row_html, table_html}
+use Rattle.wh_page.specs.TaskTexts.{number_html, line_html, left_html, open_words, task_html, tasks_html, note_html, notes_html}
+use Rattle.wh_page.specs.Pages.{page_html}
+use Rattle.wh_page.specs.Laws.{TextsAreNoTags}
+
+pub verdict-inner : (good : Bool) → list_all is_inner (verdict_class good) ≡ true
+verdict-inner true = refl
+verdict-inner false = refl
+
+pub open-inner : (faulty : Bool) → list_all is_inner (open_words faulty) ≡ true
+open-inner true = refl
+open-inner false = refl
+
+fact-alike : (fact : Fact) → Alike false false (fact_html fact) (fact_html (without_fact fact))
+fact-alike fact = mark _ (text _ _ _ (mark _ (text _ _ _ (last _))))
+
+at-alike : (event : Option ℕ) → IsClosed (at_html event)
+at-alike None = none
+at-alike (Some event) = mark _ (words _ (decimal-inner event))
+
+sides-alike : (d : Difference) → Alike false false (sides_html d) (sides_html (without_difference d))
+unfolding sides_html
+sides-alike d = mark _ (both (at-alike d.event) (mark _ (text _ _ _ (mark _ (text _ _ _ (last _))))))
+
+pub difference-alike : (d : Option Difference) → Alike false false (difference_html d) (difference_html (option_map without_difference d))
+difference-alike None = none
+difference-alike (Some d) = sides-alike d
+
+pub facts-alike : (facts : List Fact) → Alike false false (each fact_html facts) (each fact_html (map without_fact facts))
+facts-alike facts = each-alike fact_html without_fact fact-alike facts
+
+-- the table
+count-alike : (shown total : ℕ) → IsClosed (count_html shown total)
+count-alike shown total =
+    choose (shown == total) _ _ (mark _ (num _ (last _))) (mark _ (num _ (mark _ (num _ (mark _ (num _ (last _)))))))
+
+moment-alike : (moment : Option Moment) → IsClosed (moment_html moment)
+moment-alike None = last _
+moment-alike (Some moment) = mark _ (time _ (mark _ (num _ (last _))))
+
+took-alike : (opened : Moment) (ended : Option Moment) → IsClosed (took_html opened ended)
+took-alike opened None = last _
+took-alike opened (Some ended) = mark _ (lapse _ (last _))
+
+type-alike : (name : Option (List ℕ)) → Alike false false (type_html name) (type_html (option_map (λ _. []) name))
+type-alike None = none
+type-alike (Some name) = mark _ (text _ _ _ (last _))
+
+attempts-alike : (attempts : Option ℕ) → IsClosed (attempts_html attempts)
+attempts-alike None = last _
+attempts-alike (Some attempts) = mark _ (num _ (last _))
+
+row-head-alike : (fault : Option Moment) (lane : Lane) → Alike false false (row_head_html fault lane) (row_head_html fault (without_lane lane))
+row-head-alike fault lane =
+    mark _ (both (classes-alike lane fault true) (mark _ (text _ _ _ (both (type-alike lane.type_name)
+    (mark _ (word _ (kind-inner lane.kind) (last _)))))))
+
+row-alike : (fault : Option Moment) (lane : Lane) → Alike false false (row_html fault lane) (row_html fault (without_lane lane))
+unfolding row_html
+row-alike fault lane =
+    both (row-head-alike fault lane) (both (moment-alike (Some lane.opened)) (both (moment-alike lane.started) (both (moment-alike lane.ended)
+    (both (took-alike lane.opened lane.ended) (mark _ (text _ _ _ (mark _ (both (attempts-alike lane.attempts) (last _)))))))))
+
+pub table-alike : (fault : Option Moment) (lanes : List Lane) (total : ℕ) → Alike false false (table_html fault lanes total) (table_html fault (map without_lane lanes) total)
+unfolding table_html
+table-alike fault lanes total =
+    rw (length-map lanes without_lane) (mark _ (both (count-alike (length lanes) total)
+    (mark _ (both (each-alike (row_html fault) without_lane (row-alike fault) lanes) (last _)))))
+
+-- the tasks and the notes
+number-alike : (event : Option ℕ) → IsClosed (number_html event)
+number-alike None = none
+number-alike (Some event) = mark _ (words _ (decimal-inner event))
+
+line-alike : (line : Line) → Alike false false (line_html line) (line_html (without_line line))
+unfolding line_html
+line-alike line =
+    mark _ (word _ (side-inner line.side) (mark _ (word _ (side-inner line.side) (mark _ (both (number-alike line.event)
+    (mark _ (text _ _ _ (last _))))))))
+
+left-alike : (left : ℕ) → IsClosed (left_html left)
+left-alike left = choose (left == 0) _ _ none (mark _ (num _ (last _)))
+
+task-alike : (task : Task) → Alike false false (task_html task) (task_html (without_task task))
+unfolding task_html
+task-alike task =
+    rw (length-map task.lines without_line, take-map without_line 40 task.lines)
+    (mark _ (word _ (open-inner task.faulty) (mark _ (text _ _ _ (mark _ (num _ (mark _ (time _ (mark _
+    (both (each-alike line_html without_line line-alike (take 40 task.lines)) (both (left-alike (length task.lines - 40)) (last _))))))))))))
+
+pub tasks-alike : (tasks : List Task) (total : ℕ) → Alike false false (tasks_html tasks total) (tasks_html (map without_task tasks) total)
+unfolding tasks_html
+tasks-alike tasks total =
+    rw (length-map tasks without_task) (mark _ (both (count-alike (length tasks) total)
+    (both (each-alike task_html without_task task-alike tasks) (last _))))
+
+note-alike : (note : List ℕ) → Alike false false (note_html note) (note_html [])
+note-alike note = mark _ (text _ _ _ (last _))
+
+pub notes-alike : (notes : List (List ℕ)) → Alike false false (notes_html notes) (notes_html (map (λ _. []) notes))
+notes-alike [] = none
+notes-alike (note ∷ notes) = mark _ (both (each-alike note_html (λ _. []) note-alike (note ∷ notes)) (last _))
+
+-- what stands above it
+head-alike : (page : Page) → Alike false false (head_html page) (head_html (without_texts page))
+unfolding head_html without_texts
+head-alike page = mark _ (text _ _ _ (mark _ (text _ _ _ (mark _ (mark _ (mark _ (mark _ (last _))))))))
+
+verdict-alike : (page : Page) → Alike false false (verdict_html page) (verdict_html (without_texts page))
+unfolding verdict_html without_texts
+verdict-alike page = mark _ (text _ _ _ (mark _ (word _ (verdict-inner page.good) (mark _ (text _ _ _ (last _))))))
+
+frame-alike : (page : Page) → Alike false false (frame_html page) (frame_html (without_texts page))
+unfolding frame_html without_texts
+frame-alike page =
+    both (head-alike page) (both (verdict-alike page) (mark _ (both (facts-alike page.facts) (mark _ (difference-alike page.difference)))))
+
+page-alike : (stops : List Stop) (page : Page) → Alike false false (page_html stops page) (page_html stops (without_texts page))
+unfolding page_html without_texts
+page-alike stops page =
+    rw (lanes-shown page, tasks-shown page, length-map page.lanes without_lane, length-map page.tasks without_task)
+    (both (frame-alike page) (both (picture-alike page.fault stops (shown_lanes page) (shown_tasks page))
+    (both (table-alike page.fault (shown_lanes page) (length page.lanes)) (both (tasks-alike (shown_tasks page) (length page.tasks))
+    (both (notes-alike page.notes) (last _))))))
+
+pub texts_are_no_tags : TextsAreNoTags
+texts_are_no_tags stops page =
+    let alike = (page-alike stops page).same [] [] refl in
+    let plain_bytes = append-nil (bytes (page_html stops page)) in
+    let without_bytes = append-nil (bytes (page_html stops (without_texts page))) in
+    ap tags (sym plain_bytes) ∙ alike ∙ ap tags without_bytes

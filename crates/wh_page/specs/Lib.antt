@@ -1,0 +1,5 @@
+pub mod Frames
+pub mod Tables
+pub mod TaskTexts
+pub mod Pages
+pub mod Laws

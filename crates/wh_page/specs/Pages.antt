@@ -1,0 +1,20 @@
+-- The whole page.
+use Rattle.std.specs.Prelude.{ℕ, List, codes, length}
+use Rattle.wh_timeline.specs.declared.page.Page.{Page}
+use Rattle.wh_timeline.specs.declared.axis.Stop.{Stop}
+use Rattle.wh_html.specs.Html.{Html, markup, ◌⊕◌}
+use Rattle.wh_page.specs.Frames.{frame_html}
+use Rattle.wh_timeline.specs.Pictures.{picture_html}
+use Rattle.wh_page.specs.Tables.{table_html}
+use Rattle.wh_page.specs.TaskTexts.{tasks_html, notes_html}
+use Rattle.wh_timeline.specs.Views.{shown_lanes, shown_tasks}
+
+-- the page with times at these stops
+unfoldable pub page_html : List Stop → Page → Html
+page_html stops page =
+    frame_html page
+    ⊕ picture_html page.fault stops (shown_lanes page) (shown_tasks page)
+    ⊕ table_html page.fault (shown_lanes page) (length page.lanes)
+    ⊕ tasks_html (shown_tasks page) (length page.tasks)
+    ⊕ notes_html page.notes
+    ⊕ markup (codes "</main>\n<footer class=\"soft\"><p>Times are in UTC.</p></footer>\n</body>\n</html>\n")

@@ -1,0 +1,18 @@
+//! A page of a run: one HTML file with the verdict of its replay, a picture of what it opened over
+//! time, the same times as a table, and its tasks. It needs no script, and fetches nothing.
+//!
+//! Whatever a history holds stands in the page as text. `laws` says what that means, beside those of
+//! wh_html.
+#![tactic(auto)]
+
+mod frame;
+pub mod laws;
+mod style;
+mod table;
+mod tasks;
+mod writing;
+
+pub use wh_timeline::{
+    Axis, Difference, Fact, Kind, Lane, Line, Moment, Outcome, Page, Side, Task, axis_of,
+};
+pub use writing::write_page;

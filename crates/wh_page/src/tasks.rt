@@ -1,0 +1,195 @@
+//! The tasks of a run, and the notes.
+
+ghost use Rattle.std.specs.Prelude.{◌≡◌, Some};
+ghost use Rattle.wh_html.specs.Html.{bytes, each};
+ghost use Rattle.wh_page.specs.TaskTexts.{number_html, line_html, left_html, open_words, task_html, tasks_html, note_html, notes_html};
+
+use crate::frame::NAME;
+use crate::table::Count;
+use std::fmt;
+use wh_events::Text;
+use wh_html::{Escaped, Stamp};
+use wh_timeline::{Line, Task, first_items};
+
+/// The most lines of a task that are shown.
+const LINES: usize = 40;
+
+/// The event of a line, if it has one.
+#[derive(Clone, Copy)]
+struct LineEvent(Option<u64>);
+
+impl fmt::Display for LineEvent {
+    ghost output = { λ e. Some (bytes (number_html e.0)) };
+
+    fn fmt<W: fmt::Write>(&self, f: &mut fmt::Formatter<W>) -> fmt::Result {
+        match self.0 {
+            Some(event) => write!(f, "event {event}"),
+            None => Ok(()),
+        }
+    }
+}
+
+/// A line of a task.
+#[derive(Drop)]
+struct LineRow<'a>(&'a Line);
+
+impl fmt::Display for LineRow<'_> {
+    ghost output = { λ r. Some (bytes (line_html r.0.now)) };
+
+    #[tactic(auto, unfolding(crate::specs::TaskTexts::line_html))]
+    fn fmt<W: fmt::Write>(&self, f: &mut fmt::Formatter<W>) -> fmt::Result {
+        let side = self.0.side.word();
+        let event = LineEvent(self.0.event);
+        let text = Escaped {
+            text: &self.0.text,
+            most: NAME,
+        };
+        write!(
+            f,
+            "<li class=\"{side}\"><span class=\"side-word\">{side}</span> <span class=\"event\">{event}</span> <code>{text}</code></li>\n"
+        )
+    }
+}
+
+/// Lines of a task.
+#[derive(Drop)]
+struct LineRows<'a>(&'a [Line]);
+
+impl fmt::Display for LineRows<'_> {
+    ghost output = { λ r. Some (bytes (each line_html r.0.now)) };
+
+    fn fmt<W: fmt::Write>(&self, f: &mut fmt::Formatter<W>) -> fmt::Result {
+        for line in self.0 {
+            let row = LineRow(line);
+            write!(f, "{row}")?;
+        }
+        Ok(())
+    }
+}
+
+/// How many lines of a task are left out, if some are.
+#[derive(Clone, Copy)]
+struct Left(usize);
+
+impl fmt::Display for Left {
+    ghost output = { λ l. Some (bytes (left_html l.0)) };
+
+    fn fmt<W: fmt::Write>(&self, f: &mut fmt::Formatter<W>) -> fmt::Result {
+        if self.0 == 0 {
+            return Ok(());
+        }
+        let left = self.0;
+        write!(
+            f,
+            "<li class=\"note\"><span class=\"side-word\">{left} more</span></li>\n"
+        )
+    }
+}
+
+/// What opens the lines of a task with the fault, and marks it.
+fn open_words(faulty: bool) -> &'static str
+    ensures { result.now ≡ open_words faulty }
+{
+    if faulty { " class=\"hit\" open" } else { "" }
+}
+
+/// A task, by its first lines.
+#[derive(Drop)]
+struct TaskPart<'a>(&'a Task);
+
+impl fmt::Display for TaskPart<'_> {
+    ghost output = { λ p. Some (bytes (task_html p.0.now)) };
+
+    #[tactic(auto, unfolding(crate::specs::TaskTexts::task_html))]
+    fn fmt<W: fmt::Write>(&self, f: &mut fmt::Formatter<W>) -> fmt::Result {
+        let open = open_words(self.0.faulty);
+        let heading = Escaped {
+            text: &self.0.heading,
+            most: NAME,
+        };
+        let event = self.0.started.event;
+        let time = Stamp(self.0.started.millis);
+        let lines = self.0.lines.get();
+        let rows = LineRows(first_items(lines, LINES));
+        let left = Left(lines.len().saturating_sub(LINES));
+        write!(
+            f,
+            "<details{open}><summary>{heading} <span class=\"time\">event {event}, {time}</span></summary>\n<ol>\n{rows}{left}</ol>\n</details>\n"
+        )
+    }
+}
+
+/// Tasks.
+#[derive(Drop)]
+struct TaskParts<'a>(&'a [Task]);
+
+impl fmt::Display for TaskParts<'_> {
+    ghost output = { λ p. Some (bytes (each task_html p.0.now)) };
+
+    fn fmt<W: fmt::Write>(&self, f: &mut fmt::Formatter<W>) -> fmt::Result {
+        for task in self.0 {
+            let part = TaskPart(task);
+            write!(f, "{part}")?;
+        }
+        Ok(())
+    }
+}
+
+/// The tasks that are shown, of so many in all.
+#[derive(Drop)]
+pub(crate) struct Tasks<'a> {
+    pub(crate) tasks: &'a [Task],
+    pub(crate) total: usize,
+}
+
+impl fmt::Display for Tasks<'_> {
+    ghost output = { λ t. Some (bytes (tasks_html t.tasks.now t.total)) };
+
+    #[tactic(auto, unfolding(crate::specs::TaskTexts::tasks_html))]
+    fn fmt<W: fmt::Write>(&self, f: &mut fmt::Formatter<W>) -> fmt::Result {
+        let count = Count {
+            shown: self.tasks.len(),
+            total: self.total,
+        };
+        let parts = TaskParts(self.tasks);
+        write!(f, "<section>\n<h2>Tasks</h2>\n{count}{parts}</section>\n")
+    }
+}
+
+/// Notes as items of a list.
+#[derive(Drop)]
+struct NoteItems<'a>(&'a [Text]);
+
+impl fmt::Display for NoteItems<'_> {
+    ghost output = { λ i. Some (bytes (each note_html i.0.now)) };
+
+    fn fmt<W: fmt::Write>(&self, f: &mut fmt::Formatter<W>) -> fmt::Result {
+        for note in self.0 {
+            let note = Escaped {
+                text: note,
+                most: NAME,
+            };
+            write!(f, "<li>{note}</li>\n")?;
+        }
+        Ok(())
+    }
+}
+
+/// Notes, if there are some.
+#[derive(Drop)]
+pub(crate) struct Notes<'a>(pub(crate) &'a [Text]);
+
+impl fmt::Display for Notes<'_> {
+    ghost output = { λ n. Some (bytes (notes_html n.0.now)) };
+
+    fn fmt<W: fmt::Write>(&self, f: &mut fmt::Formatter<W>) -> fmt::Result {
+        if self.0.is_empty() {
+            return Ok(());
+        }
+        let items = NoteItems(self.0);
+        write!(
+            f,
+            "<section>\n<h2>Notes</h2>\n<ul>\n{items}</ul>\n</section>\n"
+        )
+    }
+}

@@ -1,0 +1,43 @@
+//! A page as HTML.
+
+ghost use Rattle.std.specs.Prelude.{OnOk};
+ghost use Rattle.std.specs.Io.KnownBytes.{Appends};
+ghost use Rattle.wh_html.specs.Html.{bytes};
+ghost use Rattle.wh_page.specs.Pages.{page_html};
+
+use crate::frame::Frame;
+use crate::table::Table;
+use crate::tasks::{Notes, Tasks};
+use std::io;
+use std::io::Write;
+use wh_timeline::{Axis, Page, Picture, shown_lanes, shown_tasks};
+
+/// Writes a page as one HTML file, with its times where its axis (`axis_of`) has them. After an
+/// error some of it may have been written.
+#[tactic(auto, unfolding(crate::specs::Pages::page_html))]
+pub fn write_page<W: Write>(page: &Page, axis: &Axis, writer: &mut W) -> io::Result<()>
+    ensures { let html = page_html axis.now.stops page.now in
+        OnOk result (Appends (W.contents writer.old) (W.contents writer.new) (bytes html)) }
+{
+    let frame = Frame(page);
+    let picture = Picture {
+        fault: page.fault,
+        stops: axis.stops.get(),
+        lanes: shown_lanes(page),
+        tasks: shown_tasks(page),
+    };
+    let table = Table {
+        fault: page.fault,
+        lanes: shown_lanes(page),
+        total: page.lanes.get().len(),
+    };
+    let tasks = Tasks {
+        tasks: shown_tasks(page),
+        total: page.tasks.get().len(),
+    };
+    let notes = Notes(page.notes.get());
+    write!(
+        writer,
+        "{frame}{picture}{table}{tasks}{notes}</main>\n<footer class=\"soft\"><p>Times are in UTC.</p></footer>\n</body>\n</html>\n"
+    )
+}

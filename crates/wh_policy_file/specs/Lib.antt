@@ -1,0 +1,5 @@
+pub mod Fields
+pub mod Tables
+pub mod Retries
+pub mod Kinds
+pub mod Policies

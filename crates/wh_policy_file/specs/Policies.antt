@@ -1,0 +1,30 @@
+-- What a text gives.
+use Rattle.std.specs.Prelude.{◌≡◌, ℕ, List, Bool, ◌||◌, bytes_eq, codes, Some}
+use Rattle.toml.specs.Data.{Members}
+use Rattle.toml.specs.Parse.{parse_document}
+use Rattle.wh_policies.specs.Defaults as plain
+use Rattle.wh_policies.specs.declared.policies.Policies.{Policies}
+use Rattle.wh_policy_file.specs.Kinds.{GivesActivity, GivesChild, GivesContinuation, GivesFailure}
+use Rattle.wh_policy_file.specs.Tables.{AllKnown, GivesTable}
+
+-- the tables of a text
+abbrev pub knows_table : List ℕ → Bool
+knows_table key =
+    bytes_eq key (codes "activities") || (bytes_eq key (codes "activity")
+    || (bytes_eq key (codes "children") || (bytes_eq key (codes "child")
+    || (bytes_eq key (codes "failures") || (bytes_eq key (codes "failure")
+    || (bytes_eq key (codes "continuations") || bytes_eq key (codes "continuation")))))))
+
+-- what a document gives, where these hold otherwise
+pub record GivesPolicies (document : Members) (otherwise policies : Policies) : Type 0 where
+  pub activities : GivesTable GivesActivity (codes "activities") (codes "activity") otherwise.activities.otherwise document policies.activities
+  pub children : GivesTable GivesChild (codes "children") (codes "child") otherwise.children.otherwise document policies.children
+  pub failures : GivesTable GivesFailure (codes "failures") (codes "failure") otherwise.failures.otherwise document policies.failures
+  pub continued : GivesTable GivesContinuation (codes "continuations") (codes "continuation") otherwise.continued.otherwise document policies.continued
+
+-- the text is TOML whose tables are known, and gives these policies, where activities have these seconds and attempts otherwise
+pub record IsRead (seconds attempts : ℕ) (text : List ℕ) (policies : Policies) : Type 0 where
+  pub document : Members
+  pub parsed : parse_document text ≡ Some document
+  pub known : AllKnown knows_table document
+  pub given : GivesPolicies document (plain.policies seconds attempts) policies

@@ -1,0 +1,193 @@
+//! Reads the tables of a text.
+
+ghost use Rattle.std.specs.Prelude.{◌≡◌, IfOk, IfSome, Some, string_bytes};
+ghost use Rattle.toml.specs.Parse.{parse_document};
+ghost use Rattle.toml.specs.View.{table_view, view};
+ghost use Rattle.toml.specs.Data.{get_member};
+ghost use Rattle.wh_policy_file.specs.Policies.{IsRead};
+ghost use Rattle.wh_policy_file.specs.Tables.{AreRows, GivesAll, GivesRows, GivesTable, IsRow};
+
+use crate::fault::{PolicyFault, bad_value, within};
+use crate::fields::table_at;
+use crate::reading::{FromTable, given};
+use std::alloc::Global;
+use toml::{Table, Value};
+use wh_events::{Items, Text};
+use wh_policies::{Policies, PolicyRow, PolicyTable};
+
+/// The row of a name, whose table this is.
+fn row_given<P: FromTable>(
+    alloc: Global,
+    name: &String,
+    value: &Value,
+    otherwise: &P,
+) -> Result<PolicyRow<P>, PolicyFault>
+    ensures { IfOk result (IsRow P.gives otherwise.now (string_bytes name.now) (view value.now)) }
+{
+    let Some(table) = value.as_table() else {
+        return Err(bad_value(alloc, name.as_str()));
+    };
+    match given(alloc, table, otherwise) {
+        Ok(policy) => Ok(PolicyRow {
+            name: Text::new(name.clone()?),
+            policy,
+        }),
+        Err(fault) => Err(within(alloc, name.as_str(), fault)),
+    }
+}
+
+/// A row for each member of the table.
+fn rows_given<P: FromTable>(
+    alloc: Global,
+    table: &Table,
+    otherwise: &P,
+) -> Result<Vec<PolicyRow<P>>, PolicyFault>
+    ensures { IfOk result (λ rows. AreRows P.gives otherwise.now (table_view table.now) rows.items) }
+{
+    let mut rows = Vec::new(alloc);
+    for (name, value) in table.iter() {
+        rows.push(row_given(alloc, name, value, otherwise)?)?;
+    }
+    Ok(rows)
+}
+
+/// The policy of all names. Where there is no table, it is what an empty one gives.
+fn all_given<P: FromTable>(
+    alloc: Global,
+    document: &Table,
+    key: &str,
+    plain: &P,
+) -> Result<P, PolicyFault>
+    ensures { IfOk result (GivesAll P.gives plain.now (get_member key.now (table_view document.now))) }
+{
+    match table_at(alloc, document, key)? {
+        Some(table) => match given(alloc, table, plain) {
+            Ok(policy) => Ok(policy),
+            Err(fault) => Err(within(alloc, key, fault)),
+        },
+        None => P::read(alloc, &Table::new(alloc), plain),
+    }
+}
+
+/// The rows of all names that have one.
+fn each_given<P: FromTable>(
+    alloc: Global,
+    document: &Table,
+    key: &str,
+    otherwise: &P,
+) -> Result<Vec<PolicyRow<P>>, PolicyFault>
+    ensures { IfOk result (λ rows.
+        GivesRows P.gives otherwise.now (get_member key.now (table_view document.now)) rows.items) }
+{
+    match table_at(alloc, document, key)? {
+        Some(table) => match rows_given(alloc, table, otherwise) {
+            Ok(rows) => Ok(rows),
+            Err(fault) => Err(within(alloc, key, fault)),
+        },
+        None => Ok(Vec::new(alloc)),
+    }
+}
+
+/// The policies of a kind, where this one holds otherwise.
+fn table_given<P: FromTable>(
+    alloc: Global,
+    document: &Table,
+    all: &str,
+    each: &str,
+    plain: &P,
+) -> Result<PolicyTable<P>, PolicyFault>
+    ensures { IfOk result (GivesTable P.gives all.now each.now plain.now (table_view document.now)) }
+{
+    let otherwise = all_given(alloc, document, all, plain)?;
+    let rows = each_given(alloc, document, each, &otherwise)?;
+    Ok(PolicyTable {
+        rows: Items::new(rows),
+        otherwise,
+    })
+}
+
+impl FromTable for Policies {
+    ghost use Rattle.wh_policy_file.specs.Policies.{GivesPolicies, knows_table};
+
+    ghost known = { knows_table };
+
+    ghost gives = { GivesPolicies };
+
+    fn knows(key: &str) -> bool {
+        key == "activities"
+            || key == "activity"
+            || key == "children"
+            || key == "child"
+            || key == "failures"
+            || key == "failure"
+            || key == "continuations"
+            || key == "continuation"
+    }
+
+    fn read(alloc: Global, table: &Table, otherwise: &Policies) -> Result<Policies, PolicyFault> {
+        let plain = &otherwise.activities.otherwise;
+        let activities = table_given(alloc, table, "activities", "activity", plain)?;
+        let plain = &otherwise.children.otherwise;
+        let children = table_given(alloc, table, "children", "child", plain)?;
+        let plain = &otherwise.failures.otherwise;
+        let failures = table_given(alloc, table, "failures", "failure", plain)?;
+        let plain = &otherwise.continued.otherwise;
+        let continued = table_given(alloc, table, "continuations", "continuation", plain)?;
+        Ok(Policies {
+            activities,
+            children,
+            failures,
+            continued,
+        })
+    }
+}
+
+/// The document that a text is.
+fn document_of(alloc: Global, text: &str) -> Result<Table, PolicyFault>
+    ensures { IfOk result (λ document. parse_document text.now ≡ Some (table_view document)) }
+{
+    match toml::table_from_str(alloc, text) {
+        Ok(document) => Ok(document),
+        Err(error) => {
+            if error.is_memory() {
+                return Err(PolicyFault::OutOfMemory);
+            }
+            let reason = format!(in alloc; "{error}")?;
+            Err(PolicyFault::NoToml {
+                reason: Text::new(reason),
+            })
+        }
+    }
+}
+
+/// The text that bytes are.
+fn text_of(bytes: &[u8]) -> Option<&str>
+    ensures { IfSome result (λ text. text.now ≡ bytes.now) }
+{
+    match str::from_utf8(bytes) {
+        Ok(text) => Some(text),
+        Err(_) => None,
+    }
+}
+
+/// The policies that a text in TOML 1.1 gives, beside these seconds for an attempt of each activity
+/// and this number of attempts. The fault names the first key that is bad, table by table, with the
+/// keys of its tables; a text that is no TOML is refused before.
+pub fn read_policies(
+    alloc: Global,
+    bytes: &[u8],
+    start_to_close: u32,
+    attempts: u32,
+) -> Result<Policies, PolicyFault>
+    ensures { IfOk result (IsRead start_to_close attempts bytes.now) }
+{
+    let Some(text) = text_of(bytes) else {
+        return Err(PolicyFault::NoText);
+    };
+    let document = document_of(alloc, text)?;
+    given(
+        alloc,
+        &document,
+        &Policies::plain(alloc, start_to_close, attempts),
+    )
+}

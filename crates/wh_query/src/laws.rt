@@ -1,0 +1,10 @@
+//! What holds of every workflow that is queried.
+ghost use Rattle.wh_query.specs.Laws.{QueriesAgree};
+
+use wh_queryable::Queryable;
+
+/// A query gives the same at a cached run as by replay of its whole history: where new events
+/// confirm those that the run holds, all are in place, and no task is among the new ones.
+pub fn queries_agree<W: Queryable>()
+    ensures { QueriesAgree W.program W.queries }
+{}

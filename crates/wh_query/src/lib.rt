@@ -1,0 +1,7 @@
+//! Queries of runs and of histories: what a query gives in the state that replay leaves.
+#![tactic(auto)]
+
+pub mod laws;
+mod querying;
+
+pub use querying::{query_each, query_history, query_replayed, query_run};

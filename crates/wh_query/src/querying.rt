@@ -1,0 +1,74 @@
+//! What queries give at a run and at a history.
+ghost use Rattle.std.specs.Prelude.{◌≡◌, Ok, IfOk, map};
+ghost use Rattle.wh_replay.specs.Checks.{Answers};
+ghost use Rattle.wh_query.specs.Queries.{query_at};
+
+use std::alloc::Global;
+use wh_events::{Event, OutOfMemory, Payload};
+use wh_queryable::{Query, QueryResult, Queryable, query_state};
+use wh_replay::{ReplayedHistory, Run, RunFault, state_after};
+
+/// What a query gives at a run, which stays as it is. `OutOfMemory` where there was no memory for
+/// the result.
+#[tactic(auto, using(crate::proofs::States::query_in_state))]
+pub fn query_run<W: Queryable>(
+    alloc: Global,
+    run: &Run<W>,
+    query_type: &str,
+    input: &[Payload],
+) -> Result<QueryResult, OutOfMemory>
+    ensures { IfOk result (λ given.
+        query_at W.program W.queries run.now.events query_type.now input.now ≡ Ok given) }
+{
+    query_state::<W>(alloc, run.state(), query_type, input)
+}
+
+/// What each of these queries gives at a run, in their order. The run stays as it is. `OutOfMemory`
+/// where there was no memory for the results.
+pub fn query_each<W: Queryable>(
+    alloc: Global,
+    run: &Run<W>,
+    queries: &[Query],
+) -> Result<Vec<QueryResult>, OutOfMemory>
+    ensures { IfOk result (λ given. map Ok given.items
+        ≡ map (λ query. query_at W.program W.queries run.now.events query.query_type query.input) queries.now) }
+{
+    let mut results = Vec::new(alloc);
+    for query in queries {
+        let given = query_run(alloc, run, query.query_type.get(), query.input.get())?;
+        results.push(given)?;
+    }
+    Ok(results)
+}
+
+/// What a query gives at a replayed history, as a cache keeps it. The history stays as it is.
+/// `OutOfMemory` where there was no memory for the result.
+#[tactic(auto, using(crate::proofs::States::query_in_state))]
+pub fn query_replayed<W: Queryable>(
+    alloc: Global,
+    history: &ReplayedHistory<W>,
+    query_type: &str,
+    input: &[Payload],
+) -> Result<QueryResult, OutOfMemory>
+    ensures { IfOk result (λ given.
+        query_at W.program W.queries history.now.events query_type.now input.now ≡ Ok given) }
+{
+    query_state::<W>(alloc, history.state(), query_type, input)
+}
+
+/// What a query gives at a history, by replay from its first event, or the fault of that replay. The
+/// history may end anywhere: what comes after its last task is not given to the workflow yet.
+/// `OutOfMemory` may come in place of either.
+pub fn query_history<W: Queryable>(
+    alloc: Global,
+    events: Vec<Event>,
+    query_type: &str,
+    input: &[Payload],
+) -> Result<QueryResult, RunFault>
+    ensures { Answers result (query_at W.program W.queries events.items query_type.now input.now) (λ given. given) }
+{
+    let state = state_after::<W>(alloc, events)?;
+    let given = query_state::<W>(alloc, &state, query_type, input);
+    drop(state);
+    Ok(given?)
+}

@@ -1,0 +1,47 @@
+-- What queries give.
+use Rattle.std.specs.Prelude.{ℕ, eqb, Bool, List, [], ◌∷◌, ◌++◌, codes, if◌then◌else◌}
+use Rattle.std.specs.List.{starts_with}
+use Rattle.wh_events.specs.declared.event.Payload.{Payload}
+use Rattle.wh_workflow.specs.declared.pair.Either.{Either}
+use Rattle.wh_workflow.specs.declared.pair.Either.TheVariants.{First, Second}
+use Rattle.wh_queryable.specs.declared.queryable.QueryResult.{QueryResult}
+use Rattle.wh_queryable.specs.declared.queryable.QueryResult.TheVariants.{Answered, Failed}
+
+-- what a query of a type gives in a state, with an input
+abbrev pub Queries : Type 0 → Type 0
+Queries S = S → List ℕ → List Payload → QueryResult
+
+-- the result of a query of an unknown type, where these are known
+abbrev pub unknown_query : List ℕ → List ℕ → QueryResult
+unknown_query query_type known = Failed (codes "unknown query type " ++ (query_type ++ (codes "; known: " ++ known)))
+
+-- the payload of a JSON text
+abbrev pub json_payload : List ℕ → Payload
+json_payload json = record { encoding = codes "json/plain"; content = json }
+
+-- the result that is a JSON text
+abbrev pub json_result : List ℕ → QueryResult
+json_result json = Answered (json_payload json ∷ [])
+
+-- the query types that Temporal's SDKs keep for themselves begin with two underscores
+abbrev pub is_built_in : List ℕ → Bool
+is_built_in query_type = starts_with eqb query_type (codes "__")
+
+-- the result of a query of such a type
+abbrev pub built_in_query : List ℕ → QueryResult
+built_in_query query_type = Failed (codes "built-in query types are not supported: " ++ query_type)
+
+module _ {S : Type 0} where
+  -- what a query gives in a state: what the workflow's query handlers give, but for the built-in types
+  abbrev pub result_in : Queries S → Queries S
+  result_in queries state query_type input =
+      if is_built_in query_type then built_in_query query_type else queries state query_type input
+
+  -- a workflow that knows no query
+  abbrev pub no_queries : Queries S
+  no_queries state query_type input = unknown_query query_type (codes "none")
+
+-- of two workflows as one the workflow that has the state answers
+abbrev pub pair_queries : {S T : Type 0} → Queries S → Queries T → Queries (Either S T)
+pair_queries first second (First state) query_type input = first state query_type input
+pair_queries first second (Second state) query_type input = second state query_type input

@@ -1,0 +1,11 @@
+//! What workflows answer to queries: questions on their state, which change nothing.
+#![tactic(auto)]
+
+mod no_queries;
+mod pairs;
+mod queryable;
+mod results;
+
+pub use no_queries::NoQueries;
+pub use queryable::{Query, QueryResult, Queryable, query_state};
+pub use results::{json_result, unknown_query};

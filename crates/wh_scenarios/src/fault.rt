@@ -1,0 +1,67 @@
+//! Why a scenario fails.
+
+use std::alloc::AllocError;
+use std::fmt;
+use std::fmt::Debug;
+use wh_events::OutOfMemory;
+
+/// Why a scenario fails. Lines are counted from 1.
+#[derive(Drop)]
+pub enum ScenarioFault {
+    /// There is no code for the workflow type.
+    UnknownWorkflow,
+    /// The line has no arrow.
+    NoArrow {
+        /// The number of the line.
+        line: usize,
+    },
+    /// The line has words that are no job.
+    NoJob {
+        /// The number of the line.
+        line: usize,
+        /// The words.
+        words: String,
+    },
+    /// The jobs of the line are given other commands.
+    Differs {
+        /// The number of the line.
+        line: usize,
+        /// What they are given.
+        given: String,
+        /// What the line says.
+        wanted: String,
+    },
+    /// An allocation was refused.
+    OutOfMemory,
+}
+
+impl Debug for ScenarioFault {
+    fn fmt<W: fmt::Write>(&self, f: &mut fmt::Formatter<W>) -> fmt::Result {
+        match self {
+            ScenarioFault::UnknownWorkflow => f.write_str("no code for the workflow type"),
+            ScenarioFault::NoArrow { line } => write!(f, "line {line}: there is no arrow"),
+            ScenarioFault::NoJob { line, words } => write!(
+                f,
+                "line {line}: no job is written `{words}`"
+            ),
+            ScenarioFault::Differs {
+                line,
+                given,
+                wanted,
+            } => write!(f, "line {line}: given `{given}`, wanted `{wanted}`"),
+            ScenarioFault::OutOfMemory => f.write_str("out of memory"),
+        }
+    }
+}
+
+impl From<AllocError> for ScenarioFault {
+    fn from(_error: AllocError) -> ScenarioFault {
+        ScenarioFault::OutOfMemory
+    }
+}
+
+impl From<OutOfMemory> for ScenarioFault {
+    fn from(_error: OutOfMemory) -> ScenarioFault {
+        ScenarioFault::OutOfMemory
+    }
+}

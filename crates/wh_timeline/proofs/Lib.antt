@@ -1,0 +1,5 @@
+pub mod Ways
+pub mod LaneBytes
+pub mod Rising
+pub mod WordsInner
+pub mod Drawn

@@ -1,0 +1,34 @@
+use Rattle.std.proofs.Common.{◌∙◌, sym, rules}
+use Rattle.wh_timeline.specs.Axes.{left, first_of}
+use Rattle.wh_timeline.proofs.Ways.{GoesTo-more, GoesRight_from, times_more, Begun-more, last_place-more, GapsTo-more, Gaps_from, MarksTo-more, Marks_from}
+use Rattle.wh_timeline.proofs.axis.stops_of.Goals as goal
+
+pub loop-time-preserved : goal.loop-time-preserved
+loop-time-preserved c =
+    let pushed = c.in_ok-push.ensures.items in
+    let so_far = c.loop-time.invariant in
+    let way = c.loop-time.way in
+    let stops = c.loop-time.stops.items in
+    let stop = c.stop_at.result in
+    let place = c.stop_at.ensures.place in
+    let time = c.stop_at.ensures.time in
+    let next = c.way_to-next.ensures in (
+      times_more _ _ _ _ _ so_far.0 c.loop-time-test.true pushed (search rules),
+      next.right.1,
+      (rw pushed (rw (← place) (GoesTo-more left stops way.x stop so_far.2 (search rules)))),
+      (search rules),
+      (rw pushed (rw (← place) (Begun-more stops c.loop-time.time-index way.x way.millis c.args.times.now stop so_far.4 so_far.3 (search rules) (λ e. place ∙ next.still (sym (time ∙ next.time) ∙ e))))),
+      (rw pushed (last_place-more left stops stop ∙ place)),
+      (λ d e. next.last (sym next.time ∙ e) (so_far.6 d)),
+      (rw pushed (rw (← place) (rw (← time) (GapsTo-more c.args.scale.longest left (first_of c.args.times.now) stops way.x way.millis stop so_far.7 (rw time c.stop_at.ensures.gap))))),
+      (rw (pushed, next.free) (rw (← place) (MarksTo-more left stops way.free stop so_far.8 (rw place c.stop_at.ensures.mark)))),
+    )
+
+pub returns-clause-places : goal.returns-clause-places
+returns-clause-places c = GoesRight_from left c.loop-time.stops.items c.loop-time.way.x c.loop-time.invariant.2 c.loop-time.invariant.1
+
+pub returns-clause-gaps : goal.returns-clause-gaps
+returns-clause-gaps c = Gaps_from c.args.scale.longest left (first_of c.args.times.now) c.loop-time.stops.items c.loop-time.way.x c.loop-time.way.millis c.loop-time.invariant.7
+
+pub returns-clause-marks : goal.returns-clause-marks
+returns-clause-marks c = Marks_from left c.loop-time.stops.items c.loop-time.way.free c.loop-time.invariant.8

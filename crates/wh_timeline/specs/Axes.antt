@@ -1,0 +1,119 @@
+-- Where times stand in the picture.
+use Rattle.std.specs.Prelude.{◌≡◌, ◌≤◌, ◌<◌, ℕ, suc, zero, ◌+◌, ◌-◌, ◌/◌, ◌==◌, min, nat_le, nat_lt, get_or, length, if◌then◌else◌, Option, Some, None, List, [], ◌∷◌, ◌++◌, map}
+use Rattle.std.specs.List.{flat_map}
+use Rattle.wh_timeline.specs.declared.page.Lane.{Lane}
+use Rattle.wh_timeline.specs.declared.page.Task.{Task}
+use Rattle.wh_timeline.specs.declared.page.Moment.{Moment}
+use Rattle.wh_timeline.specs.declared.axis.Stop.{Stop}
+use Rattle.wh_timeline.specs.declared.axis.Gap.{Gap}
+
+-- where the first time stands, and where the last one does
+abbrev pub left : ℕ
+left = 200
+
+abbrev pub right : ℕ
+right = 830
+
+-- where a time stands: where the last stop does that is not later, the stops being in their order
+abbrev pub place_from : (x : ℕ) → List Stop → (millis : ℕ) → ℕ
+place_from x [] millis = x
+place_from x (stop ∷ stops) millis = if nat_lt millis stop.millis then x else place_from stop.x stops millis
+
+unfoldable pub place_of : List Stop → (millis : ℕ) → ℕ
+place_of stops millis = place_from left stops millis
+
+-- the time of an event, if there is one
+abbrev pub moment_times : Option Moment → List ℕ
+moment_times None = []
+moment_times (Some moment) = moment.millis ∷ []
+
+-- the times of a thing
+abbrev pub lane_times : Lane → List ℕ
+lane_times lane = lane.opened.millis ∷ (moment_times lane.started ++ moment_times lane.ended)
+
+-- the times at which something happens that a page shows
+unfoldable pub times_shown : List Lane → List Task → Option Moment → List ℕ
+times_shown lanes tasks fault = flat_map lane_times lanes ++ (map (λ task. task.started.millis) tasks ++ moment_times fault)
+
+-- the stops go to the right from one place on, and not beyond the right end
+abbrev pub GoesRight : (x : ℕ) → List Stop → Type 0
+GoesRight x [] = x ≤ right
+GoesRight x (stop ∷ stops) = (x ≤ stop.x) × GoesRight stop.x stops
+
+-- the first stop stands at the left end
+abbrev pub BeginsLeft : List Stop → Type 0
+BeginsLeft [] = Unit {0}
+BeginsLeft (stop ∷ stops) = stop.x ≡ left
+
+-- the first of the times, and the last; 0 where there is none
+abbrev pub first_of : List ℕ → ℕ
+first_of times = get_or times 0 0
+
+abbrev pub last_of : List ℕ → ℕ
+last_of times = get_or times (length times - 1) 0
+
+-- where the last stop stands
+abbrev pub last_place : (x : ℕ) → List Stop → ℕ
+last_place x [] = x
+last_place x (stop ∷ stops) = last_place stop.x stops
+
+-- how many of the times differ from the one before
+abbrev pub steps_from : (steps before : ℕ) → List ℕ → ℕ
+steps_from steps before [] = steps
+steps_from steps before (time ∷ times) =
+    steps_from (if time == before then steps else min (steps + 1) 18446744073709551615) time times
+
+abbrev pub steps_of : List ℕ → ℕ
+steps_of times = steps_from 0 (first_of times) times
+
+-- how long the times between take together, each by no more than the longest
+abbrev pub whole_from : (longest whole before : ℕ) → List ℕ → ℕ
+whole_from longest whole before [] = whole
+whole_from longest whole before (time ∷ times) =
+    whole_from longest (min (whole + min (time - before) longest) 18446744073709551615) time times
+
+abbrev pub whole_of : List ℕ → (longest : ℕ) → ℕ
+whole_of times longest = whole_from longest 0 (first_of times) times
+
+-- half of the longest, where it is more than half of what is drawn to scale
+abbrev pub shorter : List ℕ → (longest : ℕ) → ℕ
+shorter times longest = if nat_le longest (whole_of times longest / 2) then longest else longest / 2
+
+unfoldable pub shortened : List ℕ → (halvings longest : ℕ) → ℕ
+shortened times zero longest = longest
+shortened times (suc halvings) longest = shorter times (shortened times halvings longest)
+
+-- the longest step that is drawn to scale: the time between the first and the last, halved until it is
+-- no more than half of what is drawn, where there are three steps or more
+abbrev pub longest_of : List ℕ → ℕ
+longest_of times =
+    let all = last_of times - first_of times in if nat_le 3 (steps_of times) then shortened times 64 all else all
+
+-- a step from one place that is longer than the longest is a gap from there
+abbrev pub gap_of : (from step longest : ℕ) → Option Gap
+gap_of from step longest = if nat_lt longest step then Some (record { from = from; millis = step }) else None
+
+-- each stop has the gap of the step from the place and time before
+abbrev pub Gaps : (longest x millis : ℕ) → List Stop → Type 0
+Gaps longest x millis [] = Unit {0}
+Gaps longest x millis (stop ∷ stops) =
+    (stop.gap ≡ gap_of x (stop.millis - millis) longest) × Gaps longest stop.x stop.millis stops
+
+-- each stop has the gap of the step before it, by their times
+abbrev pub AreGaps : List Stop → Type 0
+AreGaps stops =
+    let times = map (λ stop. stop.millis) stops in Gaps (longest_of times) left (first_of times) stops
+
+-- where the last stop is later than the first, it stands at the right end
+abbrev pub EndsRight : List Stop → Type 0
+EndsRight stops =
+    let times = map (λ stop. stop.millis) stops in first_of times < last_of times → last_place left stops ≡ right
+
+-- where the next mark may stand: 84 units to the right of the one before
+abbrev pub next_free : (free x : ℕ) → ℕ
+next_free free x = if nat_le free x then x + 84 else free
+
+-- each stop has a mark where there is room for it
+abbrev pub Marks : (free : ℕ) → List Stop → Type 0
+Marks free [] = Unit {0}
+Marks free (stop ∷ stops) = (stop.marked ≡ nat_le free stop.x) × Marks (next_free free stop.x) stops

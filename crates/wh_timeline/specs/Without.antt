@@ -1,0 +1,37 @@
+-- What a page shows, with an empty text in place of each.
+use Rattle.std.specs.Prelude.{[], map}
+use Rattle.std.specs.Option.{option_map}
+use Rattle.wh_timeline.specs.declared.page.Fact.{Fact}
+use Rattle.wh_timeline.specs.declared.page.Difference.{Difference}
+use Rattle.wh_timeline.specs.declared.page.Lane.{Lane}
+use Rattle.wh_timeline.specs.declared.page.Line.{Line}
+use Rattle.wh_timeline.specs.declared.page.Task.{Task}
+use Rattle.wh_timeline.specs.declared.page.Page.{Page}
+
+-- a page with an empty text in place of each
+abbrev pub without_fact : Fact → Fact
+without_fact fact = record { name = []; value = [] }
+
+abbrev pub without_difference : Difference → Difference
+without_difference difference = record difference { code = []; history = [] }
+
+abbrev pub without_lane : Lane → Lane
+without_lane lane = record lane { name = []; type_name = option_map (λ _. []) lane.type_name; words = [] }
+
+abbrev pub without_line : Line → Line
+without_line line = record line { text = [] }
+
+abbrev pub without_task : Task → Task
+without_task task = record task { heading = []; lines = map without_line task.lines }
+
+unfoldable pub without_texts : Page → Page
+without_texts page =
+    record page {
+      title = [];
+      verdict = [];
+      facts = map without_fact page.facts;
+      difference = option_map without_difference page.difference;
+      lanes = map without_lane page.lanes;
+      tasks = map without_task page.tasks;
+      notes = map (λ _. []) page.notes;
+    }

@@ -1,0 +1,32 @@
+-- The words of a page.
+use Rattle.std.specs.Prelude.{ℕ, List, codes}
+use Rattle.wh_timeline.specs.declared.page.Kind.{Kind}
+use Rattle.wh_timeline.specs.declared.page.Kind.TheVariants.{Activity, Timer, Child, Signal, Request, Marker}
+use Rattle.wh_timeline.specs.declared.page.Outcome.{Outcome}
+use Rattle.wh_timeline.specs.declared.page.Outcome.TheVariants.{Open, Done, Failed, Cancelled}
+use Rattle.wh_timeline.specs.declared.page.Side.{Side}
+use Rattle.wh_timeline.specs.declared.page.Side.TheVariants.{Told, Gives, Recorded, Differs, Note}
+
+-- what a lane is of, in words
+abbrev pub kind_word : Kind → List ℕ
+kind_word Activity = codes "activity"
+kind_word Timer = codes "timer"
+kind_word Child = codes "child"
+kind_word Signal = codes "signal"
+kind_word Request = codes "request"
+kind_word Marker = codes "marker"
+
+-- how a thing stands, as a class of the style sheet
+abbrev pub outcome_class : Outcome → List ℕ
+outcome_class Open = codes "open"
+outcome_class Done = codes "done"
+outcome_class Failed = codes "failed"
+outcome_class Cancelled = codes "cancelled"
+
+-- who says a line, in a word
+abbrev pub side_word : Side → List ℕ
+side_word Told = codes "told"
+side_word Gives = codes "gives"
+side_word Recorded = codes "recorded"
+side_word Differs = codes "differs"
+side_word Note = codes "note"

@@ -1,0 +1,393 @@
+//! Where times stand in the picture.
+
+ghost use Rattle.std.specs.Prelude.{◌≡◌, ◌≤◌, ◌<◌, ◌-◌, nat_le, get_or, ◌++◌, map, IfOk, OnOk, IsPermutation, IsSorted};
+ghost use Rattle.std.specs.Ordering.{nat_cmp};
+ghost use Rattle.wh_timeline.specs.Axes.{left, right, place_of, moment_times, lane_times, times_shown, GoesRight, BeginsLeft, first_of, last_of, last_place, steps_of, whole_of, shorter, longest_of, gap_of, Gaps, AreGaps, EndsRight, shortened, next_free, Marks};
+ghost use Rattle.wh_timeline.specs.Views.{shown_lanes, shown_tasks};
+ghost use Rattle.std.specs.List.{flat_map};
+
+use crate::page::{Lane, Moment, Page, Task};
+use crate::view::{shown_lanes, shown_tasks};
+use std::alloc::Global;
+use wh_events::{Items, OutOfMemory};
+
+/// Where the first time stands, from the left, in units of the picture.
+pub const LEFT: u64 = 200;
+
+/// How much room there is for all steps alike, and how much by their lengths.
+const EVEN: u64 = 250;
+
+const SCALED: u64 = 380;
+
+/// Where the last time stands.
+pub const RIGHT: u64 = 830;
+
+/// The least room between two marks of the scale.
+const APART: u64 = 84;
+
+/// A time in which nothing happens that is drawn shorter than it was.
+#[derive(Clone, Copy)]
+pub struct Gap {
+    /// Where it begins, from the left.
+    pub from: u64,
+    /// How long it was, in milliseconds.
+    pub millis: u64,
+}
+
+/// A time at which something happens.
+#[derive(Drop)]
+pub struct Stop {
+    /// Milliseconds from 1970-01-01T00:00:00Z.
+    pub millis: u64,
+    /// Where it stands, from the left.
+    pub x: u64,
+    /// The time before it, if it is drawn shorter than it was.
+    pub gap: Option<Gap>,
+    /// Whether the scale has a mark for it.
+    pub marked: bool,
+}
+
+/// Where times stand in a picture: the times at which something happens, in their order.
+#[derive(Drop)]
+pub struct Axis {
+    /// The times.
+    pub stops: Items<Stop>,
+}
+
+/// How the times between two stops are drawn.
+#[derive(Clone, Copy)]
+struct Scale {
+    /// The longest that is drawn to scale, in milliseconds.
+    longest: u64,
+    /// How many times differ from the one before.
+    steps: u64,
+    /// How long all take together, each by no more than the longest.
+    whole: u64,
+    /// The last time, in milliseconds from 1970-01-01T00:00:00Z.
+    last: u64,
+}
+
+/// Adds the time of an event, if there is one.
+fn push_moment(times: &mut Vec<u64>, moment: Option<Moment>) -> Result<(), OutOfMemory>
+    ensures { OnOk result (times.new.items ≡ times.old.items ++ moment_times moment) }
+{
+    if let Some(moment) = moment {
+        times.push(moment.millis)?;
+    }
+    Ok(())
+}
+
+/// Adds the times of a thing.
+fn push_lane(times: &mut Vec<u64>, lane: &Lane) -> Result<(), OutOfMemory>
+    ensures { OnOk result (times.new.items ≡ times.old.items ++ lane_times lane.now) }
+{
+    push_moment(times, Some(lane.opened))?;
+    push_moment(times, lane.started)?;
+    push_moment(times, lane.ended)
+}
+
+/// Adds the times of things.
+fn push_lanes(times: &mut Vec<u64>, lanes: &[Lane]) -> Result<(), OutOfMemory>
+    ensures { OnOk result (times.new.items ≡ times.old.items ++ flat_map lane_times lanes.now) }
+{
+    for lane in lanes {
+        push_lane(times, lane)?;
+    }
+    Ok(())
+}
+
+/// Adds the times of tasks.
+fn push_tasks(times: &mut Vec<u64>, tasks: &[Task]) -> Result<(), OutOfMemory>
+    ensures { OnOk result (times.new.items ≡ times.old.items ++ map (λ task. task.started.millis) tasks.now) }
+{
+    for task in tasks {
+        times.push(task.started.millis)?;
+    }
+    Ok(())
+}
+
+/// The times at which something happens, in their order.
+#[tactic(auto, unfolding(crate::specs::Axes::times_shown))]
+fn times_of(
+    alloc: Global,
+    lanes: &[Lane],
+    tasks: &[Task],
+    fault: Option<Moment>,
+) -> Result<Vec<u64>, OutOfMemory>
+    ensures order { IfOk result (λ times. IsSorted nat_cmp times.items) }
+    ensures all { IfOk result (λ times. IsPermutation (times_shown lanes.now tasks.now fault) times.items) }
+{
+    let mut times = Vec::new(alloc);
+    push_lanes(&mut times, lanes)?;
+    push_tasks(&mut times, tasks)?;
+    push_moment(&mut times, fault)?;
+    times.sort_unstable();
+    Ok(times)
+}
+
+/// The time at a place in the list; 0 where there is none.
+fn time_at(times: &[u64], place: usize) -> u64
+    ensures { result ≡ get_or times.now place 0 }
+{
+    match times.get(place) {
+        Some(time) => *time,
+        None => 0,
+    }
+}
+
+/// The first of the times.
+fn first_of(times: &[u64]) -> u64
+    ensures { result ≡ first_of times.now }
+{
+    time_at(times, 0)
+}
+
+/// The last of the times.
+fn last_of(times: &[u64]) -> u64
+    ensures { result ≡ last_of times.now }
+{
+    time_at(times, times.len().saturating_sub(1))
+}
+
+/// How many of the times differ from the one before.
+fn steps_of(times: &[u64]) -> u64
+    ensures { result ≡ steps_of times.now }
+{
+    let mut steps: u64 = 0;
+    let mut before = first_of(times);
+    for time in times {
+        if *time != before {
+            steps = steps.saturating_add(1);
+        }
+        before = *time;
+    }
+    steps
+}
+
+/// How long the times between take together, each by no more than the longest.
+fn whole_of(times: &[u64], longest: u64) -> u64
+    ensures { result ≡ whole_of times.now longest }
+{
+    let mut whole: u64 = 0;
+    let mut before = first_of(times);
+    for time in times {
+        whole = whole.saturating_add(time.saturating_sub(before).min(longest));
+        before = *time;
+    }
+    whole
+}
+
+/// Half of the longest step that is drawn to scale, where it is more than half of what is drawn.
+fn shorter(times: &[u64], longest: u64) -> u64
+    ensures { result ≡ shorter times.now longest }
+{
+    if longest <= whole_of(times, longest) / 2 {
+        longest
+    } else {
+        longest / 2
+    }
+}
+
+/// The longest step after so many halvings.
+#[tactic(auto, unfolding(crate::specs::Axes::shortened))]
+fn shortened(times: &[u64], halvings: usize, all: u64) -> u64
+    ensures { result ≡ shortened times.now halvings all }
+{
+    let mut longest = all;
+    for halving in 0..halvings {
+        longest = shorter(times, longest);
+    }
+    longest
+}
+
+/// The longest step that is drawn to scale. Where there are three steps or more, it is halved from
+/// the time between the first and the last until it is no more than half of what is drawn.
+fn longest_of(times: &[u64]) -> u64
+    ensures { result ≡ longest_of times.now }
+{
+    let all = last_of(times).saturating_sub(first_of(times));
+    if 3 <= steps_of(times) {
+        shortened(times, 64, all)
+    } else {
+        all
+    }
+}
+
+/// The scale of the times.
+fn scale_of(times: &[u64]) -> Scale
+    ensures longest { result.longest ≡ longest_of times.now }
+    ensures last { result.last ≡ last_of times.now }
+{
+    let longest = longest_of(times);
+    Scale {
+        longest,
+        steps: steps_of(times),
+        whole: whole_of(times, longest),
+        last: last_of(times),
+    }
+}
+
+/// A part of so much room.
+fn share(room: u64, part: u64, whole: u64) -> u64
+    ensures { result ≤ room }
+{
+    if whole == 0 {
+        return 0;
+    }
+    (room.saturating_mul(part) / whole).min(room)
+}
+
+/// The time between two stops, if it is drawn shorter than it was.
+fn gap_of(from: u64, step: u64, longest: u64) -> Option<Gap>
+    ensures { result ≡ gap_of from step longest }
+{
+    if longest < step {
+        Some(Gap { from, millis: step })
+    } else {
+        None
+    }
+}
+
+/// What the steps so far take.
+#[derive(Clone, Copy)]
+struct Way {
+    /// How many there are.
+    steps: u64,
+    /// How long they took, each by no more than the longest that is drawn to scale.
+    length: u64,
+    /// The time that they led to.
+    millis: u64,
+    /// Where that time stands.
+    x: u64,
+    /// Where the next mark of the scale may stand.
+    free: u64,
+}
+
+/// Where a time stands to which so many steps lead: each step has the same room to begin with, and
+/// then more by its length. The last time stands at the right end.
+fn place_after(steps: u64, length: u64, millis: u64, scale: Scale) -> u64
+    ensures right { result ≤ right }
+    ensures last { millis ≡ scale.last → result ≡ right }
+{
+    if millis == scale.last {
+        return RIGHT;
+    }
+    LEFT + share(EVEN, steps, scale.steps) + share(SCALED, length, scale.whole)
+}
+
+/// Where the next mark of the scale may stand after a stop at this place.
+fn next_free(free: u64, x: u64) -> u64
+    requires { x ≤ right }
+    ensures { result ≡ next_free free x }
+{
+    if free <= x { x + APART } else { free }
+}
+
+/// The way to the next time.
+fn way_to(way: Way, millis: u64, scale: Scale) -> Way
+    requires { way.x ≤ right }
+    ensures time { result.millis ≡ millis }
+    ensures right { (way.x ≤ result.x) × (result.x ≤ right) }
+    ensures free { result.free ≡ next_free way.free result.x }
+    ensures still { millis ≡ way.millis → result.x ≡ way.x }
+    ensures last { millis ≡ scale.last → (way.millis ≡ scale.last → way.x ≡ right) → result.x ≡ right }
+{
+    let step = millis.saturating_sub(way.millis);
+    let steps = way.steps.saturating_add(step.min(1));
+    let length = way.length.saturating_add(step.min(scale.longest));
+    let x = if millis == way.millis {
+        way.x
+    } else {
+        place_after(steps, length, millis, scale).max(way.x)
+    };
+    let free = next_free(way.free, x);
+    Way {
+        steps,
+        length,
+        millis,
+        x,
+        free,
+    }
+}
+
+/// The stop at the end of a way, from the one before.
+fn stop_at(before: Way, way: Way, scale: Scale) -> Stop
+    ensures time { result.millis ≡ way.millis }
+    ensures place { result.x ≡ way.x }
+    ensures gap { result.gap ≡ gap_of before.x (way.millis - before.millis) scale.longest }
+    ensures mark { result.marked ≡ nat_le before.free way.x }
+{
+    let step = way.millis.saturating_sub(before.millis);
+    Stop {
+        millis: way.millis,
+        x: way.x,
+        gap: gap_of(before.x, step, scale.longest),
+        marked: before.free <= way.x,
+    }
+}
+
+/// The stops of the times.
+fn stops_of(alloc: Global, times: &[u64], scale: Scale) -> Result<Vec<Stop>, OutOfMemory>
+    requires { scale.last ≡ last_of times.now }
+    ensures times { IfOk result (λ stops. map (λ stop. stop.millis) stops.items ≡ times.now) }
+    ensures places { IfOk result (λ stops. GoesRight left stops.items) }
+    ensures begins { IfOk result (λ stops. BeginsLeft stops.items) }
+    ensures ends { first_of times.now < last_of times.now → IfOk result (λ stops. last_place left stops.items ≡ right) }
+    ensures gaps { IfOk result (λ stops. Gaps scale.longest left (first_of times.now) stops.items) }
+    ensures marks { IfOk result (λ stops. Marks left stops.items) }
+{
+    let mut stops = Vec::new(alloc);
+    let mut way = Way {
+        steps: 0,
+        length: 0,
+        millis: first_of(times),
+        x: LEFT,
+        free: LEFT,
+    };
+    for time in times {
+        let next = way_to(way, *time, scale);
+        stops.push(stop_at(way, next, scale))?;
+        way = next;
+    }
+    Ok(stops)
+}
+
+/// Where the times of what a page shows stand in its picture: in their order from the left to the
+/// right, the first at the left end, and the last at the right end where it is later. Each step from
+/// one to the next has some room, and more by its length. Where there are three steps or more, the
+/// longest that is drawn to scale is the time between the first and the last, halved until it is no
+/// more than half of what is drawn; each longer step has a gap, and is drawn as the longest. A stop
+/// has a mark where the mark before is 84 units away. `OutOfMemory` where there was no memory for it.
+pub fn axis_of(alloc: Global, page: &Page) -> Result<Axis, OutOfMemory>
+    ensures order { IfOk result (λ axis. IsSorted nat_cmp (map (λ stop. stop.millis) axis.stops)) }
+    ensures all { IfOk result (λ axis.
+        IsPermutation (times_shown (shown_lanes page.now) (shown_tasks page.now) page.now.fault)
+        (map (λ stop. stop.millis) axis.stops)) }
+    ensures places { IfOk result (λ axis. GoesRight left axis.stops) }
+    ensures begins { IfOk result (λ axis. BeginsLeft axis.stops) }
+    ensures ends { IfOk result (λ axis. EndsRight axis.stops) }
+    ensures gaps { IfOk result (λ axis. AreGaps axis.stops) }
+    ensures marks { IfOk result (λ axis. Marks left axis.stops) }
+{
+    let times = times_of(alloc, shown_lanes(page), shown_tasks(page), page.fault)?;
+    let scale = scale_of(times.as_slice());
+    let stops = stops_of(alloc, times.as_slice(), scale)?;
+    Ok(Axis {
+        stops: Items::new(stops),
+    })
+}
+
+/// Where a time stands: where the last of the stops does that is not later.
+#[tactic(auto, unfolding(crate::specs::Axes::place_of))]
+pub(crate) fn place_of(stops: &[Stop], millis: u64) -> u64
+    ensures { result ≡ place_of stops.now millis }
+{
+    let mut x = LEFT;
+    for stop in stops {
+        if millis < stop.millis {
+            return x;
+        }
+        x = stop.x;
+    }
+    x
+}

@@ -1,0 +1,305 @@
+//! The lanes of the picture.
+
+ghost use Rattle.std.specs.Prelude.{◌≡◌, ◌-◌, Some};
+ghost use Rattle.wh_html.specs.Html.{bytes};
+ghost use Rattle.wh_timeline.specs.Axes.{place_of};
+ghost use Rattle.wh_timeline.specs.Lanes.{hit_class, is_at, is_hit, event_html, after_html, title_html, bar_html, end_of, bars_html, dot_html, is_at_once, sign_html, classes_html, said_html, lane_html, lanes_html};
+
+use crate::axis::{RIGHT, Stop, place_of};
+use crate::page::{Kind, Lane, Moment};
+use std::fmt;
+use wh_events::Text;
+use wh_html::{Escaped, Span, Stamp};
+
+/// How high a lane is.
+pub(crate) const HEIGHT: u64 = 22;
+
+/// Whether the event is that of the moment.
+fn is_at(event: u64, moment: Option<Moment>) -> bool
+    ensures { result ≡ is_at event moment }
+{
+    match moment {
+        Some(moment) => moment.event == event,
+        None => false,
+    }
+}
+
+/// Whether the event of the fault opened, started or ended the thing.
+fn is_hit(lane: &Lane, fault: Option<Moment>) -> bool
+    ensures { result ≡ is_hit lane.now fault }
+{
+    match fault {
+        Some(fault) => {
+            let opened = lane.opened.event == fault.event;
+            let started = is_at(fault.event, lane.started);
+            let ended = is_at(fault.event, lane.ended);
+            opened || started || ended
+        }
+        None => false,
+    }
+}
+
+/// What marks what has the fault, as a class of the style sheet.
+pub(crate) fn hit_class(hit: bool) -> &'static str
+    ensures { result.now ≡ hit_class hit }
+{
+    if hit { " hit" } else { "" }
+}
+
+/// How long it took from one time to another.
+pub fn took(from: Moment, to: Moment) -> Span
+    ensures { result.0 ≡ to.millis - from.millis }
+{
+    Span(to.millis.saturating_sub(from.millis))
+}
+
+/// An event with its time, after what happened.
+#[derive(Clone, Copy)]
+struct EventWords(&'static str, Option<Moment>);
+
+impl fmt::Display for EventWords {
+    ghost output = { λ e. Some (bytes (event_html e.0.now e.1)) };
+
+    fn fmt<W: fmt::Write>(&self, f: &mut fmt::Formatter<W>) -> fmt::Result {
+        match self.1 {
+            Some(moment) => {
+                let words = self.0;
+                let event = moment.event;
+                let time = Stamp(moment.millis);
+                write!(f, "{words} by event {event}, {time}")
+            }
+            None => Ok(()),
+        }
+    }
+}
+
+/// How long a thing took, if it ended.
+#[derive(Clone, Copy)]
+struct After(Moment, Option<Moment>);
+
+impl fmt::Display for After {
+    ghost output = { λ a. Some (bytes (after_html a.0 a.1)) };
+
+    fn fmt<W: fmt::Write>(&self, f: &mut fmt::Formatter<W>) -> fmt::Result {
+        match self.1 {
+            Some(ended) => {
+                let span = took(self.0, ended);
+                write!(f, ", after {span}")
+            }
+            None => Ok(()),
+        }
+    }
+}
+
+/// The title of a lane: what it is of, and its events.
+#[derive(Drop)]
+struct Title<'a>(&'a Lane);
+
+impl fmt::Display for Title<'_> {
+    ghost output = { λ t. Some (bytes (title_html t.0.now)) };
+
+    #[tactic(auto, unfolding(crate::specs::Lanes::title_html))]
+    fn fmt<W: fmt::Write>(&self, f: &mut fmt::Formatter<W>) -> fmt::Result {
+        let lane = self.0;
+        let kind = lane.kind.word();
+        let name = Escaped {
+            text: &lane.name,
+            most: 100,
+        };
+        let opened = EventWords("opened", Some(lane.opened));
+        let started = EventWords("; started", lane.started);
+        let ended = EventWords("; ended", lane.ended);
+        let after = After(lane.opened, lane.ended);
+        let words = Escaped {
+            text: &lane.words,
+            most: 100,
+        };
+        write!(
+            f,
+            "<title>{kind} {name}: {opened}{started}{ended}{after}: {words}</title>"
+        )
+    }
+}
+
+/// A bar of this class from one place to another, at least three units wide.
+#[derive(Clone, Copy)]
+struct Bar {
+    class: &'static str,
+    from: u64,
+    to: u64,
+}
+
+impl fmt::Display for Bar {
+    ghost output = { λ b. Some (bytes (bar_html b.class.now b.from b.to)) };
+
+    fn fmt<W: fmt::Write>(&self, f: &mut fmt::Formatter<W>) -> fmt::Result {
+        let class = self.class;
+        let from = self.from;
+        let width = self.to.saturating_sub(from).max(3);
+        write!(
+            f,
+            "<rect class=\"{class}\" x=\"{from}\" y=\"4\" width=\"{width}\" height=\"14\" rx=\"3\"/>"
+        )
+    }
+}
+
+/// Where the bar of a thing ends: at the right end while it is open.
+fn end_of(stops: &[Stop], ended: Option<Moment>) -> u64
+    ensures { result ≡ end_of stops.now ended }
+{
+    match ended {
+        Some(ended) => place_of(stops, ended.millis),
+        None => RIGHT,
+    }
+}
+
+/// The bar of a thing from its opening to its end, with the part before its start pale.
+#[derive(Drop)]
+struct Bars<'a>(&'a [Stop], &'a Lane);
+
+impl fmt::Display for Bars<'_> {
+    ghost output = { λ b. Some (bytes (bars_html b.0.now b.1.now.opened b.1.now.started b.1.now.ended)) };
+
+    fn fmt<W: fmt::Write>(&self, f: &mut fmt::Formatter<W>) -> fmt::Result {
+        let opened = place_of(self.0, self.1.opened.millis);
+        let ended = end_of(self.0, self.1.ended);
+        match self.1.started {
+            Some(started) => {
+                let started = place_of(self.0, started.millis);
+                let wait = Bar {
+                    class: "wait",
+                    from: opened,
+                    to: started,
+                };
+                let bar = Bar {
+                    class: "bar",
+                    from: started,
+                    to: ended,
+                };
+                write!(f, "{wait}{bar}")
+            }
+            None => {
+                let bar = Bar {
+                    class: "bar",
+                    from: opened,
+                    to: ended,
+                };
+                write!(f, "{bar}")
+            }
+        }
+    }
+}
+
+/// Whether a thing happens at once.
+fn is_at_once(kind: Kind) -> bool
+    ensures { result ≡ is_at_once kind }
+{
+    matches!(kind, Kind::Signal | Kind::Marker)
+}
+
+/// The sign of a thing: a dot for what happens at once, else its bar.
+#[derive(Drop)]
+struct Sign<'a>(&'a [Stop], &'a Lane);
+
+impl fmt::Display for Sign<'_> {
+    ghost output = { λ s. Some (bytes (sign_html s.0.now s.1.now)) };
+
+    fn fmt<W: fmt::Write>(&self, f: &mut fmt::Formatter<W>) -> fmt::Result {
+        if is_at_once(self.1.kind) {
+            let x = place_of(self.0, self.1.opened.millis);
+            write!(f, "<circle class=\"bar\" cx=\"{x}\" cy=\"11\" r=\"5\"/>")
+        } else {
+            let bars = Bars(self.0, self.1);
+            write!(f, "{bars}")
+        }
+    }
+}
+
+/// The classes of a thing: what it is of, how it stands, and whether it has the fault.
+#[derive(Drop)]
+pub struct Classes<'a>(pub &'a Lane, pub Option<Moment>);
+
+impl fmt::Display for Classes<'_> {
+    ghost output = { λ c. Some (bytes (classes_html c.0.now c.1)) };
+
+    fn fmt<W: fmt::Write>(&self, f: &mut fmt::Formatter<W>) -> fmt::Result {
+        let kind = self.0.kind.word();
+        let outcome = self.0.outcome.class();
+        let hit = hit_class(is_hit(self.0, self.1));
+        write!(f, "{kind} {outcome}{hit}")
+    }
+}
+
+/// How a thing stands, beside its bar.
+#[derive(Drop)]
+struct Said<'a>(&'a Text);
+
+impl fmt::Display for Said<'_> {
+    ghost output = { λ s. Some (bytes (said_html s.0.now)) };
+
+    fn fmt<W: fmt::Write>(&self, f: &mut fmt::Formatter<W>) -> fmt::Result {
+        let words = Escaped {
+            text: self.0,
+            most: 22,
+        };
+        write!(f, "<text class=\"said\" x=\"846\" y=\"15\">{words}</text>")
+    }
+}
+
+/// A lane, so far from above.
+#[derive(Drop)]
+struct LaneRow<'a> {
+    fault: Option<Moment>,
+    stops: &'a [Stop],
+    y: u64,
+    lane: &'a Lane,
+}
+
+impl fmt::Display for LaneRow<'_> {
+    ghost output = { λ r. Some (bytes (lane_html r.fault r.stops.now r.y r.lane.now)) };
+
+    #[tactic(auto, unfolding(crate::specs::Lanes::lane_html))]
+    fn fmt<W: fmt::Write>(&self, f: &mut fmt::Formatter<W>) -> fmt::Result {
+        let classes = Classes(self.lane, self.fault);
+        let y = self.y;
+        let title = Title(self.lane);
+        let name = Escaped {
+            text: &self.lane.name,
+            most: 25,
+        };
+        let sign = Sign(self.stops, self.lane);
+        let said = Said(&self.lane.words);
+        write!(
+            f,
+            "<g class=\"lane {classes}\" transform=\"translate(0 {y})\">{title}<rect class=\"room\" width=\"1000\" height=\"22\"/><text x=\"12\" y=\"15\">{name}</text>{sign}{said}</g>\n"
+        )
+    }
+}
+
+/// Lanes, from so far above on.
+#[derive(Drop)]
+pub(crate) struct LaneRows<'a> {
+    pub(crate) fault: Option<Moment>,
+    pub(crate) stops: &'a [Stop],
+    pub(crate) top: u64,
+    pub(crate) lanes: &'a [Lane],
+}
+
+impl fmt::Display for LaneRows<'_> {
+    ghost output = { λ r. Some (bytes (lanes_html r.fault r.stops.now r.top r.lanes.now)) };
+
+    fn fmt<W: fmt::Write>(&self, f: &mut fmt::Formatter<W>) -> fmt::Result {
+        let mut y = self.top;
+        for lane in self.lanes {
+            let row = LaneRow {
+                fault: self.fault,
+                stops: self.stops,
+                y,
+                lane,
+            };
+            write!(f, "{row}")?;
+            y = y.saturating_add(HEIGHT);
+        }
+        Ok(())
+    }
+}

@@ -1,0 +1,5 @@
+mod Paired
+mod Following
+mod Whole
+mod Gathered
+mod Indices

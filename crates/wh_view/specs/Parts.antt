@@ -1,0 +1,70 @@
+-- What an event is to the things of its history, and to its workflow tasks.
+use Rattle.std.specs.Prelude.{ℕ, ◌==◌, Bool, true, false, Option, Some, None}
+use Rattle.wh_events.specs.declared.place.Thing.{Thing}
+use Rattle.wh_events.specs.declared.place.Thing.TheVariants as things
+use Rattle.wh_events.specs.declared.kind.EventKind.{EventKind}
+use Rattle.wh_events.specs.declared.kind.EventKind.TheVariants.{WorkflowExecutionSignaled, MarkerRecorded}
+use Rattle.wh_events.specs.Kinds.{Role, class_of, role_of}
+use Rattle.wh_events.specs.Kinds.Role.{Opens, Refers, CancelsChild, Plain}
+use Rattle.wh_events.specs.Cuts.{is_commanded_class, is_task_completed_kind}
+use Rattle.wh_view.specs.declared.view.ThingKind.{ThingKind}
+use Rattle.wh_view.specs.declared.view.ThingKind.TheVariants as kinds
+use Rattle.wh_view.specs.declared.view.ViewedEvent.{ViewedEvent}
+use Rattle.wh_view.specs.declared.parts.Part.{Part}
+use Rattle.wh_view.specs.declared.parts.Part.TheVariants as parts
+
+-- what is opened under an id
+abbrev pub kind_of_thing : Thing → ThingKind
+kind_of_thing things.Activity = kinds.Activity
+kind_of_thing things.Timer = kinds.Timer
+kind_of_thing things.Child = kinds.Child
+kind_of_thing things.CancelRequest = kinds.CancelRequest
+kind_of_thing things.SignalRequest = kinds.SignalRequest
+
+-- the part of an event that opens nothing and refers to nothing: a signal and a marker are things of their own
+abbrev pub plain_part : EventKind → Part
+plain_part (WorkflowExecutionSignaled _ _) = parts.Happens kinds.Signal
+plain_part (MarkerRecorded _ _) = parts.Happens kinds.Marker
+plain_part _ = parts.Other
+
+-- the part of an event by its role
+abbrev pub part_by : Role → EventKind → Part
+part_by (Opens thing id) kind = parts.Opens (kind_of_thing thing)
+part_by (Refers thing number effect) kind = parts.Refers (kind_of_thing thing) number effect
+part_by (CancelsChild workflow_id) kind = parts.Opens kinds.CancelRequest
+part_by Plain kind = plain_part kind
+
+-- the part of an event, if its type is read
+abbrev pub part_of : Option EventKind → Part
+part_of None = parts.Other
+part_of (Some kind) = part_by (role_of kind) kind
+
+-- a command gave the event, as far as is known
+abbrev pub commanded_kind : Option EventKind → Bool
+commanded_kind None = false
+commanded_kind (Some kind) = is_commanded_class (class_of kind)
+
+unfoldable pub is_commanded : ViewedEvent → Bool
+is_commanded event = commanded_kind event.read.kind
+
+-- a workflow task is completed with the event
+abbrev pub completing_kind : Option EventKind → Bool
+completing_kind None = false
+completing_kind (Some kind) = is_task_completed_kind kind
+
+unfoldable pub completes_task : ViewedEvent → Bool
+completes_task event = completing_kind event.read.kind
+
+-- the kinds of things, each by a number of its own
+abbrev pub rank : ThingKind → ℕ
+rank kinds.Activity = 0
+rank kinds.Timer = 1
+rank kinds.Child = 2
+rank kinds.CancelRequest = 3
+rank kinds.SignalRequest = 4
+rank kinds.Signal = 5
+rank kinds.Marker = 6
+
+-- the kinds are the same
+abbrev pub same_kind : ThingKind → ThingKind → Bool
+same_kind one other = rank one == rank other

@@ -1,0 +1,73 @@
+-- What the bytes of a history hold.
+use Rattle.std.specs.Prelude.{◌≡◌, ℕ, ◌+◌, List, [], ◌∷◌, codes, map, Option, Some, None, Result, Ok, if◌then◌else◌}
+use Rattle.serde_json.specs.Data.{Data}
+use Rattle.wh_json.specs.declared.fault.ReadFault.{ReadFault}
+use Rattle.wh_json.specs.declared.fault.ReadFault.TheVariants.{NoEvents}
+use Rattle.wh_json.specs.declared.partial.PartialEvent.{PartialEvent}
+use Rattle.wh_json.specs.Events.{document_within, event_number, events_in}
+use Rattle.wh_json.specs.Fields.{field, text_of}
+use Rattle.wh_json.specs.Outcome.{◌>>=◌, or_fault}
+use Rattle.wh_json.specs.Partial.{partial_event, attributes_in}
+use Rattle.wh_view.specs.declared.view.View.{View}
+use Rattle.wh_view.specs.declared.view.ViewedEvent.{ViewedEvent}
+use Rattle.wh_view.specs.Details.{attempt_of, failure_of, duration_of, values_of, AreValuesOf, IsJsonOf}
+use Rattle.wh_view.specs.Each.{Each}
+use Rattle.wh_view.specs.Parts.{completes_task, is_commanded}
+use Rattle.wh_view.specs.Things.{gathered}
+
+-- what is read of the members from a place on, each after the number of the member before
+unfoldable pub reads_from : ℕ → Option ℕ → List Data → List PartialEvent
+reads_from at before [] = []
+reads_from at before (d ∷ ds) = partial_event at before d ∷ reads_from (at + 1) (event_number d) ds
+
+-- what is read of each event
+abbrev pub reads_of : List ViewedEvent → List PartialEvent
+reads_of events = map (λ event. event.read) events
+
+-- what is viewed of the member of a history at a place, counted from 1, beside what is read of it
+pub record IsEventOf (at : ℕ) (d : Data) (event : ViewedEvent) : Type 0 where
+  pub place : event.place ≡ at
+  pub moment : event.moment ≡ text_of (field (codes "eventTime") (Some d))
+  pub attempt : event.attempt ≡ attempt_of (attributes_in d)
+  pub failure : event.failure ≡ failure_of (attributes_in d)
+  pub duration : event.duration ≡ duration_of (attributes_in d)
+  pub payloads : AreValuesOf (values_of (attributes_in d)) event.payloads
+  pub json : IsJsonOf d event.json
+
+-- the events of the members, one by one
+abbrev pub AreEventsOf : List Data → List ViewedEvent → Type 0
+AreEventsOf members events = Each IsEventOf 1 members events
+
+-- the task in which an event stands, where so many were completed before it: one that a command gave stands in the
+-- last of these, and any other in the next one
+abbrev pub task_of : ℕ → ViewedEvent → ℕ
+task_of completed event = if is_commanded event then completed else completed + 1
+
+-- how many tasks are completed after the event
+abbrev pub completed_with : ℕ → ViewedEvent → ℕ
+completed_with completed event = if completes_task event then completed + 1 else completed
+
+-- the tasks in which events stand, where so many tasks were completed before them
+unfoldable pub tasks_from : ℕ → List ViewedEvent → List ℕ
+tasks_from completed [] = []
+tasks_from completed (event ∷ events) = task_of completed event ∷ tasks_from (completed_with completed event) events
+
+-- what is viewed of the members of a history
+pub record IsViewOf (members : List Data) (view : View) : Type 0 where
+  pub events : AreEventsOf members view.events
+  pub reads : reads_of view.events ≡ reads_from 1 None members
+  pub things : view.things ≡ (gathered view.events).things
+  pub links : view.links ≡ (gathered view.events).links
+  pub tasks : view.tasks ≡ tasks_from 0 view.events
+
+-- the members of the history that the bytes write, or why there are none
+abbrev pub members_of : List ℕ → Result (List Data) ReadFault
+members_of bytes = do
+  d ← document_within bytes
+  or_fault NoEvents (events_in d)
+
+-- what is viewed of the bytes
+pub record IsViewIn (bytes : List ℕ) (view : View) : Type 0 where
+  pub members : List Data
+  pub reads : members_of bytes ≡ Ok members
+  pub viewed : IsViewOf members view

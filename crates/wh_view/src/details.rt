@@ -1,0 +1,191 @@
+//! What the JSON of an event holds beside what replay needs.
+
+ghost use Rattle.std.specs.Prelude.{◌≡◌, [], ◌∷◌, Some, codes, option_map, option_and_then, IfOk, map};
+ghost use Rattle.serde_json.specs.View.{view};
+ghost use Rattle.wh_view.specs.Details.{IsJsonOf, IsValueOf, ArePayloadsOr, AreValuesOf, AreValuesIn};
+ghost use Rattle.wh_json.specs.Fields.{field, list_in};
+ghost use Rattle.wh_view.specs.Details.{attempt_of, first_text, message_of, failure_of, duration_of, values_of};
+ghost use Rattle.wh_view.specs.Details.{if_text, decoded, decoded_text};
+ghost use Rattle.wh_view.specs.Each.{Each};
+
+use base64::DecodeAllocError;
+use base64::engine::general_purpose::STANDARD;
+use serde_json::Value;
+use std::alloc::Global;
+use wh_events::{OutOfMemory, Text};
+use wh_json::{field, list_in, number_of, text_of};
+
+/// The attempt that attributes name, 0 where they name none.
+pub(crate) fn attempt_of(attributes: Option<&Value>) -> u64
+    ensures { result ≡ attempt_of (option_map (λ v. view v.now) attributes.entry) }
+{
+    match field(attributes, "attempt") {
+        Some(value) => number_of(value).unwrap_or(0),
+        None => 0,
+    }
+}
+
+/// The text, or the other one where it is empty.
+#[tactic(auto, unfolding(crate::specs::Details::first_text))]
+fn first_text<'v>(text: &'v str, other: &'v str) -> &'v str
+    ensures { result.now ≡ first_text text.now other.now }
+{
+    if text.is_empty() { other } else { text }
+}
+
+/// The message of the failure under a name.
+fn message_of<'v>(attributes: Option<&'v Value>, name: &str) -> &'v str
+    ensures { result.now ≡ message_of (option_map (λ v. view v.now) attributes.entry) name.now }
+{
+    text_of(field(field(attributes, name), "message"))
+}
+
+/// Why something failed, as far as attributes say it.
+pub(crate) fn failure_of<'v>(attributes: Option<&'v Value>) -> &'v str
+    ensures { result.now ≡ failure_of (option_map (λ v. view v.now) attributes.entry) }
+{
+    let message = message_of(attributes, "failure");
+    let last = message_of(attributes, "lastFailure");
+    let reason = text_of(field(attributes, "reason"));
+    let cause = text_of(field(attributes, "cause"));
+    first_text(message, first_text(last, first_text(reason, cause)))
+}
+
+/// How long a timer is to take.
+pub(crate) fn duration_of<'v>(attributes: Option<&'v Value>) -> &'v str
+    ensures { result.now ≡ duration_of (option_map (λ v. view v.now) attributes.entry) }
+{
+    text_of(field(attributes, "startToFireTimeout"))
+}
+
+/// What holds the values of an event.
+pub(crate) fn values_of<'v>(attributes: Option<&'v Value>) -> Option<&'v Value>
+    ensures { option_map (λ v. view v.now) result ≡ values_of (option_map (λ v. view v.now) attributes.entry) }
+{
+    match field(attributes, "input") {
+        Some(value) => Some(value),
+        None => match field(attributes, "result") {
+            Some(value) => Some(value),
+            None => field(attributes, "details"),
+        },
+    }
+}
+
+/// A value as JSON.
+pub(crate) fn json_of(alloc: Global, value: &Value) -> Result<Text, OutOfMemory>
+    ensures { IfOk result (λ text. IsJsonOf (view value.now) text) }
+{
+    Ok(Text::new(value.to_string(alloc)?))
+}
+
+/// The text that the bytes are, if they are one in UTF-8.
+fn text_in(bytes: Vec<u8>) -> Option<Text>
+    ensures { result ≡ if_text bytes.items }
+{
+    match String::from_utf8(bytes) {
+        Ok(text) => Some(Text::new(text)),
+        Err(_) => None,
+    }
+}
+
+/// The text that stands in base64, if it is one.
+fn decoded(alloc: Global, content: &str) -> Result<Option<Text>, OutOfMemory>
+    ensures { IfOk result (λ text. text ≡ decoded content.now) }
+{
+    match STANDARD.decode(alloc, content.as_bytes()) {
+        Ok(bytes) => Ok(text_in(bytes)),
+        Err(DecodeAllocError::OutOfMemory) => Err(OutOfMemory),
+        Err(DecodeAllocError::DecodeError(_)) => Ok(None),
+    }
+}
+
+/// The content of a payload, where it is a text.
+fn decoded_text(alloc: Global, payload: &Value) -> Result<Option<Text>, OutOfMemory>
+    ensures { IfOk result (λ text. text ≡ decoded_text (view payload.now)) }
+{
+    let Some(content) = field(Some(payload), "data") else {
+        return Ok(None);
+    };
+    match content.as_str() {
+        Some(content) => decoded(alloc, content),
+        None => Ok(None),
+    }
+}
+
+/// A value as text: the content of a payload, where it is a text, or else the value as JSON.
+fn value_text(alloc: Global, shorthand: bool, value: &Value) -> Result<Text, OutOfMemory>
+    ensures { IfOk result (λ text. IsValueOf shorthand (view value.now) text) }
+{
+    if !shorthand {
+        if let Some(text) = decoded_text(alloc, value)? {
+            return Ok(text);
+        }
+    }
+    json_of(alloc, value)
+}
+
+/// Each of the values as text.
+fn value_texts(alloc: Global, shorthand: bool, values: &[Value]) -> Result<Vec<Text>, OutOfMemory>
+    ensures { IfOk result (λ texts. Each (λ _. IsValueOf shorthand) 0 (map view values.now) texts.items) }
+{
+    let mut texts = Vec::new(alloc);
+    for value in values {
+        let text = value_text(alloc, shorthand, value)?;
+        texts.push(text)?;
+    }
+    Ok(texts)
+}
+
+/// A value alone, as text.
+fn lone_text(alloc: Global, value: &Value) -> Result<Vec<Text>, OutOfMemory>
+    ensures { IfOk result (λ texts. Each (λ _. IsJsonOf) 0 (view value.now ∷ []) texts.items) }
+{
+    let text = json_of(alloc, value)?;
+    let mut texts = Vec::new(alloc);
+    texts.push(text)?;
+    Ok(texts)
+}
+
+/// The members of the list `payloads` of a value.
+fn payload_list<'v>(value: &'v Value) -> Option<&'v [Value]>
+    ensures { option_map (λ values. map view values.now) result
+        ≡ option_and_then list_in (field (codes "payloads") (Some (view value.now))) }
+{
+    list_in(field(Some(value), "payloads")?)
+}
+
+/// The payloads that a value holds, as texts; a value that has none of them alone.
+fn payloads_in(alloc: Global, value: &Value) -> Result<Vec<Text>, OutOfMemory>
+    ensures { IfOk result (λ texts. ArePayloadsOr
+        (option_and_then list_in (field (codes "payloads") (Some (view value.now)))) (view value.now) texts.items) }
+{
+    match payload_list(value) {
+        Some(values) => value_texts(alloc, false, values),
+        None => lone_text(alloc, value),
+    }
+}
+
+/// The values that a value holds, as texts: those of a list, or of the list `payloads` of an
+/// object; a value of another form alone.
+fn values_in(alloc: Global, value: &Value) -> Result<Vec<Text>, OutOfMemory>
+    ensures { IfOk result (λ texts. AreValuesIn (view value.now) texts.items) }
+{
+    match list_in(value) {
+        Some(values) => value_texts(alloc, true, values),
+        None => payloads_in(alloc, value),
+    }
+}
+
+/// The values of an event by its attributes, as texts.
+pub(crate) fn payload_texts(
+    alloc: Global,
+    attributes: Option<&Value>,
+) -> Result<Vec<Text>, OutOfMemory>
+    ensures { IfOk result (λ texts.
+        AreValuesOf (values_of (option_map (λ v. view v.now) attributes.entry)) texts.items) }
+{
+    match values_of(attributes) {
+        Some(value) => values_in(alloc, value),
+        None => Ok(Vec::new(alloc)),
+    }
+}

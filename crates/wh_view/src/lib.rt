@@ -1,0 +1,15 @@
+//! What a history holds, without code for its workflow: each event as far as it can be read, the
+//! things that events opened, started and ended, and the workflow tasks.
+#![tactic(auto)]
+
+mod details;
+mod gathering;
+pub mod laws;
+mod lookups;
+mod parts;
+mod reading;
+mod view;
+
+pub use parts::Part;
+pub use reading::view_of;
+pub use view::{ThingKind, View, ViewedEvent, ViewedThing};

@@ -1,0 +1,108 @@
+//! What can be asked of a view and its events.
+
+ghost use Rattle.std.specs.Prelude.{◌≡◌};
+ghost use Rattle.wh_view.specs.Lookups.{id_in, type_in};
+
+use crate::parts::{Part, part_of};
+use crate::view::{View, ViewedEvent, ViewedThing};
+use wh_events::EventKind;
+
+/// The id that an event of the kind gives to what it opens, or the name of a signal or a marker.
+fn id_in(kind: &EventKind) -> &str
+    ensures { result.now ≡ id_in kind.now }
+{
+    match kind {
+        EventKind::ActivityTaskScheduled { id, .. } | EventKind::TimerStarted { id } => id.get(),
+        EventKind::StartChildWorkflowExecutionInitiated { workflow_id, .. }
+        | EventKind::RequestCancelExternalWorkflowExecutionInitiated { workflow_id }
+        | EventKind::SignalExternalWorkflowExecutionInitiated { workflow_id, .. } =>
+            workflow_id.get(),
+        EventKind::MarkerRecorded { change_id, .. } => change_id.get(),
+        EventKind::WorkflowExecutionSignaled { name, .. } => name.get(),
+        _ => "",
+    }
+}
+
+/// The type that an event of the kind names, or the signal that it sends.
+fn type_in(kind: &EventKind) -> &str
+    ensures { result.now ≡ type_in kind.now }
+{
+    match kind {
+        EventKind::WorkflowExecutionStarted { workflow, .. }
+        | EventKind::StartChildWorkflowExecutionInitiated { workflow, .. } => workflow.get(),
+        EventKind::ActivityTaskScheduled { activity, .. } => activity.get(),
+        EventKind::SignalExternalWorkflowExecutionInitiated { signal, .. } => signal.get(),
+        _ => "",
+    }
+}
+
+impl ViewedEvent {
+    ghost use Rattle.std.specs.Prelude.{◌≡◌};
+    ghost use Rattle.wh_view.specs.Lookups.{event_id, event_type, index_of};
+
+    /// The id under which the event opens a thing, or the name of a signal or a marker; empty where
+    /// there is none.
+    pub fn id(&self) -> &str
+        ensures { result.now ≡ event_id self.now }
+    {
+        match &self.read.kind {
+            Some(kind) => id_in(kind),
+            None => "",
+        }
+    }
+
+    /// The workflow type or the activity type that the event names, or the signal that it sends;
+    /// empty where there is none.
+    pub fn type_name(&self) -> &str
+        ensures { result.now ≡ event_type self.now }
+    {
+        match &self.read.kind {
+            Some(kind) => type_in(kind),
+            None => "",
+        }
+    }
+
+    /// The index of the event among those of its view: its place less 1.
+    pub fn index(&self) -> usize
+        ensures { result ≡ index_of self.now }
+    {
+        self.place.saturating_sub(1) as usize
+    }
+}
+
+impl View {
+    ghost use Rattle.std.specs.Prelude.{◌≡◌};
+    ghost use Rattle.wh_view.specs.Lookups.{thing_of, opening_of, task_of, lacks_thing};
+
+    /// The thing that an event of the view opened, started, cancelled or ended.
+    pub fn thing_of(&self, event: &ViewedEvent) -> Option<ViewedThing>
+        ensures { result ≡ thing_of self.now event.now }
+    {
+        let link = self.links.get().get(event.index()).copied()?;
+        self.things.get().get(link?).copied()
+    }
+
+    /// The event that opened the thing of an event; the event itself where there is none.
+    pub fn opening_of<'v>(&'v self, event: &'v ViewedEvent) -> &'v ViewedEvent
+        ensures { result.now ≡ opening_of self.now event.now }
+    {
+        match self.thing_of(event) {
+            Some(thing) => self.events.get().get(thing.opened).unwrap_or(event),
+            None => event,
+        }
+    }
+
+    /// The task in which an event of the view stands, 0 where it is none of its events.
+    pub fn task_of(&self, event: &ViewedEvent) -> usize
+        ensures { result ≡ task_of self.now event.now }
+    {
+        self.tasks.get().get(event.index()).copied().unwrap_or(0)
+    }
+
+    /// Whether an event of the view refers to a thing that none of the events before it opened.
+    pub fn lacks_thing(&self, event: &ViewedEvent) -> bool
+        ensures { result ≡ lacks_thing self.now event.now }
+    {
+        matches!(part_of(event), Part::Refers { .. }) && self.thing_of(event).is_none()
+    }
+}

@@ -1,0 +1,139 @@
+//! Views a history.
+
+ghost use Rattle.std.specs.Prelude.{◌≡◌, ◌≢◌, ◌<◌, ◌^◌, IfOk, IfErr, map, None, Err};
+ghost use Rattle.serde_json.specs.View.{view};
+ghost use Rattle.wh_json.specs.Partial.{partial_event};
+ghost use Rattle.wh_view.specs.Views as views;
+
+use crate::details::{attempt_of, duration_of, failure_of, json_of, payload_texts};
+use crate::gathering::gathered;
+use crate::view::{View, ViewedEvent};
+use serde_json::Value;
+use std::alloc::Global;
+use wh_events::{EventNo, Items, OutOfMemory, Text};
+use wh_json::{ReadFault, attributes_in, events_in, field, partial_event, read_document, text_of};
+
+/// A text of its own.
+fn copied(alloc: Global, text: &str) -> Result<Text, OutOfMemory>
+    ensures { IfOk result (λ copy. copy ≡ text.now) }
+{
+    Ok(Text::new(String::from_str(alloc, text)?))
+}
+
+/// What is viewed of the member of a history at a place, counted from 1, after the number before.
+fn event_of(
+    alloc: Global,
+    place: u64,
+    before: Option<EventNo>,
+    member: &Value,
+) -> Result<ViewedEvent, OutOfMemory>
+    ensures parts { IfOk result (views.IsEventOf place (view member.now)) }
+    ensures read { IfOk result (λ event. event.read ≡ partial_event place before (view member.now)) }
+{
+    let attributes = attributes_in(member);
+    let read = partial_event(alloc, place, before, member)?;
+    let moment = copied(alloc, text_of(field(Some(member), "eventTime")))?;
+    let failure = copied(alloc, failure_of(attributes))?;
+    let duration = copied(alloc, duration_of(attributes))?;
+    let payloads = Items::new(payload_texts(alloc, attributes)?);
+    let json = json_of(alloc, member)?;
+    Ok(ViewedEvent {
+        place,
+        read,
+        moment,
+        attempt: attempt_of(attributes),
+        failure,
+        duration,
+        payloads,
+        json,
+    })
+}
+
+/// The number of an event, if it has one.
+fn number_of(event: &ViewedEvent) -> Option<EventNo>
+    ensures { result ≡ event.now.read.number }
+{
+    event.read.number
+}
+
+/// The events of the members of a history.
+fn events_of(alloc: Global, members: &[Value]) -> Result<Vec<ViewedEvent>, OutOfMemory>
+    ensures parts { IfOk result (λ events. views.AreEventsOf (map view members.now) events.items) }
+    ensures reads { IfOk result (λ events.
+        views.reads_of events.items ≡ views.reads_from 1 None (map view members.now)) }
+{
+    let mut events = Vec::new(alloc);
+    let mut before: Option<EventNo> = None;
+    for (index, member) in members.iter().enumerate() {
+        let event = event_of(alloc, index as u64 + 1, before, member)?;
+        before = number_of(&event);
+        events.push(event)?;
+    }
+    Ok(events)
+}
+
+/// The task in which an event stands, where so many were completed before it.
+fn task_of(completed: usize, event: &ViewedEvent) -> usize
+    requires { completed < 2 ^ 63 }
+    ensures { result ≡ views.task_of completed event.now }
+{
+    if event.is_commanded() {
+        completed
+    } else {
+        completed + 1
+    }
+}
+
+/// The tasks in which the events stand.
+#[tactic(auto, unfolding(crate::specs::Views::tasks_from))]
+fn tasks(alloc: Global, events: &[ViewedEvent]) -> Result<Vec<usize>, OutOfMemory>
+    ensures { IfOk result (λ tasks. tasks.items ≡ views.tasks_from 0 events.now) }
+{
+    let mut tasks = Vec::new(alloc);
+    let mut completed = 0;
+    for event in events {
+        tasks.push(task_of(completed, event))?;
+        completed += usize::from(event.completes_task());
+    }
+    Ok(tasks)
+}
+
+/// What is viewed of the members of a history.
+fn view_members(alloc: Global, members: &[Value]) -> Result<View, OutOfMemory>
+    ensures { IfOk result (views.IsViewOf (map view members.now)) }
+{
+    let events = events_of(alloc, members)?;
+    let tasks = tasks(alloc, events.as_slice())?;
+    let (things, links) = gathered(alloc, events.as_slice())?.into_parts();
+    Ok(View {
+        events: Items::new(events),
+        things,
+        links,
+        tasks: Items::new(tasks),
+    })
+}
+
+/// Views a workflow history in the JSON form of the Temporal CLI's export: an object with a list
+/// `events`, or such a list. Its events may be of any type, lack fields, and stand in any order:
+/// what the reader of histories would refuse is kept with its fault (`PartialEvent::fault`), one
+/// that is out of order also, and the rest of the event is viewed as far as it can be.
+///
+/// Each event of the list is viewed, once and in its place. A thing is opened by an event, and
+/// started, cancelled and ended by the first later events that name its number: where several
+/// events of that number opened something, the last one before.
+///
+/// `TooLong`, `BadJson` or `NoEvents`, in that order, where there is no list of events. Want of
+/// memory can come in place of each of them but `TooLong`, and of the view.
+pub fn view_of(alloc: Global, bytes: &[u8]) -> Result<View, ReadFault>
+    ensures ok { IfOk result (views.IsViewIn bytes.now) }
+    ensures err { IfErr result (λ e. e ≢ ReadFault.OutOfMemory → views.members_of bytes.now ≡ Err e) }
+{
+    let value = read_document(alloc, bytes)?;
+    let Some(members) = events_in(&value) else {
+        return Err(ReadFault::NoEvents);
+    };
+    match view_members(alloc, members) {
+        Ok(view) => Ok(view),
+        Err(OutOfMemory) => Err(ReadFault::OutOfMemory),
+    }
+}

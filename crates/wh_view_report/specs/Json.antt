@@ -1,0 +1,96 @@
+-- A view as lines of JSON: an object for each event.
+use Rattle.std.specs.Prelude.{ℕ, List, [], ◌∷◌, ◌++◌, length, codes, decimal, Option, Some, None, slice_get, option_map, option_and_then, if◌then◌else◌}
+use Rattle.std.specs.List.{flat_map}
+use Rattle.wh_view_report.specs.declared.text.Span.{Span}
+use Rattle.wh_view_report.specs.declared.text.Selection.{Selection}
+use Rattle.wh_view.specs.declared.view.ThingKind.{ThingKind}
+use Rattle.wh_view.specs.declared.view.ThingKind.TheVariants as kinds
+use Rattle.wh_view.specs.declared.view.View.{View}
+use Rattle.wh_view.specs.declared.view.ViewedEvent.{ViewedEvent}
+use Rattle.wh_view.specs.declared.view.ViewedThing.{ViewedThing}
+use Rattle.wh_view.specs.Parts.{completes_task, is_commanded}
+use Rattle.wh_view_report.specs.Texts.{completed_count, is_within, span_of}
+use Rattle.wh_view.specs.Lookups.{thing_of, task_of}
+use Rattle.wh_view_report.specs.Words.{mark_words}
+
+-- the number of an event, if it has one, as a member after another one
+abbrev pub number_member : Option ℕ → List ℕ
+number_member None = []
+number_member (Some number) = codes ",\"event\":" ++ decimal number
+
+-- what an event is to the worker
+abbrev pub side_of : ViewedEvent → List ℕ
+side_of event =
+    if completes_task event then codes "completes" else (if is_commanded event then codes "gives" else codes "told")
+
+-- what a thing is, in Temporal's words
+abbrev pub kind_word : ThingKind → List ℕ
+kind_word kinds.Activity = codes "activity"
+kind_word kinds.Timer = codes "timer"
+kind_word kinds.Child = codes "childWorkflow"
+kind_word kinds.CancelRequest = codes "requestCancelExternalWorkflow"
+kind_word kinds.SignalRequest = codes "signalExternalWorkflow"
+kind_word kinds.Signal = codes "signal"
+kind_word kinds.Marker = codes "marker"
+
+-- the place of the event at an index
+abbrev pub place_at : View → Option ℕ → Option ℕ
+place_at view index = option_map (λ event. event.place) (option_and_then (slice_get view.events) index)
+
+-- the place of an event, as a member after another one
+abbrev pub place_member : List ℕ → Option ℕ → List ℕ
+place_member key None = []
+place_member key (Some place) = codes ",\"" ++ (key ++ (codes "\":" ++ decimal place))
+
+-- a thing, as a member after another one
+abbrev pub thing_member : View → Option ViewedThing → List ℕ
+thing_member view None = []
+thing_member view (Some thing) =
+    codes ",\"thing\":{\"kind\":\"" ++ (kind_word thing.kind ++ (codes "\""
+    ++ (place_member (codes "opened") (place_at view (Some thing.opened))
+    ++ (place_member (codes "started") (place_at view thing.started)
+    ++ (place_member (codes "cancelling") (place_at view thing.cancelling)
+    ++ (place_member (codes "ended") (place_at view thing.ended) ++ codes "}"))))))
+
+-- what is not as it should be with an event, as a member after another one
+abbrev pub mark_member : List ℕ → List ℕ
+mark_member [] = []
+mark_member (c ∷ cs) = codes ",\"mark\":\"" ++ ((c ∷ cs) ++ codes "\"")
+
+-- the thing of an event, as a member after another one
+abbrev pub linked_member : View → ViewedEvent → List ℕ
+linked_member view event = thing_member view (thing_of view event)
+
+-- the first members of an event
+abbrev pub first_members : ℕ → Option ℕ → ℕ → List ℕ → List ℕ → List ℕ
+first_members place number task side mark =
+    codes "\"place\":" ++ (decimal place ++ (number_member number
+    ++ (codes ",\"task\":" ++ (decimal task
+    ++ (codes ",\"is\":\"" ++ (side ++ (codes "\"" ++ mark_member mark)))))))
+
+-- the object of an event
+unfoldable pub event_object : View → ViewedEvent → List ℕ
+event_object view event =
+    codes "{" ++ (first_members event.place event.read.number (task_of view event) (side_of event) (mark_words view event)
+    ++ (linked_member view event ++ (codes ",\"recorded\":" ++ (event.json ++ codes "}\n"))))
+
+-- the object of an event, if it stands in one of the tasks
+abbrev pub within_object : View → Span → ViewedEvent → List ℕ
+within_object view span event = if is_within view span event then event_object view event else []
+
+-- the object of counts
+abbrev pub counts_object : (events tasks things : ℕ) → List ℕ
+counts_object events tasks things =
+    codes "{\"events\":" ++ (decimal events ++ (codes ",\"tasks\":" ++ (decimal tasks
+    ++ (codes ",\"things\":" ++ (decimal things ++ codes "}\n")))))
+
+abbrev pub head_object : View → List ℕ
+head_object view = counts_object (length view.events) (completed_count view.events) (length view.things)
+
+-- the objects of some tasks
+unfoldable pub span_objects : View → Span → List ℕ
+span_objects view span = head_object view ++ flat_map (within_object view span) view.events
+
+-- the whole
+abbrev pub view_objects : View → Selection → List ℕ
+view_objects view selection = span_objects view (span_of view selection)

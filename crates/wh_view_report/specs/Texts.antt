@@ -1,0 +1,119 @@
+-- The text of a view, a line an event.
+use Rattle.std.specs.Prelude.{ℕ, ◌+◌, ◌-◌, ◌==◌, ◌&&◌, decimal, length, slice_get, List, [], ◌∷◌, ◌++◌, codes, Bool, true, false, not, nat_le, Option, Some, None, count_by, if◌then◌else◌}
+use Rattle.std.specs.List.{flat_map}
+use Rattle.wh_events.specs.declared.kind.EventKind.{EventKind}
+use Rattle.wh_events.specs.declared.kind.EventKind.TheVariants.{WorkflowTaskScheduled, WorkflowTaskStarted}
+use Rattle.wh_view_report.specs.declared.text.Span.{Span}
+use Rattle.wh_view_report.specs.declared.text.Selection.{Selection}
+use Rattle.wh_view_report.specs.declared.text.Selection.TheVariants.{All, Last, Around}
+use Rattle.wh_view.specs.declared.view.View.{View}
+use Rattle.wh_view.specs.declared.view.ViewedEvent.{ViewedEvent}
+use Rattle.wh_view_report.specs.Cut.{cut, label_text}
+use Rattle.wh_view.specs.Parts.{completes_task}
+use Rattle.wh_view.specs.Things.{is_number}
+use Rattle.wh_view.specs.Lookups.{opening_of, event_id, event_type, task_of}
+use Rattle.wh_view_report.specs.Words.{start_text, number_text, link_text, mark_words, attempt_text}
+
+-- how many tasks are completed
+abbrev pub completed_count : List ViewedEvent → ℕ
+completed_count events = count_by completes_task events
+
+-- the event has the number
+abbrev pub has_number : ℕ → ViewedEvent → Bool
+has_number number event = is_number number event.read.number
+
+-- the first event that has the number
+unfoldable pub numbered_in : ℕ → List ViewedEvent → Option ViewedEvent
+numbered_in number [] = None
+numbered_in number (event ∷ events) = if has_number number event then Some event else numbered_in number events
+
+-- a task with the two before and the two after it
+abbrev pub span_around : ℕ → Span
+span_around task = record { first = task - 2; more = task - (task - 2) + 2 }
+
+-- the tasks round that of an event
+abbrev pub span_at : View → Option ViewedEvent → Span
+span_at view (Some event) = span_around (task_of view event)
+span_at view None = record { first = 0; more = 0 }
+
+-- the tasks that are selected
+abbrev pub span_of : View → Selection → Span
+span_of view All = record { first = 0; more = length view.events }
+span_of view (Last tasks) = record { first = completed_count view.events - (tasks - 1); more = length view.events }
+span_of view (Around number) = span_at view (numbered_in number view.events)
+
+-- the event stands in one of the tasks
+abbrev pub is_within : View → Span → ViewedEvent → Bool
+is_within view span event =
+    nat_le span.first (task_of view event) && nat_le (task_of view event - span.first) span.more
+
+-- how many events stand in other tasks
+abbrev pub left_out : View → Span → ℕ
+left_out view span = count_by (λ event. not (is_within view span event)) view.events
+
+-- the line of a value
+abbrev pub value_line : List ℕ → List ℕ
+value_line value = codes "      " ++ (cut value ++ 10 ∷ [])
+
+-- the line of an event
+unfoldable pub event_line : View → ViewedEvent → List ℕ
+event_line view event =
+    start_text view event ++ (cut event.read.name
+    ++ (label_text (codes " ") (event_id (opening_of view event))
+    ++ (label_text (codes " ") (event_type (opening_of view event))
+    ++ (codes " " ++ (number_text event
+    ++ (label_text (codes " ") event.moment
+    ++ (link_text view event ++ (attempt_text event.attempt
+    ++ (label_text (codes ", ") event.duration
+    ++ (label_text (codes ", because ") event.failure ++ (label_text (codes ", ") (mark_words view event) ++ 10 ∷ [])))))))))))
+
+-- the lines of an event
+abbrev pub event_text : View → ViewedEvent → List ℕ
+event_text view event = event_line view event ++ flat_map value_line event.payloads
+
+-- a workflow task is scheduled or started, which stands in no line
+abbrev pub quiet_kind : Option EventKind → Bool
+quiet_kind (Some WorkflowTaskScheduled) = true
+quiet_kind (Some WorkflowTaskStarted) = true
+quiet_kind _ = false
+
+abbrev pub is_quiet : ViewedEvent → Bool
+is_quiet event = quiet_kind event.read.kind
+
+-- the event stands in one of the tasks, and in a line
+abbrev pub is_shown : View → Span → ViewedEvent → Bool
+is_shown view span event = is_within view span event && not (is_quiet event)
+
+-- the lines of an event, if it is shown
+abbrev pub shown_text : View → Span → ViewedEvent → List ℕ
+shown_text view span event = if is_shown view span event then event_text view event else []
+
+-- the workflow type that the first event names
+abbrev pub workflow_type : Option ViewedEvent → List ℕ
+workflow_type None = []
+workflow_type (Some event) = event_type event
+
+-- the line of a workflow type and counts
+abbrev pub counts_line : List ℕ → (events tasks things : ℕ) → List ℕ
+counts_line kind events tasks things =
+    cut kind ++ (codes ": " ++ (decimal events ++ (codes " events, " ++ (decimal tasks ++ (codes " tasks completed, "
+    ++ (decimal things ++ codes " things\n"))))))
+
+-- the first line
+abbrev pub head_line : View → List ℕ
+head_line view =
+    counts_line (workflow_type (slice_get view.events 0)) (length view.events) (completed_count view.events)
+    (length view.things)
+
+-- the last line, if something is left out
+abbrev pub left_line : ℕ → List ℕ
+left_line left = if left == 0 then [] else decimal left ++ codes " events of other tasks are left out\n"
+
+-- the text of some tasks
+unfoldable pub span_text : View → Span → List ℕ
+span_text view span =
+    head_line view ++ (flat_map (shown_text view span) view.events ++ left_line (left_out view span))
+
+-- the whole text
+abbrev pub view_text : View → Selection → List ℕ
+view_text view selection = span_text view (span_of view selection)

@@ -1,0 +1,76 @@
+-- What is said of an event of a view.
+use Rattle.std.specs.Prelude.{ℕ, ◌-◌, ◌==◌, List, [], ◌++◌, codes, decimal, Bool, Option, Some, None, slice_get, option_and_then, if◌then◌else◌}
+use Rattle.wh_json.specs.declared.fault.ReadFault.{ReadFault}
+use Rattle.wh_json.specs.declared.fault.ReadFault.TheVariants as faults
+use Rattle.wh_view.specs.declared.view.View.{View}
+use Rattle.wh_view.specs.declared.view.ViewedEvent.{ViewedEvent}
+use Rattle.wh_view.specs.declared.view.ViewedThing.{ViewedThing}
+use Rattle.wh_view.specs.Lookups.{index_of, thing_of, task_of, lacks_thing}
+use Rattle.wh_view.specs.Parts.{is_commanded, completes_task}
+
+-- `(event NUMBER)`, or else `(place PLACE)`
+abbrev pub numbered : Option ℕ → ℕ → List ℕ
+numbered (Some number) place = codes "(event " ++ (decimal number ++ codes ")")
+numbered None place = codes "(place " ++ (decimal place ++ codes ")")
+
+abbrev pub number_text : ViewedEvent → List ℕ
+number_text event = numbered event.read.number event.place
+
+-- a reference to an event after a label; nothing where there is none
+abbrev pub labelled : List ℕ → Option ViewedEvent → List ℕ
+labelled label None = []
+labelled label (Some event) = label ++ number_text event
+
+abbrev pub reference_text : List ℕ → View → Option ℕ → List ℕ
+reference_text label view index = labelled label (option_and_then (slice_get view.events) index)
+
+-- the event that ends a thing, for a line of the event at a place; nothing where it is that event
+abbrev pub ended_text : View → ℕ → Option ℕ → List ℕ
+ended_text view place None = codes ", not ended"
+ended_text view place (Some index) =
+    if index == place - 1 then [] else reference_text (codes ", ended ") view (Some index)
+
+-- what an event has to do with a thing: the line of the one that opened it has the others, and those have it
+abbrev pub linked : View → ViewedEvent → Option ViewedThing → List ℕ
+linked view event None = []
+linked view event (Some thing) =
+    if thing.opened == index_of event
+    then reference_text (codes ", started ") view thing.started
+    ++ (reference_text (codes ", to be cancelled ") view thing.cancelling ++ ended_text view event.place thing.ended)
+    else reference_text (codes ", opened ") view (Some thing.opened)
+
+abbrev pub link_text : View → ViewedEvent → List ℕ
+link_text view event = linked view event (thing_of view event)
+
+-- what the reader refuses of an event
+abbrev pub fault_words : ReadFault → List ℕ
+fault_words (faults.BadNumber at) = codes "bad number"
+fault_words (faults.OutOfOrder at) = codes "out of order"
+fault_words (faults.UnsupportedEvent at name) = codes "not supported"
+fault_words (faults.MissingField at) = codes "lacks a field"
+fault_words (faults.BadTime at) = codes "bad time"
+fault_words (faults.BadPayload at) = codes "bad payload"
+fault_words (faults.ShorthandPayload at) = codes "shorthand payload"
+fault_words (faults.UnsupportedMarker at name) = codes "marker not supported"
+fault_words faults.TooLong = []
+fault_words faults.BadJson = []
+fault_words faults.NoEvents = []
+fault_words faults.OutOfMemory = []
+
+-- what is not as it should be with an event
+abbrev pub marked : Option ReadFault → Bool → List ℕ
+marked (Some fault) lacks = fault_words fault
+marked None lacks = if lacks then codes "opened by no event" else []
+
+abbrev pub mark_words : View → ViewedEvent → List ℕ
+mark_words view event = marked event.read.fault (lacks_thing view event)
+
+-- the attempt of an event, where it names one
+abbrev pub attempt_text : ℕ → List ℕ
+attempt_text attempt = if attempt == 0 then [] else codes ", attempt " ++ decimal attempt
+
+-- what an event is to the worker: the end of a task, an answer, or something that it is told
+abbrev pub start_text : View → ViewedEvent → List ℕ
+start_text view event =
+    if completes_task event then codes "task " ++ (decimal (task_of view event) ++ codes ": ")
+    else (if is_commanded event then codes "  gives " else codes "  told ")

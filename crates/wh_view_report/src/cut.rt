@@ -1,0 +1,91 @@
+//! Texts as they are shown: cut at a width.
+
+ghost use Rattle.std.specs.Prelude.{◌≡◌, ◌∷◌, [], Some, length};
+ghost use Rattle.std.specs.Fmt.{DisplaysOnOk};
+ghost use Rattle.std.specs.Str.{chars};
+ghost use Rattle.wh_view_report.specs.Cut.{shown_char, front, rest_text, cut, label_text};
+
+use std::fmt;
+
+/// The most characters of a text that are shown.
+pub(crate) const WIDTH: usize = 80;
+
+/// A character as it is shown.
+fn shown_char(c: char) -> char
+    ensures { result ∷ [] ≡ shown_char c }
+{
+    if ' ' <= c && c <= '~' { c } else { '?' }
+}
+
+/// Writes the first characters of a text.
+#[tactic(auto, unfolding(crate::specs::Cut::front))]
+fn write_front<W: fmt::Write>(text: &str, f: &mut fmt::Formatter<W>) -> fmt::Result
+    ensures { DisplaysOnOk W.write_str_gives f.old result (Some (front text.now)) f.new }
+{
+    for c in text.chars().take(WIDTH) {
+        let c = shown_char(c);
+        write!(f, "{c}")?;
+    }
+    Ok(())
+}
+
+/// The first characters of a text.
+#[derive(Drop)]
+struct Front<'a>(&'a str);
+
+impl fmt::Display for Front<'_> {
+    ghost output = { λ t. Some (front t.0.now) };
+
+    fn fmt<W: fmt::Write>(&self, f: &mut fmt::Formatter<W>) -> fmt::Result {
+        write_front(self.0, f)
+    }
+}
+
+/// That a text of so many bytes goes on.
+#[derive(Clone, Copy)]
+struct Rest(usize);
+
+impl fmt::Display for Rest {
+    ghost output = { λ r. Some (rest_text r.0) };
+
+    fn fmt<W: fmt::Write>(&self, f: &mut fmt::Formatter<W>) -> fmt::Result {
+        let bytes = self.0;
+        if WIDTH < bytes {
+            write!(f, ".. ({bytes} bytes)")
+        } else {
+            Ok(())
+        }
+    }
+}
+
+/// A text by its first 80 characters, with `?` in place of each one that is not between the space
+/// and `~`; after a text of more bytes than that stands how many it has.
+#[derive(Drop)]
+pub(crate) struct Cut<'a>(pub(crate) &'a str);
+
+impl fmt::Display for Cut<'_> {
+    ghost output = { λ t. Some (cut t.0.now) };
+
+    fn fmt<W: fmt::Write>(&self, f: &mut fmt::Formatter<W>) -> fmt::Result {
+        let front = Front(self.0);
+        let rest = Rest(self.0.len());
+        write!(f, "{front}{rest}")
+    }
+}
+
+/// A text after a label; nothing where the text is empty.
+#[derive(Drop)]
+pub(crate) struct Label<'a>(pub(crate) &'static str, pub(crate) &'a str);
+
+impl fmt::Display for Label<'_> {
+    ghost output = { λ l. Some (label_text l.0.now l.1.now) };
+
+    fn fmt<W: fmt::Write>(&self, f: &mut fmt::Formatter<W>) -> fmt::Result {
+        if self.1.is_empty() {
+            return Ok(());
+        }
+        let label = self.0;
+        let text = Cut(self.1);
+        write!(f, "{label}{text}")
+    }
+}

@@ -1,0 +1,245 @@
+//! A view as lines of JSON.
+
+ghost use Rattle.std.specs.Prelude.{◌≡◌, OnOk, Some, option_map};
+ghost use Rattle.std.specs.List.{flat_map};
+ghost use Rattle.std.specs.Io.KnownBytes.{Appends};
+ghost use Rattle.wh_view_report.specs.Json as json;
+
+use crate::text::{Selection, Span, completed_count, is_within, span_of};
+use crate::words::mark_of;
+use std::io::Write;
+use std::{fmt, io};
+use wh_events::EventNo;
+use wh_view::{ThingKind, View, ViewedEvent};
+
+/// The number of an event, as a member after another one.
+#[derive(Clone, Copy)]
+struct NumberMember(Option<EventNo>);
+
+impl fmt::Display for NumberMember {
+    ghost output = { λ n. Some (json.number_member n.0) };
+
+    fn fmt<W: fmt::Write>(&self, f: &mut fmt::Formatter<W>) -> fmt::Result {
+        match self.0 {
+            Some(number) => {
+                let number = number.get();
+                write!(f, ",\"event\":{number}")
+            }
+            None => Ok(()),
+        }
+    }
+}
+
+/// What an event is to the worker.
+fn side_of(event: &ViewedEvent) -> &'static str
+    ensures { result.now ≡ json.side_of event.now }
+{
+    if event.completes_task() {
+        "completes"
+    } else if event.is_commanded() {
+        "gives"
+    } else {
+        "told"
+    }
+}
+
+/// What a thing is, in Temporal's words.
+fn kind_word(kind: ThingKind) -> &'static str
+    ensures { result.now ≡ json.kind_word kind }
+{
+    match kind {
+        ThingKind::Activity => "activity",
+        ThingKind::Timer => "timer",
+        ThingKind::Child => "childWorkflow",
+        ThingKind::CancelRequest => "requestCancelExternalWorkflow",
+        ThingKind::SignalRequest => "signalExternalWorkflow",
+        ThingKind::Signal => "signal",
+        ThingKind::Marker => "marker",
+    }
+}
+
+/// The place of the event at an index.
+fn place_at(view: &View, index: Option<usize>) -> Option<u64>
+    ensures { result ≡ json.place_at view.now index }
+{
+    match view.events.get().get(index?) {
+        Some(event) => Some(event.place),
+        None => None,
+    }
+}
+
+/// The place of an event, as a member after another one.
+#[derive(Clone, Copy)]
+struct PlaceMember(&'static str, Option<u64>);
+
+impl fmt::Display for PlaceMember {
+    ghost output = { λ p. Some (json.place_member p.0.now p.1) };
+
+    fn fmt<W: fmt::Write>(&self, f: &mut fmt::Formatter<W>) -> fmt::Result {
+        match self.1 {
+            Some(place) => {
+                let key = self.0;
+                write!(f, ",\"{key}\":{place}")
+            }
+            None => Ok(()),
+        }
+    }
+}
+
+/// The thing of an event, as a member after another one.
+#[derive(Drop)]
+struct ThingMember<'a>(&'a View, &'a ViewedEvent);
+
+impl fmt::Display for ThingMember<'_> {
+    ghost output = { λ t. Some (json.linked_member t.0.now t.1.now) };
+
+    fn fmt<W: fmt::Write>(&self, f: &mut fmt::Formatter<W>) -> fmt::Result {
+        let Some(thing) = self.0.thing_of(self.1) else {
+            return Ok(());
+        };
+        let kind = kind_word(thing.kind);
+        let opened = PlaceMember("opened", place_at(self.0, Some(thing.opened)));
+        let started = PlaceMember("started", place_at(self.0, thing.started));
+        let cancelling = PlaceMember("cancelling", place_at(self.0, thing.cancelling));
+        let ended = PlaceMember("ended", place_at(self.0, thing.ended));
+        write!(
+            f,
+            ",\"thing\":{{\"kind\":\"{kind}\"{opened}{started}{cancelling}{ended}}}"
+        )
+    }
+}
+
+/// What is not as it should be with an event, as a member after another one.
+#[derive(Clone, Copy)]
+struct MarkMember(&'static str);
+
+impl fmt::Display for MarkMember {
+    ghost output = { λ m. Some (json.mark_member m.0.now) };
+
+    fn fmt<W: fmt::Write>(&self, f: &mut fmt::Formatter<W>) -> fmt::Result {
+        let mark = self.0;
+        if mark.is_empty() {
+            return Ok(());
+        }
+        write!(f, ",\"mark\":\"{mark}\"")
+    }
+}
+
+/// The first members of an event.
+#[derive(Clone, Copy)]
+struct FirstMembers {
+    place: u64,
+    number: Option<EventNo>,
+    task: usize,
+    side: &'static str,
+    mark: &'static str,
+}
+
+impl fmt::Display for FirstMembers {
+    ghost output = { λ m. Some (json.first_members m.place m.number m.task m.side.now m.mark.now) };
+
+    fn fmt<W: fmt::Write>(&self, f: &mut fmt::Formatter<W>) -> fmt::Result {
+        let place = self.place;
+        let number = NumberMember(self.number);
+        let task = self.task;
+        let side = self.side;
+        let mark = MarkMember(self.mark);
+        write!(
+            f,
+            "\"place\":{place}{number},\"task\":{task},\"is\":\"{side}\"{mark}"
+        )
+    }
+}
+
+/// Writes the object of an event.
+#[tactic(auto, unfolding(crate::specs::Json::event_object))]
+fn write_event<O: Write>(view: &View, event: &ViewedEvent, writer: &mut O) -> io::Result<()>
+    ensures { OnOk result
+        (Appends (O.contents writer.old) (O.contents writer.new) (json.event_object view.now event.now)) }
+{
+    let first = FirstMembers {
+        place: event.place,
+        number: event.read.number,
+        task: view.task_of(event),
+        side: side_of(event),
+        mark: mark_of(view, event),
+    };
+    let thing = ThingMember(view, event);
+    let recorded = event.json.get();
+    write!(writer, "{{{first}{thing},\"recorded\":{recorded}}}\n")
+}
+
+/// Writes the objects of the events of some tasks.
+fn write_events<O: Write>(view: &View, span: Span, writer: &mut O) -> io::Result<()>
+    ensures { OnOk result (Appends (O.contents writer.old) (O.contents writer.new)
+        (flat_map (json.within_object view.now span) view.now.events)) }
+{
+    for event in view.events.get() {
+        if is_within(view, span, event) {
+            write_event(view, event, writer)?;
+        }
+    }
+    Ok(())
+}
+
+/// Writes the object of counts.
+fn write_counts<O: Write>(
+    events: usize,
+    tasks: usize,
+    things: usize,
+    writer: &mut O,
+) -> io::Result<()>
+    ensures { OnOk result
+        (Appends (O.contents writer.old) (O.contents writer.new) (json.counts_object events tasks things)) }
+{
+    write!(
+        writer,
+        "{{\"events\":{events},\"tasks\":{tasks},\"things\":{things}}}\n"
+    )
+}
+
+/// Writes the object of counts of a view.
+fn write_head<O: Write>(view: &View, writer: &mut O) -> io::Result<()>
+    ensures { OnOk result (Appends (O.contents writer.old) (O.contents writer.new) (json.head_object view.now)) }
+{
+    let events = view.events.get();
+    write_counts(
+        events.len(),
+        completed_count(events),
+        view.things.get().len(),
+        writer,
+    )
+}
+
+/// Writes the objects of some tasks.
+#[tactic(auto, unfolding(crate::specs::Json::span_objects))]
+fn write_span<O: Write>(view: &View, span: Span, writer: &mut O) -> io::Result<()>
+    ensures { OnOk result
+        (Appends (O.contents writer.old) (O.contents writer.new) (json.span_objects view.now span)) }
+{
+    write_head(view, writer)?;
+    write_events(view, span, writer)
+}
+
+/// Writes a view as lines of JSON (RFC 8259): an object on each line, with no spaces between its
+/// parts, and one line feed after it. First are the counts of the whole history,
+/// `{"events":N,"tasks":N,"things":N}`, where `tasks` are those that were completed. Then each event
+/// of the tasks that are selected has an object, in the order of the history, with these members:
+/// - `place`, counted from 1, and `event`, its number, if it has one;
+/// - `task`, that in which it stands, and `is`: `told`, `completes` or `gives`, as in the text;
+/// - `mark`, what is not as it should be;
+/// - `thing`, if it has one: its `kind` and the places of the events that `opened`, `started`,
+///   cancelled (`cancelling`) and `ended` it;
+/// - `recorded`, the whole event as the history has it.
+///
+/// After an error some of the lines may have been written.
+pub fn write_json_view<O: Write>(
+    view: &View,
+    selection: Selection,
+    writer: &mut O,
+) -> io::Result<()>
+    ensures { OnOk result
+        (Appends (O.contents writer.old) (O.contents writer.new) (json.view_objects view.now selection)) }
+{
+    write_span(view, span_of(view, selection), writer)
+}

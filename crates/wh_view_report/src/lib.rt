@@ -1,0 +1,11 @@
+//! Writes a view of any history, as text and as lines of JSON: all of it, its last tasks, or those
+//! round an event.
+#![tactic(auto)]
+
+mod cut;
+mod json;
+mod text;
+mod words;
+
+pub use json::write_json_view;
+pub use text::{Selection, write_view};

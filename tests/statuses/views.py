@@ -1,0 +1,66 @@
+"""What is recorded in files, shown without code for their workflow types."""
+
+import json
+
+from .rooms import NAP, NOT_JSON
+from .texts import MISSING, cannot_read
+
+HEAD = "Nap: 10 events, 2 tasks completed, 1 things\n"
+FIRST_TASK = """  told WorkflowExecutionStarted Nap (event 1) 2024-05-01T10:00:01Z
+task 1: WorkflowTaskCompleted (event 4) 2024-05-01T10:00:04Z
+  gives TimerStarted nap (event 5) 2024-05-01T10:00:05Z, ended (event 6)
+"""
+SECOND_TASK = """  told TimerFired nap (event 6) 2024-05-01T10:01:05Z, opened (event 5)
+task 2: WorkflowTaskCompleted (event 9) 2024-05-01T10:01:08Z
+  gives WorkflowExecutionCompleted (event 10) 2024-05-01T10:01:09Z
+"""
+VIEWED = f"{HEAD}{FIRST_TASK}{SECOND_TASK}"
+VIEWED_LAST = f"{HEAD}{SECOND_TASK}5 events of other tasks are left out\n"
+# Seven tasks, each of one event.
+TASKS = [
+    {"eventId": str(number), "eventTime": f"2024-05-01T10:00:0{number}Z", "eventType": "WorkflowTaskCompleted"}
+    for number in range(1, 8)
+]
+# That of event 4, with two before and two after it.
+VIEWED_AROUND = """: 7 events, 7 tasks completed, 0 things
+task 2: WorkflowTaskCompleted (event 2) 2024-05-01T10:00:02Z
+task 3: WorkflowTaskCompleted (event 3) 2024-05-01T10:00:03Z
+task 4: WorkflowTaskCompleted (event 4) 2024-05-01T10:00:04Z
+task 5: WorkflowTaskCompleted (event 5) 2024-05-01T10:00:05Z
+task 6: WorkflowTaskCompleted (event 6) 2024-05-01T10:00:06Z
+2 events of other tasks are left out
+"""
+VIEWED_AS_JSON = """{"events":7,"tasks":7,"things":0}
+{"place":7,"event":7,"task":7,"is":"completes","recorded":{"eventId":"7","eventTime":"2024-05-01T10:00:07Z","eventType":"WorkflowTaskCompleted"}}
+"""
+TWICE = "error: --around and --last can't be given together\n"
+OF_REPLAY = "error: --around and --last need --recorded\n"
+
+
+def views(room):
+    """All tasks of a history, the last of them, or those round an event; and what can't be shown."""
+    files = {"nap.json": NAP, "tasks.json": json.dumps(TASKS).encode(), "cut.json": NOT_JSON, "empty.json": b"[]"}
+    folder, missing = room.folder(files | {"other.json": NAP.replace(b'"name":"Nap"', b'"name":"Nope"')}), str(room.new())
+    nap, tasks = f"{folder}/nap.json", f"{folder}/tasks.json"
+    show = ["explain", "--recorded"]
+    return [
+        ([*show, nap], 0, VIEWED, ""),
+        ([*show, f"{folder}/other.json"], 0, VIEWED.replace("Nap", "Nope"), ""),
+        ([*show, "-"], 0, VIEWED, "", {"given": NAP}),
+        ([*show, nap, "--last", "1"], 0, VIEWED_LAST, ""),
+        ([*show, nap, "--last", "67108864"], 0, VIEWED, ""),
+        ([*show, "--around", "4", tasks], 0, VIEWED_AROUND, ""),
+        ([*show, "--around", "9", nap], 0, VIEWED, ""),
+        ([*show, "--around", "11", nap], 0, f"{HEAD}10 events of other tasks are left out\n", ""),
+        ([*show, "--json", "--last", "1", tasks], 0, VIEWED_AS_JSON, ""),
+        ([*show, f"{folder}/cut.json"], 2, "", "wfhost: cut.json: not JSON at line 2 column 3\n"),
+        ([*show, f"{folder}/empty.json"], 2, "", "wfhost: empty.json: unreadable, no events\n"),
+        ([*show, missing], 2, "", cannot_read(missing, MISSING)),
+        ([*show, nap, "--last", "1", "--around", "1"], 2, "", TWICE),
+        (["explain", nap, "--last", "1"], 2, "", OF_REPLAY),
+        (["explain", nap, "--around", "1"], 2, "", OF_REPLAY),
+        ([*show, nap, "--last", "0"], 2, "", "error: --last must be 1 to 67108864\n"),
+        ([*show, nap, "--last", "67108865"], 2, "", "error: --last must be 1 to 67108864\n"),
+        ([*show, nap, "--around", "0"], 2, "", "error: --around must be 1 to 9223372036854775807\n"),
+        ([*show, nap, "--around", "x"], 2, "", "error: --around must be a number\n"),
+    ]
