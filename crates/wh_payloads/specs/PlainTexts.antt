@@ -1,7 +1,7 @@
 -- Payloads that are plain texts in JSON.
-use Rattle.std.specs.Prelude.{ℕ, ◌-◌, Bool, not, ◌&&◌, List, length, take, drop, slice_get, Option, Some, None, option_and_then, leb, nat_eq, codes, bytes_eq, if◌then◌else◌}
+use Rattle.std.specs.Prelude.{◌≡◌, ℕ, ◌-◌, ◌≤◌, ◌↔◌, ◌++◌, Bool, not, ◌&&◌, ◌||◌, IsTrue, List, length, take, drop, slice_get, Option, Some, None, option_and_then, leb, nat_eq, codes, bytes_eq, if◌then◌else◌}
 use Rattle.std.specs.List.{list_all}
-use Rattle.std.specs.Str.{is_utf8}
+use Rattle.std.specs.Str.{is_utf8, IsUtf8, chars}
 use Rattle.wh_events.specs.declared.event.Payload.{Payload}
 
 -- JSON may write the byte of a text as it is: it is no control character, quotation mark or backslash
@@ -32,3 +32,19 @@ plain_text json = option_and_then plain (quoted json)
 -- the plain JSON text of a payload
 abbrev pub payload_text : List Payload → ℕ → Option (List ℕ)
 payload_text input number = option_and_then (λ payload. plain_text payload.content) (slice_get input number)
+
+-- JSON may write the character of a string as it is (RFC 8259, section 7, `unescaped`)
+abbrev pub is_unescaped : ℕ → Bool
+is_unescaped c = (leb 0x20 c && leb c 0x21) || ((leb 0x23 c && leb c 0x5B) || (leb 0x5D c && leb c 0x10_FFFF))
+
+-- the string of JSON whose characters are these, each as it is
+abbrev pub string_of : List ℕ → List ℕ
+string_of text = codes "\"" ++ (text ++ codes "\"")
+
+-- a text of at least one character, and JSON may write each as it is
+abbrev pub IsUnescaped : List ℕ → Type 0
+IsUnescaped text = (1 ≤ length text) × IsUtf8 text × IsTrue (list_all is_unescaped (chars text))
+
+-- bytes are taken for a text exactly where they are the string of JSON of it, without an escape and not empty
+abbrev pub TakesStrings : Type 0
+TakesStrings = (json text : List ℕ) → (plain_text json ≡ Some text) ↔ ((json ≡ string_of text) × IsUnescaped text)

@@ -6,6 +6,8 @@ ghost use Rattle.std.specs.List.{list_all};
 ghost use Rattle.std.specs.Str.{is_utf8};
 ghost use Rattle.wh_payloads.specs.PlainTexts.{is_plain, plain, quoted, plain_text, payload_text};
 
+pub mod laws;
+
 use wh_events::Payload;
 
 /// Whether JSON may write the byte of a text as it is (RFC 8259, section 7): not a control
@@ -24,8 +26,9 @@ fn all_plain(bytes: &[u8]) -> bool
 }
 
 /// The bytes as a text. `None` where they are not UTF-8.
-fn text_in(bytes: &[u8]) -> Option<&str>
-    ensures { MatchOption result (is_utf8 bytes.now ≡ false) (λ text. (is_utf8 bytes.now ≡ true) × (text.now ≡ bytes.now)) }
+pub fn text_in(bytes: &[u8]) -> Option<&str>
+    ensures { MatchOption result (is_utf8 bytes.now ≡ false)
+        (λ text. (is_utf8 bytes.now ≡ true) × (text.now ≡ bytes.now)) }
 {
     match str::from_utf8(bytes) {
         Ok(text) => Some(text),
@@ -63,7 +66,8 @@ pub fn plain_text(json: &[u8]) -> Option<&str>
 /// The plain JSON text of the payload of this number, counted from 0. `None` where there are no more
 /// than so many payloads, or its content is no such text.
 pub fn payload_text(input: &[Payload], number: usize) -> Option<&str>
-    ensures { MatchOption result (payload_text input.now number ≡ None) (λ name. payload_text input.now number ≡ Some name.now) }
+    ensures { MatchOption result (payload_text input.now number ≡ None)
+        (λ name. payload_text input.now number ≡ Some name.now) }
 {
     plain_text(input.get(number)?.content.get())
 }

@@ -24,7 +24,7 @@ use Rattle.wh_rows.specs.Properties.{CommandKind, kind_of, kind_by, count_kind, 
 use Rattle.wh_rows.proofs.Counting.{one_within, start_counts, job_within, within_bounds}
 
 -- counters in one place are the same
-place_same : (one other : Counter) → nat_eq (place_of one) (place_of other) ≡ true → one ≡ other
+pub place_same : (one other : Counter) → nat_eq (place_of one) (place_of other) ≡ true → one ≡ other
 place_same counters.A counters.A is = refl
 place_same counters.A counters.B is = cc
 place_same counters.A counters.C is = cc
@@ -43,7 +43,7 @@ place_same counters.D counters.C is = cc
 place_same counters.D counters.D is = refl
 
 -- the number of another counter does not change it
-other_stays : (other counter : Counter) (counts : Counts) (value : ℕ) → nat_eq (place_of other) (place_of counter) ≡ false
+pub other_stays : (other counter : Counter) (counts : Counts) (value : ℕ) → nat_eq (place_of other) (place_of counter) ≡ false
     → count_of counter (with_count other counts value) ≡ count_of counter counts
 other_stays counters.A counters.A counts value is = cc
 other_stays counters.A counters.B counts value is = refl
@@ -62,7 +62,7 @@ other_stays counters.D counters.B counts value is = refl
 other_stays counters.D counters.C counts value is = refl
 other_stays counters.D counters.D counts value is = cc
 
-own_is : (counter : Counter) (counts : Counts) (value : ℕ) → count_of counter (with_count counter counts value) ≡ value
+pub own_is : (counter : Counter) (counts : Counts) (value : ℕ) → count_of counter (with_count counter counts value) ≡ value
 own_is counters.A counts value = refl
 own_is counters.B counts value = refl
 own_is counters.C counts value = refl
@@ -74,7 +74,7 @@ within_of counters.B bounds counts within = within.1
 within_of counters.C bounds counts within = within.2
 within_of counters.D bounds counts within = within.3
 
-kind_alike : (one : CommandTemplate) (state : RowsState) (job : Job) → kind_of (command_of one state job) ≡ kind_by one
+pub kind_alike : (one : CommandTemplate) (state : RowsState) (job : Job) → kind_of (command_of one state job) ≡ kind_by one
 kind_alike (templates.StartActivity _ _ _) state job = refl
 kind_alike (templates.CancelActivity _) state job = refl
 kind_alike (templates.StartTimer _ _) state job = refl
@@ -103,7 +103,7 @@ count_both kind (command ∷ rest) second =
     omega (arith, later)
 
 -- a condition that follows from others holds where they do
-implied_holds : (one : Condition) (counter : Counter) (bound : ℕ) (counts : Counts)
+pub implied_holds : (one : Condition) (counter : Counter) (bound : ℕ) (counts : Counts)
     → implies one (conditions.Below counter bound) ≡ true → holds one counts ≡ true
     → holds (conditions.Below counter bound) counts ≡ true
 implied_holds (conditions.Below other number) counter bound counts follow hold =
@@ -113,11 +113,11 @@ implied_holds (conditions.Below other number) counter bound counts follow hold =
     subst (λ one. ltb (count_of one counts) bound ≡ true) same (lt-ltb (count_of other counts) bound (omega (arith, least, below)))
 implied_holds (conditions.AtLeast other number) counter bound counts follow hold = cc
 
-either_holds : (a b : Bool) (P : Type 0) → (a || b) ≡ true → (a ≡ true → P) → (b ≡ true → P) → P
+pub either_holds : (a b : Bool) (P : Type 0) → (a || b) ≡ true → (a ≡ true → P) → (b ≡ true → P) → P
 either_holds true b P holds first second = first refl
 either_holds false b P holds first second = second holds
 
-following_holds : (all : List Condition) (counter : Counter) (bound : ℕ) (counts : Counts)
+pub following_holds : (all : List Condition) (counter : Counter) (bound : ℕ) (counts : Counts)
     → follows all (conditions.Below counter bound) ≡ true → all_hold all counts ≡ true → count_of counter counts < bound
 following_holds [] counter bound counts follow hold = cc
 following_holds (one ∷ rest) counter bound counts follow hold =

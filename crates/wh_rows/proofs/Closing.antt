@@ -50,13 +50,13 @@ no_row (row ∷ rest) state job closed =
     ∙ no_row rest state job closed
 
 -- a start leaves it closed
-start_leaves : (name_of : List Payload → List ℕ) (state : RowsState) (job : Job)
+pub start_leaves : (name_of : List Payload → List ℕ) (state : RowsState) (job : Job)
     → (started name_of state job).closed ≡ state.closed
 start_leaves name_of state (jobs.Start workflow input) = refl
 start_leaves name_of state _ = refl
 
 -- no row counts in a closed run
-none_counts : (table : Definition) (state : RowsState) (job : Job) → state.closed ≡ true
+pub none_counts : (table : Definition) (state : RowsState) (job : Job) → state.closed ≡ true
     → row_for table.rows (seen_by table state job) job ≡ None
 none_counts table state job closed =
     no_row table.rows (seen_by table state job) job (start_leaves (name_by table.name) state job ∙ closed)

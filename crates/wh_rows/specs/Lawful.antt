@@ -20,7 +20,7 @@ pub second_of : (a b : Bool) → (a && b) ≡ true → b ≡ true
 second_of true b holds = holds
 second_of false b holds = cc
 
-both : (a b : Bool) → a ≡ true → b ≡ true → (a && b) ≡ true
+pub both : (a b : Bool) → a ≡ true → b ≡ true → (a && b) ≡ true
 both true b first second = second
 both false b first second = first
 
@@ -79,15 +79,15 @@ asks_end (one ∷ next ∷ rest) state job well =
     (second_of (not (closes one)) (ends_well (next ∷ rest))
     (second_of (not (asks one)) (not (closes one) && ends_well (next ∷ rest)) well)))
 
-passes : (test : Bool) (rule : Rule) (later : Option Rule) → unless test rule later ≡ None → test ≡ true
+pub passes : (test : Bool) (rule : Rule) (later : Option Rule) → unless test rule later ≡ None → test ≡ true
 passes true rule later none = refl
 passes false rule later none = cc
 
-goes_on : (test : Bool) (rule : Rule) (later : Option Rule) → unless test rule later ≡ None → later ≡ None
+pub goes_on : (test : Bool) (rule : Rule) (later : Option Rule) → unless test rule later ≡ None → later ≡ None
 goes_on true rule later none = none
 goes_on false rule later none = cc
 
-none_broken : (number : ℕ) (rule : Option Rule) → in_row number rule ≡ None → rule ≡ None
+pub none_broken : (number : ℕ) (rule : Option Rule) → in_row number rule ≡ None → rule ≡ None
 none_broken number None none = refl
 none_broken number (Some rule) none = cc
 
@@ -113,11 +113,11 @@ either : (test : Bool) (one other : Option Row) (P : Option Row → Type 0) → 
 either true one other P first second = first
 either false one other P first second = second
 
-none_first : (first second : Option TableFault) → or_else first second ≡ None → first ≡ None
+pub none_first : (first second : Option TableFault) → or_else first second ≡ None → first ≡ None
 none_first None second none = refl
 none_first (Some fault) second none = none
 
-none_second : (first second : Option TableFault) → or_else first second ≡ None → second ≡ None
+pub none_second : (first second : Option TableFault) → or_else first second ≡ None → second ≡ None
 none_second None second none = none
 none_second (Some fault) second none = cc
 
@@ -136,7 +136,7 @@ found table before (row ∷ rest) state job P faultless none some =
     (none_second (in_row (suc before) (row_rule table before row)) (rows_fault table (suc before) rest) faultless)
     none some)
 
-begins : (test : Bool) (rest : Option TableFault) → (if test then rest else Some BeginsNowhere) ≡ None → rest ≡ None
+pub begins : (test : Bool) (rest : Option TableFault) → (if test then rest else Some BeginsNowhere) ≡ None → rest ≡ None
 begins true rest none = none
 begins false rest none = cc
 

@@ -1,12 +1,15 @@
 -- What holds of each table, in the words of its rows.
-use Rattle.std.specs.Prelude.{◌≡◌, ℕ, ◌≤◌, Bool, true, false, not, ◌&&◌, ◌||◌, List, [], ◌∷◌, ◌++◌, IsTrue, bytes_eq}
+use Rattle.std.specs.Prelude.{◌≡◌, ℕ, ◌≤◌, ℤ, int_lt, Bool, true, false, not, ◌&&◌, ◌||◌, List, [], ◌∷◌, ◌++◌, IsTrue, bytes_eq}
 use Rattle.wh_workflow.specs.declared.job.Job.{Job}
+use Rattle.wh_workflow.specs.declared.job.Job.TheVariants as jobs
 use Rattle.wh_workflow.specs.declared.command.Command.{Command}
 use Rattle.wh_workflow.specs.declared.command.Command.TheVariants as commands
+use Rattle.wh_rows.specs.declared.row.CommandTemplate.TheVariants as templates
 use Rattle.wh_rows.specs.declared.row.Counts.{Counts}
 use Rattle.wh_rows.specs.declared.row.RowsState.{RowsState}
-use Rattle.wh_rows.specs.Tables.{Row, Definition}
-use Rattle.wh_rows.specs.Rows.{fits, commands_of, after_row, seen_by, gives, after, initial}
+use Rattle.wh_rows.specs.Tables.{CommandTemplate, Row, Definition}
+use Rattle.wh_rows.specs.Rows.{named, fits, row_for, commands_of, after_row, seen_by, gives, after, initial}
+use Rattle.wh_rows.specs.Rules.{hides, state_after}
 
 -- what jobs leave, one after another
 abbrev pub after_all : Definition → RowsState → List Job → RowsState
@@ -80,3 +83,25 @@ IsWithin bounds counts = (counts.a ≤ bounds.a) × (counts.b ≤ bounds.b) × (
 -- no counter of a run passes its bound, whatever jobs come
 abbrev pub WithinBounds : Definition → Type 0
 WithinBounds table = (jobs : List Job) → IsWithin table.bounds (after_all table (initial table) jobs).counts
+
+-- a row that an earlier one hides is never taken: without it, rows give the same row to each job
+abbrev pub HiddenIsNeverTaken : Type 0
+HiddenIsNeverTaken =
+    (before : List Row) (earlier : Row) (between : List Row) (later : Row) (behind : List Row) (state : RowsState) (job : Job)
+    → IsTrue (hides earlier later)
+    → row_for (before ++ earlier ∷ (between ++ later ∷ behind)) state job
+    ≡ row_for (before ++ earlier ∷ (between ++ behind)) state job
+
+-- no answer is lost: where a row asks for the version of a change, and in the state after it, a row fits each version that
+-- may come
+abbrev pub AnswersAreHeard : Definition → Type 0
+AnswersAreHeard table =
+    (before : List Row) (row : Row) (behind : List Row) (first : List CommandTemplate) (change : List ℕ)
+    (least greatest version : ℤ) (last : List CommandTemplate) (state : RowsState)
+    → table.rows ≡ before ++ row ∷ behind
+    → row.gives ≡ first ++ templates.Ask change least greatest ∷ last
+    → state.closed ≡ false
+    → state.at ≡ state_after row
+    → IsTrue (not (int_lt version least))
+    → IsTrue (not (int_lt greatest version))
+    → none_fits table.rows state (jobs.Version (named change state) version) ≡ false

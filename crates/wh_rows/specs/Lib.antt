@@ -6,3 +6,4 @@ pub mod Rules
 pub mod Lawful
 pub mod Laws
 pub mod Properties
+pub mod Followed

@@ -74,7 +74,8 @@ module _ {T : Type 0} where
 
 module _ {T C G E : Type 0} where
   -- a row, with texts as bytes and its lists as lists
-  abbrev pub row_by : (T → List ℕ) → (C → List Condition) → (G → List (CommandTemplateOf T)) → (E → List Effect) → RowOf T C G E → Row
+  abbrev pub row_by : (T → List ℕ) → (C → List Condition) → (G → List (CommandTemplateOf T)) → (E → List Effect)
+      → RowOf T C G E → Row
   row_by bytes conditions gives effects row = record {
     state = bytes row.state;
     job = pattern_by bytes row.job;
@@ -86,7 +87,8 @@ module _ {T C G E : Type 0} where
 
 module _ {T C G E : Type 0} where
   -- rows, each so
-  abbrev pub rows_by : (T → List ℕ) → (C → List Condition) → (G → List (CommandTemplateOf T)) → (E → List Effect) → List (RowOf T C G E) → List Row
+  abbrev pub rows_by : (T → List ℕ) → (C → List Condition) → (G → List (CommandTemplateOf T)) → (E → List Effect)
+      → List (RowOf T C G E) → List Row
   rows_by bytes conditions gives effects rows = map (row_by bytes conditions gives effects) rows
 
 -- a row of a table of the program, in code

@@ -1,6 +1,6 @@
 //! What holds of all tables, each law as the contract of a function that does nothing.
 ghost use Rattle.wh_rows.specs.Laws.{FirstRowCounts, NoRowChangesNothing, ClosesForGood, LastCommandCloses};
-ghost use Rattle.wh_rows.specs.Laws.{StateChangesByRow, WithinBounds};
+ghost use Rattle.wh_rows.specs.Laws.{StateChangesByRow, WithinBounds, HiddenIsNeverTaken, AnswersAreHeard};
 
 use crate::table::Table;
 
@@ -25,4 +25,16 @@ pub fn state_changes_by_row<T: Table>()
 /// No counter passes its bound, whatever jobs come.
 pub fn counters_stay_within_bounds<T: Table>()
     ensures { WithinBounds T.table }
+{}
+
+/// A row that an earlier one hides (the rule `HiddenBy`) is never taken: the table does the same
+/// without it.
+pub fn hidden_row_is_never_taken()
+    ensures { HiddenIsNeverTaken }
+{}
+
+/// An answer to an ask is never lost: in the state after a row that asks for the version of a change,
+/// a row fits each version that may come.
+pub fn answers_are_heard<T: Table>()
+    ensures { AnswersAreHeard T.table }
 {}

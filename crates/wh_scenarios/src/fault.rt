@@ -1,9 +1,10 @@
 //! Why a scenario fails.
+ghost use Rattle.std.specs.Prelude.{◌≡◌};
 
 use std::alloc::AllocError;
 use std::fmt;
 use std::fmt::Debug;
-use wh_events::OutOfMemory;
+use wh_events::{OutOfMemory, Text};
 
 /// Why a scenario fails. Lines are counted from 1.
 #[derive(Drop)]
@@ -20,16 +21,16 @@ pub enum ScenarioFault {
         /// The number of the line.
         line: usize,
         /// The words.
-        words: String,
+        words: Text,
     },
     /// The jobs of the line are given other commands.
     Differs {
         /// The number of the line.
         line: usize,
         /// What they are given.
-        given: String,
+        given: Text,
         /// What the line says.
-        wanted: String,
+        wanted: Text,
     },
     /// An allocation was refused.
     OutOfMemory,
@@ -40,27 +41,39 @@ impl Debug for ScenarioFault {
         match self {
             ScenarioFault::UnknownWorkflow => f.write_str("no code for the workflow type"),
             ScenarioFault::NoArrow { line } => write!(f, "line {line}: there is no arrow"),
-            ScenarioFault::NoJob { line, words } => write!(
-                f,
-                "line {line}: no job is written `{words}`"
-            ),
+            ScenarioFault::NoJob { line, words } => {
+                let words = words.get();
+                write!(f, "line {line}: no job is written `{words}`")
+            }
             ScenarioFault::Differs {
                 line,
                 given,
                 wanted,
-            } => write!(f, "line {line}: given `{given}`, wanted `{wanted}`"),
+            } => {
+                let given = given.get();
+                let wanted = wanted.get();
+                write!(f, "line {line}: given `{given}`, wanted `{wanted}`")
+            }
             ScenarioFault::OutOfMemory => f.write_str("out of memory"),
         }
     }
 }
 
 impl From<AllocError> for ScenarioFault {
+    ghost use Rattle.wh_scenarios.specs.declared.fault.ScenarioFault.TheVariants.{OutOfMemory};
+
+    ghost from_gives = { λ _ fault. fault ≡ OutOfMemory };
+
     fn from(_error: AllocError) -> ScenarioFault {
         ScenarioFault::OutOfMemory
     }
 }
 
 impl From<OutOfMemory> for ScenarioFault {
+    ghost use Rattle.wh_scenarios.specs.declared.fault.ScenarioFault.TheVariants.{OutOfMemory};
+
+    ghost from_gives = { λ _ fault. fault ≡ OutOfMemory };
+
     fn from(_error: OutOfMemory) -> ScenarioFault {
         ScenarioFault::OutOfMemory
     }

@@ -1,116 +1,188 @@
 //! Jobs in words.
+ghost use Rattle.std.specs.Prelude.{◌≡◌, IfOk, map, codes};
+ghost use Rattle.wh_scenarios.specs.JobTexts.{payload_of, payloads_of, payloads_in, activity_end_of, child_end_of};
+ghost use Rattle.wh_scenarios.specs.JobTexts.{version_of, version_job, other_job, job_about, takes_words, job_with_id, job_of};
 
+use crate::words::{head_word, parts_at, words_after};
 use std::alloc::Global;
 use wh_events::{Items, OutOfMemory, Payload, Text};
-use wh_workflow::{ActivityEnd, ChildEnd, Job, no_payloads, text_of};
-
-/// The first word, and what stands after it.
-fn first_word(words: &str) -> (&str, &str) {
-    let (word, rest) = words.split_once(' ').unwrap_or((words, ""));
-    (word, rest.trim())
-}
+use wh_workflow::{ActivityEnd, ChildEnd, Job, text_of};
 
 /// The bytes of a text.
-fn bytes_of(alloc: Global, text: &str) -> Result<Items<u8>, OutOfMemory> {
+fn bytes_of(alloc: Global, text: &str) -> Result<Items<u8>, OutOfMemory>
+    ensures { IfOk result (λ bytes. bytes ≡ text.now) }
+{
     Ok(Items::new(text.as_bytes().to_vec(alloc)?))
 }
 
 /// The payload of a word of JSON.
-fn payload(alloc: Global, word: &str) -> Result<Payload, OutOfMemory> {
+fn payload_of(alloc: Global, word: &str) -> Result<Payload, OutOfMemory>
+    ensures { IfOk result (λ payload. payload ≡ payload_of word.now) }
+{
     Ok(Payload {
         encoding: bytes_of(alloc, "json/plain")?,
         content: bytes_of(alloc, word)?,
     })
 }
 
-/// A payload for each word.
-fn payloads(alloc: Global, words: &str) -> Result<Items<Payload>, OutOfMemory> {
+/// A payload for each word that is not empty.
+fn payloads_of(alloc: Global, words: &[&str]) -> Result<Vec<Payload>, OutOfMemory>
+    ensures { IfOk result (λ list. list.items ≡ payloads_of (map (λ word. word.now) words.now)) }
+{
     let mut list = Vec::new(alloc);
-    for word in words.split_whitespace() {
-        let one = payload(alloc, word)?;
-        list.push(one)?;
+    for word in words {
+        if !word.is_empty() {
+            let payload = payload_of(alloc, word)?;
+            list.push(payload)?;
+        }
     }
+    Ok(list)
+}
+
+/// A payload for each word, where spaces stand between them.
+fn payloads_in(alloc: Global, words: &str) -> Result<Items<Payload>, OutOfMemory>
+    ensures { IfOk result (λ list. list ≡ payloads_in words.now) }
+{
+    let words = parts_at(alloc, words, ' ')?;
+    let list = payloads_of(alloc, words.as_slice())?;
     Ok(Items::new(list))
 }
 
-/// The job of a signal, or one that says how an activity or a timer ended. `None` where the word
-/// stands for none of these.
-fn of_id(alloc: Global, word: &str, id: Text, rest: &str) -> Result<Option<Job>, OutOfMemory> {
-    let end = match word.as_bytes() {
-        b"signal" => {
-            let input = payloads(alloc, rest)?;
-            return Ok(Some(Job::Signal { name: id, input }));
-        }
-        b"fired" => return Ok(Some(Job::TimerFired { id })),
-        b"child-started" => return Ok(Some(Job::ChildStarted { workflow_id: id })),
-        b"done" => ActivityEnd::Completed(payloads(alloc, rest)?),
-        b"failed" => ActivityEnd::Failed,
-        b"timed-out" => ActivityEnd::TimedOut,
-        b"canceled" => ActivityEnd::Canceled,
-        _ => return of_child(alloc, word, id, rest),
-    };
-    Ok(Some(Job::Activity { id, end }))
+/// How an activity ended, by its word and what stands behind its id. `None` where the word says no
+/// such end.
+fn activity_end(alloc: Global, word: &str, rest: &str) -> Result<Option<ActivityEnd>, OutOfMemory>
+    ensures { IfOk result (λ end. end ≡ activity_end_of word.now rest.now) }
+{
+    if word == "done" {
+        return Ok(Some(ActivityEnd::Completed(payloads_in(alloc, rest)?)));
+    }
+    if word == "failed" {
+        return Ok(Some(ActivityEnd::Failed));
+    }
+    if word == "timed-out" {
+        return Ok(Some(ActivityEnd::TimedOut));
+    }
+    if word == "canceled" {
+        return Ok(Some(ActivityEnd::Canceled));
+    }
+    Ok(None)
 }
 
-/// The job that says how a child ended. `None` where the word stands for none.
-fn of_child(
-    alloc: Global,
-    word: &str,
-    workflow_id: Text,
-    rest: &str,
-) -> Result<Option<Job>, OutOfMemory> {
-    let end = match word.as_bytes() {
-        b"child-done" => ChildEnd::Completed(payloads(alloc, rest)?),
-        b"child-failed" => ChildEnd::Failed,
-        b"child-canceled" => ChildEnd::Canceled,
-        b"child-timed-out" => ChildEnd::TimedOut,
-        b"child-terminated" => ChildEnd::Terminated,
-        b"child-not-started" => ChildEnd::StartFailed,
-        _ => return Ok(None),
-    };
-    Ok(Some(Job::Child { workflow_id, end }))
+/// How a child ended, by its word and what stands behind its id. `None` where the word says no such
+/// end.
+fn child_end(alloc: Global, word: &str, rest: &str) -> Result<Option<ChildEnd>, OutOfMemory>
+    ensures { IfOk result (λ end. end ≡ child_end_of word.now rest.now) }
+{
+    if word == "child-done" {
+        return Ok(Some(ChildEnd::Completed(payloads_in(alloc, rest)?)));
+    }
+    if word == "child-failed" {
+        return Ok(Some(ChildEnd::Failed));
+    }
+    if word == "child-canceled" {
+        return Ok(Some(ChildEnd::Canceled));
+    }
+    if word == "child-timed-out" {
+        return Ok(Some(ChildEnd::TimedOut));
+    }
+    if word == "child-terminated" {
+        return Ok(Some(ChildEnd::Terminated));
+    }
+    if word == "child-not-started" {
+        return Ok(Some(ChildEnd::StartFailed));
+    }
+    Ok(None)
+}
+
+/// The number of a version: digits, maybe behind a sign, that fit 32 bits.
+fn version_of(number: &str) -> Option<i32>
+    ensures { result ≡ version_of number.now }
+{
+    number.parse::<i32>().ok()
+}
+
+/// The job of these words that is no end of an activity or a child. `None` where they are none.
+fn other_job(alloc: Global, word: &str, id: &str, rest: &str) -> Result<Option<Job>, OutOfMemory>
+    ensures { IfOk result (λ job. job ≡ other_job word.now id.now rest.now) }
+{
+    let id = text_of(alloc, id)?;
+    if word == "signal" {
+        let input = payloads_in(alloc, rest)?;
+        return Ok(Some(Job::Signal { name: id, input }));
+    }
+    if word == "fired" {
+        return Ok(Some(Job::TimerFired { id }));
+    }
+    if word == "child-started" {
+        return Ok(Some(Job::ChildStarted { workflow_id: id }));
+    }
+    if word == "version" {
+        return Ok(version_job(id, rest));
+    }
+    Ok(None)
 }
 
 /// The job that brings the version of a change. `None` where the number is none.
-fn version(change_id: Text, number: &str) -> Option<Job> {
-    match number.parse::<i32>() {
-        Ok(version) => Some(Job::Version { change_id, version }),
-        Err(_) => None,
+fn version_job(change_id: Text, number: &str) -> Option<Job>
+    ensures { result ≡ version_job change_id number.now }
+{
+    match version_of(number) {
+        Some(version) => Some(Job::Version { change_id, version }),
+        None => None,
     }
 }
 
-/// Whether words may stand after the id of such a job: payloads, or the number of a version.
-fn takes_words(word: &str) -> bool {
-    matches!(
-        word.as_bytes(),
-        b"signal" | b"done" | b"child-done" | b"version"
-    )
+/// The job of a word, an id, and what stands behind it. `None` where they are none.
+fn job_about(alloc: Global, word: &str, id: &str, rest: &str) -> Result<Option<Job>, OutOfMemory>
+    ensures { IfOk result (λ job. job ≡ job_about word.now id.now rest.now) }
+{
+    if let Some(end) = activity_end(alloc, word, rest)? {
+        let id = text_of(alloc, id)?;
+        return Ok(Some(Job::Activity { id, end }));
+    }
+    if let Some(end) = child_end(alloc, word, rest)? {
+        let workflow_id = text_of(alloc, id)?;
+        return Ok(Some(Job::Child { workflow_id, end }));
+    }
+    other_job(alloc, word, id, rest)
 }
 
-/// A job that has an id, a name or a change. `None` where it has none, or words that it does not
-/// take.
-fn of_thing(alloc: Global, word: &str, rest: &str) -> Result<Option<Job>, OutOfMemory> {
-    let (id, rest) = first_word(rest);
-    if id.is_empty() || !rest.is_empty() && !takes_words(word) {
+/// Whether words may stand behind the id of such a job: payloads, or the number of a version.
+fn takes_words(word: &str) -> bool
+    ensures { result ≡ takes_words word.now }
+{
+    word == "done" || word == "child-done" || word == "signal" || word == "version"
+}
+
+/// The job of a word and what stands behind it, where that begins with an id, a name or a change.
+/// `None` where they are none.
+fn job_with_id(alloc: Global, word: &str, rest: &str) -> Result<Option<Job>, OutOfMemory>
+    ensures { IfOk result (λ job. job ≡ job_with_id word.now rest.now) }
+{
+    let id = head_word(rest);
+    let rest = words_after(rest);
+    if id.is_empty() {
         return Ok(None);
     }
-    let id = text_of(alloc, id)?;
-    if word == "version" {
-        Ok(version(id, rest))
-    } else {
-        of_id(alloc, word, id, rest)
+    if rest.is_empty() || takes_words(word) {
+        return job_about(alloc, word, id, rest);
     }
+    Ok(None)
 }
 
 /// The job of these words, of a run of the workflow type `kind`. `None` where they are no job.
-pub(crate) fn job_of(alloc: Global, kind: &str, words: &str) -> Result<Option<Job>, OutOfMemory> {
-    let (word, rest) = first_word(words);
-    match word.as_bytes() {
-        b"start" => Ok(Some(Job::Start {
-            workflow: text_of(alloc, kind)?,
-            input: payloads(alloc, rest)?,
-        })),
-        b"cancel" if rest.is_empty() => Ok(Some(Job::CancelRequested)),
-        _ => of_thing(alloc, word, rest),
+pub(crate) fn job_of(alloc: Global, kind: &str, words: &str) -> Result<Option<Job>, OutOfMemory>
+    ensures { IfOk result (λ job. job ≡ job_of kind.now words.now) }
+{
+    let word = head_word(words);
+    let rest = words_after(words);
+    if word == "start" {
+        let input = payloads_in(alloc, rest)?;
+        let workflow = text_of(alloc, kind)?;
+        return Ok(Some(Job::Start { workflow, input }));
     }
+    if words == "cancel" {
+        return Ok(Some(Job::CancelRequested));
+    }
+    job_with_id(alloc, word, rest)
 }

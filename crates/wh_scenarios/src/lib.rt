@@ -22,14 +22,17 @@
 //! | `child-terminated ID`, `child-not-started ID` | so too |
 //! | `version CHANGE NUMBER` | `Version` |
 //!
-//! A payload is a word: JSON without blanks and semicolons. Commands are written as `explain` shows
-//! them, with the payloads of their input or result after them.
+//! A payload is a word without blanks, semicolons and `=>`; whether it is JSON is not looked at.
+//! Commands are written as `explain` shows them, with the payloads of their input or result after
+//! them: a content that is no UTF-8 as `?`, and no encoding.
 #![tactic(auto)]
 
 mod fault;
 mod jobs;
+pub mod laws;
 mod running;
 mod texts;
+mod words;
 
 pub use fault::ScenarioFault;
 pub use running::follows;

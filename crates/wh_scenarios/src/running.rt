@@ -1,90 +1,172 @@
 //! A run of a scenario.
-
-ghost use Rattle.std.specs.Prelude.{◌≡◌, true, false, Err, IfOk};
-ghost use Rattle.wh_scenarios.specs.declared.fault.ScenarioFault.TheVariants.{UnknownWorkflow};
+ghost use Rattle.std.specs.Prelude.{◌≡◌, ◌++◌, ◌∷◌, [], false, None, Some, Err, IfOk, IfErr, OnOk, map, option_map, bytes_eq};
+ghost use Rattle.wh_scenarios.specs.declared.fault.ScenarioFault.TheVariants.{UnknownWorkflow, NoJob, NoArrow};
+ghost use Rattle.wh_scenarios.specs.CommandTexts.{commands_text};
+ghost use Rattle.wh_scenarios.specs.Scenarios.{jobs_of, no_job_in, parts_of, given_to, left_by, difference, sides_fault, line_fault};
+ghost use Rattle.wh_scenarios.specs.Scenarios.{after_line, lines_fault, scenario_fault, Tells};
 
 use crate::fault::ScenarioFault;
 use crate::jobs::job_of;
-use crate::texts::text_of_commands;
+use crate::texts::commands_text;
+use crate::words::{at_arrow, lines_of, parts_at};
 use std::alloc::Global;
-use wh_workflow::{Command, Meter, Workflow};
+use wh_events::{OutOfMemory, Text};
+use wh_workflow::{Command, Job, Meter, Workflow, text_of};
 
-/// Gives a run the job of these words, and adds what it answers.
-fn give<W: Workflow>(
-    alloc: Global,
-    kind: &str,
-    state: &mut W::State,
-    words: &str,
-    given: &mut Vec<Command>,
-) -> Result<bool, ScenarioFault> {
-    match job_of(alloc, kind, words)? {
-        Some(job) => {
-            W::step(alloc, state, &job, given, &mut Meter::new())?;
-            Ok(true)
-        }
-        None => Ok(false),
+/// The fault of a line with words that are no job. It is `OutOfMemory` where there was no memory for
+/// the words.
+fn no_job(alloc: Global, line: usize, words: &str) -> ScenarioFault
+    ensures { Tells result (Some (NoJob line words.now)) }
+{
+    match text_of(alloc, words) {
+        Ok(words) => ScenarioFault::NoJob { line, words },
+        Err(_) => ScenarioFault::OutOfMemory,
     }
 }
 
-/// Gives a run the jobs of a line, and returns what it answers to all of them.
-fn give_line<W: Workflow>(
+/// Adds a job.
+fn add_job(jobs: &mut Vec<Job>, job: Job) -> Result<(), OutOfMemory>
+    ensures { OnOk result (jobs.new.items ≡ jobs.old.items ++ job ∷ []) }
+{
+    jobs.push(job)?;
+    Ok(())
+}
+
+/// The jobs of the parts of a line.
+fn jobs_of(
+    alloc: Global,
+    kind: &str,
+    line: usize,
+    parts: &[&str],
+) -> Result<Vec<Job>, ScenarioFault>
+    ensures jobs { IfOk result (λ jobs. jobs.items ≡ jobs_of kind.now (map (λ part. part.now) parts.now)) }
+    ensures all { OnOk result (no_job_in kind.now (map (λ part. part.now) parts.now) ≡ None) }
+    ensures fault { IfErr result (λ fault.
+        Tells fault (option_map (λ words. NoJob line words) (no_job_in kind.now (map (λ part. part.now) parts.now)))) }
+{
+    let mut jobs = Vec::new(alloc);
+    for part in parts {
+        let words = part.trim();
+        match job_of(alloc, kind, words)? {
+            Some(job) => add_job(&mut jobs, job)?,
+            None => return Err(no_job(alloc, line, words)),
+        }
+    }
+    Ok(jobs)
+}
+
+/// Gives a run jobs, and returns all commands that it answers.
+fn give<W: Workflow>(
+    alloc: Global,
+    state: &mut W::State,
+    jobs: &[Job],
+) -> Result<Vec<Command>, OutOfMemory>
+    ensures commands { IfOk result (λ given. given.items ≡ given_to W.program state.old jobs.now) }
+    ensures state { OnOk result (state.new ≡ left_by W.program state.old jobs.now) }
+{
+    let mut given = Vec::new(alloc);
+    let mut meter = Meter::new();
+    for job in jobs {
+        W::step(alloc, state, job, &mut given, &mut meter)?;
+    }
+    Ok(given)
+}
+
+/// Compares the commands of a line with what it wants. `Differs` where they are others.
+fn compare(
+    alloc: Global,
+    line: usize,
+    commands: &[Command],
+    wanted: &str,
+) -> Result<(), ScenarioFault>
+    ensures same { OnOk result (difference line (commands_text commands.now) wanted.now ≡ None) }
+    ensures fault { IfErr result (λ fault. Tells fault (difference line (commands_text commands.now) wanted.now)) }
+{
+    let given = commands_text(alloc, commands)?;
+    if given.as_str() == wanted {
+        return Ok(());
+    }
+    Err(ScenarioFault::Differs {
+        line,
+        given: Text::new(given),
+        wanted: text_of(alloc, wanted)?,
+    })
+}
+
+/// Gives a run the jobs of a line, which has to answer what the line wants. After an error the run
+/// is given up.
+fn follow_sides<W: Workflow>(
     alloc: Global,
     kind: &str,
     state: &mut W::State,
     line: usize,
     jobs: &str,
-) -> Result<Vec<Command>, ScenarioFault> {
-    let mut given = Vec::new(alloc);
-    for words in jobs.split(';') {
-        let words = words.trim();
-        if !give::<W>(alloc, kind, state, words, &mut given)? {
-            let words = String::from_str(alloc, words)?;
-            return Err(ScenarioFault::NoJob { line, words });
-        }
-    }
-    Ok(given)
+    wanted: &str,
+) -> Result<(), ScenarioFault>
+    ensures state { OnOk result (state.new ≡ left_by W.program state.old (jobs_of kind.now (parts_of jobs.now))) }
+    ensures same { OnOk result (sides_fault W.program kind.now state.old line (Some (jobs.now, wanted.now)) ≡ None) }
+    ensures fault { IfErr result (λ fault.
+        Tells fault (sides_fault W.program kind.now state.old line (Some (jobs.now, wanted.now)))) }
+{
+    let parts = parts_at(alloc, jobs, ';')?;
+    let jobs = jobs_of(alloc, kind, line, parts.as_slice())?;
+    let commands = give::<W>(alloc, state, jobs.as_slice())?;
+    compare(alloc, line, commands.as_slice(), wanted.trim())
 }
 
-/// Gives a run the jobs of a line, which has to answer the commands of the line.
+/// Gives a run a line of a scenario. A blank line says nothing. After an error the run is given up.
 fn follow_line<W: Workflow>(
     alloc: Global,
     kind: &str,
     state: &mut W::State,
     line: usize,
     words: &str,
-) -> Result<(), ScenarioFault> {
-    let Some((jobs, wanted)) = words.split_once("=>") else {
-        return Err(ScenarioFault::NoArrow { line });
-    };
-    let commands = give_line::<W>(alloc, kind, state, line, jobs)?;
-    let given = text_of_commands(alloc, commands.as_slice())?;
-    let wanted = wanted.trim();
-    if given.as_str() == wanted {
+) -> Result<(), ScenarioFault>
+    ensures state { OnOk result (state.new ≡ after_line W.program kind.now state.old words.now) }
+    ensures same { OnOk result (line_fault W.program kind.now state.old line words.now ≡ None) }
+    ensures fault { IfErr result (λ fault. Tells fault (line_fault W.program kind.now state.old line words.now)) }
+{
+    if words.trim().is_empty() {
         return Ok(());
     }
-    let wanted = String::from_str(alloc, wanted)?;
-    Err(ScenarioFault::Differs {
-        line,
-        given,
-        wanted,
-    })
+    match at_arrow(words) {
+        Some((jobs, wanted)) => follow_sides::<W>(alloc, kind, state, line, jobs, wanted),
+        None => Err(ScenarioFault::NoArrow { line }),
+    }
 }
 
-/// Whether a run of the workflow type `kind` answers as the scenario says, line by line. Blank lines
-/// are passed over. The error names the first line that is no line of a scenario, or whose jobs are
-/// given other commands; or there is no code for the type, or no memory.
+/// Gives a run all lines of a scenario, up to the first that it does not follow.
+fn follow_lines<W: Workflow>(
+    alloc: Global,
+    kind: &str,
+    state: &mut W::State,
+    lines: &[&str],
+) -> Result<(), ScenarioFault>
+    ensures same { OnOk result
+        (lines_fault W.program kind.now state.old 1 (map (λ line. line.now) lines.now) ≡ None) }
+    ensures fault { IfErr result (λ fault.
+        Tells fault (lines_fault W.program kind.now state.old 1 (map (λ line. line.now) lines.now))) }
+{
+    for (place, words) in lines.iter().enumerate() {
+        follow_line::<W>(alloc, kind, state, place + 1, words)?;
+    }
+    Ok(())
+}
+
+/// Whether a run of the workflow type `kind` answers as the scenario says, line by line. It does
+/// exactly where the scenario has no fault (`scenario_fault` of `specs`). An error is the first
+/// fault: `UnknownWorkflow` where there is no code for the type, and else that of the first line that
+/// has no arrow, that has words which are no job, or whose jobs are given other commands. Or it is
+/// `OutOfMemory`.
 pub fn follows<W: Workflow>(alloc: Global, kind: &str, scenario: &str) -> Result<(), ScenarioFault>
-    ensures known { IfOk result (λ _. W.program.knows kind.now ≡ true) }
+    ensures follows { OnOk result (scenario_fault W.program kind.now scenario.now ≡ None) }
+    ensures fault { IfErr result (λ fault. Tells fault (scenario_fault W.program kind.now scenario.now)) }
     ensures unknown { W.program.knows kind.now ≡ false → result ≡ Err UnknownWorkflow }
 {
     if !W::handles(kind) {
         return Err(ScenarioFault::UnknownWorkflow);
     }
     let mut state = W::begin(alloc, kind)?;
-    for (place, words) in scenario.lines().enumerate() {
-        if !words.trim().is_empty() {
-            follow_line::<W>(alloc, kind, &mut state, place + 1, words)?;
-        }
-    }
-    Ok(())
+    let lines = lines_of(alloc, scenario)?;
+    follow_lines::<W>(alloc, kind, &mut state, lines.as_slice())
 }

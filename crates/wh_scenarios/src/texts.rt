@@ -1,12 +1,19 @@
-//! Commands as text.
+//! Commands in words.
+ghost use Rattle.std.specs.Prelude.{◌≡◌, Some, IfOk, OnOk, ◌++◌, string_bytes, option_map, codes};
+ghost use Rattle.wh_events.specs.Phrases.{phrase_seen};
+ghost use Rattle.wh_scenarios.specs.CommandTexts.{word_text, detail_text, phrase_text, payloads_given, content_text};
+ghost use Rattle.wh_scenarios.specs.CommandTexts.{payloads_text, command_text, later_texts, commands_text};
 
 use std::alloc::{AllocError, Global};
 use std::fmt;
-use wh_events::{Detail, Payload};
+use wh_events::{Detail, Payload, Phrase};
+use wh_payloads::text_in;
 use wh_workflow::Command;
 
 /// The payloads of the input or the result of a command.
-fn payloads_of(command: &Command) -> &[Payload] {
+fn payloads_given(command: &Command) -> &[Payload]
+    ensures { result.now ≡ payloads_given command.now }
+{
     match command {
         Command::StartActivity { input, .. }
         | Command::StartChild { input, .. }
@@ -22,6 +29,8 @@ fn payloads_of(command: &Command) -> &[Payload] {
 struct Word<'a>(Option<&'a str>);
 
 impl fmt::Display for Word<'_> {
+    ghost output = { λ word. Some (word_text (option_map (λ text. text.now) word.0)) };
+
     fn fmt<W: fmt::Write>(&self, f: &mut fmt::Formatter<W>) -> fmt::Result {
         match self.0 {
             Some(word) => write!(f, " {word}"),
@@ -35,6 +44,8 @@ impl fmt::Display for Word<'_> {
 struct DetailText(Detail);
 
 impl fmt::Display for DetailText {
+    ghost output = { λ detail. Some (detail_text detail.0) };
+
     fn fmt<W: fmt::Write>(&self, f: &mut fmt::Formatter<W>) -> fmt::Result {
         match self.0 {
             Detail::Seconds(seconds) => write!(f, " ({seconds} s)"),
@@ -45,45 +56,66 @@ impl fmt::Display for DetailText {
     }
 }
 
-/// Payloads, each after a space. One that is no text is a question mark.
-#[derive(Drop)]
-struct PayloadsText<'a>(&'a [Payload]);
-
-impl fmt::Display for PayloadsText<'_> {
-    fn fmt<W: fmt::Write>(&self, f: &mut fmt::Formatter<W>) -> fmt::Result {
-        for payload in self.0 {
-            let content = str::from_utf8(payload.content.get()).unwrap_or("?");
-            write!(f, " {content}")?;
-        }
-        Ok(())
-    }
+/// Kind, id, type, and what stands after them.
+fn phrase_text(alloc: Global, phrase: &Phrase<'_>) -> Result<String, AllocError>
+    ensures { IfOk result (λ text. string_bytes text ≡ phrase_text (phrase_seen phrase.now)) }
+{
+    let kind = phrase.kind;
+    let id = Word(phrase.id);
+    let name = Word(phrase.name);
+    let detail = DetailText(phrase.detail);
+    format!(in alloc; "{kind}{id}{name}{detail}")
 }
 
-/// A command.
-#[derive(Drop)]
-struct CommandText<'a>(&'a Command);
+/// The content of a payload, or a question mark where it is no text.
+fn content_text(content: &[u8]) -> &str
+    ensures { result.now ≡ content_text content.now }
+{
+    text_in(content).unwrap_or("?")
+}
 
-impl fmt::Display for CommandText<'_> {
-    fn fmt<W: fmt::Write>(&self, f: &mut fmt::Formatter<W>) -> fmt::Result {
-        let phrase = self.0.phrase();
-        let kind = phrase.kind;
-        let id = Word(phrase.id);
-        let name = Word(phrase.name);
-        let detail = DetailText(phrase.detail);
-        let payloads = PayloadsText(payloads_of(self.0));
-        write!(f, "{kind}{id}{name}{detail}{payloads}")
+/// Adds the contents of payloads, each after a space.
+fn add_payloads(text: &mut String, payloads: &[Payload]) -> Result<(), AllocError>
+    ensures { OnOk result (string_bytes text.new ≡ string_bytes text.old ++ payloads_text payloads.now) }
+{
+    for payload in payloads {
+        text.push_str(" ")?;
+        text.push_str(content_text(payload.content.get()))?;
     }
+    Ok(())
+}
+
+/// A command, as it is shown, and its payloads.
+fn command_text(alloc: Global, command: &Command) -> Result<String, AllocError>
+    ensures { IfOk result (λ text. string_bytes text ≡ command_text command.now) }
+{
+    let mut text = phrase_text(alloc, &command.phrase())?;
+    add_payloads(&mut text, payloads_given(command))?;
+    Ok(text)
+}
+
+/// Adds commands, each after a semicolon.
+fn add_later(alloc: Global, text: &mut String, commands: &[Command]) -> Result<(), AllocError>
+    ensures { OnOk result (string_bytes text.new ≡ string_bytes text.old ++ later_texts commands.now) }
+{
+    for command in commands {
+        let one = command_text(alloc, command)?;
+        text.push_str("; ")?;
+        text.push_str(one.as_str())?;
+    }
+    Ok(())
 }
 
 /// Commands, with a semicolon between each and the next.
-pub(crate) fn text_of_commands(alloc: Global, commands: &[Command]) -> Result<String, AllocError> {
-    let mut text = String::new(alloc);
-    for command in commands {
-        if !text.is_empty() {
-            text.push_str("; ")?;
+pub(crate) fn commands_text(alloc: Global, commands: &[Command]) -> Result<String, AllocError>
+    ensures { IfOk result (λ text. string_bytes text ≡ commands_text commands.now) }
+{
+    match commands.split_first() {
+        Some((first, rest)) => {
+            let mut text = command_text(alloc, first)?;
+            add_later(alloc, &mut text, rest)?;
+            Ok(text)
         }
-        let one = CommandText(command);
-        text.push_str(format!(in alloc; "{one}")?.as_str())?;
+        None => Ok(String::new(alloc)),
     }
-    Ok(text)
 }

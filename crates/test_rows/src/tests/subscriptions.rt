@@ -1,6 +1,6 @@
 //! Scenarios of tables that count.
 
-use row_samples::{Plan, Subscription};
+use row_samples::{Booking, Plan, Subscription};
 use std::alloc::{AllocError, Global};
 use std::test::Fail;
 use wh_scenarios::follows;
@@ -114,6 +114,37 @@ failed charge              => Complete 1
 fn a_plan_is_called_off(rt: HostRuntime) -> Result<(), Fail> {
     for scenario in PLANS {
         follows::<Plan>(rt.alloc(), "Plan", scenario)?;
+    }
+    Ok(())
+}
+
+/// Bookings: with a room, without one, and whose charge may not have been made.
+const BOOKINGS: [&str; 3] = [
+    r#"
+start "single" => StartActivity charge ChargeCard "single"
+done charge 1  => StartActivity room BookRoom "single"
+done room 7    => Complete 7
+"#,
+    r#"
+start 1            => StartActivity charge ChargeCard 1
+done charge        => StartActivity room BookRoom 1
+failed room        => StartActivity refund RefundCard 1
+failed refund      => StartTimer again (3600 s)
+fired again        => StartActivity refund RefundCard 1
+done room; start 2 =>
+done refund 1      => Fail room
+"#,
+    r#"
+start            => StartActivity charge ChargeCard
+timed-out charge => StartActivity refund RefundCard
+done refund      => Fail room
+"#,
+];
+
+#[test]
+fn a_booking_refunds_before_it_fails(rt: HostRuntime) -> Result<(), Fail> {
+    for scenario in BOOKINGS {
+        follows::<Booking>(rt.alloc(), "Booking", scenario)?;
     }
     Ok(())
 }

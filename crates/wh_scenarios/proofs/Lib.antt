@@ -1,0 +1,3 @@
+mod Arrows
+mod Versions
+mod Answered

@@ -1,0 +1,3 @@
+pub mod JobTexts
+pub mod CommandTexts
+pub mod Scenarios
