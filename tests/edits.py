@@ -4,9 +4,9 @@
 Edits of different functions of a crate are tried in one round: one check of a copy of its code, with all of them in
 place, over the libraries as they are built. An edit is refused where a function that it changes has an open goal. A
 function that calls one that is not proved waits for it, so its edit goes into the next round. The ghost items of an impl
-count as one function more: an edit of them, or of a constant that they name, is also refused where one of them does not
-hold. An edit is wrong that is not refused, can't be applied or doesn't compile, or fails only because a proof file cites a
-name that it took away.
+count as one function more: an edit of them, or of a constant that those of an impl for the same type name, is also refused
+where one of them does not hold. An edit is wrong that is not refused, can't be applied or doesn't compile, or fails only
+because a proof file cites a name that it took away.
 
 `rt ci` and `./wfhost` leave the libraries that this needs; any other is built first. The last line is
 `N tried, M wrong`, and the status is 0 where edits were tried and none is wrong."""
@@ -196,11 +196,15 @@ def changed_functions(texts, made):
 
 
 def naming_functions(texts, file, old):
-    """The functions that name the constant, static or type whose text is changed."""
+    """The functions that name the constant, static, type or trait whose text is changed, and the ghost items of all impls
+    for a type of which the ghost items of one impl name it."""
     name = rust_items.item_at(rust_items.code_of(texts[file]), texts[file].index(old) + len(old))
     named = re.compile(rf"\b{name}\b")
     found = [item for path, text in texts.items() for item in rust_items.functions_of(path, text).items()]
-    return {function for function, code in found if named.search(rust_items.code_of(code))}
+    naming = {function for function, code in found if named.search(rust_items.code_of(code))}
+    types = {one: of for text in texts.values() for one, of in rust_items.types_of_impls(text).items()}
+    claimed = {types.get(function[1][-2]) for function in naming if is_ghost(function)} - {None}
+    return naming | {function for function, _ in found if is_ghost(function) and types.get(function[1][-2]) in claimed}
 
 
 def is_ghost(function):

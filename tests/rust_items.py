@@ -80,6 +80,14 @@ def functions_in(code, at=0, end=None, path=()):
             yield from functions_in(code, body + 1, at - 1, (*path, name))
 
 
+def types_of_impls(text):
+    """Returns the type of each impl of a text, by the name that a path has for the impl."""
+    code, types = code_of(text), {}
+    for found in re.finditer(r"\bimpl\b([^{;]*)\bfor\b([^{;]*)\{", code):
+        types[segment_of("impl", f"{found[1]} for {found[2]}")] = last_name(re.sub(r"\bwhere\b.*", "", found[2], flags=re.DOTALL))
+    return types
+
+
 def segment_of(word, head):
     """Returns how a path names an item with this head: an impl by its type, then its trait with the types of that."""
     if word != "impl":
@@ -123,6 +131,6 @@ def functions_of(file, text):
 
 
 def item_at(code, at):
-    """Returns the name of the constant, static or type whose item begins last before a place, or None."""
-    found = [*re.finditer(r"\b(?:const|static|struct|enum|type)\s+(?:mut\s+)?(\w+)", code[:at])]
+    """Returns the name of the constant, static, type or trait whose item begins last before a place, or None."""
+    found = [*re.finditer(r"\b(?:const|static|struct|enum|type|trait)\s+(?:mut\s+)?(\w+)", code[:at])]
     return found[-1][1] if found else None

@@ -1,8 +1,13 @@
 //! Runs a child, and cancels it at the signal `stop`.
-ghost use Rattle.std.specs.Prelude.{refl};
+ghost use Rattle.std.specs.Prelude.{refl, codes, [], ◌∷◌};
+ghost use Rattle.wh_rows.specs.declared.row.JobPattern.TheVariants.{ChildDone};
 ghost use Rattle.wh_rows.specs.Tables.{seen};
+ghost use Rattle.wh_rows.specs.Properties.{StartsChild};
+ghost use Rattle.wh_promises.specs.Courses.{Comes, Gives, Completes};
+ghost use Rattle.wh_promises.specs.Promises.{at_most, only_after};
 ghost use Rattle.row_samples.specs.declared.family.TheConstants.{FAMILY};
 
+use wh_promises::Promising;
 use wh_rows::rows;
 use wh_rows::words::*;
 
@@ -31,4 +36,12 @@ impl Table for FamilyTable {
     fn table() -> &'static Definition {
         &FAMILY
     }
+}
+
+impl Promising for FamilyTable {
+    ghost promises = { at_most 1 (Gives (StartsChild (codes "Nap")))
+        ∷ only_after (Comes (ChildDone (codes "kid"))) Completes
+        ∷ [] };
+
+    ghost promised = { refl };
 }

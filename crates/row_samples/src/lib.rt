@@ -4,18 +4,20 @@
 //! `Family` differs from its code.
 #![tactic(auto)]
 
+mod booking;
 mod family;
 mod nap;
 mod order;
 mod plan;
 mod subscription;
 
+pub use booking::{BOOKING, Booking, BookingTable, refunds_each_charge};
 pub use family::{FAMILY, Family, FamilyTable};
 pub use nap::{NAP, Nap, NapTable, does_as_code};
 pub use order::{ORDER, Order, OrderTable};
 pub use plan::{PLAN, Plan, PlanTable, charges_twelve_times_at_most};
-pub use subscription::{SUBSCRIPTION, Subscription, SubscriptionTable};
+pub use subscription::{SUBSCRIPTION, Subscription, SubscriptionTable, charges_36_times_at_most};
 use wh_workflow::Pair;
 
 /// Each of them, by its workflow type.
-pub type All = Pair<Nap, Pair<Family, Pair<Order, Pair<Plan, Subscription>>>>;
+pub type All = Pair<Nap, Pair<Family, Pair<Order, Pair<Plan, Pair<Subscription, Booking>>>>>;

@@ -1,10 +1,14 @@
 //! Sleeps for a minute.
-ghost use Rattle.std.specs.Prelude.{codes, refl};
+ghost use Rattle.std.specs.Prelude.{codes, refl, [], ◌∷◌};
+ghost use Rattle.wh_rows.specs.declared.row.JobPattern.TheVariants.{Fired};
 ghost use Rattle.wh_rows.specs.Tables.{seen};
+ghost use Rattle.wh_promises.specs.Courses.{Comes, Completes, Fails};
+ghost use Rattle.wh_promises.specs.Promises.{at_most, only_after};
 ghost use Rattle.wh_sample_workflows.specs.Nap.{nap};
 ghost use Rattle.row_samples.specs.Alike.{GivesAsCode};
 ghost use Rattle.row_samples.specs.declared.nap.TheConstants.{NAP};
 
+use wh_promises::Promising;
 use wh_rows::rows;
 use wh_rows::words::*;
 
@@ -29,6 +33,12 @@ impl Table for NapTable {
     fn table() -> &'static Definition {
         &NAP
     }
+}
+
+impl Promising for NapTable {
+    ghost promises = { only_after (Comes (Fired (codes "nap"))) Completes ∷ at_most 0 Fails ∷ [] };
+
+    ghost promised = { refl };
 }
 
 /// Up to the step that closes a run, the table gives what the sample `Nap` in code does, whatever

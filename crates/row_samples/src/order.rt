@@ -1,8 +1,13 @@
 //! Charges for an order, holds it for a day, in which a signal calls it off, and ships it.
-ghost use Rattle.std.specs.Prelude.{refl};
+ghost use Rattle.std.specs.Prelude.{refl, codes, [], ◌∷◌};
+ghost use Rattle.wh_rows.specs.declared.row.JobPattern.TheVariants.{Fired, ChildDone};
 ghost use Rattle.wh_rows.specs.Tables.{seen};
+ghost use Rattle.wh_rows.specs.Properties.{StartsActivity, StartsChild};
+ghost use Rattle.wh_promises.specs.Courses.{Comes, Gives, Completes};
+ghost use Rattle.wh_promises.specs.Promises.{at_most, only_after, between};
 ghost use Rattle.row_samples.specs.declared.order.TheConstants.{ORDER};
 
+use wh_promises::Promising;
 use wh_rows::rows;
 use wh_rows::words::*;
 
@@ -34,4 +39,15 @@ impl Table for OrderTable {
     fn table() -> &'static Definition {
         &ORDER
     }
+}
+
+impl Promising for OrderTable {
+    ghost promises = { at_most 1 (Gives (StartsActivity (codes "ChargeCard")))
+        ∷ only_after (Comes (Fired (codes "hold"))) (Gives (StartsChild (codes "Ship")))
+        ∷ only_after (Comes (Fired (codes "hold"))) (Gives (StartsChild (codes "ShipTracked")))
+        ∷ between (Gives (StartsChild (codes "Ship"))) Completes (Comes (ChildDone (codes "@")))
+        ∷ between (Gives (StartsChild (codes "ShipTracked"))) Completes (Comes (ChildDone (codes "@")))
+        ∷ [] };
+
+    ghost promised = { refl };
 }

@@ -1,10 +1,14 @@
 //! Charges for twelve months, and never more often, whatever jobs come. A signal calls it off, once
 //! a charge that is out has ended.
-ghost use Rattle.std.specs.Prelude.{refl, codes};
+ghost use Rattle.std.specs.Prelude.{refl, codes, [], ◌∷◌};
+ghost use Rattle.wh_rows.specs.declared.row.JobPattern.TheVariants.{Signal};
 ghost use Rattle.wh_rows.specs.Tables.{seen};
 ghost use Rattle.wh_rows.specs.Properties.{AtMost, StartsActivity};
+ghost use Rattle.wh_promises.specs.Courses.{Comes, Gives};
+ghost use Rattle.wh_promises.specs.Promises.{at_most, never_after};
 ghost use Rattle.row_samples.specs.declared.plan.TheConstants.{PLAN};
 
+use wh_promises::Promising;
 use wh_rows::rows;
 use wh_rows::words::*;
 
@@ -39,6 +43,14 @@ impl Table for PlanTable {
     fn table() -> &'static Definition {
         &PLAN
     }
+}
+
+impl Promising for PlanTable {
+    ghost promises = { at_most 12 (Gives (StartsActivity (codes "ChargeCard")))
+        ∷ never_after (Comes (Signal (codes "cancel"))) (Gives (StartsActivity (codes "ChargeCard")))
+        ∷ [] };
+
+    ghost promised = { refl };
 }
 
 /// A plan charges the card twelve times at most. The rows show it: each that charges raises the

@@ -1,8 +1,14 @@
 //! Charges for twelve months, each month with three tries, until it is canceled.
-ghost use Rattle.std.specs.Prelude.{refl};
+ghost use Rattle.std.specs.Prelude.{refl, codes, [], ◌∷◌};
+ghost use Rattle.wh_rows.specs.declared.row.JobPattern.TheVariants.{Signal};
 ghost use Rattle.wh_rows.specs.Tables.{seen};
+ghost use Rattle.wh_rows.specs.Properties.{StartsActivity};
+ghost use Rattle.wh_promises.specs.Courses.{Comes, Gives, Fails};
+ghost use Rattle.wh_promises.specs.Promises.{at_most, only_after, never_after, HappensAtMost};
 ghost use Rattle.row_samples.specs.declared.subscription.TheConstants.{SUBSCRIPTION};
 
+use wh_promises::Promising;
+use wh_promises::laws::keeps_its_promises;
 use wh_rows::rows;
 use wh_rows::words::*;
 
@@ -44,4 +50,20 @@ impl Table for SubscriptionTable {
     fn table() -> &'static Definition {
         &SUBSCRIPTION
     }
+}
+
+impl Promising for SubscriptionTable {
+    ghost promises = { at_most 36 (Gives (StartsActivity (codes "ChargeCard")))
+        ∷ never_after (Comes (Signal (codes "cancel"))) (Gives (StartsActivity (codes "ChargeCard")))
+        ∷ only_after (Gives (StartsActivity (codes "SendMail"))) Fails
+        ∷ [] };
+
+    ghost promised = { refl };
+}
+
+/// A subscription charges the card 36 times at most, whatever jobs come.
+pub fn charges_36_times_at_most()
+    ensures { HappensAtMost (seen SUBSCRIPTION) 36 (Gives (StartsActivity (codes "ChargeCard"))) }
+{
+    keeps_its_promises::<SubscriptionTable>()
 }

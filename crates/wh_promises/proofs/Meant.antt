@@ -1,0 +1,189 @@
+-- A watch that keeps to its budget shows what the promise means.
+use Rattle.std.proofs.Common.{◌≡◌, ℕ, ◌+◌, ◌≤◌, Bool, true, false, cond, ◌||◌, List, [], ◌∷◌, ◌++◌, Option, Some, None, refl, subst, ◌∙◌, arith}
+use Rattle.wh_rows.specs.Tables.{Definition}
+use Rattle.wh_rows.specs.Rows.{initial}
+use Rattle.wh_promises.specs.Courses.{Happening, Entry, is_at, times, happens, course}
+use Rattle.wh_promises.specs.Watches.{Turn, Standing, moved, watched, Keeps}
+use Rattle.wh_promises.specs.Promises.{Promise, at_most, only_after, never_after, between, keeps_watch, Promises, watch_of}
+use Rattle.wh_promises.proofs.Turns.{grows}
+
+-- a turn, if there is one
+abbrev taken : Bool → Turn → Option Turn → Option Turn
+taken t turn later = elim t [ true ↦ Some turn | false ↦ later ]
+
+-- a watch that once spends is past a budget of nothing
+spends : (turns : List Turn) (at spent : ℕ) (entries : List Entry)
+    → (watched turns (record { at = at; spent = spent + 1 }) entries).spent ≤ spent → ⊥
+spends turns at spent entries few =
+    let start : Standing = record { at = at; spent = spent + 1 } in
+    let more : spent + 1 ≤ (watched turns start entries).spent = grows turns start entries in
+    omega (arith, more, few)
+
+module _ (what : Happening) where
+  abbrev counter : Turn
+  counter = record { from = 1; what = what; to = 1; cost = 1 }
+
+  -- a watch that counts
+  counted : (spent : ℕ) (entries : List Entry)
+      → (watched (counter ∷ []) (record { at = 1; spent = spent }) entries).spent ≡ spent + times what entries
+  counted spent [] = omega arith
+  counted spent (entry ∷ rest) = by (is_at what entry) (λ spent. counted spent rest)
+    where
+      by : (t : Bool)
+          → ((spent : ℕ) → (watched (counter ∷ []) (record { at = 1; spent = spent }) rest).spent ≡ spent + times what rest)
+          → (watched (counter ∷ []) (moved (taken t counter None) (record { at = 1; spent = spent })) rest).spent
+          ≡ spent + (cond t 1 0 + times what rest)
+      by true later = let sum : (spent + 1) + times what rest ≡ spent + (1 + times what rest) = omega arith in later (spent + 1) ∙ sum
+      by false later = let sum : spent + times what rest ≡ spent + (0 + times what rest) = omega arith in later spent ∙ sum
+
+module _ (first what : Happening) where
+  abbrev early : Turn
+  early = record { from = 1; what = what; to = 1; cost = 1 }
+
+  abbrev arms : Turn
+  arms = record { from = 1; what = first; to = 2; cost = 0 }
+
+  abbrev late : Turn
+  late = record { from = 2; what = what; to = 2; cost = 1 }
+
+  -- the second does not happen before the first has
+  first_before : (spent : ℕ) (earlier : List Entry) (entry : Entry) (later : List Entry)
+      → (watched (early ∷ arms ∷ []) (record { at = 1; spent = spent }) (earlier ++ entry ∷ later)).spent ≤ spent
+      → is_at what entry ≡ true → happens first earlier ≡ true
+  first_before spent [] entry later few is =
+      absurd (spends (early ∷ arms ∷ []) 1 spent later
+      (subst (λ t. (watched (early ∷ arms ∷ []) (moved (taken t early (taken (is_at first entry) arms None)) (record { at = 1; spent = spent })) later).spent ≤ spent)
+      is few))
+  first_before spent (next ∷ rest) entry later few is =
+      by (is_at what next) (is_at first next) few (λ few. first_before spent rest entry later few is)
+    where
+      by : (t u : Bool)
+          → (watched (early ∷ arms ∷ []) (moved (taken t early (taken u arms None)) (record { at = 1; spent = spent })) (rest ++ entry ∷ later)).spent ≤ spent
+          → ((watched (early ∷ arms ∷ []) (record { at = 1; spent = spent }) (rest ++ entry ∷ later)).spent ≤ spent → happens first rest ≡ true)
+          → (u || happens first rest) ≡ true
+      by true u few next_one = absurd (spends (early ∷ arms ∷ []) 1 spent (rest ++ entry ∷ later) few)
+      by false true few next_one = refl
+      by false false few next_one = next_one few
+
+  -- once the watch is armed the second does not happen
+  none_late : (spent : ℕ) (earlier : List Entry) (entry : Entry) (later : List Entry)
+      → (watched (arms ∷ late ∷ []) (record { at = 2; spent = spent }) (earlier ++ entry ∷ later)).spent ≤ spent
+      → is_at what entry ≡ false
+  none_late spent [] entry later few = by (is_at what entry) few
+    where
+      by : (t : Bool)
+          → (watched (arms ∷ late ∷ []) (moved (taken t late None) (record { at = 2; spent = spent })) later).spent ≤ spent → t ≡ false
+      by true few = absurd (spends (arms ∷ late ∷ []) 2 spent later few)
+      by false few = refl
+  none_late spent (next ∷ rest) entry later few = by (is_at what next) few (λ few. none_late spent rest entry later few)
+    where
+      by : (t : Bool)
+          → (watched (arms ∷ late ∷ []) (moved (taken t late None) (record { at = 2; spent = spent })) (rest ++ entry ∷ later)).spent ≤ spent
+          → ((watched (arms ∷ late ∷ []) (record { at = 2; spent = spent }) (rest ++ entry ∷ later)).spent ≤ spent → is_at what entry ≡ false)
+          → is_at what entry ≡ false
+      by true few next_one = absurd (spends (arms ∷ late ∷ []) 2 spent (rest ++ entry ∷ later) few)
+      by false few next_one = next_one few
+
+  -- so not after the first
+  none_after : (spent : ℕ) (earlier : List Entry) (entry : Entry) (later : List Entry)
+      → (watched (arms ∷ late ∷ []) (record { at = 1; spent = spent }) (earlier ++ entry ∷ later)).spent ≤ spent
+      → happens first earlier ≡ true → is_at what entry ≡ false
+  none_after spent [] entry later few first_is = cc
+  none_after spent (next ∷ rest) entry later few first_is =
+      by (is_at first next) few first_is (λ few. none_late spent rest entry later few)
+      (λ few first_is. none_after spent rest entry later few first_is)
+    where
+      plus : (P : ℕ → Type 0) → P (spent + 0) → P spent
+      plus P holds = let none : spent + 0 ≡ spent = omega arith in subst P none holds
+
+      by : (t : Bool)
+          → (watched (arms ∷ late ∷ []) (moved (taken t arms None) (record { at = 1; spent = spent })) (rest ++ entry ∷ later)).spent ≤ spent
+          → (t || happens first rest) ≡ true
+          → ((watched (arms ∷ late ∷ []) (record { at = 2; spent = spent }) (rest ++ entry ∷ later)).spent ≤ spent → is_at what entry ≡ false)
+          → ((watched (arms ∷ late ∷ []) (record { at = 1; spent = spent }) (rest ++ entry ∷ later)).spent ≤ spent → happens first rest ≡ true → is_at what entry ≡ false)
+          → is_at what entry ≡ false
+      by true few first_is armed next_one =
+          armed (plus (λ n. (watched (arms ∷ late ∷ []) (record { at = 2; spent = n }) (rest ++ entry ∷ later)).spent ≤ spent) few)
+      by false few first_is armed next_one = next_one few first_is
+
+module _ (first last what : Happening) where
+  abbrev opens : Turn
+  opens = record { from = 1; what = first; to = 2; cost = 0 }
+
+  abbrev misses : Turn
+  misses = record { from = 2; what = last; to = 2; cost = 1 }
+
+  abbrev answers : Turn
+  answers = record { from = 2; what = what; to = 3; cost = 0 }
+
+  abbrev pair : List Turn
+  pair = opens ∷ misses ∷ answers ∷ []
+
+  -- where it waits, the third happens before the last
+  answered : (spent : ℕ) (middle : List Entry) (other : Entry) (later : List Entry)
+      → (watched pair (record { at = 2; spent = spent }) (middle ++ other ∷ later)).spent ≤ spent
+      → is_at last other ≡ true → happens what middle ≡ true
+  answered spent [] other later few is =
+      absurd (spends pair 2 spent later
+      (subst (λ t. (watched pair (moved (taken t misses (taken (is_at what other) answers None)) (record { at = 2; spent = spent })) later).spent ≤ spent)
+      is few))
+  answered spent (next ∷ rest) other later few is =
+      by (is_at last next) (is_at what next) few (λ few. answered spent rest other later few is)
+    where
+      by : (l w : Bool)
+          → (watched pair (moved (taken l misses (taken w answers None)) (record { at = 2; spent = spent })) (rest ++ other ∷ later)).spent ≤ spent
+          → ((watched pair (record { at = 2; spent = spent }) (rest ++ other ∷ later)).spent ≤ spent → happens what rest ≡ true)
+          → (w || happens what rest) ≡ true
+      by true w few next_one = absurd (spends pair 2 spent (rest ++ other ∷ later) few)
+      by false true few next_one = refl
+      by false false few next_one = next_one few
+
+  -- from the first time on
+  all_answered : (spent : ℕ) (earlier : List Entry) (one : Entry) (middle : List Entry) (other : Entry) (later : List Entry)
+      → (watched pair (record { at = 1; spent = spent }) (earlier ++ one ∷ (middle ++ other ∷ later))).spent ≤ spent
+      → happens first earlier ≡ false → is_at first one ≡ true → is_at last other ≡ true → happens what middle ≡ true
+  all_answered spent [] one middle other later few none is ends = by (is_at first one) is few
+    where
+      by : (f : Bool) → f ≡ true
+          → (watched pair (moved (taken f opens None) (record { at = 1; spent = spent })) (middle ++ other ∷ later)).spent ≤ spent
+          → happens what middle ≡ true
+      by true is few =
+          let sum : spent + 0 ≡ spent = omega arith in
+          answered spent middle other later
+          (subst (λ n. (watched pair (record { at = 2; spent = n }) (middle ++ other ∷ later)).spent ≤ spent) sum few) ends
+      by false is few = cc
+  all_answered spent (next ∷ rest) one middle other later few none is ends =
+      by (is_at first next) none few (λ none few. all_answered spent rest one middle other later few none is ends)
+    where
+      behind : List Entry
+      behind = rest ++ one ∷ (middle ++ other ∷ later)
+
+      by : (f : Bool) → (f || happens first rest) ≡ false
+          → (watched pair (moved (taken f opens None) (record { at = 1; spent = spent })) behind).spent ≤ spent
+          → (happens first rest ≡ false → (watched pair (record { at = 1; spent = spent }) behind).spent ≤ spent → happens what middle ≡ true)
+          → happens what middle ≡ true
+      by true none few next_one = cc
+      by false none few next_one = next_one none few
+
+-- a table whose watch keeps to its budget keeps the promise
+pub means : (table : Definition) (promise : Promise) → Keeps table (watch_of promise) → Promises table promise
+means table (at_most most what) keeps = λ list start.
+    let sum : (watched (watch_of (at_most most what)).turns (record { at = 1; spent = 0 }) (course table (initial table) list)).spent
+    ≡ 0 + times what (course table (initial table) list) =
+    counted what 0 (course table (initial table) list) in
+    let few = keeps list start in
+    let most_times : times what (course table (initial table) list) ≤ most = omega (arith, sum, few) in
+    most_times
+means table (only_after first what) keeps = λ list start earlier entry later split is.
+    first_before first what 0 earlier entry later
+    (subst (λ entries. (watched (watch_of (only_after first what)).turns (record { at = 1; spent = 0 }) entries).spent ≤ 0) split (keeps list start))
+    is
+means table (never_after first what) keeps = λ list start earlier entry later split is.
+    none_after first what 0 earlier entry later
+    (subst (λ entries. (watched (watch_of (never_after first what)).turns (record { at = 1; spent = 0 }) entries).spent ≤ 0) split (keeps list start))
+    is
+means table (between first last what) keeps = λ list start earlier one middle other later split none is ends.
+    all_answered first last what 0 earlier one middle other later
+    (subst (λ entries. (watched (watch_of (between first last what)).turns (record { at = 1; spent = 0 }) entries).spent ≤ 0) split (keeps list start))
+    none is ends
+means table (keeps_watch watch) keeps = keeps

@@ -1,0 +1,4 @@
+pub mod Courses
+pub mod Watches
+pub mod Promises
+pub mod Deciding

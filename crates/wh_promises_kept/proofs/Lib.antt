@@ -1,0 +1,3 @@
+mod Stepped
+mod Started
+mod Kept

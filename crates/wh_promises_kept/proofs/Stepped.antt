@@ -1,0 +1,246 @@
+-- An activation steps a table by its jobs, with versions behind some, and issues what these are given.
+use Rattle.std.proofs.Common.{◌≡◌, ℕ, zero, suc, Bool, true, false, not, cond, ◌&&◌, List, [], ◌∷◌, ◌++◌, Option, Some, None, Result, Ok, Err, ℤ, refl, ap, sym, subst, ◌∙◌, append_assoc}
+use Rattle.std.proofs.lemmas.List.{append-nil}
+use Rattle.std.proofs.lemmas.Bool.{and_parts, and_from, not-true}
+use Rattle.wh_workflow.specs.declared.job.Job.{Job}
+use Rattle.wh_workflow.specs.declared.job.Job.TheVariants as jobs
+use Rattle.wh_workflow.specs.declared.command.Command.{Command}
+use Rattle.wh_workflow.specs.declared.fault.WorkflowFault.{WorkflowFault}
+use Rattle.wh_workflow.specs.Counting.{ticked}
+use Rattle.wh_workflow.specs.Law.{IsLawful, records_none, is_marker}
+use Rattle.wh_workflow.specs.Scripts.{ActivationContext, Choice, choice_of, command_fault}
+use Rattle.wh_workflow.specs.Activations.{and_then, follow, unless_fault, Script, Question, question_of, marker_if, Reply, reply, issue_all, Progress, Turn, turn, settle, room, activate}
+use Rattle.wh_workflow.specs.ActivationScripts.{is_version}
+use Rattle.wh_rows.specs.declared.row.RowsState.{RowsState}
+use Rattle.wh_rows.specs.Tables.{Definition}
+use Rattle.wh_rows.specs.Rows.{program, gives, after, row_gives}
+use Rattle.wh_rows.specs.Laws.{after_all}
+use Rattle.wh_rows.specs.Properties.{given_to_all}
+use Rattle.wh_promises.proofs.Sound.{no_row_at}
+use Rattle.wh_promises_kept.specs.Kept.{without_markers, all_versions, is_time, Interleaved, no_jobs, next_job}
+
+pub plain_append : (xs ys : List Command) → without_markers (xs ++ ys) ≡ without_markers xs ++ without_markers ys
+plain_append [] ys = refl
+plain_append (x ∷ xs) ys = by (is_marker x) (plain_append xs ys)
+  where
+    by : (t : Bool) → without_markers (xs ++ ys) ≡ without_markers xs ++ without_markers ys
+        → cond t (without_markers (xs ++ ys)) (x ∷ without_markers (xs ++ ys))
+        ≡ cond t (without_markers xs) (x ∷ without_markers xs) ++ without_markers ys
+    by true e = e
+    by false e = ap (λ l. x ∷ l) e
+
+plain_none : (xs : List Command) → records_none xs ≡ true → without_markers xs ≡ xs
+plain_none [] none = refl
+plain_none (x ∷ xs) none =
+    let parts : (not (is_marker x) ≡ true) × (records_none xs ≡ true) = and_parts (not (is_marker x)) (records_none xs) none in
+    rw (not-true (is_marker x) parts.0, plain_none xs parts.1) refl
+
+plain_marker : (marked : Bool) (change : List ℕ) (version : ℤ) → without_markers (marker_if marked change version) ≡ []
+plain_marker true change version = refl
+plain_marker false change version = refl
+
+issue_gives : (context : ActivationContext) (script out : Script) (commands : List Command)
+    → issue_all context script commands ≡ Ok out → out.issued ≡ script.issued ++ commands
+issue_gives context script out [] ok =
+    let e : script ≡ out = cc in ap (λ (s : Script). s.issued) (sym e) ∙ sym (append-nil script.issued)
+issue_gives context script out (command ∷ rest) ok =
+    by (command_fault context script.settled script.issued command)
+    (issue_gives context (record { settled = script.settled; issued = script.issued ++ command ∷ [] }) out rest) ok
+  where
+    next : Script
+    next = record { settled = script.settled; issued = script.issued ++ command ∷ [] }
+
+    by : (fault : Option WorkflowFault)
+        → (issue_all context next rest ≡ Ok out → out.issued ≡ (script.issued ++ command ∷ []) ++ rest)
+        → unless_fault fault (issue_all context next rest) ≡ Ok out → out.issued ≡ script.issued ++ command ∷ rest
+    by None later ok = later ok ∙ append_assoc script.issued (command ∷ []) rest
+    by (Some fault) later ok = cc
+
+-- the job that comes next is a version
+abbrev IsVersion : Option Job → Type 0
+IsVersion None = Unit {0}
+IsVersion (Some job) = is_version job ≡ true
+
+pub after_append : (table : Definition) (state : RowsState) (first second : List Job)
+    → after_all table state (first ++ second) ≡ after_all table (after_all table state first) second
+after_append table state [] second = refl
+after_append table state (job ∷ rest) second = after_append table (after table state job) rest second
+
+pub given_append : (table : Definition) (state : RowsState) (first second : List Job)
+    → given_to_all table state (first ++ second) ≡ given_to_all table state first ++ given_to_all table (after_all table state first) second
+given_append table state [] second = refl
+given_append table state (job ∷ rest) second =
+    ap (λ l. gives table state job ++ l) (given_append table (after table state job) rest second)
+    ∙ sym (append_assoc (gives table state job) (given_to_all table (after table state job) rest)
+    (given_to_all table (after_all table (after table state job) rest) second))
+
+-- the time is given nothing
+time_gives : (table : Definition) (state : RowsState) (job : Job) → is_time job ≡ true → gives table state job ≡ []
+time_gives table state (jobs.Time time) is = ap (λ row. row_gives row state (jobs.Time time)) (no_row_at table.rows state time)
+time_gives table state _ is = cc
+
+module _ (table : Definition) (lawful : IsLawful (program table)) (context : ActivationContext) where
+  -- from one progress to another a table is stepped by these jobs
+  pub record Steps (first last : Progress RowsState) (list : List Job) : Type 0 where
+    pub state : last.state ≡ after_all table first.state list
+    pub issued : without_markers last.script.issued ≡ without_markers first.script.issued ++ given_to_all table first.state list
+
+  -- one turn
+  record Turned (job : Job) (first : Progress RowsState) (last : Turn RowsState) : Type 0 where
+    state : last.progress.state ≡ after table first.state job
+    issued : without_markers last.progress.script.issued ≡ without_markers first.script.issued ++ gives table first.state job
+    next : IsVersion last.next
+    quiet : gives table first.state job ≡ [] → last.next ≡ None
+
+  turn_does : (job : Job) (first : Progress RowsState) (last : Turn RowsState)
+      → turn (program table) context job first ≡ Ok last → Turned job first last
+  turn_does job first last ok = by (issue_all context first.script commands) refl ok
+    where
+      commands : List Command
+      commands = gives table first.state job
+
+      made : Reply → Turn RowsState
+      made answer = record {
+        progress = record { state = after table first.state job; script = answer.script; meter = ticked first.meter };
+        next = answer.next;
+      }
+
+      plain_commands : without_markers commands ≡ commands
+      plain_commands = plain_none commands (lawful first.state job).records
+
+      choice : Script → Question → Choice
+      choice script question = choice_of context script.settled question.0 question.1
+
+      with_marker : (script : Script) (marker : List Command) → without_markers marker ≡ []
+          → script.issued ≡ first.script.issued ++ commands
+          → without_markers (script.issued ++ marker) ≡ without_markers first.script.issued ++ commands
+      with_marker script marker nothing is =
+          plain_append script.issued marker
+          ∙ ap (λ l. without_markers script.issued ++ l) nothing
+          ∙ append-nil (without_markers script.issued)
+          ∙ ap without_markers is ∙ plain_append first.script.issued commands
+          ∙ ap (λ l. without_markers first.script.issued ++ l) plain_commands
+
+      by_question : (script : Script) → script.issued ≡ first.script.issued ++ commands → (question : Option Question)
+          → question_of commands ≡ question → Turned job first (made (reply context script question))
+      by_question script is None asks = record {
+        state = refl;
+        issued = ap without_markers is ∙ plain_append first.script.issued commands ∙ ap (λ l. without_markers first.script.issued ++ l) plain_commands;
+        next = tt;
+        quiet = λ none. refl;
+      }
+      by_question script is (Some question) asks = record {
+        state = refl;
+        issued =
+            with_marker script (marker_if (choice script question).marked question.0 (choice script question).version)
+            (plain_marker (choice script question).marked question.0 (choice script question).version) is;
+        next = refl;
+        quiet = λ none. absurd (no_question (sym asks ∙ ap question_of none));
+      }
+        where
+          no_question : ◌≡◌ {A = Option Question} (Some question) None → ⊥
+          no_question e = cc
+
+      by : (result : Result Script WorkflowFault) → issue_all context first.script commands ≡ result
+          → and_then (and_then result (λ next. Ok (reply context next (question_of commands)))) (λ answer. Ok (made answer)) ≡ Ok last
+          → Turned job first last
+      by (Ok script) is ok =
+          let e : made (reply context script (question_of commands)) ≡ last = cc in
+          subst (Turned job first) e
+          (by_question script (issue_gives context first.script script commands is) (question_of commands) refl)
+      by (Err fault) is ok = cc
+
+  -- a job, and the versions that it leads to
+  record Settled (job : Job) (first last : Progress RowsState) : Type 0 where
+    versions : List Job
+    are : all_versions versions ≡ true
+    quiet : gives table first.state job ≡ [] → versions ≡ []
+    steps : Steps first last (job ∷ versions)
+
+  settle_does : (fuel : ℕ) (job : Job) (first last : Progress RowsState)
+      → settle (program table) context fuel job first ≡ Ok last → Settled job first last
+  unfolding settle
+  settle_does zero job first last ok = cc
+  settle_does (suc fuel) job first last ok =
+      by (turn (program table) context job first) refl ok (λ version now ok. settle_does fuel version now last ok)
+    where
+      Later : Type 0
+      Later = (version : Job) (now : Progress RowsState) → settle (program table) context fuel version now ≡ Ok last → Settled version now last
+
+      by_next : (found : Turn RowsState) → Turned job first found → (next : Option Job) → found.next ≡ next
+          → follow next (Ok found.progress) (λ version. settle (program table) context fuel version found.progress) ≡ Ok last
+          → Later → Settled job first last
+      by_next found turned None is ok later =
+          let e : found.progress ≡ last = cc in record {
+            versions = [];
+            are = refl;
+            quiet = λ none. refl;
+            steps = subst (λ last. Steps first last (job ∷ [])) e (record {
+              state = turned.state;
+              issued = turned.issued ∙ ap (λ l. without_markers first.script.issued ++ l) (sym (append-nil (gives table first.state job)));
+            });
+          }
+      by_next found turned (Some version) is ok later =
+          let behind : Settled version found.progress last = later version found.progress ok in record {
+            versions = version ∷ behind.versions;
+            are = and_from (is_version version) (all_versions behind.versions) (subst IsVersion is turned.next) behind.are;
+            quiet = λ none. absurd (no_next (sym is ∙ turned.quiet none));
+            steps = record {
+              state = behind.steps.state ∙ ap (λ state. after_all table state (version ∷ behind.versions)) turned.state;
+              issued =
+                  behind.steps.issued
+                  ∙ ap (λ l. l ++ given_to_all table found.progress.state (version ∷ behind.versions)) turned.issued
+                  ∙ append_assoc (without_markers first.script.issued) (gives table first.state job)
+                  (given_to_all table found.progress.state (version ∷ behind.versions))
+                  ∙ ap (λ state. without_markers first.script.issued ++ (gives table first.state job ++ given_to_all table state (version ∷ behind.versions))) turned.state;
+            };
+          }
+        where
+          no_next : ◌≡◌ {A = Option Job} (Some version) None → ⊥
+          no_next e = cc
+
+      by : (result : Result (Turn RowsState) WorkflowFault) → turn (program table) context job first ≡ result
+          → and_then result (λ next. follow next.next (Ok next.progress) (λ version. settle (program table) context fuel version next.progress)) ≡ Ok last
+          → Later → Settled job first last
+      by (Ok found) is ok later = by_next found (turn_does job first found is) found.next refl ok later
+      by (Err fault) is ok later = cc
+
+  -- an activation
+  pub record Activated (given : List Job) (first last : Progress RowsState) : Type 0 where
+    pub list : List Job
+    pub are : Interleaved given list
+    pub steps : Steps first last list
+
+  pub activate_does : (given : List Job) (first last : Progress RowsState)
+      → activate (program table) context given first ≡ Ok last → Activated given first last
+  activate_does [] first last ok =
+      let e : first ≡ last = cc in record {
+        list = [];
+        are = no_jobs;
+        steps = subst (λ last. Steps first last []) e (record { state = refl; issued = sym (append-nil (without_markers first.script.issued)) });
+      }
+  activate_does (job ∷ rest) first last ok =
+      by (settle (program table) context (room first) job first) refl ok (λ now ok. activate_does rest now last ok)
+    where
+      by : (result : Result (Progress RowsState) WorkflowFault) → settle (program table) context (room first) job first ≡ result
+          → and_then result (activate (program table) context rest) ≡ Ok last
+          → ((now : Progress RowsState) → activate (program table) context rest now ≡ Ok last → Activated rest now last)
+          → Activated (job ∷ rest) first last
+      by (Ok now) is ok later =
+          let here : Settled job first now = settle_does (room first) job first now is in
+          let behind : Activated rest now last = later now ok in record {
+            list = job ∷ (here.versions ++ behind.list);
+            are = next_job job here.versions rest behind.list here.are (λ time. here.quiet (time_gives table first.state job time)) behind.are;
+            steps = record {
+              state =
+                  behind.steps.state ∙ ap (λ state. after_all table state behind.list) here.steps.state
+                  ∙ sym (after_append table first.state (job ∷ here.versions) behind.list);
+              issued =
+                  behind.steps.issued
+                  ∙ ap (λ l. l ++ given_to_all table now.state behind.list) here.steps.issued
+                  ∙ append_assoc (without_markers first.script.issued) (given_to_all table first.state (job ∷ here.versions)) (given_to_all table now.state behind.list)
+                  ∙ ap (λ state. without_markers first.script.issued ++ (given_to_all table first.state (job ∷ here.versions) ++ given_to_all table state behind.list)) here.steps.state
+                  ∙ ap (λ l. without_markers first.script.issued ++ l) (sym (given_append table first.state (job ∷ here.versions) behind.list));
+            };
+          }
+      by (Err fault) is ok later = cc

@@ -1,0 +1,4 @@
+//! What tables promise holds of histories.
+#![tactic(auto)]
+
+pub mod laws;
