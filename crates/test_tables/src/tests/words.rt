@@ -1,0 +1,34 @@
+//! Tables as words of a scenario.
+
+use std::alloc::{AllocError, Global};
+use std::test::Fail;
+use wh_scenarios::follows;
+use wh_table::TableWorkflow;
+
+/// The text as one word: blanks, which stand in texts alone, and semicolons as JSON escapes them.
+pub(super) fn one_word(alloc: Global, text: &str) -> Result<String, AllocError> {
+    let mut word = String::new(alloc);
+    for part in text.chars() {
+        match part {
+            ' ' => word.push_str("\\u0020")?,
+            ';' => word.push_str("\\u003b")?,
+            '\n' => {}
+            other => word.push(other)?,
+        }
+    }
+    Ok(word)
+}
+
+/// A run of the table follows the scenario, whose `TABLE` stands for it.
+pub(super) fn run_follows(alloc: Global, table: &str, scenario: &str) -> Result<(), Fail> {
+    let word = one_word(alloc, table)?;
+    let scenario = scenario.replace(alloc, "TABLE", word.as_str())?;
+    follows::<TableWorkflow>(alloc, "Table", scenario.as_str())?;
+    Ok(())
+}
+
+/// A run of what is no table fails at its start, for this reason, and gives nothing more.
+pub(super) fn is_refused(alloc: Global, table: &str, reason: &str) -> Result<(), Fail> {
+    let scenario = format!(in alloc; "start TABLE 1 => Fail {reason}\ncancel; signal go =>")?;
+    run_follows(alloc, table, scenario.as_str())
+}

@@ -1,0 +1,4 @@
+pub mod Ending
+pub mod Texts
+pub mod Breaking
+pub mod Hearing

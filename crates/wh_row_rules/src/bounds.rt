@@ -1,0 +1,117 @@
+//! What rows ask and make of counters.
+ghost use Rattle.std.specs.Prelude.{◌≡◌};
+ghost use Rattle.wh_rows.specs.Rows.{count_of};
+ghost use Rattle.wh_rows.specs.Rules.{condition_bounded, conditions_bounded, effect_bounded, effects_bounded};
+ghost use Rattle.wh_rows.specs.Rules.{place_of, implies, follows, all_follow};
+
+use wh_rows::{Condition, Counter, Counts, Effect};
+
+/// How far a counter may rise.
+fn count_of(counter: Counter, bounds: Counts) -> u64
+    ensures { result ≡ count_of counter bounds }
+{
+    match counter {
+        Counter::A => bounds.a,
+        Counter::B => bounds.b,
+        Counter::C => bounds.c,
+        Counter::D => bounds.d,
+    }
+}
+
+/// Whether the condition asks for no number past the bound of its counter.
+fn condition_bounded(bounds: Counts, condition: Condition) -> bool
+    ensures { result ≡ condition_bounded bounds condition }
+{
+    match condition {
+        Condition::Below(counter, number) => number <= count_of(counter, bounds),
+        Condition::AtLeast(counter, number) => number <= count_of(counter, bounds),
+    }
+}
+
+/// Whether no condition asks for a number past the bound of its counter.
+pub(crate) fn conditions_bounded(bounds: Counts, conditions: &[Condition]) -> bool
+    ensures { result ≡ conditions_bounded bounds conditions.now }
+{
+    for condition in conditions {
+        if !condition_bounded(bounds, *condition) {
+            return false;
+        }
+    }
+    true
+}
+
+/// Whether the effect raises no counter without a bound.
+fn effect_bounded(bounds: Counts, effect: Effect) -> bool
+    ensures { result ≡ effect_bounded bounds effect }
+{
+    match effect {
+        Effect::Up(counter) => 1 <= count_of(counter, bounds),
+        _ => true,
+    }
+}
+
+/// Whether no effect raises a counter without a bound.
+pub(crate) fn effects_bounded(bounds: Counts, effects: &[Effect]) -> bool
+    ensures { result ≡ effects_bounded bounds effects.now }
+{
+    for effect in effects {
+        if !effect_bounded(bounds, *effect) {
+            return false;
+        }
+    }
+    true
+}
+
+/// The place of a counter among the four.
+fn place_of(counter: Counter) -> u8
+    ensures { result ≡ place_of counter }
+{
+    match counter {
+        Counter::A => 0,
+        Counter::B => 1,
+        Counter::C => 2,
+        Counter::D => 3,
+    }
+}
+
+/// Whether the other condition holds wherever the first does.
+fn implies(condition: Condition, wanted: Condition) -> bool
+    ensures { result ≡ implies condition wanted }
+{
+    match condition {
+        Condition::Below(counter, number) => match wanted {
+            Condition::Below(other, most) => place_of(counter) == place_of(other) && number <= most,
+            Condition::AtLeast(_, _) => false,
+        },
+        Condition::AtLeast(counter, number) => match wanted {
+            Condition::AtLeast(other, least) => {
+                place_of(counter) == place_of(other) && least <= number
+            }
+            Condition::Below(_, _) => false,
+        },
+    }
+}
+
+/// Whether a condition holds wherever one of these does.
+fn follows(given: &[Condition], wanted: Condition) -> bool
+    ensures { result ≡ follows given.now wanted }
+{
+    for condition in given {
+        if implies(*condition, wanted) {
+            return true;
+        }
+    }
+    false
+}
+
+/// Whether each of the others holds wherever all of these do.
+pub(crate) fn all_follow(given: &[Condition], wanted: &[Condition]) -> bool
+    ensures { result ≡ all_follow given.now wanted.now }
+{
+    for condition in wanted {
+        if !follows(given, *condition) {
+            return false;
+        }
+    }
+    true
+}

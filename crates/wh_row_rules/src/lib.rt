@@ -1,0 +1,18 @@
+//! Tables of rows that a program reads, and whether they break a rule of `wh_rows`: the same rules that
+//! a table of the program is checked with, decided when it runs.
+#![tactic(auto)]
+
+mod bounds;
+mod commands;
+mod fault;
+mod hiding;
+mod owned;
+mod patterns;
+mod rules;
+mod states;
+mod versions;
+
+pub use commands::{ends_well, text_eq};
+pub use fault::{BrokenRule, RowsFault};
+pub use owned::{OwnedRow, OwnedTable};
+pub use rules::{row_rule, table_fault};

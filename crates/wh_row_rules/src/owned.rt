@@ -1,0 +1,20 @@
+//! Tables that own their texts.
+
+use wh_events::{Items, Text};
+use wh_rows::{CommandTemplate, Condition, Counts, Effect, Naming, RowOf};
+
+/// A row of a table that was read.
+pub type OwnedRow = RowOf<Text, Items<Condition>, Items<CommandTemplate<Text>>, Items<Effect>>;
+
+/// A table that was read.
+#[derive(Drop)]
+pub struct OwnedTable {
+    /// The state that a run begins in.
+    pub first: Text,
+    /// How its runs are named.
+    pub name: Naming<Text>,
+    /// How far each counter may rise: 0 for one that is not used.
+    pub bounds: Counts,
+    /// The rows. The first one that fits counts.
+    pub rows: Items<OwnedRow>,
+}

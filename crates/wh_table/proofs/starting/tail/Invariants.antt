@@ -1,0 +1,6 @@
+use Rattle.std.proofs.Common.{◌≡◌, take}
+use Rattle.wh_table.proofs.starting.tail.Given as goal
+
+-- the payloads so far
+abbrev pub invariant-loop-payload : goal.invariant-loop-payload
+invariant-loop-payload l = l.rest.items ≡ take l.payload-index l.others

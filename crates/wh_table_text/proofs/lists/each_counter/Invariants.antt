@@ -1,0 +1,11 @@
+use Rattle.std.proofs.Common.{◌≡◌, drop, map}
+use Rattle.wh_table_text.specs.Outcome.{all_of}
+use Rattle.wh_table_text.specs.Reading.{counter_in}
+use Rattle.wh_table_text.proofs.Outcomes.{with_front}
+use Rattle.wh_table_text.proofs.lists.each_counter.Given as goal
+
+-- what has been read and the rest are the whole
+abbrev pub invariant-loop-text : goal.invariant-loop-text
+invariant-loop-text l =
+    with_front l.given.items (all_of (map counter_in (drop l.text-index l.texts)))
+    ≡ all_of (map counter_in l.texts)

@@ -1,0 +1,94 @@
+//! Texts of their own.
+ghost use Rattle.std.specs.Prelude.{◌≡◌, Ok};
+ghost use Rattle.wh_table_text.specs.Phrases.{pattern_shown, template_shown, naming_shown};
+ghost use Rattle.wh_table_text.specs.Outcome.{Gives};
+
+use crate::fault::TableFault;
+use std::alloc::Global;
+use wh_events::Text;
+use wh_rows::{CommandTemplate, JobPattern, Naming};
+
+/// A text of its own.
+pub(crate) fn text_copy(alloc: Global, text: &str) -> Result<Text, TableFault>
+    ensures { Gives (λ text. text) result (Ok text.now) }
+{
+    Ok(Text::new(String::from_str(alloc, text)?))
+}
+
+/// Jobs with texts of their own.
+pub(crate) fn pattern_copy(
+    alloc: Global,
+    pattern: &JobPattern<&str>,
+) -> Result<JobPattern<Text>, TableFault>
+    ensures { Gives (λ pattern. pattern) result (Ok (pattern_shown pattern.now)) }
+{
+    Ok(match pattern {
+        JobPattern::Start => JobPattern::Start,
+        JobPattern::Signal(name) => JobPattern::Signal(text_copy(alloc, name)?),
+        JobPattern::CancelRequested => JobPattern::CancelRequested,
+        JobPattern::Done(id) => JobPattern::Done(text_copy(alloc, id)?),
+        JobPattern::NotDone(id) => JobPattern::NotDone(text_copy(alloc, id)?),
+        JobPattern::Fired(id) => JobPattern::Fired(text_copy(alloc, id)?),
+        JobPattern::ChildStarted(id) => JobPattern::ChildStarted(text_copy(alloc, id)?),
+        JobPattern::ChildDone(id) => JobPattern::ChildDone(text_copy(alloc, id)?),
+        JobPattern::ChildCanceled(id) => JobPattern::ChildCanceled(text_copy(alloc, id)?),
+        JobPattern::ChildNotDone(id) => JobPattern::ChildNotDone(text_copy(alloc, id)?),
+        JobPattern::Version(id, number) => JobPattern::Version(text_copy(alloc, id)?, *number),
+        JobPattern::AnyVersion(id) => JobPattern::AnyVersion(text_copy(alloc, id)?),
+    })
+}
+
+/// A command with texts of its own.
+pub(crate) fn template_copy(
+    alloc: Global,
+    template: &CommandTemplate<&str>,
+) -> Result<CommandTemplate<Text>, TableFault>
+    ensures { Gives (λ template. template) result (Ok (template_shown template.now)) }
+{
+    Ok(match template {
+        CommandTemplate::StartActivity(id, kind, source) => CommandTemplate::StartActivity(
+            text_copy(alloc, id)?,
+            text_copy(alloc, kind)?,
+            *source,
+        ),
+        CommandTemplate::CancelActivity(id) => {
+            CommandTemplate::CancelActivity(text_copy(alloc, id)?)
+        }
+        CommandTemplate::StartTimer(id, seconds) => {
+            CommandTemplate::StartTimer(text_copy(alloc, id)?, *seconds)
+        }
+        CommandTemplate::CancelTimer(id) => CommandTemplate::CancelTimer(text_copy(alloc, id)?),
+        CommandTemplate::StartChild(id, kind, source) => CommandTemplate::StartChild(
+            text_copy(alloc, id)?,
+            text_copy(alloc, kind)?,
+            *source,
+        ),
+        CommandTemplate::CancelChild(id) => CommandTemplate::CancelChild(text_copy(alloc, id)?),
+        CommandTemplate::SignalExternal(id, name, source) => CommandTemplate::SignalExternal(
+            text_copy(alloc, id)?,
+            text_copy(alloc, name)?,
+            *source,
+        ),
+        CommandTemplate::Ask(id, min, max) => {
+            CommandTemplate::Ask(text_copy(alloc, id)?, *min, *max)
+        }
+        CommandTemplate::Complete(source) => CommandTemplate::Complete(*source),
+        CommandTemplate::Fail(message) => CommandTemplate::Fail(text_copy(alloc, message)?),
+        CommandTemplate::Cancel => CommandTemplate::Cancel,
+        CommandTemplate::ContinueAsNew(kind, source) => {
+            CommandTemplate::ContinueAsNew(text_copy(alloc, kind)?, *source)
+        }
+    })
+}
+
+/// The name of a run with texts of its own.
+pub(crate) fn naming_copy(alloc: Global, naming: &Naming<&str>) -> Result<Naming<Text>, TableFault>
+    ensures { Gives (λ naming. naming) result (Ok (naming_shown naming.now)) }
+{
+    Ok(match naming {
+        Naming::Nameless => Naming::Nameless,
+        Naming::ByPayload(number, prefix, other) => {
+            Naming::ByPayload(*number, text_copy(alloc, prefix)?, text_copy(alloc, other)?)
+        }
+    })
+}

@@ -1,0 +1,91 @@
+//! The counters that a table names.
+ghost use Rattle.std.specs.Prelude.{◌≡◌};
+ghost use Rattle.wh_table_text.specs.Words.{phrase_seen};
+ghost use Rattle.wh_table_text.specs.Counters.{counter_of, counter_at, named_from, bound_at, bounds_of};
+ghost use Rattle.wh_table_text.specs.Outcome.{Gives};
+
+use crate::copies::text_copy;
+use crate::fault::TableFault;
+use crate::numbers::number_in;
+use crate::words::Phrase;
+use std::alloc::Global;
+use wh_events::Text;
+use wh_rows::{Counter, Counts};
+
+/// A counter with the name that its table gives it.
+#[derive(Drop)]
+pub(crate) struct NamedCounter {
+    /// Its name.
+    pub name: Text,
+    /// How far it may rise.
+    pub bound: u64,
+}
+
+/// The counter at a place.
+fn counter_at(place: usize) -> Option<Counter>
+    ensures { result ≡ counter_at place }
+{
+    if place == 0 {
+        Some(Counter::A)
+    } else if place == 1 {
+        Some(Counter::B)
+    } else if place == 2 {
+        Some(Counter::C)
+    } else if place == 3 {
+        Some(Counter::D)
+    } else {
+        None
+    }
+}
+
+/// The counter of that name.
+pub(crate) fn counter_named(names: &[NamedCounter], word: &str) -> Option<Counter>
+    ensures { result ≡ named_from 0 names.now word.now }
+{
+    for (index, counter) in names.iter().enumerate() {
+        if counter.name.get() == word {
+            return counter_at(index);
+        }
+    }
+    None
+}
+
+/// How far the counter at a place may rise: 0 where there is none.
+fn bound_at(names: &[NamedCounter], place: usize) -> u64
+    ensures { result ≡ bound_at place names.now }
+{
+    if place < names.len() {
+        let counter = &names[place];
+        counter.bound
+    } else {
+        0
+    }
+}
+
+/// How far each counter may rise.
+pub(crate) fn bounds_of(names: &[NamedCounter]) -> Counts
+    ensures { result ≡ bounds_of names.now }
+{
+    Counts {
+        a: bound_at(names, 0),
+        b: bound_at(names, 1),
+        c: bound_at(names, 2),
+        d: bound_at(names, 3),
+    }
+}
+
+/// The counter that a phrase names, with its bound.
+pub(crate) fn counter_of(alloc: Global, phrase: &Phrase) -> Result<NamedCounter, TableFault>
+    ensures { Gives (λ counter. counter) result (counter_of (phrase_seen phrase.now)) }
+{
+    if !phrase.is_named() {
+        return Err(TableFault::BadCounters);
+    }
+    match number_in(phrase.first) {
+        Some(bound) => Ok(NamedCounter {
+            name: text_copy(alloc, phrase.verb)?,
+            bound,
+        }),
+        None => Err(TableFault::BadCounters),
+    }
+}

@@ -1,0 +1,203 @@
+//! Why a text is no table.
+ghost use Rattle.std.specs.Prelude.{◌≡◌, codes, IfOk};
+ghost use Rattle.wh_table_text.specs.declared.fault.TableFault.TheVariants.{OutOfMemory};
+ghost use Rattle.wh_table_text.specs.Reading.{of_rows};
+ghost use Rattle.wh_table_text.specs.Texts.{rule_text, row_text, fault_text};
+
+use std::alloc::{AllocError, AllocFailed, Global};
+use wh_events::Text;
+use wh_row_rules::{BrokenRule, RowsFault};
+
+/// What is wrong with a row.
+#[derive(Clone, Copy, Debug)]
+pub enum RowFault {
+    /// It is no list of at most six members.
+    NotARow,
+    /// Its state, its job or its next state is no text, or its conditions, commands or marks are
+    /// neither a text nor a list of texts.
+    NotText,
+    /// No job is written so.
+    UnknownJob,
+    /// It has more than 16 conditions, or more than 16 marks.
+    TooManyPhrases,
+    /// No condition is written so, or it names no counter of the table.
+    UnknownCondition,
+    /// No command begins with this word.
+    UnknownCommand,
+    /// A word of a command is missing or too much, or a number is out of range.
+    BadCommand,
+    /// No mark is written so, or it names no counter of the table.
+    UnknownMark,
+    /// It breaks a rule of tables.
+    Breaks(BrokenRule),
+}
+
+/// Why a text is no table: its first fault.
+#[derive(Clone, Copy, Debug)]
+pub enum TableFault {
+    /// There is no text.
+    NoTable,
+    /// The bytes are no JSON (RFC 8259) in UTF-8.
+    NotJson,
+    /// The member `version` is not the number 1, or the value is no object.
+    UnknownVersion,
+    /// The member `rows` is no list.
+    NoRows,
+    /// There are more than 200 rows.
+    TooManyRows,
+    /// The member `counters` is there, and is not a list of at most four texts, each a name and a
+    /// bound.
+    BadCounters,
+    /// The member `name` is there, and is not written as the name of a run.
+    BadName,
+    /// A row, counted from 1, can't be read or breaks a rule.
+    InRow {
+        /// The number of the row.
+        row: u64,
+        /// What is wrong with it.
+        fault: RowFault,
+    },
+    /// There is no row.
+    BeginsNowhere,
+    /// An allocation was refused. It can come in place of each fault, and is the fault of no table.
+    OutOfMemory,
+}
+
+impl From<AllocError> for TableFault {
+    ghost from_gives = { λ _ e. e ≡ OutOfMemory };
+
+    fn from(_refused: AllocError) -> TableFault {
+        TableFault::OutOfMemory
+    }
+}
+
+impl<T: Drop> From<AllocFailed<T>> for TableFault {
+    ghost from_gives = { λ _ e. e ≡ OutOfMemory };
+
+    fn from(_refused: AllocFailed<T>) -> TableFault {
+        TableFault::OutOfMemory
+    }
+}
+
+/// The fault of rows that break a rule.
+pub(crate) fn of_rows(fault: RowsFault) -> TableFault
+    ensures { result ≡ of_rows fault }
+{
+    match fault {
+        RowsFault::BeginsNowhere => TableFault::BeginsNowhere,
+        RowsFault::InRow { row, rule } => TableFault::InRow {
+            row,
+            fault: RowFault::Breaks(rule),
+        },
+    }
+}
+
+/// A text of these words.
+fn said(alloc: Global, words: &str) -> Result<Text, AllocError>
+    ensures { IfOk result (λ text. text ≡ words.now) }
+{
+    Ok(Text::new(String::from_str(alloc, words)?))
+}
+
+/// What is said of a row that breaks a rule of tables.
+fn rule_text(alloc: Global, rule: BrokenRule) -> Result<Text, AllocError>
+    ensures { IfOk result (λ text. text ≡ rule_text rule) }
+{
+    match rule {
+        BrokenRule::TooManyCommands => said(alloc, "it gives more than 64 commands"),
+        BrokenRule::CommandAfterLast => {
+            said(alloc, "a command follows one that asks or closes the run")
+        }
+        BrokenRule::OpensTwice => said(alloc, "it starts two things of a kind under one id"),
+        BrokenRule::BadRange => said(alloc, "it asks for a range of versions that is none"),
+        BrokenRule::NoState => said(alloc, "no state has the name same"),
+        BrokenRule::LeadsNowhere => said(alloc, "no row is for the state that it leads to"),
+        BrokenRule::NeverReached => said(alloc, "no row of another state leads to its state"),
+        BrokenRule::AsksInVain => {
+            said(
+                alloc,
+                "it asks for a version that no row hears in the state after it",
+            )
+        }
+        BrokenRule::Unbounded => {
+            said(
+                alloc,
+                "it raises a counter without a bound, or asks for more than the bound",
+            )
+        }
+        BrokenRule::HiddenBy(number) => Ok(Text::new(format!(in alloc;
+            "it never counts, since row {number} fits wherever it does"
+        )?)),
+    }
+}
+
+/// What is said of a row.
+fn row_text(alloc: Global, fault: RowFault) -> Result<Text, AllocError>
+    ensures { IfOk result (λ text. text ≡ row_text fault) }
+{
+    match fault {
+        RowFault::NotARow => said(alloc, "a row is a list of at most six members"),
+        RowFault::NotText => {
+            said(
+                alloc,
+                "a member is no text, and no list of texts where one may be",
+            )
+        }
+        RowFault::UnknownJob => said(alloc, "no job is written so"),
+        RowFault::TooManyPhrases => said(alloc, "it has more than 16 conditions or marks"),
+        RowFault::UnknownCondition => {
+            said(
+                alloc,
+                "no condition is written so, or there is no such counter",
+            )
+        }
+        RowFault::UnknownCommand => said(alloc, "no command begins with this word"),
+        RowFault::BadCommand => {
+            said(
+                alloc,
+                "a command lacks a word, has one too much, or a number is out of range",
+            )
+        }
+        RowFault::UnknownMark => {
+            said(alloc, "no mark is written so, or there is no such counter")
+        }
+        RowFault::Breaks(rule) => rule_text(alloc, rule),
+    }
+}
+
+/// What is said of a row of this number.
+fn numbered_text(alloc: Global, row: u64, fault: RowFault) -> Result<Text, AllocError>
+    ensures { IfOk result (λ text. text ≡ fault_text (TableFault.InRow row fault)) }
+{
+    let text = row_text(alloc, fault)?;
+    let words = text.get();
+    Ok(Text::new(format!(in alloc; "row {row}: {words}")?))
+}
+
+/// What is said of a text that is no table. `AllocError` where there is no memory for it.
+pub fn fault_text(alloc: Global, fault: TableFault) -> Result<Text, AllocError>
+    ensures { IfOk result (λ text. text ≡ fault_text fault) }
+{
+    match fault {
+        TableFault::NoTable => said(alloc, "there is no table"),
+        TableFault::NotJson => said(alloc, "the table is no JSON"),
+        TableFault::UnknownVersion => said(alloc, "the version of the table is not 1"),
+        TableFault::NoRows => said(alloc, "the table has no list of rows"),
+        TableFault::TooManyRows => said(alloc, "the table has more than 200 rows"),
+        TableFault::BadCounters => {
+            said(
+                alloc,
+                "counters are at most four texts, each a name and a bound",
+            )
+        }
+        TableFault::BadName => {
+            said(
+                alloc,
+                "the name is not written so: payload NUMBER PREFIX OTHER",
+            )
+        }
+        TableFault::InRow { row, fault } => numbered_text(alloc, row, fault),
+        TableFault::BeginsNowhere => said(alloc, "the table has no row"),
+        TableFault::OutOfMemory => said(alloc, "out of memory"),
+    }
+}

@@ -1,0 +1,46 @@
+//! Reads a table of rows from a JSON text, so that a workflow can be a file.
+//!
+//! ```text
+//! {"version": 1, "counters": ["tries 2"], "rows": [
+//!   ["charging", "start",         "",          "activity charge ChargeCard input"],
+//!   ["charging", "failed charge", "tries < 2", "activity charge ChargeCard input", "", "up tries"],
+//!   ["charging", "failed charge", "",          "fail charge"],
+//!   ["charging", "done charge",   "",          "complete brought"]
+//! ]}
+//! ```
+//!
+//! A row is a list of at most six members: state, job, conditions, commands, next state, marks. What
+//! is left out at its end is empty. Conditions, commands and marks are a phrase or a list of phrases;
+//! the words of a phrase stand between single spaces. A run begins in the state of the first row.
+//!
+//! | Phrase | Stands for |
+//! |---|---|
+//! | `start`, `cancel`, `signal NAME` | `Start`, `CancelRequested`, `Signal` |
+//! | `done ID`, `failed ID`, `fired ID` | `Done`, `NotDone`, `Fired` |
+//! | `child-started ID`, `child-done ID`, `child-canceled ID`, `child-failed ID` | `ChildStarted`, `ChildDone`, `ChildCanceled`, `ChildNotDone` |
+//! | `version CHANGE NUMBER`, `version CHANGE` | `Version`, `AnyVersion` |
+//! | `COUNTER < NUMBER`, `COUNTER >= NUMBER` | `Below`, `AtLeast` |
+//! | `up COUNTER`, `zero COUNTER`, `keep` | `Up`, `Zero`, `Keep` |
+//! | `activity ID TYPE SOURCE`, `child ID TYPE SOURCE`, `signal ID NAME SOURCE` | `StartActivity`, `StartChild`, `SignalExternal` |
+//! | `timer ID SECONDS` | `StartTimer` |
+//! | `cancel-activity ID`, `cancel-timer ID`, `cancel-child ID` | `CancelActivity`, `CancelTimer`, `CancelChild` |
+//! | `ask CHANGE LEAST GREATEST` | `Ask` |
+//! | `complete SOURCE`, `fail MESSAGE`, `cancel` | `Complete`, `Fail`, `Cancel` |
+//! | `continue TYPE SOURCE`, `again SOURCE` | `ContinueAsNew`; `again` with an empty type |
+//!
+//! A source is `input`, `brought` or `kept`, and nothing where it is left out.
+#![tactic(auto)]
+
+mod copies;
+mod counters;
+mod fault;
+mod lists;
+mod numbers;
+mod phrases;
+mod reading;
+mod rows;
+mod verbs;
+mod words;
+
+pub use fault::{RowFault, TableFault, fault_text};
+pub use reading::read_table;

@@ -1,0 +1,207 @@
+//! Lists of phrases.
+ghost use Rattle.std.specs.Prelude.{◌≡◌, map, option_map};
+ghost use Rattle.serde_json.specs.View.{view};
+ghost use Rattle.wh_table_text.specs.Words.{phrase};
+ghost use Rattle.wh_table_text.specs.Outcome.{Gives, all_of};
+ghost use Rattle.wh_table_text.specs.Phrases.{template_shown};
+ghost use Rattle.wh_table_text.specs.Reading.{text_at, one_phrase, texts_of, phrases_at};
+ghost use Rattle.wh_table_text.specs.Reading.{template_at, condition_at, effect_at, counter_in};
+
+use crate::copies::{template_copy, text_copy};
+use crate::counters::{NamedCounter, counter_of};
+use crate::fault::{RowFault, TableFault};
+use crate::phrases::{condition_of, effect_of, template_of};
+use crate::verbs::command_verb;
+use crate::words::Phrase;
+use serde_json::Value;
+use std::alloc::Global;
+use wh_events::Text;
+use wh_json::list_in;
+use wh_rows::{CommandTemplate, Condition, Effect};
+
+/// The fault of a row.
+pub(crate) fn in_row(row: u64, fault: RowFault) -> TableFault
+    ensures { result ≡ TableFault.InRow row fault }
+{
+    TableFault::InRow { row, fault }
+}
+
+/// The text that a member is.
+fn text_at(alloc: Global, fault: TableFault, value: &Value) -> Result<Text, TableFault>
+    ensures { Gives (λ text. text) result (text_at fault (view value.now)) }
+{
+    match value.as_str() {
+        Some(text) => text_copy(alloc, text),
+        None => Err(fault),
+    }
+}
+
+/// The texts of a list.
+fn each_text(alloc: Global, fault: TableFault, values: &[Value]) -> Result<Vec<Text>, TableFault>
+    ensures { Gives (λ texts. texts.items) result (all_of (map (text_at fault) (map view values.now))) }
+{
+    let mut texts = Vec::new(alloc);
+    for value in values {
+        let text = text_at(alloc, fault, value)?;
+        texts.push(text)?;
+    }
+    Ok(texts)
+}
+
+/// The one phrase that a text is, or none where it is empty.
+fn one_phrase(alloc: Global, text: &str) -> Result<Vec<Text>, TableFault>
+    ensures { Gives (λ texts. texts.items) result (Ok (one_phrase text.now)) }
+{
+    if text.is_empty() {
+        return Ok(Vec::new(alloc));
+    }
+    let mut texts = Vec::new(alloc);
+    let phrase = text_copy(alloc, text)?;
+    texts.push(phrase)?;
+    Ok(texts)
+}
+
+/// The texts of a value that is a list.
+fn texts_of(alloc: Global, fault: TableFault, value: &Value) -> Result<Vec<Text>, TableFault>
+    ensures { Gives (λ texts. texts.items) result (texts_of fault (view value.now)) }
+{
+    match list_in(value) {
+        Some(values) => each_text(alloc, fault, values),
+        None => Err(fault),
+    }
+}
+
+/// The phrases of a member: a text, or a list of texts. There are none where it is left out.
+pub(crate) fn phrases_at(
+    alloc: Global,
+    fault: TableFault,
+    value: Option<&Value>,
+) -> Result<Vec<Text>, TableFault>
+    ensures { Gives (λ texts. texts.items) result (phrases_at fault (option_map (λ v. view v.now) value.entry)) }
+{
+    let Some(value) = value else {
+        return Ok(Vec::new(alloc));
+    };
+    match value.as_str() {
+        Some(text) => one_phrase(alloc, text),
+        None => texts_of(alloc, fault, value),
+    }
+}
+
+/// The command that a text names.
+#[tactic(auto, unfolding(crate::specs::Reading::template_at))]
+fn template_at(row: u64, text: &str) -> Result<CommandTemplate<&str>, TableFault>
+    ensures { Gives template_shown result (template_at row text.now) }
+{
+    let phrase = Phrase::of(text);
+    let Some(verb) = command_verb(phrase.verb) else {
+        return Err(in_row(row, RowFault::UnknownCommand));
+    };
+    match template_of(verb, &phrase) {
+        Some(template) => Ok(template),
+        None => Err(in_row(row, RowFault::BadCommand)),
+    }
+}
+
+/// The command that a text names, with texts of its own.
+fn own_template_at(
+    alloc: Global,
+    row: u64,
+    text: &Text,
+) -> Result<CommandTemplate<Text>, TableFault>
+    ensures { Gives (λ template. template) result (template_at row text.now) }
+{
+    let template = template_at(row, text.get())?;
+    template_copy(alloc, &template)
+}
+
+/// The commands that texts name.
+pub(crate) fn each_template(
+    alloc: Global,
+    row: u64,
+    texts: &[Text],
+) -> Result<Vec<CommandTemplate<Text>>, TableFault>
+    ensures { Gives (λ given. given.items) result (all_of (map (template_at row) texts.now)) }
+{
+    let mut given = Vec::new(alloc);
+    for text in texts {
+        let template = own_template_at(alloc, row, text)?;
+        given.push(template)?;
+    }
+    Ok(given)
+}
+
+/// The condition that a text names.
+#[tactic(auto, unfolding(crate::specs::Reading::condition_at))]
+fn condition_at(row: u64, names: &[NamedCounter], text: &Text) -> Result<Condition, TableFault>
+    ensures { Gives (λ condition. condition) result (condition_at names.now row text.now) }
+{
+    match condition_of(names, &Phrase::of(text.get())) {
+        Some(condition) => Ok(condition),
+        None => Err(in_row(row, RowFault::UnknownCondition)),
+    }
+}
+
+/// The conditions that texts name.
+pub(crate) fn each_condition(
+    alloc: Global,
+    row: u64,
+    names: &[NamedCounter],
+    texts: &[Text],
+) -> Result<Vec<Condition>, TableFault>
+    ensures { Gives (λ given. given.items) result (all_of (map (condition_at names.now row) texts.now)) }
+{
+    let mut given = Vec::new(alloc);
+    for text in texts {
+        let condition = condition_at(row, names, text)?;
+        given.push(condition)?;
+    }
+    Ok(given)
+}
+
+/// The mark that a text names.
+#[tactic(auto, unfolding(crate::specs::Reading::effect_at))]
+fn effect_at(row: u64, names: &[NamedCounter], text: &Text) -> Result<Effect, TableFault>
+    ensures { Gives (λ effect. effect) result (effect_at names.now row text.now) }
+{
+    match effect_of(names, &Phrase::of(text.get())) {
+        Some(effect) => Ok(effect),
+        None => Err(in_row(row, RowFault::UnknownMark)),
+    }
+}
+
+/// The marks that texts name.
+pub(crate) fn each_effect(
+    alloc: Global,
+    row: u64,
+    names: &[NamedCounter],
+    texts: &[Text],
+) -> Result<Vec<Effect>, TableFault>
+    ensures { Gives (λ given. given.items) result (all_of (map (effect_at names.now row) texts.now)) }
+{
+    let mut given = Vec::new(alloc);
+    for text in texts {
+        let effect = effect_at(row, names, text)?;
+        given.push(effect)?;
+    }
+    Ok(given)
+}
+
+/// The counter that a text names.
+fn counter_in(alloc: Global, text: &Text) -> Result<NamedCounter, TableFault>
+    ensures { Gives (λ counter. counter) result (counter_in text.now) }
+{
+    counter_of(alloc, &Phrase::of(text.get()))
+}
+
+/// The counters that texts name.
+pub(crate) fn each_counter(alloc: Global, texts: &[Text]) -> Result<Vec<NamedCounter>, TableFault>
+    ensures { Gives (λ given. given.items) result (all_of (map counter_in texts.now)) }
+{
+    let mut given = Vec::new(alloc);
+    for text in texts {
+        let counter = counter_in(alloc, text)?;
+        given.push(counter)?;
+    }
+    Ok(given)
+}

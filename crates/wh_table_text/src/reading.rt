@@ -1,0 +1,137 @@
+//! Reads a table of JSON.
+ghost use Rattle.std.specs.Prelude.{◌≡◌, map, option_map};
+ghost use Rattle.serde_json.specs.View.{view};
+ghost use Rattle.wh_json.specs.Events.{document_within};
+ghost use Rattle.wh_table_text.specs.Outcome.{Gives};
+ghost use Rattle.wh_table_text.specs.Reading.{or_not_json, is_known, counters_at, naming_at, rows_in, first_state, shape_of, table_of};
+
+use crate::copies::{naming_copy, text_copy};
+use crate::counters::{NamedCounter, bounds_of};
+use crate::fault::{TableFault, of_rows};
+use crate::lists::{each_counter, phrases_at};
+use crate::phrases::naming_of;
+use crate::rows::each_row;
+use crate::words::Phrase;
+use serde_json::Value;
+use std::alloc::Global;
+use wh_events::{Items, Text};
+use wh_json::{ReadFault, field, list_in, read_document};
+use wh_row_rules::{OwnedRow, OwnedTable, table_fault};
+use wh_rows::Naming;
+
+/// The most rows that a table may have.
+const MOST_ROWS: usize = 200;
+
+/// The most counters that a table may name.
+const MOST_COUNTERS: usize = 4;
+
+/// The value of a JSON text.
+fn document(alloc: Global, bytes: &[u8]) -> Result<Value, TableFault>
+    ensures { Gives view result (or_not_json (document_within bytes.now)) }
+{
+    match read_document(alloc, bytes) {
+        Ok(value) => Ok(value),
+        Err(ReadFault::OutOfMemory) => Err(TableFault::OutOfMemory),
+        Err(_) => Err(TableFault::NotJson),
+    }
+}
+
+/// Whether a version is the number 1.
+fn is_known(value: Option<&Value>) -> bool
+    ensures { result ≡ is_known (option_map (λ v. view v.now) value.entry) }
+{
+    let Some(value) = value else {
+        return false;
+    };
+    match value.as_i64() {
+        Some(number) => number == 1,
+        None => false,
+    }
+}
+
+/// The counters of a table.
+#[tactic(auto, unfolding(crate::specs::Reading::counters_at))]
+fn counters_at(alloc: Global, value: Option<&Value>) -> Result<Vec<NamedCounter>, TableFault>
+    ensures { Gives (λ names. names.items) result (counters_at (option_map (λ v. view v.now) value.entry)) }
+{
+    let texts = phrases_at(alloc, TableFault::BadCounters, value)?;
+    if MOST_COUNTERS < texts.len() {
+        return Err(TableFault::BadCounters);
+    }
+    each_counter(alloc, texts.as_slice())
+}
+
+/// How the runs of a table are named.
+#[tactic(auto, unfolding(crate::specs::Reading::naming_at))]
+fn naming_at(alloc: Global, value: Option<&Value>) -> Result<Naming<Text>, TableFault>
+    ensures { Gives (λ naming. naming) result (naming_at (option_map (λ v. view v.now) value.entry)) }
+{
+    let Some(value) = value else {
+        return Ok(Naming::Nameless);
+    };
+    let Some(text) = value.as_str() else {
+        return Err(TableFault::BadName);
+    };
+    match naming_of(&Phrase::of(text)) {
+        Some(naming) => naming_copy(alloc, &naming),
+        None => Err(TableFault::BadName),
+    }
+}
+
+/// The list `rows` of an object.
+fn rows_in(value: &Value) -> Option<&[Value]>
+    ensures { option_map (λ values. map view values.now) result ≡ rows_in (view value.now) }
+{
+    list_in(field(Some(value), "rows")?)
+}
+
+/// The state of the first row, empty where there is none.
+fn first_state(alloc: Global, rows: &[OwnedRow]) -> Result<Text, TableFault>
+    ensures { Gives (λ text. text) result (Ok (first_state rows.now)) }
+{
+    match rows {
+        [first, ..] => text_copy(alloc, first.state.get()),
+        [] => text_copy(alloc, ""),
+    }
+}
+
+/// The table of a JSON value, whose rows may still break a rule.
+#[tactic(auto, unfolding(crate::specs::Reading::shape_of))]
+fn shape_of(alloc: Global, value: &Value) -> Result<OwnedTable, TableFault>
+    ensures { Gives (λ table. table) result (shape_of (view value.now)) }
+{
+    if !is_known(field(Some(value), "version")) {
+        return Err(TableFault::UnknownVersion);
+    }
+    let Some(values) = rows_in(value) else {
+        return Err(TableFault::NoRows);
+    };
+    if MOST_ROWS < values.len() {
+        return Err(TableFault::TooManyRows);
+    }
+    let names = counters_at(alloc, field(Some(value), "counters"))?;
+    let name = naming_at(alloc, field(Some(value), "name"))?;
+    let rows = each_row(alloc, names.as_slice(), values)?;
+    Ok(OwnedTable {
+        first: first_state(alloc, rows.as_slice())?,
+        name,
+        bounds: bounds_of(names.as_slice()),
+        rows: Items::new(rows),
+    })
+}
+
+/// The table that a JSON text (RFC 8259) is, or its first fault: it reads as the table `table_of` of
+/// its definitions says, and its rows break no rule. Of members of an object with the same name the
+/// last one counts, and a member that is null counts as absent. `OutOfMemory` can come in place of
+/// every fault; nothing is left of the table then.
+#[tactic(auto, unfolding(crate::specs::Reading::table_of))]
+pub fn read_table(alloc: Global, bytes: &[u8]) -> Result<OwnedTable, TableFault>
+    ensures { Gives (λ table. table) result (table_of bytes.now) }
+{
+    let value = document(alloc, bytes)?;
+    let table = shape_of(alloc, &value)?;
+    match table_fault(&table) {
+        Some(fault) => Err(of_rows(fault)),
+        None => Ok(table),
+    }
+}

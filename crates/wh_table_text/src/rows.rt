@@ -1,0 +1,170 @@
+//! The rows of a table.
+ghost use Rattle.std.specs.Prelude.{◌≡◌, map, option_map};
+ghost use Rattle.serde_json.specs.View.{view};
+ghost use Rattle.wh_table_text.specs.Outcome.{Gives, all_of};
+ghost use Rattle.wh_table_text.specs.Phrases.{pattern_shown};
+ghost use Rattle.wh_table_text.specs.Reading.{cell, job_at, is_short_list, or_same, row_at, rows_from};
+ghost use Rattle.wh_table_text.specs.Reading.{templates_at, conditions_at, effects_at};
+
+use crate::copies::{pattern_copy, text_copy};
+use crate::counters::NamedCounter;
+use crate::fault::{RowFault, TableFault};
+use crate::lists::{each_condition, each_effect, each_template, in_row, phrases_at};
+use crate::phrases::pattern_of;
+use crate::verbs::job_verb;
+use crate::words::Phrase;
+use serde_json::Value;
+use std::alloc::Global;
+use wh_events::{Items, Text};
+use wh_json::list_in;
+use wh_row_rules::OwnedRow;
+use wh_rows::{CommandTemplate, Condition, Effect, JobPattern, RowOf};
+
+/// The most conditions, and the most marks, of a row.
+const MOST_PHRASES: usize = 16;
+
+/// The text of a member of a row, empty where it is left out.
+#[tactic(auto, unfolding(crate::specs::Reading::cell))]
+fn cell(row: u64, index: usize, value: &Value) -> Result<&str, TableFault>
+    ensures { Gives (λ text. text.now) result (cell row index (view value.now)) }
+{
+    let Some(member) = value.get(index) else {
+        return Ok("");
+    };
+    match member.as_str() {
+        Some(text) => Ok(text),
+        None => Err(in_row(row, RowFault::NotText)),
+    }
+}
+
+/// The jobs that a text names.
+#[tactic(auto, unfolding(crate::specs::Reading::job_at))]
+fn job_at(row: u64, text: &str) -> Result<JobPattern<&str>, TableFault>
+    ensures { Gives pattern_shown result (job_at row text.now) }
+{
+    let phrase = Phrase::of(text);
+    let Some(verb) = job_verb(phrase.verb) else {
+        return Err(in_row(row, RowFault::UnknownJob));
+    };
+    match pattern_of(verb, &phrase) {
+        Some(pattern) => Ok(pattern),
+        None => Err(in_row(row, RowFault::UnknownJob)),
+    }
+}
+
+/// The jobs that a text names, with texts of their own.
+fn own_job_at(alloc: Global, row: u64, text: &str) -> Result<JobPattern<Text>, TableFault>
+    ensures { Gives (λ pattern. pattern) result (job_at row text.now) }
+{
+    let pattern = job_at(row, text)?;
+    pattern_copy(alloc, &pattern)
+}
+
+/// The commands of a row.
+#[tactic(auto, unfolding(crate::specs::Reading::templates_at))]
+fn templates_at(
+    alloc: Global,
+    row: u64,
+    value: Option<&Value>,
+) -> Result<Vec<CommandTemplate<Text>>, TableFault>
+    ensures { Gives (λ given. given.items) result (templates_at row (option_map (λ v. view v.now) value.entry)) }
+{
+    let texts = phrases_at(alloc, in_row(row, RowFault::NotText), value)?;
+    each_template(alloc, row, texts.as_slice())
+}
+
+/// The conditions of a row.
+#[tactic(auto, unfolding(crate::specs::Reading::conditions_at))]
+fn conditions_at(
+    alloc: Global,
+    row: u64,
+    names: &[NamedCounter],
+    value: Option<&Value>,
+) -> Result<Vec<Condition>, TableFault>
+    ensures { Gives (λ given. given.items) result (conditions_at names.now row (option_map (λ v. view v.now) value.entry)) }
+{
+    let texts = phrases_at(alloc, in_row(row, RowFault::NotText), value)?;
+    if MOST_PHRASES < texts.len() {
+        return Err(in_row(row, RowFault::TooManyPhrases));
+    }
+    each_condition(alloc, row, names, texts.as_slice())
+}
+
+/// The marks of a row.
+#[tactic(auto, unfolding(crate::specs::Reading::effects_at))]
+fn effects_at(
+    alloc: Global,
+    row: u64,
+    names: &[NamedCounter],
+    value: Option<&Value>,
+) -> Result<Vec<Effect>, TableFault>
+    ensures { Gives (λ given. given.items) result (effects_at names.now row (option_map (λ v. view v.now) value.entry)) }
+{
+    let texts = phrases_at(alloc, in_row(row, RowFault::NotText), value)?;
+    if MOST_PHRASES < texts.len() {
+        return Err(in_row(row, RowFault::TooManyPhrases));
+    }
+    each_effect(alloc, row, names, texts.as_slice())
+}
+
+/// Whether a value is a list of at most six members.
+fn is_short_list(value: &Value) -> bool
+    ensures { result ≡ is_short_list (view value.now) }
+{
+    match list_in(value) {
+        Some(values) => values.len() <= 6,
+        None => false,
+    }
+}
+
+/// The state that a text names, or `same` where it is empty.
+fn or_same(text: &str) -> &str
+    ensures { result.now ≡ or_same text.now }
+{
+    if text.is_empty() { "same" } else { text }
+}
+
+/// A row of a table.
+#[tactic(auto, unfolding(crate::specs::Reading::row_at))]
+fn row_at(
+    alloc: Global,
+    row: u64,
+    names: &[NamedCounter],
+    value: &Value,
+) -> Result<OwnedRow, TableFault>
+    ensures { Gives (λ row. row) result (row_at names.now row (view value.now)) }
+{
+    if !is_short_list(value) {
+        return Err(in_row(row, RowFault::NotARow));
+    }
+    let state = cell(row, 0, value)?;
+    let job = own_job_at(alloc, row, cell(row, 1, value)?)?;
+    let conditions = conditions_at(alloc, row, names, value.get(2usize))?;
+    let gives = templates_at(alloc, row, value.get(3usize))?;
+    let next = cell(row, 4, value)?;
+    let effects = effects_at(alloc, row, names, value.get(5usize))?;
+    Ok(RowOf {
+        state: text_copy(alloc, state)?,
+        job,
+        conditions: Items::new(conditions),
+        gives: Items::new(gives),
+        effects: Items::new(effects),
+        next: text_copy(alloc, or_same(next))?,
+    })
+}
+
+/// The rows of a list, the first of which has the number 1.
+pub(crate) fn each_row(
+    alloc: Global,
+    names: &[NamedCounter],
+    values: &[Value],
+) -> Result<Vec<OwnedRow>, TableFault>
+    ensures { Gives (λ rows. rows.items) result (all_of (rows_from names.now 1 (map view values.now))) }
+{
+    let mut rows = Vec::new(alloc);
+    for (index, value) in values.iter().enumerate() {
+        let row = row_at(alloc, index as u64 + 1, names, value)?;
+        rows.push(row)?;
+    }
+    Ok(rows)
+}
