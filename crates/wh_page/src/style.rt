@@ -51,14 +51,14 @@ details{border-bottom:1px solid var(--line)}
 summary{cursor:pointer;padding:.4rem 0;overflow-wrap:anywhere;unicode-bidi:isolate}
 summary .time{float:right;color:var(--soft);margin-left:1rem;font-size:13px}
 details.hit>summary{color:var(--bad);font-weight:600}
-details ol{list-style:none;margin:0;padding:.1rem 0 .8rem}
+details ol{clear:both;list-style:none;margin:0;padding:.1rem 0 .8rem}
 details li{display:grid;grid-template-columns:5rem 5.5rem 1fr;gap:.6rem;padding:.1rem 0}
 details li>*{min-width:0}
 li .side-word,li .event{color:var(--soft);font-size:13px;font-variant-numeric:tabular-nums;display:inline}
 li code{white-space:pre-wrap;overflow-wrap:anywhere;unicode-bidi:isolate}
 li.gives code{font-weight:600}
 li.differs .side-word{color:var(--bad);font-weight:600}
-@media (max-width:40rem){.sides{grid-template-columns:1fr}details li{grid-template-columns:4.5rem 1fr}li code{grid-column:1/-1}summary .time{float:none;display:block;margin:0}}
+@media (max-width:40rem){.sides{grid-template-columns:1fr}details li{grid-template-columns:4.5rem 1fr;gap:0 .6rem;padding:.1rem 0 .4rem}li code{grid-column:1/-1}summary .time{float:none;display:block;margin:0}}
 ";
 
 /// The picture, and the page in print.

@@ -3,6 +3,7 @@
 ghost use Rattle.std.specs.Prelude.{OnOk};
 ghost use Rattle.std.specs.Io.KnownBytes.{Appends};
 ghost use Rattle.wh_html.specs.Html.{bytes};
+ghost use Rattle.wh_timeline.specs.Views.{IsAxisOf};
 ghost use Rattle.wh_page.specs.Pages.{page_html};
 
 use crate::frame::Frame;
@@ -12,10 +13,9 @@ use std::io;
 use std::io::Write;
 use wh_timeline::{Axis, Page, Picture, shown_lanes, shown_tasks};
 
-/// Writes a page as one HTML file, with its times where its axis (`axis_of`) has them. After an
-/// error some of it may have been written.
+/// Writes a page with its times where the stops of an axis have them.
 #[tactic(auto, unfolding(crate::specs::Pages::page_html))]
-pub fn write_page<W: Write>(page: &Page, axis: &Axis, writer: &mut W) -> io::Result<()>
+fn write_parts<W: Write>(page: &Page, axis: &Axis, writer: &mut W) -> io::Result<()>
     ensures { let html = page_html axis.now.stops page.now in
         OnOk result (Appends (W.contents writer.old) (W.contents writer.new) (bytes html)) }
 {
@@ -40,4 +40,14 @@ pub fn write_page<W: Write>(page: &Page, axis: &Axis, writer: &mut W) -> io::Res
         writer,
         "{frame}{picture}{table}{tasks}{notes}</main>\n<footer class=\"soft\"><p>Times are in UTC.</p></footer>\n</body>\n</html>\n"
     )
+}
+
+/// Writes a page as one HTML file, with its times where its axis has them, which `axis_of` gives.
+/// After an error some of it may have been written.
+pub fn write_page<W: Write>(page: &Page, axis: &Axis, writer: &mut W) -> io::Result<()>
+    requires { IsAxisOf page.now axis.now.stops }
+    ensures { let html = page_html axis.now.stops page.now in
+        OnOk result (Appends (W.contents writer.old) (W.contents writer.new) (bytes html)) }
+{
+    write_parts(page, axis, writer)
 }

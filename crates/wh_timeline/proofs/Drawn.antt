@@ -1,5 +1,5 @@
 -- The tags of a picture are those of the picture without its texts.
-use Rattle.std.proofs.Common.{◌≡◌, ◌+◌, ◌-◌, ℕ, Bool, true, false, cond, Option, Some, None, List, [], ◌∷◌, map, drop, length, refl}
+use Rattle.std.proofs.Common.{◌≡◌, ◌+◌, ◌-◌, ℕ, Bool, true, false, cond, Option, Some, None, List, [], ◌∷◌, map, drop, length, refl, ap, min}
 use Rattle.std.proofs.lemmas.List.{length-map, take-map, drop-map}
 use Rattle.std.proofs.lemmas.List.Folds.{fold-map}
 use Rattle.std.specs.Prelude.{nat_le, nat_lt, count_by}
@@ -13,7 +13,7 @@ use Rattle.wh_timeline.specs.declared.page.Lane.{Lane}
 use Rattle.wh_timeline.specs.declared.page.Moment.{Moment}
 use Rattle.wh_timeline.specs.declared.page.Page.{Page}
 use Rattle.wh_timeline.specs.declared.page.Task.{Task}
-use Rattle.wh_timeline.specs.Views.{left_out, shown, middle, shown_lanes, shown_tasks}
+use Rattle.wh_timeline.specs.Views.{left_out, shown, hit_from, before_hit, middle, shown_lanes, shown_tasks}
 use Rattle.wh_timeline.specs.Without.{without_lane, without_task, without_texts}
 use Rattle.wh_timeline.specs.Lanes.{is_hit, event_html, after_html, title_html, bar_html, bars_html, is_at_once, sign_html, below, classes_html, said_html, lane_html, lanes_html}
 use Rattle.wh_timeline.specs.Pictures.{bottom_of, opening_html, gap_word_html, mark_at_html, before_html, stop_html, first_time, tick_html, fault_html, picture_html}
@@ -113,16 +113,30 @@ module _ {A : Type 0} where
   count-map : (p : A → Bool) (g : A → A) (xs : List A) → count_by p (map g xs) ≡ count_by (λ x. p (g x)) xs
   count-map p g xs = fold-map (λ n x. n + cond (p x) 1 0) g 0 xs
 
-  shown-map : (g : A → A) (at : ℕ) (xs : List A) → shown at (map g xs) ≡ map g (shown at xs)
-  shown-map g at xs =
-      rw (length-map xs g, drop-map g (left_out (length xs) at) xs, take-map g 300 (drop (left_out (length xs) at) xs)) refl
+  shown-map : (g : A → A) (left : ℕ) (xs : List A) → shown left (map g xs) ≡ map g (shown left xs)
+  shown-map g left xs = rw (drop-map g left xs, take-map g 300 (drop left xs)) refl
+
+hit-alike : (lane : Lane) (fault : Option Moment) → is_hit (without_lane lane) fault ≡ is_hit lane fault
+hit-alike lane None = refl
+hit-alike lane (Some fault) = refl
+
+hit-map : (count : ℕ) (fault : Option Moment) (lanes : List Lane) → hit_from count fault (map without_lane lanes) ≡ hit_from count fault lanes
+hit-map count fault [] = refl
+hit-map count fault (lane ∷ lanes) =
+    rw (hit-alike lane fault) (ap (λ rest. cond (is_hit lane fault) count rest) (hit-map (count + 1) fault lanes))
+
+before-map : (fault : Option Moment) (lanes : List Lane) → before_hit fault (map without_lane lanes) ≡ before_hit fault lanes
+unfolding before_hit
+before-map fault lanes = hit-map 0 fault lanes
 
 pub lanes-shown : (page : Page) → shown_lanes (without_texts page) ≡ map without_lane (shown_lanes page)
 unfolding shown_lanes without_texts
 lanes-shown page =
-    rw (count-map (λ lane. nat_lt lane.opened.event (middle page.fault)) without_lane page.lanes) (shown-map without_lane _ page.lanes)
+    rw (count-map (λ lane. nat_lt lane.opened.event (middle page.fault)) without_lane page.lanes, length-map page.lanes without_lane, before-map page.fault page.lanes)
+    (shown-map without_lane _ page.lanes)
 
 pub tasks-shown : (page : Page) → shown_tasks (without_texts page) ≡ map without_task (shown_tasks page)
 unfolding shown_tasks without_texts
 tasks-shown page =
-    rw (count-map (λ task. nat_lt task.started.event (middle page.fault)) without_task page.tasks) (shown-map without_task _ page.tasks)
+    rw (count-map (λ task. nat_lt task.started.event (middle page.fault)) without_task page.tasks, length-map page.tasks without_task)
+    (shown-map without_task _ page.tasks)

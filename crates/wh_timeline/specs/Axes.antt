@@ -1,5 +1,6 @@
 -- Where times stand in the picture.
-use Rattle.std.specs.Prelude.{◌≡◌, ◌≤◌, ◌<◌, ℕ, suc, zero, ◌+◌, ◌-◌, ◌/◌, ◌==◌, min, nat_le, nat_lt, get_or, length, if◌then◌else◌, Option, Some, None, List, [], ◌∷◌, ◌++◌, map}
+use Rattle.std.specs.Ordering.{nat_cmp}
+use Rattle.std.specs.Prelude.{IsPermutation, IsSorted, ◌≡◌, ◌≤◌, ◌<◌, ℕ, suc, zero, ◌+◌, ◌-◌, ◌/◌, ◌==◌, min, nat_le, nat_lt, get_or, length, if◌then◌else◌, Option, Some, None, List, [], ◌∷◌, ◌++◌, map}
 use Rattle.std.specs.List.{flat_map}
 use Rattle.wh_timeline.specs.declared.page.Lane.{Lane}
 use Rattle.wh_timeline.specs.declared.page.Task.{Task}
@@ -117,3 +118,20 @@ next_free free x = if nat_le free x then x + 84 else free
 abbrev pub Marks : (free : ℕ) → List Stop → Type 0
 Marks free [] = Unit {0}
 Marks free (stop ∷ stops) = (stop.marked ≡ nat_le free stop.x) × Marks (next_free free stop.x) stops
+
+-- stops are the axis of things, tasks and a fault: their times in order, each where it stands
+pub record AreStopsOf (lanes : List Lane) (tasks : List Task) (fault : Option Moment) (stops : List Stop) : Type 0 where
+  -- the times stand in their order
+  pub order : IsSorted nat_cmp (map (λ stop. stop.millis) stops)
+  -- they are all that are shown
+  pub all : IsPermutation (times_shown lanes tasks fault) (map (λ stop. stop.millis) stops)
+  -- each stands no further left than the one before
+  pub places : GoesRight left stops
+  -- the first stands at the left end
+  pub begins : BeginsLeft stops
+  -- the last stands at the right end, where it is later than the first
+  pub ends : EndsRight stops
+  -- each step that is longer than the longest that is drawn to scale has a gap
+  pub gaps : AreGaps stops
+  -- a stop has a mark where there is room for it
+  pub marks : Marks left stops

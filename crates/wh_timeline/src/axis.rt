@@ -2,8 +2,8 @@
 
 ghost use Rattle.std.specs.Prelude.{◌≡◌, ◌≤◌, ◌<◌, ◌-◌, nat_le, get_or, ◌++◌, map, IfOk, OnOk, IsPermutation, IsSorted};
 ghost use Rattle.std.specs.Ordering.{nat_cmp};
-ghost use Rattle.wh_timeline.specs.Axes.{left, right, place_of, moment_times, lane_times, times_shown, GoesRight, BeginsLeft, first_of, last_of, last_place, steps_of, whole_of, shorter, longest_of, gap_of, Gaps, AreGaps, EndsRight, shortened, next_free, Marks};
-ghost use Rattle.wh_timeline.specs.Views.{shown_lanes, shown_tasks};
+ghost use Rattle.wh_timeline.specs.Axes.{left, right, place_of, moment_times, lane_times, times_shown, GoesRight, BeginsLeft, first_of, last_of, last_place, steps_of, whole_of, shorter, longest_of, gap_of, Gaps, shortened, next_free, Marks};
+ghost use Rattle.wh_timeline.specs.Views.{IsAxisOf};
 ghost use Rattle.std.specs.List.{flat_map};
 
 use crate::page::{Lane, Moment, Page, Task};
@@ -359,15 +359,7 @@ fn stops_of(alloc: Global, times: &[u64], scale: Scale) -> Result<Vec<Stop>, Out
 /// more than half of what is drawn; each longer step has a gap, and is drawn as the longest. A stop
 /// has a mark where the mark before is 84 units away. `OutOfMemory` where there was no memory for it.
 pub fn axis_of(alloc: Global, page: &Page) -> Result<Axis, OutOfMemory>
-    ensures order { IfOk result (λ axis. IsSorted nat_cmp (map (λ stop. stop.millis) axis.stops)) }
-    ensures all { IfOk result (λ axis.
-        IsPermutation (times_shown (shown_lanes page.now) (shown_tasks page.now) page.now.fault)
-        (map (λ stop. stop.millis) axis.stops)) }
-    ensures places { IfOk result (λ axis. GoesRight left axis.stops) }
-    ensures begins { IfOk result (λ axis. BeginsLeft axis.stops) }
-    ensures ends { IfOk result (λ axis. EndsRight axis.stops) }
-    ensures gaps { IfOk result (λ axis. AreGaps axis.stops) }
-    ensures marks { IfOk result (λ axis. Marks left axis.stops) }
+    ensures { IfOk result (λ axis. IsAxisOf page.now axis.stops) }
 {
     let times = times_of(alloc, shown_lanes(page), shown_tasks(page), page.fault)?;
     let scale = scale_of(times.as_slice());

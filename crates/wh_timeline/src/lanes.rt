@@ -25,7 +25,7 @@ fn is_at(event: u64, moment: Option<Moment>) -> bool
 }
 
 /// Whether the event of the fault opened, started or ended the thing.
-fn is_hit(lane: &Lane, fault: Option<Moment>) -> bool
+pub(crate) fn is_hit(lane: &Lane, fault: Option<Moment>) -> bool
     ensures { result ≡ is_hit lane.now fault }
 {
     match fault {

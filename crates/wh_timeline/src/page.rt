@@ -58,7 +58,8 @@ pub struct Lane {
     pub opened: Moment,
     /// The event that started it, where there is one.
     pub started: Option<Moment>,
-    /// The event that ended it; `None` while it is open.
+    /// The event that ended it; `None` while it is open, and where it is over with the event that
+    /// opened it.
     pub ended: Option<Moment>,
     /// How it stands.
     pub outcome: Outcome,

@@ -1,8 +1,9 @@
 //! Which things and tasks of a run its page shows.
 
-ghost use Rattle.std.specs.Prelude.{◌≡◌, nat_lt, count_by, take};
-ghost use Rattle.wh_timeline.specs.Views.{left_out, shown, middle, shown_lanes, shown_tasks};
+ghost use Rattle.std.specs.Prelude.{◌≡◌, ◌≤◌, length, nat_lt, count_by, take};
+ghost use Rattle.wh_timeline.specs.Views.{left_out, shown, before_hit, middle, shown_lanes, shown_tasks};
 
+use crate::lanes::is_hit;
 use crate::page::{Lane, Moment, Page, Task};
 
 /// The most things that the picture shows, and the most tasks.
@@ -30,12 +31,28 @@ pub fn first_items<T>(items: &[T], most: usize) -> &[T]
     }
 }
 
-/// The items that are shown, where `at` of them stand before the fault.
-fn shown<T>(items: &[T], at: usize) -> &[T]
-    ensures { result.now ≡ shown at items.now }
+/// The items that are shown after so many that are left out.
+fn shown<T>(items: &[T], left: usize) -> &[T]
+    requires { left ≤ length items.now }
+    ensures { result.now ≡ shown left items.now }
 {
-    let left = left_out(items.len(), at);
     first_items(&items[left..], MOST)
+}
+
+/// How many things stand before the first that the event of the fault opened, started or ended; all
+/// of them where there is none.
+#[tactic(auto, unfolding(crate::specs::Views::before_hit))]
+fn before_hit(lanes: &[Lane], fault: Option<Moment>) -> usize
+    ensures { result ≡ before_hit fault lanes.now }
+{
+    let mut count: usize = 0;
+    for lane in lanes {
+        if is_hit(lane, fault) {
+            return count;
+        }
+        count += 1;
+    }
+    count
 }
 
 /// How many of the things were opened before an event.
@@ -69,20 +86,27 @@ fn middle(fault: Option<Moment>) -> u64
 }
 
 /// The things that a page shows: the 300 round the event of the fault, of which 200 stand before it
-/// where there are as many; or else the first.
+/// where there are as many, or else the first. Where the thing that this event opened, started or
+/// ended stands before them, they are the 300 from that thing on.
 #[tactic(auto, unfolding(crate::specs::Views::shown_lanes))]
 pub fn shown_lanes(page: &Page) -> &[Lane]
     ensures { result.now ≡ shown_lanes page.now }
 {
     let lanes = page.lanes.get();
-    shown(lanes, lanes_before(lanes, middle(page.fault)))
+    let at = lanes_before(lanes, middle(page.fault));
+    shown(
+        lanes,
+        left_out(lanes.len(), at).min(before_hit(lanes, page.fault)),
+    )
 }
 
-/// The tasks that a page shows, chosen as the things are.
+/// The tasks that a page shows: the 300 round the event of the fault, of which 200 start before it
+/// where there are as many, or else the first.
 #[tactic(auto, unfolding(crate::specs::Views::shown_tasks))]
 pub fn shown_tasks(page: &Page) -> &[Task]
     ensures { result.now ≡ shown_tasks page.now }
 {
     let tasks = page.tasks.get();
-    shown(tasks, tasks_before(tasks, middle(page.fault)))
+    let at = tasks_before(tasks, middle(page.fault));
+    shown(tasks, left_out(tasks.len(), at))
 }

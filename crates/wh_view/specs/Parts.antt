@@ -3,7 +3,9 @@ use Rattle.std.specs.Prelude.{ℕ, ◌==◌, Bool, true, false, Option, Some, No
 use Rattle.wh_events.specs.declared.place.Thing.{Thing}
 use Rattle.wh_events.specs.declared.place.Thing.TheVariants as things
 use Rattle.wh_events.specs.declared.kind.EventKind.{EventKind}
-use Rattle.wh_events.specs.declared.kind.EventKind.TheVariants.{WorkflowExecutionSignaled, MarkerRecorded}
+use Rattle.wh_events.specs.declared.kind.EventKind.TheVariants.{WorkflowTaskCompleted, ActivityTaskStarted, WorkflowExecutionSignaled, MarkerRecorded}
+use Rattle.wh_events.specs.declared.kind.Class.{Class}
+use Rattle.wh_events.specs.declared.kind.Class.TheVariants.{Start, Task, Commanded, Outside, Inert, Close}
 use Rattle.wh_events.specs.Kinds.{Role, class_of, role_of}
 use Rattle.wh_events.specs.Kinds.Role.{Opens, Refers, CancelsChild, Plain}
 use Rattle.wh_events.specs.Cuts.{is_commanded_class, is_task_completed_kind}
@@ -12,6 +14,8 @@ use Rattle.wh_view.specs.declared.view.ThingKind.TheVariants as kinds
 use Rattle.wh_view.specs.declared.view.ViewedEvent.{ViewedEvent}
 use Rattle.wh_view.specs.declared.parts.Part.{Part}
 use Rattle.wh_view.specs.declared.parts.Part.TheVariants as parts
+use Rattle.wh_view.specs.declared.parts.Word.{Word}
+use Rattle.wh_view.specs.declared.parts.Word.TheVariants as words
 
 -- what is opened under an id
 abbrev pub kind_of_thing : Thing → ThingKind
@@ -54,6 +58,29 @@ completing_kind (Some kind) = is_task_completed_kind kind
 
 unfoldable pub completes_task : ViewedEvent → Bool
 completes_task event = completing_kind event.read.kind
+
+-- what an event of the class is to a workflow, but for one that completes a task
+abbrev pub class_word : Class → Word
+class_word Start = words.Told
+class_word Outside = words.Told
+class_word Commanded = words.Gives
+class_word Task = words.Other
+class_word Inert = words.Other
+class_word Close = words.Other
+
+-- what an event of the kind is to a workflow: that a worker has taken an activity gives no job
+abbrev pub word_of_kind : EventKind → Word
+word_of_kind WorkflowTaskCompleted = words.Completes
+word_of_kind (ActivityTaskStarted _) = words.Other
+word_of_kind kind = class_word (class_of kind)
+
+-- what an event is to its workflow, as far as its type is read
+abbrev pub word_by : Option EventKind → Word
+word_by None = words.Other
+word_by (Some kind) = word_of_kind kind
+
+unfoldable pub word_of : ViewedEvent → Word
+word_of event = word_by event.read.kind
 
 -- the kinds of things, each by a number of its own
 abbrev pub rank : ThingKind → ℕ

@@ -10,6 +10,6 @@ mod parts;
 mod reading;
 mod view;
 
-pub use parts::Part;
+pub use parts::{Part, Word};
 pub use reading::view_of;
 pub use view::{ThingKind, View, ViewedEvent, ViewedThing};

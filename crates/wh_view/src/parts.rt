@@ -1,7 +1,7 @@
 //! What an event is to the things of its history.
 
 ghost use Rattle.std.specs.Prelude.{◌≡◌};
-ghost use Rattle.wh_view.specs.Parts.{kind_of_thing, plain_part, part_of, rank, same_kind};
+ghost use Rattle.wh_view.specs.Parts.{kind_of_thing, plain_part, part_of, class_word, word_of_kind, rank, same_kind};
 
 use crate::view::{ThingKind, ViewedEvent};
 use wh_events::{Class, Effect, EventKind, Role, Thing};
@@ -29,6 +29,19 @@ pub enum Part {
         effect: Effect,
     },
     /// It is none of these.
+    Other,
+}
+
+/// What an event is to a workflow and its worker.
+#[derive(Clone, Copy)]
+pub enum Word {
+    /// The workflow is told it: it is a job of the next task.
+    Told,
+    /// The workflow gave it: a command of its task is recorded so.
+    Gives,
+    /// A workflow task is completed with it.
+    Completes,
+    /// None of these, or its type is not read.
     Other,
 }
 
@@ -108,6 +121,46 @@ impl ViewedEvent {
         ensures { result ≡ completes_task self.now }
     {
         matches!(&self.read.kind, Some(EventKind::WorkflowTaskCompleted))
+    }
+}
+
+/// What an event of the class is to a workflow, but for one that completes a task.
+fn class_word(class: Class) -> Word
+    ensures { result ≡ class_word class }
+{
+    match class {
+        Class::Start | Class::Outside => Word::Told,
+        Class::Commanded => Word::Gives,
+        Class::Task | Class::Inert | Class::Close => Word::Other,
+    }
+}
+
+/// What an event of the kind is to a workflow.
+fn word_of_kind(kind: &EventKind) -> Word
+    ensures { result ≡ word_of_kind kind.now }
+{
+    match kind {
+        EventKind::WorkflowTaskCompleted => Word::Completes,
+        EventKind::ActivityTaskStarted { .. } => Word::Other,
+        _ => class_word(kind.class()),
+    }
+}
+
+impl ViewedEvent {
+    ghost use Rattle.std.specs.Prelude.{◌≡◌};
+    ghost use Rattle.wh_view.specs.Parts.{word_of};
+
+    /// What the event is to its workflow: told is what gives a job of the next task, as the start of
+    /// the run, a signal, and what became of an activity, a timer, a child or a request, but not that
+    /// a worker has taken an activity.
+    #[tactic(auto, unfolding(crate::specs::Parts::word_of))]
+    pub fn word(&self) -> Word
+        ensures { result ≡ word_of self.now }
+    {
+        match &self.read.kind {
+            Some(kind) => word_of_kind(kind),
+            None => Word::Other,
+        }
     }
 }
 

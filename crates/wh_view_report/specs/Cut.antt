@@ -11,13 +11,13 @@ shown_char c = if nat_le 32 c && nat_le c 126 then c ∷ [] else 63 ∷ []
 unfoldable pub front : List ℕ → List ℕ
 front text = flat_map shown_char (take 80 (chars text))
 
--- that a text of so many bytes goes on
+-- that a text of so many characters goes on
 abbrev pub rest_text : ℕ → List ℕ
-rest_text bytes = if nat_lt 80 bytes then codes ".. (" ++ (decimal bytes ++ codes " bytes)") else []
+rest_text count = if nat_lt 80 count then codes ".. (" ++ (decimal count ++ codes " characters)") else []
 
 -- a text, cut after 80 characters
-abbrev pub cut : List ℕ → List ℕ
-cut text = front text ++ rest_text (length text)
+unfoldable pub cut : List ℕ → List ℕ
+cut text = front text ++ rest_text (length (chars text))
 
 -- a text after a label; nothing where the text is empty
 abbrev pub label_text : List ℕ → List ℕ → List ℕ

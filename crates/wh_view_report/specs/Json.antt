@@ -8,7 +8,9 @@ use Rattle.wh_view.specs.declared.view.ThingKind.TheVariants as kinds
 use Rattle.wh_view.specs.declared.view.View.{View}
 use Rattle.wh_view.specs.declared.view.ViewedEvent.{ViewedEvent}
 use Rattle.wh_view.specs.declared.view.ViewedThing.{ViewedThing}
-use Rattle.wh_view.specs.Parts.{completes_task, is_commanded}
+use Rattle.wh_view.specs.Parts.{word_of}
+use Rattle.wh_view.specs.declared.parts.Word.{Word}
+use Rattle.wh_view.specs.declared.parts.Word.TheVariants as words
 use Rattle.wh_view_report.specs.Texts.{completed_count, is_within, span_of}
 use Rattle.wh_view.specs.Lookups.{thing_of, task_of}
 use Rattle.wh_view_report.specs.Words.{mark_words}
@@ -19,9 +21,14 @@ number_member None = []
 number_member (Some number) = codes ",\"event\":" ++ decimal number
 
 -- what an event is to the worker
+abbrev pub side_word : Word → List ℕ
+side_word words.Completes = codes "completes"
+side_word words.Gives = codes "gives"
+side_word words.Told = codes "told"
+side_word words.Other = codes "other"
+
 abbrev pub side_of : ViewedEvent → List ℕ
-side_of event =
-    if completes_task event then codes "completes" else (if is_commanded event then codes "gives" else codes "told")
+side_of event = side_word (word_of event)
 
 -- what a thing is, in Temporal's words
 abbrev pub kind_word : ThingKind → List ℕ

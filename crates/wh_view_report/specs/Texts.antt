@@ -1,5 +1,5 @@
 -- The text of a view, a line an event.
-use Rattle.std.specs.Prelude.{ℕ, ◌+◌, ◌-◌, ◌==◌, ◌&&◌, decimal, length, slice_get, List, [], ◌∷◌, ◌++◌, codes, Bool, true, false, not, nat_le, Option, Some, None, count_by, if◌then◌else◌}
+use Rattle.std.specs.Prelude.{ℕ, ◌+◌, ◌-◌, ◌==◌, ◌&&◌, decimal, length, slice_get, List, [], ◌∷◌, ◌++◌, codes, Bool, true, false, not, nat_le, is_some, Option, Some, None, count_by, if◌then◌else◌}
 use Rattle.std.specs.List.{flat_map}
 use Rattle.wh_events.specs.declared.kind.EventKind.{EventKind}
 use Rattle.wh_events.specs.declared.kind.EventKind.TheVariants.{WorkflowTaskScheduled, WorkflowTaskStarted}
@@ -27,6 +27,12 @@ unfoldable pub numbered_in : ℕ → List ViewedEvent → Option ViewedEvent
 numbered_in number [] = None
 numbered_in number (event ∷ events) = if has_number number event then Some event else numbered_in number events
 
+-- the view has what is selected
+abbrev pub has_selected : View → Selection → Bool
+has_selected view All = true
+has_selected view (Last tasks) = true
+has_selected view (Around number) = is_some (numbered_in number view.events)
+
 -- a task with the two before and the two after it
 abbrev pub span_around : ℕ → Span
 span_around task = record { first = task - 2; more = task - (task - 2) + 2 }
@@ -39,7 +45,7 @@ span_at view None = record { first = 0; more = 0 }
 -- the tasks that are selected
 abbrev pub span_of : View → Selection → Span
 span_of view All = record { first = 0; more = length view.events }
-span_of view (Last tasks) = record { first = completed_count view.events - (tasks - 1); more = length view.events }
+span_of view (Last tasks) = record { first = completed_count view.events + 1 - tasks; more = length view.events }
 span_of view (Around number) = span_at view (numbered_in number view.events)
 
 -- the event stands in one of the tasks

@@ -6,7 +6,9 @@ use Rattle.wh_view.specs.declared.view.View.{View}
 use Rattle.wh_view.specs.declared.view.ViewedEvent.{ViewedEvent}
 use Rattle.wh_view.specs.declared.view.ViewedThing.{ViewedThing}
 use Rattle.wh_view.specs.Lookups.{index_of, thing_of, task_of, lacks_thing}
-use Rattle.wh_view.specs.Parts.{is_commanded, completes_task}
+use Rattle.wh_view.specs.Parts.{word_of}
+use Rattle.wh_view.specs.declared.parts.Word.{Word}
+use Rattle.wh_view.specs.declared.parts.Word.TheVariants as words
 
 -- `(event NUMBER)`, or else `(place PLACE)`
 abbrev pub numbered : Option ℕ → ℕ → List ℕ
@@ -69,8 +71,12 @@ mark_words view event = marked event.read.fault (lacks_thing view event)
 abbrev pub attempt_text : ℕ → List ℕ
 attempt_text attempt = if attempt == 0 then [] else codes ", attempt " ++ decimal attempt
 
--- what an event is to the worker: the end of a task, an answer, or something that it is told
+-- what an event is to its workflow, before its type
+abbrev pub start_by : ℕ → Word → List ℕ
+start_by task words.Completes = codes "task " ++ (decimal task ++ codes ": ")
+start_by task words.Gives = codes "  gives "
+start_by task words.Told = codes "  told "
+start_by task words.Other = codes "  has "
+
 abbrev pub start_text : View → ViewedEvent → List ℕ
-start_text view event =
-    if completes_task event then codes "task " ++ (decimal (task_of view event) ++ codes ": ")
-    else (if is_commanded event then codes "  gives " else codes "  told ")
+start_text view event = start_by (task_of view event) (word_of event)

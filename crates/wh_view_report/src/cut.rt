@@ -41,7 +41,14 @@ impl fmt::Display for Front<'_> {
     }
 }
 
-/// That a text of so many bytes goes on.
+/// How many characters a text has.
+fn char_count(text: &str) -> usize
+    ensures { result ≡ length (chars text.now) }
+{
+    text.chars().count()
+}
+
+/// That a text of so many characters goes on.
 #[derive(Clone, Copy)]
 struct Rest(usize);
 
@@ -49,9 +56,9 @@ impl fmt::Display for Rest {
     ghost output = { λ r. Some (rest_text r.0) };
 
     fn fmt<W: fmt::Write>(&self, f: &mut fmt::Formatter<W>) -> fmt::Result {
-        let bytes = self.0;
-        if WIDTH < bytes {
-            write!(f, ".. ({bytes} bytes)")
+        let count = self.0;
+        if WIDTH < count {
+            write!(f, ".. ({count} characters)")
         } else {
             Ok(())
         }
@@ -59,16 +66,17 @@ impl fmt::Display for Rest {
 }
 
 /// A text by its first 80 characters, with `?` in place of each one that is not between the space
-/// and `~`; after a text of more bytes than that stands how many it has.
+/// and `~`; after a text of more characters than that stands how many it has.
 #[derive(Drop)]
 pub(crate) struct Cut<'a>(pub(crate) &'a str);
 
 impl fmt::Display for Cut<'_> {
     ghost output = { λ t. Some (cut t.0.now) };
 
+    #[tactic(auto, unfolding(crate::specs::Cut::cut))]
     fn fmt<W: fmt::Write>(&self, f: &mut fmt::Formatter<W>) -> fmt::Result {
         let front = Front(self.0);
-        let rest = Rest(self.0.len());
+        let rest = Rest(char_count(self.0));
         write!(f, "{front}{rest}")
     }
 }

@@ -10,7 +10,7 @@ use crate::words::mark_of;
 use std::io::Write;
 use std::{fmt, io};
 use wh_events::EventNo;
-use wh_view::{ThingKind, View, ViewedEvent};
+use wh_view::{ThingKind, View, ViewedEvent, Word};
 
 /// The number of an event, as a member after another one.
 #[derive(Clone, Copy)]
@@ -34,12 +34,11 @@ impl fmt::Display for NumberMember {
 fn side_of(event: &ViewedEvent) -> &'static str
     ensures { result.now ≡ json.side_of event.now }
 {
-    if event.completes_task() {
-        "completes"
-    } else if event.is_commanded() {
-        "gives"
-    } else {
-        "told"
+    match event.word() {
+        Word::Completes => "completes",
+        Word::Gives => "gives",
+        Word::Told => "told",
+        Word::Other => "other",
     }
 }
 
@@ -226,7 +225,7 @@ fn write_span<O: Write>(view: &View, span: Span, writer: &mut O) -> io::Result<(
 /// `{"events":N,"tasks":N,"things":N}`, where `tasks` are those that were completed. Then each event
 /// of the tasks that are selected has an object, in the order of the history, with these members:
 /// - `place`, counted from 1, and `event`, its number, if it has one;
-/// - `task`, that in which it stands, and `is`: `told`, `completes` or `gives`, as in the text;
+/// - `task`, that in which it stands, and `is`: `told`, `completes`, `gives` or `other`;
 /// - `mark`, what is not as it should be;
 /// - `thing`, if it has one: its `kind` and the places of the events that `opened`, `started`,
 ///   cancelled (`cancelling`) and `ended` it;

@@ -17,7 +17,7 @@ use wh_view::{View, ViewedEvent};
 pub enum Selection {
     /// All of them.
     All,
-    /// The last so many.
+    /// The last so many that are completed, and what stands after them.
     Last(usize),
     /// That in which the event of the number stands, with the two before and the two after it.
     Around(EventNo),
@@ -25,13 +25,15 @@ pub enum Selection {
 
 /// A task, and so many after it.
 #[derive(Clone, Copy)]
-pub(crate) struct Span {
-    first: usize,
-    more: usize,
+pub struct Span {
+    /// The number of the first task.
+    pub first: usize,
+    /// How many tasks are after it.
+    pub more: usize,
 }
 
-/// How many tasks are completed.
-pub(crate) fn completed_count(events: &[ViewedEvent]) -> usize
+/// How many tasks are completed by events.
+pub fn completed_count(events: &[ViewedEvent]) -> usize
     ensures { result ≡ texts.completed_count events.now }
 {
     events.iter().filter(|event| event.completes_task()).count()
@@ -60,6 +62,17 @@ fn numbered_in(events: &[ViewedEvent], number: EventNo) -> Option<&ViewedEvent>
     None
 }
 
+/// Whether a view has what is selected: an event of the number round which tasks are selected; all
+/// and the last tasks are always there.
+pub fn has_selected(view: &View, selection: Selection) -> bool
+    ensures { result ≡ texts.has_selected view.now selection }
+{
+    match selection {
+        Selection::All | Selection::Last(_) => true,
+        Selection::Around(number) => numbered_in(view.events.get(), number).is_some(),
+    }
+}
+
 /// A task with the two before and the two after it.
 fn span_around(task: usize) -> Span
     ensures { result ≡ texts.span_around task }
@@ -82,7 +95,7 @@ pub(crate) fn span_of(view: &View, selection: Selection) -> Span
             more: events.len(),
         },
         Selection::Last(tasks) => Span {
-            first: completed_count(events).saturating_sub(tasks.saturating_sub(1)),
+            first: (completed_count(events) + 1).saturating_sub(tasks),
             more: events.len(),
         },
         Selection::Around(number) => match numbered_in(events, number) {
@@ -113,7 +126,7 @@ fn write_values<O: Write>(values: &[Text], writer: &mut O) -> io::Result<()>
 }
 
 /// Whether an event stands in no line: a workflow task that is scheduled or started.
-fn is_quiet(event: &ViewedEvent) -> bool
+pub fn is_quiet(event: &ViewedEvent) -> bool
     ensures { result ≡ texts.is_quiet event.now }
 {
     matches!(
@@ -186,8 +199,8 @@ fn left_out(view: &View, span: Span) -> usize
         .count()
 }
 
-/// The workflow type that the first event names.
-fn workflow_type(events: &[ViewedEvent]) -> &str
+/// The workflow type that the first event names; empty where it names none.
+pub fn workflow_type(events: &[ViewedEvent]) -> &str
     ensures { result.now ≡ texts.workflow_type (slice_get events.now 0) }
 {
     match events.get(0) {
@@ -260,7 +273,7 @@ fn write_span<O: Write>(view: &View, span: Span, writer: &mut O) -> io::Result<(
 /// history writes it, the events that started, cancelled, ended or opened its thing, the attempt, how
 /// long it is to take, why it failed, and what the reader of histories refuses of it. Each value
 /// of the event follows on a line of its own. A text is shown by its first 80 characters; after a
-/// longer one stands how many bytes it has. The last line says how many events stand in other
+/// longer one stands how many it has. The last line says how many events stand in other
 /// tasks, if there are some; where no event has the number that is asked for these are all but
 /// those of commands before the first task.
 ///

@@ -6,7 +6,7 @@ ghost use Rattle.wh_view_report.specs.Words.{fault_words, mark_words, attempt_te
 
 use std::fmt;
 use wh_json::ReadFault;
-use wh_view::{View, ViewedEvent};
+use wh_view::{View, ViewedEvent, Word};
 
 /// The number of an event; its place, where it has no number.
 #[derive(Drop)]
@@ -113,8 +113,9 @@ fn fault_words(fault: &ReadFault) -> &'static str
     }
 }
 
-/// What is not as it should be with an event.
-pub(crate) fn mark_of(view: &View, event: &ViewedEvent) -> &'static str
+/// What is not as it should be with an event: what the reader of histories refuses of it, or that no
+/// event opened what it refers to; empty where it is as it should be.
+pub fn mark_of(view: &View, event: &ViewedEvent) -> &'static str
     ensures { result.now ≡ mark_words view.now event.now }
 {
     match &event.read.fault {
@@ -127,9 +128,9 @@ pub(crate) fn mark_of(view: &View, event: &ViewedEvent) -> &'static str
     }
 }
 
-/// The attempt of an event, where it names one.
+/// The attempt of an event, after other words; nothing where it names none, which is 0.
 #[derive(Clone, Copy)]
-pub(crate) struct Attempt(pub(crate) u64);
+pub struct Attempt(pub u64);
 
 impl fmt::Display for Attempt {
     ghost output = { λ a. Some (attempt_text a.0) };
@@ -143,7 +144,7 @@ impl fmt::Display for Attempt {
     }
 }
 
-/// What an event is to the worker: an answer, the end of a task, or something that it is told.
+/// What an event is to its workflow, before its type.
 #[derive(Drop)]
 pub(crate) struct Start<'a>(pub(crate) &'a View, pub(crate) &'a ViewedEvent);
 
@@ -151,13 +152,14 @@ impl fmt::Display for Start<'_> {
     ghost output = { λ s. Some (start_text s.0.now s.1.now) };
 
     fn fmt<W: fmt::Write>(&self, f: &mut fmt::Formatter<W>) -> fmt::Result {
-        if self.1.completes_task() {
-            let task = self.0.task_of(self.1);
-            write!(f, "task {task}: ")
-        } else if self.1.is_commanded() {
-            write!(f, "  gives ")
-        } else {
-            write!(f, "  told ")
+        match self.1.word() {
+            Word::Completes => {
+                let task = self.0.task_of(self.1);
+                write!(f, "task {task}: ")
+            }
+            Word::Gives => write!(f, "  gives "),
+            Word::Told => write!(f, "  told "),
+            Word::Other => write!(f, "  has "),
         }
     }
 }

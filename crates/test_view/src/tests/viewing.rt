@@ -32,7 +32,7 @@ Racer: 11 events, 1 tasks completed, 2 things
 task 1: WorkflowTaskCompleted (event 4) 2024-05-01T10:00:04Z
   gives ActivityTaskScheduled 1 race (event 5) 2024-05-01T10:00:05Z, started (event 7), ended (event 9)
   gives TimerStarted t (event 6) 2024-05-01T10:00:06Z, ended (event 8)
-  told ActivityTaskStarted 1 race (event 7) 2024-05-01T10:00:07Z, opened (event 5)
+  has ActivityTaskStarted 1 race (event 7) 2024-05-01T10:00:07Z, opened (event 5)
   told TimerFired t (event 8) 2024-05-01T10:00:08Z, opened (event 6)
   told ActivityTaskCompleted 1 race (event 9) 2024-05-01T10:00:09Z, opened (event 5)
 
@@ -40,7 +40,7 @@ start:X S T C unknown timer_fired:9 marker:LocalActivity child:kid:Nap cancel_ch
 X: 10 events, 1 tasks completed, 4 things
   told WorkflowExecutionStarted X (event 1) 2024-05-01T10:00:01Z
 task 1: WorkflowTaskCompleted (event 4) 2024-05-01T10:00:04Z
-  told EVENT_TYPE_SOMETHING_NEW (event 5) 2024-05-01T10:00:05Z, not supported
+  has EVENT_TYPE_SOMETHING_NEW (event 5) 2024-05-01T10:00:05Z, not supported
   told TimerFired (event 6) 2024-05-01T10:00:06Z, opened by no event
   gives MarkerRecorded LocalActivity (event 7) 2024-05-01T10:00:07Z, marker not supported
   gives StartChildWorkflowExecutionInitiated kid Nap (event 8) 2024-05-01T10:00:08Z, not ended
@@ -92,16 +92,16 @@ task 1: WorkflowTaskCompleted (event 4), out of order
   told WorkflowExecutionSignaled go (event 6) 2024-05-01T10:00:06Z, shorthand payload
       1
       "x"
-  told  (place 6), bad number
+  has  (place 6), bad number
 "#;
 
 /// The last task of `late` as JSON.
 const LATE_JSON: &str = r#"{"events":11,"tasks":1,"things":2}
-{"place":7,"event":7,"task":2,"is":"told","thing":{"kind":"activity","opened":5,"started":7,"ended":9},"recorded":{"activityTaskStartedEventAttributes":{"scheduledEventId":"5"},"eventId":"7","eventTime":"2024-05-01T10:00:07Z","eventType":"ActivityTaskStarted"}}
+{"place":7,"event":7,"task":2,"is":"other","thing":{"kind":"activity","opened":5,"started":7,"ended":9},"recorded":{"activityTaskStartedEventAttributes":{"scheduledEventId":"5"},"eventId":"7","eventTime":"2024-05-01T10:00:07Z","eventType":"ActivityTaskStarted"}}
 {"place":8,"event":8,"task":2,"is":"told","thing":{"kind":"timer","opened":6,"ended":8},"recorded":{"eventId":"8","eventTime":"2024-05-01T10:00:08Z","eventType":"TimerFired","timerFiredEventAttributes":{"startedEventId":"6"}}}
 {"place":9,"event":9,"task":2,"is":"told","thing":{"kind":"activity","opened":5,"started":7,"ended":9},"recorded":{"activityTaskCompletedEventAttributes":{"scheduledEventId":"5"},"eventId":"9","eventTime":"2024-05-01T10:00:09Z","eventType":"ActivityTaskCompleted"}}
-{"place":10,"event":10,"task":2,"is":"told","recorded":{"eventId":"10","eventTime":"2024-05-01T10:00:10Z","eventType":"WorkflowTaskScheduled"}}
-{"place":11,"event":11,"task":2,"is":"told","recorded":{"eventId":"11","eventTime":"2024-05-01T10:00:11Z","eventType":"WorkflowTaskStarted"}}
+{"place":10,"event":10,"task":2,"is":"other","recorded":{"eventId":"10","eventTime":"2024-05-01T10:00:10Z","eventType":"WorkflowTaskScheduled"}}
+{"place":11,"event":11,"task":2,"is":"other","recorded":{"eventId":"11","eventTime":"2024-05-01T10:00:11Z","eventType":"WorkflowTaskStarted"}}
 "#;
 
 /// An event up to the name of its signal.
@@ -111,7 +111,7 @@ const LONG: &str =
 /// Its text.
 const LONG_TEXT: &str = "\
 : 1 events, 0 tasks completed, 1 things
-  told WorkflowExecutionSignaled aaaaaaaaaaaaaaaaaaaaaaaaaaaaaaaaaaaaaaaaaaaaaaaaaaaaaaaaaaaaaaaaaaaaaaaaaaaaaaaa.. (70000 bytes) (event 7) 2024-05-01T10:00:07Z
+  told WorkflowExecutionSignaled aaaaaaaaaaaaaaaaaaaaaaaaaaaaaaaaaaaaaaaaaaaaaaaaaaaaaaaaaaaaaaaaaaaaaaaaaaaaaaaa.. (70000 characters) (event 7) 2024-05-01T10:00:07Z
 ";
 
 /// The text of a view.

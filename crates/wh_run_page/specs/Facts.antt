@@ -1,0 +1,52 @@
+-- What a page says of a run above its picture, and below.
+use Rattle.std.specs.Prelude.{ℕ, Bool, ◌-◌, ◌==◌, not, count_by, get_or, length, slice_get, if◌then◌else◌, List, [], ◌∷◌, ◌++◌, codes, decimal}
+use Rattle.wh_html.specs.Times.{stamp_text, span_text}
+use Rattle.wh_timeline.specs.declared.page.Fact.{Fact}
+use Rattle.wh_view.specs.declared.view.View.{View}
+use Rattle.wh_view_report.specs.Texts.{completed_count, workflow_type}
+use Rattle.wh_view_report.specs.Words.{mark_words}
+
+-- a fact
+abbrev pub fact : List ℕ → List ℕ → Fact
+fact name value = record { name = name; value = value }
+
+-- the last of the times, 0 where there is none
+abbrev pub last_time : List ℕ → ℕ
+last_time times = get_or times (length times - 1) 0
+
+-- when a run started, in words
+abbrev pub started : List ℕ → List ℕ
+started times = stamp_text (get_or times 0 0) ++ codes " UTC"
+
+-- how long it lasted, in words
+abbrev pub lasted : List ℕ → List ℕ
+lasted times = span_text (last_time times - get_or times 0 0)
+
+-- what a run is
+unfoldable pub facts_of : View → List ℕ → List Fact
+facts_of view times =
+    fact (codes "Workflow type") (workflow_type (slice_get view.events 0))
+    ∷ fact (codes "Started") (started times)
+    ∷ fact (codes "Lasted") (lasted times)
+    ∷ fact (codes "Events") (decimal (length view.events))
+    ∷ fact (codes "Tasks completed") (decimal (completed_count view.events))
+    ∷ []
+
+-- a text is empty
+abbrev pub is_empty : List ℕ → Bool
+is_empty text = length text == 0
+
+-- how many events are not as they should be
+abbrev pub marked_count : View → ℕ
+marked_count view = count_by (λ event. not (is_empty (mark_words view event))) view.events
+
+-- that some events are not as they should be
+abbrev pub marked_note : ℕ → List ℕ
+marked_note count = decimal count ++ codes " events are not as a worker expects them; the lines of their tasks say why."
+
+-- what else a reader has to know
+abbrev pub notes_by : ℕ → List (List ℕ)
+notes_by count = if count == 0 then [] else marked_note count ∷ []
+
+abbrev pub notes_of : View → List (List ℕ)
+notes_of view = notes_by (marked_count view)

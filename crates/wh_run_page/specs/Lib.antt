@@ -1,0 +1,7 @@
+pub mod Moments
+pub mod Words
+pub mod Lanes
+pub mod Headings
+pub mod Tasks
+pub mod Facts
+pub mod Pages

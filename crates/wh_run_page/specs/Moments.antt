@@ -1,0 +1,62 @@
+-- When the events of a history happened.
+use Rattle.std.specs.Prelude.{ℕ, ◌+◌, ◌-◌, ◌/◌, min, get_or, ℤ, pos, int_lt, unsigned_abs, if◌then◌else◌, Option, Some, None, List, [], ◌∷◌, slice_get}
+use Rattle.wh_html.specs.Times.{last_time}
+use Rattle.wh_timeline.specs.declared.page.Moment.{Moment}
+use Rattle.wh_view.specs.declared.view.ViewedEvent.{ViewedEvent}
+use Rattle.wh_view.specs.Lookups.{index_of}
+
+-- a time in nanoseconds from 1970-01-01T00:00:00Z, in milliseconds, and no earlier than that and no later than the end of
+-- the year 9999
+abbrev pub millis_of : ℤ → ℕ
+millis_of time = if int_lt time (pos 0) then 0 else min (unsigned_abs time / 1_000_000) last_time
+
+-- the time of an event, or else the other
+abbrev pub time_or : ℕ → Option ℤ → ℕ
+time_or other None = other
+time_or other (Some time) = millis_of time
+
+-- the first time that an event has
+unfoldable pub first_time : List ViewedEvent → ℕ
+first_time [] = 0
+first_time (event ∷ events) = time_or (first_time events) event.read.time
+
+-- the times of events; one without a time has that of the event before
+unfoldable pub times_from : ℕ → List ViewedEvent → List ℕ
+times_from before [] = []
+times_from before (event ∷ events) =
+    time_or before event.read.time ∷ times_from (time_or before event.read.time) events
+
+-- the times of all events; before the first that has a time it is that
+abbrev pub times_of : List ViewedEvent → List ℕ
+times_of events = times_from (first_time events) events
+
+-- the number of an event; its place, where it has no number
+abbrev pub number_or : ℕ → Option ℕ → ℕ
+number_or place None = place
+number_or place (Some number) = number
+
+abbrev pub number_of : ViewedEvent → ℕ
+number_of event = number_or event.place event.read.number
+
+-- an event, and when it happened
+abbrev pub moment_of : List ℕ → ViewedEvent → Moment
+moment_of times event = record { event = number_of event; millis = get_or times (index_of event) 0 }
+
+-- no event
+abbrev pub no_moment : Moment
+no_moment = record { event = 0; millis = 0 }
+
+-- that of an event, or of none
+abbrev pub moment_or : List ℕ → Option ViewedEvent → Moment
+moment_or times None = no_moment
+moment_or times (Some event) = moment_of times event
+
+-- the event at an index, if there is one
+abbrev pub event_at : List ViewedEvent → Option ℕ → Option ViewedEvent
+event_at events None = None
+event_at events (Some index) = slice_get events index
+
+-- the event at a place, counted from 1, if there is one
+abbrev pub index_at : Option ℕ → Option ℕ
+index_at None = None
+index_at (Some place) = Some (place - 1)

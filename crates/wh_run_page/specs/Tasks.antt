@@ -1,0 +1,99 @@
+-- The workflow tasks of a run, as those of its page.
+use Rattle.std.specs.Prelude.{ℕ, ◌+◌, ◌==◌, ◌&&◌, Bool, true, false, not, if◌then◌else◌, Option, Some, None, List, [], ◌∷◌, ◌++◌, map, take, drop, slice_get}
+use Rattle.std.specs.List.{flat_map, list_any}
+use Rattle.wh_timeline.specs.declared.page.Line.{Line}
+use Rattle.wh_timeline.specs.declared.page.Task.{Task}
+use Rattle.wh_timeline.specs.declared.page.Side.{Side}
+use Rattle.wh_timeline.specs.declared.page.Side.TheVariants as sides
+use Rattle.wh_view.specs.declared.parts.Word.{Word}
+use Rattle.wh_view.specs.declared.parts.Word.TheVariants as words
+use Rattle.wh_view.specs.declared.view.View.{View}
+use Rattle.wh_view.specs.declared.view.ViewedEvent.{ViewedEvent}
+use Rattle.wh_view.specs.Parts.{word_of}
+use Rattle.wh_view_report.specs.Texts.{is_quiet}
+use Rattle.wh_run_page.specs.declared.headings.Sought.TheVariants.{Start}
+use Rattle.wh_run_page.specs.Headings.{first_like, heading}
+use Rattle.wh_run_page.specs.Moments.{number_of, moment_or}
+use Rattle.wh_run_page.specs.Words.{event_words}
+use Rattle.wh_run_page.specs.declared.tasks.Group.{Group}
+
+-- the event stands at the place, if there is one
+abbrev pub is_at : Option ℕ → ℕ → Bool
+is_at None place = false
+is_at (Some other) place = other == place
+
+-- who says the line of an event
+abbrev pub side_of : Word → Side
+side_of words.Told = sides.Told
+side_of words.Gives = sides.Gives
+side_of words.Completes = sides.Recorded
+side_of words.Other = sides.Recorded
+
+-- the event of the fault is where the history differs
+abbrev pub side_at : Option ℕ → ViewedEvent → Side
+side_at fault event = if is_at fault event.place then sides.Differs else side_of (word_of event)
+
+-- the line of an event
+abbrev pub line_of : View → Option ℕ → ViewedEvent → Line
+line_of view fault event =
+    record { side = side_at fault event; event = Some (number_of event); text = event_words view event }
+
+-- an event has a line, unless a workflow task is scheduled or started with it; that of the fault has one
+abbrev pub has_line : Option ℕ → ViewedEvent → Bool
+has_line fault event = if is_at fault event.place then true else not (is_quiet event)
+
+abbrev pub line_if : View → Option ℕ → ViewedEvent → List Line
+line_if view fault event = if has_line fault event then line_of view fault event ∷ [] else []
+
+-- the lines of events
+abbrev pub lines_of : View → Option ℕ → List ViewedEvent → List Line
+lines_of view fault events = flat_map (line_if view fault) events
+
+-- the event, or else the first of the list
+abbrev pub or_first : Option ViewedEvent → List ViewedEvent → Option ViewedEvent
+or_first (Some event) events = Some event
+or_first None events = slice_get events 0
+
+-- the first event with which a workflow task starts, or else the first
+abbrev pub start_of : List ViewedEvent → Option ViewedEvent
+start_of events = or_first (first_like Start events) events
+
+-- a task of these events
+unfoldable pub task_of : View → List ℕ → Option ℕ → (number : ℕ) → List ViewedEvent → Task
+task_of view times fault number events =
+    record {
+      heading = heading view number events;
+      started = moment_or times (start_of events);
+      lines = lines_of view fault events;
+      faulty = list_any (λ event. is_at fault event.place) events;
+    }
+
+-- the group of events that are followed by one of this number: the same with one more, or a new one after it
+unfoldable pub next_group : Group → ℕ → Group
+next_group group number =
+    if number == group.number then record group { count = group.count + 1 }
+    else record { number = number; first = group.first + group.count; count = 1 }
+
+-- the group that ends before an event of this number, if one does
+unfoldable pub closed_by : Group → ℕ → List Group
+closed_by group number = if number == group.number then [] else group ∷ []
+
+-- the numbers of the tasks in which events stand, the same ones in a row together: those so far are of one number
+unfoldable pub groups_from : Group → List ℕ → List Group
+groups_from group [] = group ∷ []
+groups_from group (number ∷ numbers) = closed_by group number ++ groups_from (next_group group number) numbers
+
+unfoldable pub groups_of : List ℕ → List Group
+groups_of [] = []
+groups_of (number ∷ numbers) = groups_from (record { number = number; first = 0; count = 1 }) numbers
+
+-- the events of a group
+abbrev pub events_of : List ViewedEvent → Group → List ViewedEvent
+events_of events group = take group.count (drop group.first events)
+
+abbrev pub task_at : View → List ℕ → Option ℕ → Group → Task
+task_at view times fault group = task_of view times fault group.number (events_of view.events group)
+
+-- the tasks of a run: events in a row that stand in one task are together
+abbrev pub tasks_of : View → List ℕ → Option ℕ → List Task
+tasks_of view times fault = map (task_at view times fault) (groups_of view.tasks)

@@ -1,0 +1,28 @@
+-- What is said of an event on a page.
+use Rattle.std.specs.Prelude.{ℕ, List, [], ◌∷◌, ◌++◌, codes}
+use Rattle.std.specs.List.{flat_map}
+use Rattle.wh_view.specs.declared.view.View.{View}
+use Rattle.wh_view.specs.declared.view.ViewedEvent.{ViewedEvent}
+use Rattle.wh_view.specs.Lookups.{opening_of, event_id, event_type}
+use Rattle.wh_view_report.specs.Words.{attempt_text, mark_words}
+
+-- a text after a label; nothing where the text is empty
+abbrev pub after_label : List ℕ → List ℕ → List ℕ
+after_label label [] = []
+after_label label (c ∷ cs) = label ++ c ∷ cs
+
+-- a value of an event
+abbrev pub value_text : List ℕ → List ℕ
+value_text value = codes "; " ++ value
+
+-- what an event is, of what, how often it was tried, how long it is to take, why it failed, what is not as it should be
+-- with it, and its values
+unfoldable pub event_words : View → ViewedEvent → List ℕ
+event_words view event =
+    event.read.name
+    ++ (after_label (codes " ") (event_id (opening_of view event))
+    ++ (after_label (codes " ") (event_type (opening_of view event))
+    ++ (attempt_text event.attempt
+    ++ (after_label (codes ", ") event.duration
+    ++ (after_label (codes ", because ") event.failure
+    ++ (after_label (codes ", ") (mark_words view event) ++ flat_map value_text event.payloads))))))

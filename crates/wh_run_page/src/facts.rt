@@ -1,0 +1,121 @@
+//! What a page says of a run above its picture, and below.
+
+ghost use Rattle.std.specs.Prelude.{◌≡◌, ◌++◌, ◌∷◌, [], codes, decimal, get_or, IfOk, OnOk};
+ghost use Rattle.wh_run_page.specs.Facts as facts;
+
+use crate::words::copied;
+use std::alloc::Global;
+use wh_events::{OutOfMemory, Text};
+use wh_html::{Span, Stamp};
+use wh_timeline::Fact;
+use wh_view::View;
+use wh_view_report::{completed_count, mark_of, workflow_type};
+
+/// Adds a fact.
+fn push_fact(
+    alloc: Global,
+    list: &mut Vec<Fact>,
+    name: &str,
+    value: Text,
+) -> Result<(), OutOfMemory>
+    ensures { OnOk result (list.new.items ≡ list.old.items ++ (facts.fact name.now value ∷ [])) }
+{
+    let name = copied(alloc, name)?;
+    list.push(Fact { name, value })?;
+    Ok(())
+}
+
+/// The first of the times; 0 where there is none.
+fn first_time(times: &[u64]) -> u64
+    ensures { result ≡ get_or times.now 0 0 }
+{
+    match times.first() {
+        Some(time) => *time,
+        None => 0,
+    }
+}
+
+/// The last of the times; 0 where there is none.
+fn last_time(times: &[u64]) -> u64
+    ensures { result ≡ facts.last_time times.now }
+{
+    match times.last() {
+        Some(time) => *time,
+        None => 0,
+    }
+}
+
+/// When a run started, in words.
+fn started(alloc: Global, times: &[u64]) -> Result<Text, OutOfMemory>
+    ensures { IfOk result (λ text. text ≡ facts.started times.now) }
+{
+    let first = Stamp(first_time(times));
+    Ok(Text::new(format!(in alloc; "{first} UTC")?))
+}
+
+/// How long a run lasted, in words.
+fn lasted(alloc: Global, times: &[u64]) -> Result<Text, OutOfMemory>
+    ensures { IfOk result (λ text. text ≡ facts.lasted times.now) }
+{
+    let span = Span(last_time(times).saturating_sub(first_time(times)));
+    Ok(Text::new(format!(in alloc; "{span}")?))
+}
+
+/// A number in words.
+fn count(alloc: Global, number: usize) -> Result<Text, OutOfMemory>
+    ensures { IfOk result (λ text. text ≡ decimal number) }
+{
+    Ok(Text::new(format!(in alloc; "{number}")?))
+}
+
+/// What a run is.
+#[tactic(auto, unfolding(crate::specs::Facts::facts_of))]
+pub(crate) fn facts_of(alloc: Global, view: &View, times: &[u64]) -> Result<Vec<Fact>, OutOfMemory>
+    ensures { IfOk result (λ all. all.items ≡ facts.facts_of view.now times.now) }
+{
+    let events = view.events.get();
+    let mut all = Vec::new(alloc);
+    push_fact(
+        alloc,
+        &mut all,
+        "Workflow type",
+        copied(alloc, workflow_type(events))?,
+    )?;
+    push_fact(alloc, &mut all, "Started", started(alloc, times)?)?;
+    push_fact(alloc, &mut all, "Lasted", lasted(alloc, times)?)?;
+    push_fact(alloc, &mut all, "Events", count(alloc, events.len())?)?;
+    push_fact(
+        alloc,
+        &mut all,
+        "Tasks completed",
+        count(alloc, completed_count(events))?,
+    )?;
+    Ok(all)
+}
+
+/// How many events are not as they should be.
+fn marked_count(view: &View) -> usize
+    ensures { result ≡ facts.marked_count view.now }
+{
+    view.events
+        .get()
+        .iter()
+        .filter(|event| !mark_of(view, event).is_empty())
+        .count()
+}
+
+/// What else a reader has to know.
+pub(crate) fn notes_of(alloc: Global, view: &View) -> Result<Vec<Text>, OutOfMemory>
+    ensures { IfOk result (λ notes. notes.items ≡ facts.notes_of view.now) }
+{
+    let mut notes = Vec::new(alloc);
+    let count = marked_count(view);
+    if count == 0 {
+        return Ok(notes);
+    }
+    let note = format!(in alloc;
+        "{count} events are not as a worker expects them; the lines of their tasks say why."
+    )?;
+    notes.push(Text::new(note))?;
+    Ok(notes)
+}

@@ -1,0 +1,125 @@
+//! What a workflow task of a page is called.
+
+ghost use Rattle.std.specs.Prelude.{◌≡◌, Some, IfOk, option_map};
+ghost use Rattle.wh_run_page.specs.Headings as headings;
+
+use crate::words::AfterLabel;
+use std::alloc::Global;
+use std::fmt;
+use wh_events::{EventKind, OutOfMemory, Text};
+use wh_view::{View, ViewedEvent, Word};
+
+/// What is sought among the events of a task.
+#[derive(Clone, Copy)]
+pub(crate) enum Sought {
+    /// That a workflow task starts.
+    Start,
+    /// What the workflow is told.
+    Told,
+    /// What it gave.
+    Given,
+}
+
+/// Whether an event is what is sought.
+fn is_sought(sought: Sought, event: &ViewedEvent) -> bool
+    ensures { result ≡ headings.is_sought sought event.now }
+{
+    match sought {
+        Sought::Start => matches!(&event.read.kind, Some(EventKind::WorkflowTaskStarted)),
+        Sought::Told => matches!(event.word(), Word::Told),
+        Sought::Given => matches!(event.word(), Word::Gives),
+    }
+}
+
+/// The first event that is sought.
+#[tactic(auto, unfolding(crate::specs::Headings::first_like))]
+pub(crate) fn first_like<'v>(sought: Sought, events: &'v [ViewedEvent]) -> Option<&'v ViewedEvent>
+    ensures { option_map (λ e. e.now) result ≡ headings.first_like sought events.now }
+{
+    for event in events {
+        if is_sought(sought, event) {
+            return Some(event);
+        }
+    }
+    None
+}
+
+/// How many events are what is sought.
+fn count_like(sought: Sought, events: &[ViewedEvent]) -> usize
+    ensures { result ≡ headings.count_like sought events.now }
+{
+    events
+        .iter()
+        .filter(|event| is_sought(sought, event))
+        .count()
+}
+
+/// That there are more than one.
+#[derive(Clone, Copy)]
+struct More(usize);
+
+impl fmt::Display for More {
+    ghost output = { λ m. Some (headings.more_text m.0) };
+
+    fn fmt<W: fmt::Write>(&self, f: &mut fmt::Formatter<W>) -> fmt::Result {
+        let count = self.0;
+        if 1 < count {
+            let more = count - 1;
+            write!(f, " and {more} more")
+        } else {
+            Ok(())
+        }
+    }
+}
+
+/// The first of so many events, after a label; nothing where there is none.
+#[derive(Drop)]
+struct First<'a> {
+    label: &'static str,
+    view: &'a View,
+    count: usize,
+    event: Option<&'a ViewedEvent>,
+}
+
+impl fmt::Display for First<'_> {
+    ghost output = { λ p. Some (headings.part_text p.view.now p.label.now p.count (option_map (λ e. e.now) p.event)) };
+
+    fn fmt<W: fmt::Write>(&self, f: &mut fmt::Formatter<W>) -> fmt::Result {
+        match self.event {
+            Some(event) => {
+                let label = self.label;
+                let name = event.read.name.get();
+                let id = AfterLabel(" ", self.view.opening_of(event).id());
+                let more = More(self.count);
+                write!(f, "{label}{name}{id}{more}")
+            }
+            None => Ok(()),
+        }
+    }
+}
+
+/// What a task of these events is called: its number, what the workflow was told first, and what it
+/// gave first.
+#[tactic(auto, unfolding(crate::specs::Headings::heading))]
+pub(crate) fn heading(
+    alloc: Global,
+    view: &View,
+    number: usize,
+    events: &[ViewedEvent],
+) -> Result<Text, OutOfMemory>
+    ensures { IfOk result (λ text. text ≡ headings.heading view.now number events.now) }
+{
+    let told = First {
+        label: ": told ",
+        view,
+        count: count_like(Sought::Told, events),
+        event: first_like(Sought::Told, events),
+    };
+    let given = First {
+        label: ", gives ",
+        view,
+        count: count_like(Sought::Given, events),
+        event: first_like(Sought::Given, events),
+    };
+    Ok(Text::new(format!(in alloc; "Task {number}{told}{given}")?))
+}

@@ -1,0 +1,205 @@
+//! The things of a run, as the lanes of its page.
+
+ghost use Rattle.std.specs.Prelude.{◌≡◌, IfOk, option_map};
+ghost use Rattle.wh_run_page.specs.Lanes as lanes;
+
+use crate::moments::{event_at, moment_if, moment_or};
+use crate::words::{AfterLabel, copied};
+use std::alloc::Global;
+use wh_events::{EventKind, OutOfMemory, Text};
+use wh_timeline::{Kind, Lane, Outcome};
+use wh_view::{ThingKind, View, ViewedEvent, ViewedThing};
+
+/// What a lane is of.
+fn lane_kind(kind: ThingKind) -> Kind
+    ensures { result ≡ lanes.lane_kind kind }
+{
+    match kind {
+        ThingKind::Activity => Kind::Activity,
+        ThingKind::Timer => Kind::Timer,
+        ThingKind::Child => Kind::Child,
+        ThingKind::CancelRequest | ThingKind::SignalRequest => Kind::Request,
+        ThingKind::Signal => Kind::Signal,
+        ThingKind::Marker => Kind::Marker,
+    }
+}
+
+/// How a thing stands that ended with an event of the kind.
+fn outcome_by(kind: &EventKind) -> Outcome
+    ensures { result ≡ lanes.outcome_by kind.now }
+{
+    match kind {
+        EventKind::ActivityTaskFailed { .. }
+        | EventKind::ActivityTaskTimedOut { .. }
+        | EventKind::ChildWorkflowExecutionFailed { .. }
+        | EventKind::ChildWorkflowExecutionTimedOut { .. }
+        | EventKind::ChildWorkflowExecutionTerminated { .. }
+        | EventKind::StartChildWorkflowExecutionFailed { .. }
+        | EventKind::RequestCancelExternalWorkflowExecutionFailed { .. }
+        | EventKind::SignalExternalWorkflowExecutionFailed { .. } => Outcome::Failed,
+        EventKind::ActivityTaskCanceled { .. }
+        | EventKind::TimerCanceled { .. }
+        | EventKind::ChildWorkflowExecutionCanceled { .. } => Outcome::Cancelled,
+        _ => Outcome::Done,
+    }
+}
+
+/// That in a word.
+fn outcome_word(kind: &EventKind) -> &'static str
+    ensures { result.now ≡ lanes.outcome_word kind.now }
+{
+    match kind {
+        EventKind::ActivityTaskFailed { .. }
+        | EventKind::ChildWorkflowExecutionFailed { .. }
+        | EventKind::RequestCancelExternalWorkflowExecutionFailed { .. }
+        | EventKind::SignalExternalWorkflowExecutionFailed { .. } => "failed",
+        EventKind::ActivityTaskTimedOut { .. } | EventKind::ChildWorkflowExecutionTimedOut { .. } =>
+            "timed out",
+        EventKind::ActivityTaskCanceled { .. }
+        | EventKind::TimerCanceled { .. }
+        | EventKind::ChildWorkflowExecutionCanceled { .. } => "cancelled",
+        EventKind::TimerFired { .. } => "fired",
+        EventKind::ChildWorkflowExecutionTerminated { .. } => "terminated",
+        EventKind::StartChildWorkflowExecutionFailed { .. } => "not started",
+        EventKind::ExternalWorkflowExecutionCancelRequested { .. }
+        | EventKind::ExternalWorkflowExecutionSignaled { .. } => "delivered",
+        EventKind::WorkflowExecutionSignaled { .. } => "received",
+        EventKind::MarkerRecorded { .. } => "recorded",
+        _ => "completed",
+    }
+}
+
+/// How a thing stands, by the event that ended it, if one did.
+fn outcome_at(ending: Option<&ViewedEvent>) -> Outcome
+    ensures { result ≡ lanes.outcome_at (option_map (λ e. e.now) ending.entry) }
+{
+    let Some(event) = ending else {
+        return Outcome::Open;
+    };
+    match &event.read.kind {
+        Some(kind) => outcome_by(kind),
+        None => Outcome::Done,
+    }
+}
+
+/// That in a word.
+fn word_of(event: &ViewedEvent) -> &'static str
+    ensures { result.now ≡ lanes.word_of_kind event.now.read.kind }
+{
+    match &event.read.kind {
+        Some(kind) => outcome_word(kind),
+        None => "ended",
+    }
+}
+
+/// That in words, with why it failed.
+fn outcome_words(alloc: Global, ending: Option<&ViewedEvent>) -> Result<Text, OutOfMemory>
+    ensures { IfOk result (λ words. words ≡ lanes.outcome_words (option_map (λ e. e.now) ending.entry)) }
+{
+    let Some(event) = ending else {
+        return copied(alloc, "open");
+    };
+    let word = word_of(event);
+    let failure = AfterLabel(": ", event.failure.get());
+    Ok(Text::new(format!(in alloc; "{word}{failure}")?))
+}
+
+/// The id of what an event opened, if there is one.
+fn id_at<'v>(opening: Option<&'v ViewedEvent>) -> &'v str
+    ensures { result.now ≡ lanes.id_at (option_map (λ e. e.now) opening.entry) }
+{
+    match opening {
+        Some(event) => event.id(),
+        None => "",
+    }
+}
+
+/// The type of what an event opened, if there is one.
+fn type_at<'v>(opening: Option<&'v ViewedEvent>) -> &'v str
+    ensures { result.now ≡ lanes.type_at (option_map (λ e. e.now) opening.entry) }
+{
+    match opening {
+        Some(event) => event.type_name(),
+        None => "",
+    }
+}
+
+/// A text of its own, if it is not empty.
+fn text_if(alloc: Global, text: &str) -> Result<Option<Text>, OutOfMemory>
+    ensures { IfOk result (λ copy. copy ≡ lanes.text_if text.now) }
+{
+    if text.is_empty() {
+        return Ok(None);
+    }
+    Ok(Some(copied(alloc, text)?))
+}
+
+/// The attempt that an event names, if it names one.
+fn attempt_at(starting: Option<&ViewedEvent>) -> Option<u64>
+    ensures { result ≡ lanes.attempt_at (option_map (λ e. e.now) starting.entry) }
+{
+    match starting {
+        Some(event) => if event.attempt == 0 {
+            None
+        } else {
+            Some(event.attempt)
+        },
+        None => None,
+    }
+}
+
+/// The index of the event that ended a thing, unless it is that which opened it.
+fn later_end(thing: ViewedThing) -> Option<usize>
+    ensures { result ≡ lanes.later_end thing }
+{
+    match thing.ended {
+        Some(index) => if index == thing.opened {
+            None
+        } else {
+            Some(index)
+        },
+        None => None,
+    }
+}
+
+/// The lane of a thing.
+#[tactic(auto, unfolding(crate::specs::Lanes::lane_of))]
+fn lane_of(
+    alloc: Global,
+    view: &View,
+    times: &[u64],
+    thing: ViewedThing,
+) -> Result<Lane, OutOfMemory>
+    ensures { IfOk result (λ lane. lane ≡ lanes.lane_of view.now times.now thing) }
+{
+    let events = view.events.get();
+    let opening = event_at(events, Some(thing.opened));
+    let starting = event_at(events, thing.started);
+    let ending = event_at(events, thing.ended);
+    let name = copied(alloc, id_at(opening))?;
+    let type_name = text_if(alloc, type_at(opening))?;
+    let words = outcome_words(alloc, ending)?;
+    Ok(Lane {
+        kind: lane_kind(thing.kind),
+        name,
+        type_name,
+        opened: moment_or(times, opening),
+        started: moment_if(times, starting),
+        ended: moment_if(times, event_at(events, later_end(thing))),
+        outcome: outcome_at(ending),
+        words,
+        attempts: attempt_at(starting),
+    })
+}
+
+/// The lanes of all things.
+pub(crate) fn lanes_of(alloc: Global, view: &View, times: &[u64]) -> Result<Vec<Lane>, OutOfMemory>
+    ensures { IfOk result (λ all. all.items ≡ lanes.lanes_of view.now times.now) }
+{
+    let mut all = Vec::new(alloc);
+    for thing in view.things.get() {
+        let lane = lane_of(alloc, view, times, *thing)?;
+        all.push(lane)?;
+    }
+    Ok(all)
+}

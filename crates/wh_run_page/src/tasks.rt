@@ -1,0 +1,274 @@
+//! The workflow tasks of a run, as those of its page.
+
+ghost use Rattle.std.specs.Prelude.{◌≡◌, ◌+◌, ◌<◌, ◌^◌, ◌++◌, IfOk, OnOk, map, option_map};
+ghost use Rattle.std.specs.List.{list_any};
+ghost use Rattle.wh_run_page.specs.Tasks as tasks;
+
+use crate::headings::{Sought, first_like, heading};
+use crate::moments::{moment_or, number_of};
+use crate::words::event_words;
+use std::alloc::Global;
+use wh_events::{Items, OutOfMemory};
+use wh_timeline::{Line, Side, Task, first_items};
+use wh_view::{View, ViewedEvent, Word};
+use wh_view_report::is_quiet;
+
+/// Events in a row that stand in one task.
+#[derive(Clone, Copy)]
+pub(crate) struct Group {
+    /// The number of the task.
+    number: usize,
+    /// The index of the first.
+    first: usize,
+    /// How many there are.
+    count: usize,
+}
+
+/// Whether the event of the fault stands at a place.
+fn is_at(fault: Option<u64>, place: u64) -> bool
+    ensures { result ≡ tasks.is_at fault place }
+{
+    match fault {
+        Some(other) => other == place,
+        None => false,
+    }
+}
+
+/// Who says the line of an event.
+fn side_of(word: Word) -> Side
+    ensures { result ≡ tasks.side_of word }
+{
+    match word {
+        Word::Told => Side::Told,
+        Word::Gives => Side::Gives,
+        Word::Completes | Word::Other => Side::Recorded,
+    }
+}
+
+/// Who says the line of an event; that of the fault is where the history differs.
+fn side_at(fault: Option<u64>, event: &ViewedEvent) -> Side
+    ensures { result ≡ tasks.side_at fault event.now }
+{
+    if is_at(fault, event.place) {
+        Side::Differs
+    } else {
+        side_of(event.word())
+    }
+}
+
+/// The line of an event.
+fn line_of(
+    alloc: Global,
+    view: &View,
+    fault: Option<u64>,
+    event: &ViewedEvent,
+) -> Result<Line, OutOfMemory>
+    ensures { IfOk result (λ line. line ≡ tasks.line_of view.now fault event.now) }
+{
+    let text = event_words(alloc, view, event)?;
+    Ok(Line {
+        side: side_at(fault, event),
+        event: Some(number_of(event)),
+        text,
+    })
+}
+
+/// Whether an event has a line.
+fn has_line(fault: Option<u64>, event: &ViewedEvent) -> bool
+    ensures { result ≡ tasks.has_line fault event.now }
+{
+    is_at(fault, event.place) || !is_quiet(event)
+}
+
+/// Adds the line of an event, if it has one.
+fn push_line(
+    alloc: Global,
+    view: &View,
+    fault: Option<u64>,
+    event: &ViewedEvent,
+    lines: &mut Vec<Line>,
+) -> Result<(), OutOfMemory>
+    ensures { OnOk result (lines.new.items ≡ lines.old.items ++ tasks.line_if view.now fault event.now) }
+{
+    if has_line(fault, event) {
+        let line = line_of(alloc, view, fault, event)?;
+        lines.push(line)?;
+    }
+    Ok(())
+}
+
+/// The lines of events.
+fn lines_of(
+    alloc: Global,
+    view: &View,
+    fault: Option<u64>,
+    events: &[ViewedEvent],
+) -> Result<Vec<Line>, OutOfMemory>
+    ensures { IfOk result (λ lines. lines.items ≡ tasks.lines_of view.now fault events.now) }
+{
+    let mut lines = Vec::new(alloc);
+    for event in events {
+        push_line(alloc, view, fault, event, &mut lines)?;
+    }
+    Ok(lines)
+}
+
+/// The first event with which a workflow task starts, or else the first.
+fn start_of<'v>(events: &'v [ViewedEvent]) -> Option<&'v ViewedEvent>
+    ensures { option_map (λ e. e.now) result ≡ tasks.start_of events.now }
+{
+    match first_like(Sought::Start, events) {
+        Some(event) => Some(event),
+        None => events.first(),
+    }
+}
+
+/// Whether one of the events is that of the fault.
+fn is_faulty(fault: Option<u64>, events: &[ViewedEvent]) -> bool
+    ensures { result ≡ list_any (λ event. tasks.is_at fault event.place) events.now }
+{
+    events.iter().any(|event| is_at(fault, event.place))
+}
+
+/// A task of these events.
+#[tactic(auto, unfolding(crate::specs::Tasks::task_of))]
+fn task_of(
+    alloc: Global,
+    view: &View,
+    times: &[u64],
+    fault: Option<u64>,
+    number: usize,
+    events: &[ViewedEvent],
+) -> Result<Task, OutOfMemory>
+    ensures { IfOk result (λ task. task ≡ tasks.task_of view.now times.now fault number events.now) }
+{
+    let heading = heading(alloc, view, number, events)?;
+    let lines = Items::new(lines_of(alloc, view, fault, events)?);
+    Ok(Task {
+        heading,
+        started: moment_or(times, start_of(events)),
+        lines,
+        faulty: is_faulty(fault, events),
+    })
+}
+
+/// The group of events that are followed by one of this number.
+#[tactic(auto, unfolding(crate::specs::Tasks::next_group))]
+fn next_group(group: Group, number: usize) -> Group
+    requires { group.first + group.count + 1 < 2 ^ 64 }
+    ensures next { result ≡ tasks.next_group group number }
+    ensures end { result.first + result.count ≡ group.first + group.count + 1 }
+{
+    if number == group.number {
+        Group {
+            number: group.number,
+            first: group.first,
+            count: group.count + 1,
+        }
+    } else {
+        Group {
+            number,
+            first: group.first + group.count,
+            count: 1,
+        }
+    }
+}
+
+/// Adds the group that ends before an event of this number, if one does.
+#[tactic(auto, unfolding(crate::specs::Tasks::closed_by))]
+fn push_closed(groups: &mut Vec<Group>, group: Group, number: usize) -> Result<(), OutOfMemory>
+    ensures { OnOk result (groups.new.items ≡ groups.old.items ++ tasks.closed_by group number) }
+{
+    if number != group.number {
+        groups.push(group)?;
+    }
+    Ok(())
+}
+
+/// The groups of events by the numbers of their tasks, after a group so far.
+#[tactic(auto, unfolding(crate::specs::Tasks::groups_from))]
+fn groups_from(alloc: Global, first: Group, numbers: &[usize]) -> Result<Vec<Group>, OutOfMemory>
+    requires { first.first + first.count < 2 ^ 63 }
+    ensures { IfOk result (λ groups. groups.items ≡ tasks.groups_from first numbers.now) }
+{
+    let mut groups = Vec::new(alloc);
+    let mut group = first;
+    for number in numbers {
+        push_closed(&mut groups, group, *number)?;
+        group = next_group(group, *number);
+    }
+    groups.push(group)?;
+    Ok(groups)
+}
+
+/// The groups of events by the numbers of their tasks.
+#[tactic(auto, unfolding(crate::specs::Tasks::groups_of))]
+fn groups_of(alloc: Global, numbers: &[usize]) -> Result<Vec<Group>, OutOfMemory>
+    ensures { IfOk result (λ groups. groups.items ≡ tasks.groups_of numbers.now) }
+{
+    match numbers {
+        [] => Ok(Vec::new(alloc)),
+        [number, rest @ ..] => groups_from(
+            alloc,
+            Group {
+                number: *number,
+                first: 0,
+                count: 1,
+            },
+            rest,
+        ),
+    }
+}
+
+/// The events of a group.
+fn events_of(events: &[ViewedEvent], group: Group) -> &[ViewedEvent]
+    ensures { result.now ≡ tasks.events_of events.now group }
+{
+    let first = group.first.min(events.len());
+    first_items(&events[first..], group.count)
+}
+
+/// The task of a group.
+fn task_at(
+    alloc: Global,
+    view: &View,
+    times: &[u64],
+    fault: Option<u64>,
+    group: Group,
+) -> Result<Task, OutOfMemory>
+    ensures { IfOk result (λ task. task ≡ tasks.task_at view.now times.now fault group) }
+{
+    let events = events_of(view.events.get(), group);
+    task_of(alloc, view, times, fault, group.number, events)
+}
+
+/// The tasks of groups.
+fn tasks_in(
+    alloc: Global,
+    view: &View,
+    times: &[u64],
+    fault: Option<u64>,
+    groups: &[Group],
+) -> Result<Vec<Task>, OutOfMemory>
+    ensures { IfOk result (λ all. all.items ≡ map (tasks.task_at view.now times.now fault) groups.now) }
+{
+    let mut all = Vec::new(alloc);
+    for group in groups {
+        let task = task_at(alloc, view, times, fault, *group)?;
+        all.push(task)?;
+    }
+    Ok(all)
+}
+
+/// The tasks of a run.
+pub(crate) fn tasks_of(
+    alloc: Global,
+    view: &View,
+    times: &[u64],
+    fault: Option<u64>,
+) -> Result<Vec<Task>, OutOfMemory>
+    ensures { IfOk result (λ all. all.items ≡ tasks.tasks_of view.now times.now fault) }
+{
+    let groups = groups_of(alloc, view.tasks.get())?;
+    tasks_in(alloc, view, times, fault, groups.as_slice())
+}
