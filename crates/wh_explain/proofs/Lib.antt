@@ -1,11 +1,8 @@
 pub mod Traced
 pub mod Tasks
-pub mod Printable
 pub mod One
 pub mod Alike
 pub mod Agreeing
-pub mod Calendar
-pub mod TimesRead
 pub mod Popped
 pub mod Found
 pub mod Ends

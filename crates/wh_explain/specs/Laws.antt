@@ -1,6 +1,6 @@
 -- What holds of every explanation.
-use Rattle.std.specs.Prelude.{◌≡◌, ℕ, Bool, ◌&&◌, nat_le, true, false, List, [], ◌∷◌, ◌++◌, Some, None, Result, Ok, Err}
-use Rattle.std.specs.List.{list_all, list_any}
+use Rattle.std.specs.Prelude.{◌≡◌, ℕ, true, false, List, [], ◌∷◌, ◌++◌, Some, None, Result, Ok, Err}
+use Rattle.std.specs.List.{list_any}
 use Rattle.wh_events.specs.declared.event.Event.{Event}
 use Rattle.wh_events.specs.Places.{history_fault}
 use Rattle.wh_workflow.specs.declared.fault.Mismatch.{Mismatch as Difference}
@@ -8,7 +8,6 @@ use Rattle.wh_workflow.specs.Law.{Program}
 use Rattle.wh_replay.specs.declared.fault.Fault.{Fault}
 use Rattle.wh_replay.specs.declared.fault.Fault.TheVariants.{NotATask, Place, Workflow, Mismatch}
 use Rattle.wh_replay.specs.Replays.{ReplayResult, workflow_of, replay_tasks}
-use Rattle.wh_tester.specs.Report.{shown}
 use Rattle.wh_explain.specs.declared.explanation.Ending.TheVariants.{Refused, Recorded}
 use Rattle.wh_explain.specs.declared.explanation.Pairing.{Pairing}
 use Rattle.wh_explain.specs.declared.explanation.ExplainedTask.{ExplainedTask}
@@ -27,14 +26,6 @@ abbrev pub EndsDifferent : ℕ → Difference → List ExplainedTask → Type 0
 EndsDifferent at mismatch tasks =
     (front : List ExplainedTask) × (task : ExplainedTask) × (pairings : List Pairing) × (tasks ≡ front ++ task ∷ [])
     × (task.at ≡ at) × (task.ending ≡ Recorded pairings) × (difference_from 1 pairings ≡ Some mismatch)
-
--- from the space to the tilde
-abbrev pub is_printable : ℕ → Bool
-is_printable c = nat_le 32 c && nat_le c 126
-
--- a name is shown without control characters, and without any that is not ASCII
-abbrev pub NamesArePrintable : Type 0
-NamesArePrintable = (name : List ℕ) → list_all is_printable (shown name) ≡ true
 
 module _ {S : Type 0} where
   -- the tasks end as the replay does: none stops where it has no fault, and else the last one at

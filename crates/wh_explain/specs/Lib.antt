@@ -1,7 +1,3 @@
-pub mod Times
-pub mod Phrases
-pub mod Texts
-pub mod Json
 pub mod Pairings
 pub mod Differences
 pub mod Explaining

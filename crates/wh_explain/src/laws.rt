@@ -1,5 +1,5 @@
 //! What holds of every explanation, each law as the contract of a function that does nothing.
-ghost use Rattle.wh_explain.specs.Laws.{NamesArePrintable, OneExplains, EndsAsReplay};
+ghost use Rattle.wh_explain.specs.Laws.{EndsAsReplay, OneExplains};
 
 use wh_workflow::Workflow;
 
@@ -13,9 +13,4 @@ pub fn one_explains<W: Workflow>()
 /// stand; else the first difference that it shows is the one of the fault.
 pub fn ends_as_replay<W: Workflow>()
     ensures { EndsAsReplay W.program }
-{}
-
-/// A name is shown without control characters, and without any that is not ASCII.
-pub fn names_are_printable()
-    ensures { NamesArePrintable }
 {}

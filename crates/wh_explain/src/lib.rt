@@ -4,17 +4,11 @@
 
 mod explanation;
 mod findings;
-mod json_lines;
-mod keys;
 pub mod laws;
 mod pairing;
-mod phrase;
-mod showing;
 mod stepping;
-mod times;
 mod walk;
 
 pub use explanation::{Ending, ExplainedTask, Explanation, Pairing, RecordedEvent, Step};
 pub use findings::{Finding, check_file, explain, unknown_type};
-pub use json_lines::{PairingMembers, write_json_explanation};
-pub use showing::write_explanation;
+pub use pairing::differs;

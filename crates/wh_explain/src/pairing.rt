@@ -1,6 +1,5 @@
 //! What is sent beside what is recorded.
 ghost use Rattle.std.specs.Prelude.{◌≡◌, ◌++◌, ◌∷◌, [], List, if◌then◌else◌, IfOk, OnOk, IsOkAnd};
-ghost use Rattle.std.specs.List.{list_any};
 ghost use Rattle.wh_events.specs.declared.event.Event.{Event};
 ghost use Rattle.wh_events.specs.Cuts.{is_commanded, commanded};
 ghost use Rattle.wh_explain.specs.declared.explanation.Pairing.TheVariants.{Alike, Different, CommandMissing, CommandExtra};
@@ -157,16 +156,9 @@ pub(crate) fn pair_up(
     Ok(paired)
 }
 
-/// Whether what is sent differs from what is recorded.
-pub(crate) fn differs(pairing: &Pairing) -> bool
+/// Whether what is sent differs from what is recorded, in a pairing.
+pub fn differs(pairing: &Pairing) -> bool
     ensures { result ≡ differs pairing.now }
 {
     !matches!(pairing, Pairing::Alike { .. })
-}
-
-/// Whether one of them differs.
-pub(crate) fn some_differ(pairings: &[Pairing]) -> bool
-    ensures { result ≡ list_any differs pairings.now }
-{
-    pairings.iter().any(|pairing| differs(pairing))
 }

@@ -1,3 +1,4 @@
 pub mod Collected
 pub mod Documents
 pub mod Faults
+pub mod Unread

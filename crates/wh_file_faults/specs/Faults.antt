@@ -1,12 +1,15 @@
 -- What is told of files that are no JSON or lack code, and what is made of files beside it.
-use Rattle.std.specs.Prelude.{◌≡◌, ◌||◌, ℕ, List, [], ◌∷◌, nat_eq, Option, Some, None, Ok, IfSome, if◌then◌else◌, String, string_bytes, Vec}
+use Rattle.std.specs.Prelude.{◌≡◌, ◌≢◌, ◌||◌, ℕ, List, [], ◌∷◌, nat_eq, Option, Some, None, Ok, Err, IfSome, IsSome, option_map, if◌then◌else◌, String, string_bytes, Vec}
 use Rattle.std.specs.List.{AllZip, flat_map, starts_with}
 use Rattle.std.specs.declared.alloc.Global.{Global}
 use Rattle.wh_events.specs.Places.{history_fault}
 use Rattle.wh_events.specs.declared.event.Event.{Event}
 use Rattle.wh_explain.specs.Explaining.{unknown_in}
-use Rattle.wh_json.specs.Events.{history}
+use Rattle.wh_json.specs.Events.{document_within, history}
 use Rattle.wh_json.specs.Fields.{document}
+use Rattle.wh_json.specs.declared.fault.ReadFault.TheVariants.{BadJson}
+use Rattle.wh_tester.specs.declared.line.Verdict.{Verdict}
+use Rattle.wh_tester.specs.declared.line.Verdict.TheVariants.{Unreadable}
 use Rattle.wh_workflow.specs.Law.{Program}
 use Rattle.wh_file_faults.specs.declared.file_faults.Cause.{Cause}
 use Rattle.wh_file_faults.specs.declared.file_faults.Cause.TheVariants.{NotJson, NoCode}
@@ -30,41 +33,62 @@ pub record IsUnread (bytes : List ℕ) (mark : Option Mark) : Type 0 where
   pub no_json : document bytes ≡ None
   pub marked : mark ≡ mark_of bytes
 
--- the cause is one of the two
-abbrev pub IsCauseOf : {S : Type 0} → Program S → List ℕ → Cause → Type 0
-IsCauseOf program bytes (NotJson position mark) = IsUnread bytes mark
-IsCauseOf program bytes (NoCode kind) = unknown_in program (history bytes) ≡ Some kind
-
 -- the cause is that bytes are no JSON
 abbrev pub IsNoJson : List ℕ → Cause → Type 0
 IsNoJson bytes (NotJson position mark) = IsUnread bytes mark
 IsNoJson bytes (NoCode kind) = ⊥
 
--- the cause is that there is no code for the workflow type of the history of bytes
-abbrev pub IsUncoded : {S : Type 0} → Program S → List ℕ → Cause → Type 0
-IsUncoded program bytes (NotJson position mark) = ⊥
-IsUncoded program bytes (NoCode kind) = unknown_in program (history bytes) ≡ Some kind
+-- that cause of bytes: there is one exactly where they are no JSON
+abbrev pub IsJsonCause : List ℕ → Option Cause → Type 0
+IsJsonCause bytes None = IsSome (document bytes)
+IsJsonCause bytes (Some cause) = IsNoJson bytes cause
+
+-- that cause of bytes with a verdict: there is one only where they are unreadable for it
+abbrev pub IsUnreadCause : Verdict → List ℕ → Option Cause → Type 0
+IsUnreadCause (Unreadable BadJson) bytes cause = IsJsonCause bytes cause
+IsUnreadCause _ bytes cause = cause ≡ None
+
+-- the cause that there is no code for the workflow type of the history of bytes: there is one exactly where it is so
+abbrev pub IsCodeCause : {S : Type 0} → Program S → List ℕ → Option Cause → Type 0
+IsCodeCause program bytes None = unknown_in program (history bytes) ≡ None
+IsCodeCause program bytes (Some (NotJson position mark)) = ⊥
+IsCodeCause program bytes (Some (NoCode kind)) = unknown_in program (history bytes) ≡ Some kind
+
+-- the bytes of a file that is not too long are no JSON
+abbrev pub IsNotJson : List ℕ → Type 0
+IsNotJson bytes = document_within bytes ≡ Err BadJson
+
+-- the cause of a file with these bytes is one of the two
+abbrev pub IsCauseOf : {S : Type 0} → Program S → List ℕ → Cause → Type 0
+IsCauseOf program bytes (NotJson position mark) = IsNotJson bytes × (mark ≡ mark_of bytes)
+IsCauseOf program bytes (NoCode kind) = unknown_in program (history bytes) ≡ Some kind
+
+-- the cause of a file with these bytes: there is none exactly where neither of the two is so
+abbrev pub IsCauseIn : {S : Type 0} → Program S → List ℕ → Option Cause → Type 0
+IsCauseIn program bytes None = (document_within bytes ≢ Err BadJson) × (unknown_in program (history bytes) ≡ None)
+IsCauseIn program bytes (Some cause) = IsCauseOf program bytes cause
 
 -- the history that is read of bytes has these events, and they are in place
 abbrev pub HasHistory : List ℕ → List Event → Type 0
 HasHistory bytes events = (history bytes ≡ Ok events) × (history_fault events ≡ None)
 
--- a fault of a file by its name and bytes: it has the name, and a cause of the bytes
-pub record IsFaultOf (IsCause : List ℕ → Cause → Type 0) (name bytes : List ℕ) (fault : FileFault) : Type 0 where
-  pub named : fault.name ≡ name
-  pub causes : IsCause bytes fault.cause
+-- the fault of a file by its name and bytes, if it has one: that has the name, and is there where there is a cause
+pub record IsFaultOf (IsCause : List ℕ → Option Cause → Type 0) (name bytes : List ℕ)
+    (fault : Option FileFault) : Type 0 where
+  pub named : IfSome fault (λ one. one.name ≡ name)
+  pub causes : IsCause bytes (option_map (λ one. one.cause) fault)
 
--- what may be told of a file: its fault, or nothing
-abbrev pub MayBeTold : {S : Type 0} → Program S → File → Option FileFault → Type 0
-MayBeTold program file told = IfSome told (IsFaultOf (IsCauseOf program) (string_bytes file.0) file.1.items)
+-- what is told of a file: its fault, if it has one
+abbrev pub IsToldOf : {S : Type 0} → Program S → File → Option FileFault → Type 0
+IsToldOf program file told = IsFaultOf (IsCauseIn program) (string_bytes file.0) file.1.items told
 
 -- the fault that is told of a file, if one is
 abbrev pub told_of : Option FileFault → List FileFault
 told_of None = []
 told_of (Some fault) = fault ∷ []
 
--- the faults that are told of files are theirs, at most one of each, in the order of the files
+-- the faults that are told of files are those of all files that have one, in the order of the files
 pub record AreFaultsOf {S : Type 0} (program : Program S) (files : List File) (faults : List FileFault) : Type 0 where
   pub told : List (Option FileFault)
-  pub each : AllZip (MayBeTold program) files told
+  pub each : AllZip (IsToldOf program) files told
   pub all : faults ≡ flat_map told_of told

@@ -1,9 +1,11 @@
 -- What is made of files, with what is reported of them beside it.
-use Rattle.std.specs.Prelude.{◌≡◌, List, map, Option}
+use Rattle.std.specs.Prelude.{◌≡◌, ◌⊎◌, Contains, List, map, Option}
 use Rattle.std.specs.List.{AllZip, flat_map}
 use Rattle.wh_workflow.specs.Law.{Program}
+use Rattle.wh_files.specs.declared.InputFault.{InputFault}
+use Rattle.wh_files.specs.declared.InputFault.TheVariants.{OutOfMemory}
 use Rattle.wh_file_faults.specs.declared.file_faults.FileFault.{FileFault}
-use Rattle.wh_file_faults.specs.Faults.{File, MayBeTold, told_of, AreFaultsOf}
+use Rattle.wh_file_faults.specs.Faults.{File, IsToldOf, told_of, AreFaultsOf}
 
 -- what was made of inputs by a relation, one by one, with what is told of each; that stands apart, in the same order
 pub record AreMade {T U : Type 0} (Makes : T → U × Option FileFault → Type 0) (inputs : List T) (made : List U)
@@ -13,13 +15,13 @@ pub record AreMade {T U : Type 0} (Makes : T → U × Option FileFault → Type 
   pub ones : made ≡ map (λ one. one.0) both
   pub told : faults ≡ flat_map told_of (map (λ one. one.1) both)
 
--- what was made of an input: it was read as a file, and the rest was made and may be told of that file
+-- what was made of an input: it was read as a file, and the rest was made and is told of that file
 pub record IsMadeOf {S T U : Type 0} (program : Program S) (Reads : T → File → Type 0) (Gives : File → U → Type 0)
     (input : T) (made : U × Option FileFault) : Type 0 where
   pub file : File
   pub read : Reads input file
   pub gives : Gives file made.0
-  pub told : MayBeTold program file made.1
+  pub told : IsToldOf program file made.1
 
 -- what was made of inputs: each was read as a file, in their order, and the rest was made and is told of these files
 pub record AreMadeOf {S T U : Type 0} (program : Program S) (Reads : T → File → Type 0) (Gives : File → U → Type 0)
@@ -28,3 +30,11 @@ pub record AreMadeOf {S T U : Type 0} (program : Program S) (Reads : T → File 
   pub read : AllZip Reads inputs files
   pub gives : AllZip Gives files made
   pub told : AreFaultsOf program files faults
+
+-- the fault is that of one of these inputs, by a relation
+abbrev pub IsOfOne : {T E : Type 0} → (T → E → Type 0) → List T → E → Type 0
+IsOfOne {T} IsFault inputs fault = (input : T) × Contains inputs input × IsFault input fault
+
+-- the fault of an input that can't be read, as a reader gives it, or that there was no memory
+abbrev pub IsFaultIn : {T : Type 0} → (T → InputFault → Type 0) → List T → InputFault → Type 0
+IsFaultIn Refuses inputs fault = (fault ≡ OutOfMemory) ⊎ IsOfOne Refuses inputs fault

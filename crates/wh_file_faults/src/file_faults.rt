@@ -1,9 +1,10 @@
 //! Files that are no JSON, and where, and files of workflow types that there is no code for.
 
-ghost use Rattle.std.specs.Prelude.{◌≡◌, ℕ, List, ◌++◌, [], ◌∷◌, IfOk, OnOk, IfSome, Some, map};
+ghost use Rattle.std.specs.Prelude.{◌≡◌, ℕ, List, ◌++◌, [], ◌∷◌, IfErr, IfOk, OnOk, Some, map};
 ghost use Rattle.std.specs.List.{flat_map};
-ghost use Rattle.wh_file_faults.specs.Faults.{IsFaultOf, told_of};
-ghost use Rattle.wh_file_faults.specs.Faults.{HasHistory, IsNoJson, IsUncoded};
+ghost use Rattle.wh_file_faults.specs.Faults.{HasHistory, IsCodeCause, IsFaultOf, IsJsonCause, IsUnreadCause};
+ghost use Rattle.wh_file_faults.specs.Faults.{told_of};
+ghost use Rattle.wh_json.specs.declared.fault.ReadFault.TheVariants.{BadJson};
 ghost use Rattle.wh_file_faults.specs.Texts.{cause_text, file_fault_text, mark_text};
 
 use crate::position::{Mark, Position, mark_of, position_of};
@@ -91,61 +92,63 @@ impl fmt::Display for FileFault {
     }
 }
 
-/// Where bytes are no JSON, if they are none. Nothing is known where memory for that is refused.
-pub fn json_cause(alloc: Global, bytes: &[u8]) -> Option<Cause>
-    ensures { IfSome result (IsNoJson bytes.now) }
+/// Where bytes are no JSON, if they are none. `OutOfMemory` where there was no memory to read them.
+#[tactic(auto, using(crate::proofs::Documents::is_there))]
+fn json_cause(alloc: Global, bytes: &[u8]) -> Result<Option<Cause>, OutOfMemory>
+    ensures { IfOk result (IsJsonCause bytes.now) }
 {
-    let Ok(Some(position)) = position_of(alloc, bytes) else {
-        return None;
-    };
-    Some(Cause::NotJson {
-        position,
-        mark: mark_of(bytes),
-    })
+    let mark = mark_of(bytes);
+    match position_of(alloc, bytes)? {
+        Some(position) => Ok(Some(Cause::NotJson { position, mark })),
+        None => Ok(None),
+    }
 }
 
 /// Where bytes with this verdict are no JSON, if they are unreadable for that. They are read once
-/// more for it. Nothing is known where memory for that is refused.
-pub fn unread_cause(alloc: Global, verdict: &Verdict, bytes: &[u8]) -> Option<Cause>
-    ensures { IfSome result (IsNoJson bytes.now) }
+/// more for it, and for nothing else. `OutOfMemory` where there was no memory for that.
+pub fn unread_cause(
+    alloc: Global,
+    verdict: &Verdict,
+    bytes: &[u8],
+) -> Result<Option<Cause>, OutOfMemory>
+    ensures cause { IfOk result (IsUnreadCause verdict.now bytes.now) }
+    ensures memory { IfErr result (λ _. verdict.now ≡ Verdict.Unreadable BadJson) }
 {
     match verdict {
         Verdict::Unreadable(ReadFault::BadJson) => json_cause(alloc, bytes),
-        _ => None,
+        _ => Ok(None),
     }
 }
 
-/// Where a file is no JSON, if it is none. Nothing is reported where memory for that is refused.
-pub fn json_fault(alloc: Global, name: &str, bytes: &[u8]) -> Option<FileFault>
-    ensures { IfSome result (IsFaultOf IsNoJson name.now bytes.now) }
+/// Where a file is no JSON, if it is none. `OutOfMemory` where there was no memory to read it or for
+/// its name.
+pub fn json_fault(alloc: Global, name: &str, bytes: &[u8]) -> Result<Option<FileFault>, OutOfMemory>
+    ensures { IfOk result (IsFaultOf IsJsonCause name.now bytes.now) }
 {
-    let Ok(name) = String::from_str(alloc, name) else {
-        return None;
+    let Some(cause) = json_cause(alloc, bytes)? else {
+        return Ok(None);
     };
-    let name = Text::new(name);
-    match json_cause(alloc, bytes) {
-        Some(cause) => Some(FileFault { name, cause }),
-        None => None,
-    }
+    let name = Text::new(String::from_str(alloc, name)?);
+    Ok(Some(FileFault { name, cause }))
 }
 
 /// The workflow type of a history whose events are in place, if there is no code for it, as the fault
-/// of the file that it was read of. Nothing is reported where memory for that is refused.
+/// of the file that it was read of. `OutOfMemory` where there was no memory for the names.
 #[tactic(auto, using(crate::proofs::Faults::uncoded))]
-pub fn code_fault<W: Workflow>(alloc: Global, name: &str, track: &Track) -> Option<FileFault>
+pub fn code_fault<W: Workflow>(
+    alloc: Global,
+    name: &str,
+    track: &Track,
+) -> Result<Option<FileFault>, OutOfMemory>
     ensures { (bytes : List ℕ) → HasHistory bytes track.now
-        → IfSome result (IsFaultOf (IsUncoded W.program) name.now bytes) }
+        → IfOk result (IsFaultOf (IsCodeCause W.program) name.now bytes) }
 {
-    let Ok(name) = String::from_str(alloc, name) else {
-        return None;
+    let Some(kind) = unknown_type::<W>(alloc, track)? else {
+        return Ok(None);
     };
-    let Ok(Some(kind)) = unknown_type::<W>(alloc, track) else {
-        return None;
-    };
-    Some(FileFault {
-        name: Text::new(name),
-        cause: Cause::NoCode { kind },
-    })
+    let name = Text::new(String::from_str(alloc, name)?);
+    let cause = Cause::NoCode { kind };
+    Ok(Some(FileFault { name, cause }))
 }
 
 /// Adds the fault of a file, if it has one.

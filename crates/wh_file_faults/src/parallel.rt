@@ -1,7 +1,7 @@
 //! Files are worked on in threads.
 
-ghost use Rattle.std.specs.Prelude.{Ok, IfOk};
-ghost use Rattle.wh_file_faults.specs.Made.{AreMade};
+ghost use Rattle.std.specs.Prelude.{Err, IfErr, IfOk, Ok};
+ghost use Rattle.wh_file_faults.specs.Made.{AreMade, IsOfOne};
 
 use crate::file_faults::{FileFault, parted};
 use rayon::prelude::*;
@@ -10,8 +10,8 @@ use std::thread::Threads;
 use wh_events::OutOfMemory;
 
 /// What is made of files, in their order, whichever is done first, and apart from it what is
-/// reported of files, or the fault of the first of which nothing can be made. `rayon` spreads the
-/// files over threads, down to one file each.
+/// reported of files, or the fault of one of which nothing can be made. `rayon` spreads the files
+/// over threads, down to one file each. `OutOfMemory` where there was no memory for the lists.
 pub fn all_made<
     T: Send + Drop,
     U: Send + Drop,
@@ -25,8 +25,10 @@ pub fn all_made<
     make: F,
 ) -> Result<Result<(Vec<U>, Vec<FileFault>), E>, OutOfMemory>
     requires { F.IsAlwaysCallable make }
-    ensures { IfOk result (λ told. IfOk told (λ parts.
+    ensures made { IfOk result (λ told. IfOk told (λ parts.
         AreMade (λ file both. F.post make file (Ok both)) files.items parts.0.items parts.1.items)) }
+    ensures fault { IfOk result (λ told. IfErr told
+        (IsOfOne (λ file fault. F.post make file (Err fault)) files.items)) }
 {
     let Ok(told) = files
         .into_par_iter()

@@ -6,18 +6,12 @@ use Rattle.std.specs.List.{AllZip}
 use Rattle.std.specs.declared.alloc.Global.{Global}
 use Rattle.wh_workflow.specs.Law.{Program}
 use Rattle.wh_file_faults.specs.Faults.{File}
+use Rattle.wh_file_faults.proofs.Collected.{as_they_are, each_value}
 use Rattle.wh_report.specs.declared.records.Record.{Record}
 use Rattle.wh_file_faults.specs.declared.command_fault.CommandFault.{CommandFault}
 use Rattle.wh_console.specs.declared.format.Format.{Format}
 use Rattle.wh_report.specs.Reports.{lines_of, report_as, status_of}
 use Rattle.wh_report.specs.Records.{AreRecordsOf, IsRecordOf, IsRecordOfInput}
-
--- where each input gave a value, the values are theirs
-each_value : {A B E : Type 0} (P : A → Result B E → Type 0) (inputs : List A) (told : List B) → AllZip P inputs (map {A = B} {B = Result B E} Ok told) → AllZip (λ input one. P input (Ok one)) inputs told
-each_value P [] [] h = tt
-each_value P (input ∷ inputs) (one ∷ told) h = (h.0, each_value P inputs told h.1)
-each_value P [] (one ∷ told) h = absurd h
-each_value P (input ∷ inputs) [] h = absurd h
 
 -- what is collected is the values of the inputs
 pub collected : {A U E : Type 0} (P : A → Result U E → Type 0) (inputs : List A) (given : List (Result U E)) (answer : Result (Vec U Global) E)
@@ -39,21 +33,9 @@ files_of program Reads (input ∷ inputs) [] h = absurd h
 pub records_of : {S A : Type 0} (program : Program S) (Reads : A → File → Type 0) (inputs : List A) (records : List Record) → AllZip (IsRecordOfInput program Reads) inputs records → AreRecordsOf program Reads inputs records
 records_of program Reads inputs records h = (let own = files_of program Reads inputs records h in record { files = own.0; read = own.1; found = own.2 })
 
--- files that were read as they are
-as_they_are : {A : Type 0} (inputs files : List A) → AllZip (λ input file. file ≡ input) inputs files → files ≡ inputs
-as_they_are [] [] h = refl
-as_they_are (input ∷ inputs) (file ∷ files) h = rw (h.0, as_they_are inputs files h.1) refl
-as_they_are [] (file ∷ files) h = absurd h
-as_they_are (input ∷ inputs) [] h = absurd h
-
--- have their own records
+-- files that were read as they are have their own records
 pub records_of_files : {S : Type 0} (program : Program S) (files : List File) (records : List Record) → AreRecordsOf program (λ input file. file ≡ input) files records → AllZip (IsRecordOf program) files records
 records_of_files program files records h = subst (λ l. AllZip (IsRecordOf program) l records) (as_they_are files h.files h.read) h.found
-
--- what follows of the value
-pub all_ok : {X E : Type 0} {P Q : X → Type 0} (r : Result X E) → ((x : X) → P x → Q x) → IfOk r P → IfOk r Q
-all_ok (Ok x) f p = f x p
-all_ok (Err e) f p = tt
 
 -- the report of files, once it is written
 pub files_reported : {S : Type 0} (program : Program S) (files : List File) (format : Format) (records : List Record) (old new : Option (List ℕ)) (answer : Result ℕ CommandFault) → AllZip (IsRecordOf program) files records

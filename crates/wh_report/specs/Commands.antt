@@ -5,8 +5,8 @@ use Rattle.wh_json.specs.Events.{history}
 use Rattle.wh_workflow.specs.Law.{Program}
 use Rattle.wh_tester.specs.Verdicts.{IsVerdict}
 use Rattle.wh_explain.specs.Explaining.{AreTasksIn, unknown_in}
-use Rattle.wh_explain.specs.Json.{json_explanation}
-use Rattle.wh_explain.specs.Texts.{explanation_text}
+use Rattle.wh_explain_report.specs.Json.{json_explanation}
+use Rattle.wh_explain_report.specs.Texts.{explanation_text}
 use Rattle.wh_explain.specs.declared.explanation.Explanation.{Explanation}
 use Rattle.wh_console.specs.declared.format.Format.{Format}
 use Rattle.wh_console.specs.declared.format.Format.TheVariants.{Text, Json}

@@ -1,11 +1,11 @@
 -- The report of records, and the status that it gives.
 use Rattle.std.specs.Prelude.{ℕ, List, [], ◌∷◌, ◌++◌, map, codes, decimal, Option, Some, None, if◌then◌else◌}
 use Rattle.std.specs.List.{flat_map}
-use Rattle.wh_tester.specs.Json.{json_totals, object, plain_member, text_member, verdict_members}
+use Rattle.wh_tester.specs.Json.{json_totals, plain_member, text_member}
 use Rattle.wh_tester.specs.Report.{all_good, report, shown}
 use Rattle.wh_tester.specs.declared.line.Line.{Line}
-use Rattle.wh_explain.specs.Json.{pairing_members}
-use Rattle.wh_explain.specs.declared.explanation.Pairing.{Pairing}
+use Rattle.wh_explain_report.specs.Json.{difference_members, json_line_with}
+use Rattle.wh_fault_details.specs.Texts.{detail_members}
 use Rattle.wh_file_faults.specs.declared.file_faults.Cause.{Cause}
 use Rattle.wh_file_faults.specs.declared.file_faults.Cause.TheVariants.{NotJson, NoCode}
 use Rattle.wh_file_faults.specs.declared.file_faults.FileFault.{FileFault}
@@ -20,19 +20,10 @@ cause_members (Some (NotJson position mark)) =
     plain_member (codes "line") (decimal position.line) ∷ plain_member (codes "column") (decimal position.column) ∷ []
 cause_members (Some (NoCode kind)) = text_member (codes "workflowType") (shown kind) ∷ []
 
--- those of a difference: what is sent and what is recorded, as in an explanation
-abbrev pub difference_members : Option Pairing → List (List ℕ)
-difference_members None = []
-difference_members (Some pairing) = pairing_members pairing ∷ []
-
 -- what the object of a file has after the text of its fault
 abbrev pub members_after : Record → List (List ℕ)
-members_after own = cause_members own.cause ++ difference_members own.difference
-
--- the line of a file: its name, shown as in the report in words, its verdict, and members after these
-abbrev pub json_line_with : Line → List (List ℕ) → List ℕ
-json_line_with line more =
-    object (text_member (codes "file") (shown line.name)) (verdict_members line.verdict ++ more)
+members_after own =
+    cause_members own.cause ++ (detail_members own.detail ++ difference_members own.difference)
 
 -- the line of a file as JSON
 abbrev pub json_record : Record → List ℕ
@@ -55,7 +46,3 @@ status_of lines = if all_good lines then 0 else 1
 abbrev pub fault_of : Record → Option Cause → List FileFault
 fault_of own None = []
 fault_of own (Some cause) = record { name = own.line.name; cause = cause } ∷ []
-
--- why files are named beside the report, in their order
-abbrev pub faults_in : List Record → List FileFault
-faults_in records = flat_map (λ own. fault_of own own.cause) records

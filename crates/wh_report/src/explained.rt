@@ -4,12 +4,14 @@ ghost use Rattle.std.specs.Prelude.{◌≡◌, ◌≢◌, ◌∷◌, [], Err, If
 ghost use Rattle.std.specs.Io.KnownBytes.{Appends};
 ghost use Rattle.wh_report.specs.Commands.{IsExplained, explanation_as};
 ghost use Rattle.wh_report.specs.Reports.{status_of};
+ghost use Rattle.wh_tester.specs.Verdicts.{IsVerdict};
 
 use std::alloc::Global;
 use std::io;
 use std::io::Write;
 use wh_console::Format;
-use wh_explain::{Explanation, explain, write_explanation, write_json_explanation};
+use wh_explain::{Explanation, explain};
+use wh_explain_report::{write_explanation, write_json_explanation};
 use wh_file_faults::CommandFault;
 use wh_tester::Line;
 use wh_workflow::Workflow;
@@ -56,6 +58,7 @@ pub fn explain_file<W: Workflow, O: Write>(
     ensures explained { IfOk result (λ line. IsExplained W.program (string_bytes name) bytes.now format
         (O.contents writer.old) (O.contents writer.new) (status_of (line ∷ []))) }
     ensures name { IfOk result (λ line. line.name ≡ string_bytes name) }
+    ensures verdict { IfOk result (λ line. IsVerdict W.program bytes.now line.verdict) }
     ensures unwritten { result ≡ Err CommandFault.OutOfMemory → writer.new ≡ writer.old }
 {
     let Ok(explanation) = explain::<W>(alloc, name, bytes) else {

@@ -10,6 +10,6 @@ mod reports;
 pub use commands::{explain_command, replay_command};
 pub use explained::explain_file;
 pub use records::{Record, check_all, record_of};
-pub use reports::{line_status, report, status_of, write_report};
+pub use reports::{line_status, report, status_of, write_json_record, write_report};
 pub use wh_console::Format;
 pub use wh_file_faults::CommandFault;

@@ -1,16 +1,20 @@
 //! The record of a file: what came of it.
 
-ghost use Rattle.std.specs.Prelude.{◌≡◌, IfOk, IfSome, Ok, Some};
-ghost use Rattle.wh_file_faults.specs.Faults.{IsCauseOf};
-ghost use Rattle.wh_json.specs.Events.{history};
+ghost use Rattle.std.specs.Prelude.{◌≡◌, ◌≢◌, ◌≤◌, Err, IfErr, IfOk, IfSome, MatchResult, None, Ok, Some, length};
+ghost use Rattle.wh_fault_details.specs.Details.{detail_of};
+ghost use Rattle.wh_file_faults.specs.Faults.{IsCauseIn, IsCauseOf};
+ghost use Rattle.wh_file_faults.specs.Made.{IsFaultIn};
+ghost use Rattle.wh_json.specs.Events.{history, longest};
 ghost use Rattle.wh_explain.specs.Explaining.{unknown_in};
-ghost use Rattle.wh_report.specs.Records.{AreRecordsOf, IsRecordOf, IsRecordOfInput, code_of};
+ghost use Rattle.wh_report.specs.Records.{AreRecordsOf, IsRecordOf, IsRecordOfInput};
+ghost use Rattle.wh_tester.specs.Verdicts.{IsVerdict};
 
 use rayon::prelude::*;
 use std::alloc::Global;
 use std::thread::Threads;
-use wh_events::Text;
+use wh_events::{OutOfMemory, Text};
 use wh_explain::{Finding, Pairing, check_file};
+use wh_fault_details::{FaultDetail, detail_of};
 use wh_file_faults::{Cause, unread_cause};
 use wh_files::InputFault;
 use wh_tester::{Line, Verdict};
@@ -23,30 +27,81 @@ pub struct Record {
     pub line: Line,
     /// Where it is no JSON, or the workflow type that there is no code for.
     pub cause: Option<Cause>,
+    /// What its fault leaves out: the field that an event lacks, or what one that is not in place
+    /// contradicts.
+    pub detail: Option<FaultDetail>,
     /// What is sent and what is recorded, where the replay stops since they differ.
     pub difference: Option<Pairing>,
 }
 
 /// Why a file with this verdict and these bytes is named beside the report: there is no code for a
-/// workflow type, or it is no JSON. Of that nothing is known where memory is refused.
-#[tactic(auto, using(crate::proofs::Causes::json_is_cause, crate::proofs::Causes::json_no_code))]
+/// workflow type, or it is no JSON. `OutOfMemory` where there was no memory to see where it is none.
+#[tactic(auto, using(crate::proofs::Causes::unread_is_cause, crate::proofs::Causes::unread_is_known))]
 fn cause_of<W: Workflow>(
     alloc: Global,
     unknown: Option<Text>,
     verdict: &Verdict,
     bytes: &[u8],
-) -> Option<Cause>
-    requires { IfSome unknown (λ kind. unknown_in W.program (history bytes.now) ≡ Some kind) }
-    ensures cause { IfSome result (IsCauseOf W.program bytes.now) }
-    ensures code { code_of result ≡ unknown }
+) -> Result<Option<Cause>, OutOfMemory>
+    requires verdict { IsVerdict W.program bytes.now verdict.now }
+    requires known { IfSome unknown (λ kind. unknown_in W.program (history bytes.now) ≡ Some kind) }
+    requires code { verdict.now ≢ Verdict.OutOfMemory → unknown ≡ unknown_in W.program (history bytes.now) }
+    ensures known { IfOk result (λ cause. IfSome cause (IsCauseOf W.program bytes.now)) }
+    ensures cause { verdict.now ≢ Verdict.OutOfMemory → IfOk result (IsCauseIn W.program bytes.now) }
+    ensures memory { IfErr result (λ _. length bytes.now ≤ longest) }
 {
     match unknown {
-        Some(kind) => Some(Cause::NoCode { kind }),
+        Some(kind) => Ok(Some(Cause::NoCode { kind })),
         None => unread_cause(alloc, verdict, bytes),
     }
 }
 
-/// The record of a file, whose bytes are kept no longer.
+/// Why a file with this verdict and these bytes is named beside the report, and what its fault leaves
+/// out. `OutOfMemory` where there was no memory to read the bytes once more for that.
+fn notes_of<W: Workflow>(
+    alloc: Global,
+    unknown: Option<Text>,
+    verdict: &Verdict,
+    bytes: &[u8],
+) -> Result<(Option<Cause>, Option<FaultDetail>), OutOfMemory>
+    requires verdict { IsVerdict W.program bytes.now verdict.now }
+    requires known { IfSome unknown (λ kind. unknown_in W.program (history bytes.now) ≡ Some kind) }
+    requires code { verdict.now ≢ Verdict.OutOfMemory → unknown ≡ unknown_in W.program (history bytes.now) }
+    ensures known { IfOk result (λ notes. IfSome notes.0 (IsCauseOf W.program bytes.now)) }
+    ensures cause { verdict.now ≢ Verdict.OutOfMemory
+        → IfOk result (λ notes. IsCauseIn W.program bytes.now notes.0) }
+    ensures detail { IfOk result (λ notes. notes.1 ≡ detail_of verdict.now bytes.now) }
+    ensures memory { IfErr result (λ _. length bytes.now ≤ longest) }
+{
+    let cause = cause_of::<W>(alloc, unknown, verdict, bytes)?;
+    match detail_of(alloc, verdict, bytes) {
+        Ok(detail) => Ok((cause, detail)),
+        Err(full) => {
+            drop(cause);
+            Err(full)
+        }
+    }
+}
+
+/// The record of a file for which there was no memory.
+fn no_memory(name: Text) -> Record
+    ensures line { result.line ≡ record { name = name; verdict = Verdict.OutOfMemory } }
+    ensures cause { result.cause ≡ None }
+{
+    Record {
+        line: Line {
+            name,
+            verdict: Verdict::OutOfMemory,
+        },
+        cause: None,
+        detail: None,
+        difference: None,
+    }
+}
+
+/// The record of a file, whose bytes are kept no longer. Its verdict is `OutOfMemory` also where there
+/// was no memory to read the bytes once more for what stands beside a fault.
+#[tactic(auto, using(crate::proofs::Causes::no_memory_is))]
 pub fn record_of<W: Workflow>(alloc: Global, file: (String, Vec<u8>)) -> Record
     ensures { IsRecordOf W.program file result }
 {
@@ -56,12 +111,16 @@ pub fn record_of<W: Workflow>(alloc: Global, file: (String, Vec<u8>)) -> Record
         unknown,
         difference,
     } = check_file::<W>(alloc, bytes.as_slice());
-    let cause = cause_of::<W>(alloc, unknown, &verdict, bytes.as_slice());
+    let notes = notes_of::<W>(alloc, unknown, &verdict, bytes.as_slice());
     let name = Text::new(name);
-    Record {
-        line: Line { name, verdict },
-        cause,
-        difference,
+    match notes {
+        Ok((cause, detail)) => Record {
+            line: Line { name, verdict },
+            cause,
+            detail,
+            difference,
+        },
+        Err(OutOfMemory) => no_memory(name),
     }
 }
 
@@ -70,8 +129,9 @@ pub fn record_of<W: Workflow>(alloc: Global, file: (String, Vec<u8>)) -> Record
 /// it: so the bytes of no more files are there at once than there are threads. `rayon` spreads the
 /// inputs over threads, down to one each.
 ///
-/// Out of memory within a file's replay is that file's verdict. The fault is that of the first input
-/// that can't be read; `InputFault::OutOfMemory` too where there is no memory for the list.
+/// Out of memory within a file's replay is that file's verdict. The fault is that of an input that
+/// can't be read, as `read` gives it, or `InputFault::OutOfMemory` where there is no memory for the
+/// list.
 pub fn check_all<
     W: Workflow + Send,
     R: Threads + Sync,
@@ -79,8 +139,9 @@ pub fn check_all<
     F: Fn(T) -> Result<(String, Vec<u8>), InputFault> + Copy + Send + Sync,
 >(rt: &R, alloc: Global, inputs: Vec<T>, read: F) -> Result<Vec<Record>, InputFault>
     requires { F.IsAlwaysCallable read }
-    ensures { IfOk result (λ records.
+    ensures records { IfOk result (λ records.
         AreRecordsOf W.program (λ input file. F.post read input (Ok file)) inputs.items records.items) }
+    ensures fault { IfErr result (IsFaultIn (λ input fault. F.post read input (Err fault)) inputs.items) }
 {
     let Ok(records) = inputs
         .into_par_iter()
@@ -88,7 +149,9 @@ pub fn check_all<
         .map(
             |input: T| -> Result<Record, InputFault>
                 requires { F.IsAlwaysCallable read }
-                ensures { IfOk result (IsRecordOfInput W.program (λ input file. F.post read input (Ok file)) input) }
+                ensures { MatchResult result
+                    (IsRecordOfInput W.program (λ input file. F.post read input (Ok file)) input)
+                    (λ fault. F.post read input (Err fault)) }
             {
                 let file = read(input)?;
                 Ok(record_of::<W>(alloc, file))

@@ -5,14 +5,15 @@ ghost use Rattle.std.specs.List.{flat_map, list_all};
 ghost use Rattle.std.specs.Io.KnownBytes.{Appends};
 ghost use Rattle.wh_tester.specs.Json.{following};
 ghost use Rattle.wh_tester.specs.Report.{all_good, good_count, is_good, line_text};
-ghost use Rattle.wh_report.specs.Reports.{cause_members, difference_members, json_record, lines_of};
+ghost use Rattle.wh_report.specs.Reports.{cause_members, json_record, lines_of};
 ghost use Rattle.wh_report.specs.Reports.{report_as, status_of};
 
 use crate::records::Record;
 use std::io::Write;
 use std::{fmt, io};
 use wh_console::Format;
-use wh_explain::{Pairing, PairingMembers};
+use wh_explain_report::DifferenceMembers;
+use wh_fault_details::DetailMembers;
 use wh_file_faults::{Cause, CommandFault, Position};
 use wh_tester::{
     EscapedName, Line, is_good, write_json_totals, write_line, write_open_json_line, write_totals,
@@ -35,24 +36,6 @@ impl fmt::Display for CauseMembers<'_> {
             Some(Cause::NoCode { kind }) => {
                 let kind = EscapedName(kind.get());
                 write!(f, ",\"workflowType\":\"{kind}\"")
-            }
-        }
-    }
-}
-
-/// Those of a difference.
-#[derive(Drop)]
-struct DifferenceMembers<'a>(&'a Option<Pairing>);
-
-impl fmt::Display for DifferenceMembers<'_> {
-    ghost output = { λ m. Some (following (difference_members m.0.now)) };
-
-    fn fmt<W: fmt::Write>(&self, f: &mut fmt::Formatter<W>) -> fmt::Result {
-        match self.0 {
-            None => Ok(()),
-            Some(pairing) => {
-                let members = PairingMembers(pairing);
-                write!(f, ",{members}")
             }
         }
     }
@@ -108,15 +91,17 @@ fn write_lines<O: Write>(records: &[Record], writer: &mut O) -> io::Result<()>
     Ok(())
 }
 
-/// Writes the object of a file.
+/// Writes the object of a file, as the report as JSON has it. After an error some of it may have been
+/// written.
 #[tactic(auto, using(crate::proofs::Lines::open_and_closed))]
-fn write_object<O: Write>(own: &Record, writer: &mut O) -> io::Result<()>
+pub fn write_json_record<O: Write>(own: &Record, writer: &mut O) -> io::Result<()>
     ensures { OnOk result (Appends (O.contents writer.old) (O.contents writer.new) (json_record own.now)) }
 {
     write_open_json_line(&own.line, writer)?;
     let cause = CauseMembers(&own.cause);
-    let difference = DifferenceMembers(&own.difference);
-    write!(writer, "{cause}{difference}}}\n")
+    let detail = DetailMembers(own.detail.as_ref());
+    let difference = DifferenceMembers(own.difference.as_ref());
+    write!(writer, "{cause}{detail}{difference}}}\n")
 }
 
 /// Writes the objects of files.
@@ -124,7 +109,7 @@ fn write_objects<O: Write>(records: &[Record], writer: &mut O) -> io::Result<()>
     ensures { OnOk result (Appends (O.contents writer.old) (O.contents writer.new) (flat_map json_record records.now)) }
 {
     for one in records {
-        write_object(one, writer)?;
+        write_json_record(one, writer)?;
     }
     Ok(())
 }
@@ -133,7 +118,8 @@ fn write_objects<O: Write>(records: &[Record], writer: &mut O) -> io::Result<()>
 /// number of files and of good ones. As JSON (RFC 8259) each is an object, that of a file as
 /// `wh_tester::write_json_line` writes it, and that of the totals with `files` and `ok`. The object of
 /// a file has after the text of its fault: `line` and `column`, where it is no JSON; `workflowType`,
-/// where there is no code for that; and what is sent and what is recorded, where they differ. Each
+/// where there is no code for that; what its fault leaves out, as `wh_fault_details::DetailMembers`
+/// writes it; and what is sent and what is recorded, where they differ. Each
 /// line goes to the writer as it is made. After an error some of the report may have been written.
 pub fn write_report<O: Write>(records: &[Record], format: Format, writer: &mut O) -> io::Result<()>
     ensures { OnOk result (Appends (O.contents writer.old) (O.contents writer.new) (report_as format records.now)) }
@@ -158,7 +144,8 @@ pub fn report<O: Write>(
     format: Format,
     writer: &mut O,
 ) -> Result<u8, CommandFault>
-    ensures written { OnOk result (Appends (O.contents writer.old) (O.contents writer.new) (report_as format records.now)) }
+    ensures written { OnOk result
+        (Appends (O.contents writer.old) (O.contents writer.new) (report_as format records.now)) }
     ensures status { IfOk result (λ status. status ≡ status_of (lines_of records.now)) }
     ensures output { result ≢ Err CommandFault.OutOfMemory }
 {

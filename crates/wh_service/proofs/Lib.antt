@@ -1,3 +1,4 @@
+pub mod Counted
 pub mod Assigned
 pub mod ReadFiles
 pub mod FileRows

@@ -15,8 +15,8 @@ EachGoesToItsWorker =
     → slice_get readings place ≡ Some (name, Ok events)
     → Contains (assigned_to count (place % count) readings) (record { index = place; name = name; events = events })
 
--- a worker is assigned nothing else: each of its histories is that of the file at its index, whose turn is the worker's;
--- so a history goes to no other worker
+-- a worker is assigned nothing else: each of its histories is that of the file at its index, whose turn is the
+-- worker's; so a history goes to no other worker
 abbrev pub NothingElseIsAssigned : Type 0
 NothingElseIsAssigned =
     (count worker : ℕ) (readings : List Reading) (history : Scripted)
@@ -41,7 +41,8 @@ EachRowIsOfItsFile =
 
 -- there are as many rows as files
 abbrev pub AsManyRowsAsFiles : Type 0
-AsManyRowsAsFiles = (sources : List Stage) (files : List AssignedFile) → length (rows_from sources 0 files) ≡ length files
+AsManyRowsAsFiles =
+    (sources : List Stage) (files : List AssignedFile) → length (rows_from sources 0 files) ≡ length files
 
 -- a failed task is reported where the source of the worker whose turn its file is has it
 abbrev pub EachFailureIsReported : Type 0

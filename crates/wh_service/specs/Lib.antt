@@ -4,3 +4,4 @@ pub mod Readings
 pub mod Rows
 pub mod Services
 pub mod Texts
+pub mod Repeats

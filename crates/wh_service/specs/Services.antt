@@ -4,6 +4,8 @@ use Rattle.std.specs.List.{AllZip, list_all, list_any}
 use Rattle.std.specs.Io.KnownBytes.{Appends}
 use Rattle.std.specs.declared.alloc.Global.{Global}
 use Rattle.wh_file_faults.specs.Faults.{AreFaultsOf, File}
+use Rattle.wh_file_faults.specs.Made.{IsFaultIn}
+use Rattle.wh_files.specs.declared.InputFault.{InputFault}
 use Rattle.wh_file_faults.specs.declared.command_fault.CommandFault.TheVariants.{OutOfMemory}
 use Rattle.wh_json.specs.declared.fault.ReadFault.{ReadFault}
 use Rattle.wh_host.specs.declared.config.Config.{Config}
@@ -71,7 +73,8 @@ leaves gives config setups end = gives config setups (Ok end)
 abbrev pub HasItsTurns : ServiceSetup → Type 0
 HasItsTurns setup = setup.turns ≡ min (deliveries_of setup.source.histories + 2) 0xffff_ffff_ffff_ffff
 
--- the setups of so many workers: each has a source over the histories that it was assigned, and no others, and its turns
+-- the setups of so many workers: each has a source over the histories that it was assigned, and no others, and its
+-- turns
 pub record AreSetups (count : ℕ) (readings : List Reading) (setups : List ServiceSetup) : Type 0 where
   pub many : length setups ≡ count
   pub sources : (worker : ℕ) → worker < count
@@ -86,8 +89,8 @@ pub record IsGathered (end : ServiceHost) (assigned : List AssignedFile) (rows :
   pub sums : totals ≡ end.totals
   pub no_fault : faultless ≡ list_all (λ worker. is_none worker.fault) end.workers.items
 
--- a host of these sizes was run on setups over the files, by what was read of these, and the rest is gathered of what is
--- left of it
+-- a host of these sizes was run on setups over the files, by what was read of these, and the rest is gathered of what
+-- is left of it
 pub record IsService (hosts : HostsBy) (config : Config) (readings : List Reading) (rows : List Row) (totals : Totals)
     (faultless : Bool) : Type 0 where
   pub setups : Vec ServiceSetup Global
@@ -132,8 +135,8 @@ pub record IsServiceEnd (hosts : HostsBy) (config : Config) (readings : List Rea
   pub written : Appends old new (service_text rows totals)
   pub ends : end.status ≡ status_of end.faultless rows totals
 
--- the end of a service of inputs: each was read as a file, in their order, and the service is of these files, as is what
--- is reported of them
+-- the end of a service of inputs: each was read as a file, in their order, and the service is of these files, as is
+-- what is reported of them
 pub record IsServiceEndOver {S T : Type 0} (Reads : T → File → Type 0) (program : Program S) (hosts : HostsBy)
     (config : Config) (inputs : List T) (old new : Option (List ℕ)) (end : ServiceEnd) : Type 0 where
   pub files : List File
@@ -145,3 +148,8 @@ pub record IsServiceEndOver {S T : Type 0} (Reads : T → File → Type 0) (prog
 abbrev pub IsUnwritten : ServiceFault → Type 0
 IsUnwritten (Input fault) = Unit {0}
 IsUnwritten (Report fault) = fault ≡ OutOfMemory
+
+-- why there is no service of inputs: the fault of one of them, as a reader gives it, or another one
+abbrev pub IsUnserved : {T : Type 0} → (T → InputFault → Type 0) → List T → ServiceFault → Type 0
+IsUnserved Refuses inputs (Input fault) = IsFaultIn Refuses inputs fault
+IsUnserved Refuses inputs (Report fault) = Unit {0}

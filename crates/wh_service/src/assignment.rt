@@ -67,8 +67,8 @@ fn assign_files(
     ensures lists { length lists.new ≡ length lists.old }
     ensures assigned { IfOk result (λ assigned. assigned.items ≡ map assigned_as (map reading files.items)) }
     ensures histories { OnOk result ((worker : ℕ) → worker < length lists.old →
-        get_or (map histories_seen lists.new) worker []
-        ≡ get_or (map histories_seen lists.old) worker [] ++ assigned_to (length lists.old) worker (map reading files.items)) }
+        let own = assigned_to (length lists.old) worker (map reading files.items) in
+        get_or (map histories_seen lists.new) worker [] ≡ get_or (map histories_seen lists.old) worker [] ++ own) }
 {
     let mut assigned = Vec::new(alloc);
     for file in files {

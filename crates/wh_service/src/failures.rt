@@ -2,6 +2,8 @@
 
 ghost use Rattle.std.specs.Prelude.{◌≡◌, Some};
 ghost use Rattle.wh_service.specs.Texts.{commands_text, failure_text, is_of_another, why_text};
+ghost use Rattle.wh_service.specs.Repeats.{is_no_task, is_of_commands, is_of_event, is_of_task, is_repeat};
+ghost use Rattle.wh_service.specs.Repeats.{is_same_fault, is_same_reason, more_text, repeated_text, repeats};
 
 use std::fmt;
 use wh_events::Text;
@@ -91,5 +93,132 @@ impl fmt::Display for FileFailure {
             fault: self.task.fault,
         };
         write!(f, "{name}: {why}")
+    }
+}
+
+/// Whether a fault is that of the event in this place.
+fn is_of_event(at: u64, fault: Fault) -> bool
+    ensures { result ≡ is_of_event at fault }
+{
+    match fault {
+        Fault::Place { at: own, fault: _ } => at == own,
+        _ => false,
+    }
+}
+
+/// Whether a fault is that of the commands of this task.
+fn is_of_commands(at: u64, fault: Fault) -> bool
+    ensures { result ≡ is_of_commands at fault }
+{
+    match fault {
+        Fault::Workflow { at: own, fault: _ } => at == own,
+        _ => false,
+    }
+}
+
+/// Whether a fault is a difference in this task.
+fn is_of_task(at: u64, fault: Fault) -> bool
+    ensures { result ≡ is_of_task at fault }
+{
+    match fault {
+        Fault::Mismatch {
+            at: own,
+            mismatch: _,
+        } => at == own,
+        _ => false,
+    }
+}
+
+/// Whether a fault is that there is no task.
+fn is_no_task(fault: Fault) -> bool
+    ensures { result ≡ is_no_task fault }
+{
+    match fault {
+        Fault::NotATask => true,
+        _ => false,
+    }
+}
+
+/// Whether two faults of a file are one: they are of one event or of one task, which has at most one.
+fn is_same_fault(one: Fault, other: Fault) -> bool
+    ensures { result ≡ is_same_fault one other }
+{
+    match one {
+        Fault::NotATask => is_no_task(other),
+        Fault::Place { at, fault: _ } => is_of_event(at, other),
+        Fault::Workflow { at, fault: _ } => is_of_commands(at, other),
+        Fault::Mismatch { at, mismatch: _ } => is_of_task(at, other),
+    }
+}
+
+/// Whether two tasks of a file failed for one reason: neither was answered, or their faults are one.
+fn is_same_reason(one: Option<Fault>, other: Option<Fault>) -> bool
+    ensures { result ≡ is_same_reason one other }
+{
+    match one {
+        None => other.is_none(),
+        Some(one) => match other {
+            None => false,
+            Some(other) => is_same_fault(one, other),
+        },
+    }
+}
+
+/// Whether a failed task repeats one before it: it is of a file of the same name, and failed for the
+/// same reason.
+pub fn is_repeat(one: &FileFailure, next: &FileFailure) -> bool
+    ensures { result ≡ is_repeat one.now next.now }
+{
+    is_same_reason(one.task.fault, next.task.fault) && one.name.get() == next.name.get()
+}
+
+/// How many failed tasks repeat one, up to the first that does not.
+pub fn repeats(one: &FileFailure, after: &[FileFailure]) -> usize
+    ensures { result ≡ repeats one.now after.now }
+{
+    let mut count = 0;
+    for next in after {
+        if !is_repeat(one, next) {
+            return count;
+        }
+        count += 1;
+    }
+    count
+}
+
+/// How many more there are, in words, where there are any.
+#[derive(Clone, Copy)]
+struct MoreText(usize);
+
+impl fmt::Display for MoreText {
+    ghost output = { λ t. Some (more_text t.0) };
+
+    fn fmt<W: fmt::Write>(&self, f: &mut fmt::Formatter<W>) -> fmt::Result {
+        let more = self.0;
+        if more == 0 {
+            Ok(())
+        } else {
+            write!(f, ", and {more} more")
+        }
+    }
+}
+
+/// A failed task, and how many repeat it. As a text: that of the failed task, and after it the number
+/// of the others, where there are any.
+#[derive(Drop)]
+pub struct RepeatedFailure<'a> {
+    /// The first of them.
+    pub failure: &'a FileFailure,
+    /// How many repeat it.
+    pub more: usize,
+}
+
+impl fmt::Display for RepeatedFailure<'_> {
+    ghost output = { λ t. Some (repeated_text t.failure.now t.more) };
+
+    fn fmt<W: fmt::Write>(&self, f: &mut fmt::Formatter<W>) -> fmt::Result {
+        let failure = self.failure;
+        let more = MoreText(self.more);
+        write!(f, "{failure}{more}")
     }
 }

@@ -11,7 +11,7 @@ mod readings;
 mod rows;
 mod service;
 
-pub use failures::FileFailure;
+pub use failures::{FileFailure, RepeatedFailure, is_repeat, repeats};
 pub use host::{ServiceHost, ServiceSetup, host_of};
 pub use rows::{FileCounts, Row};
 pub use service::{ServiceEnd, ServiceFault, serve_files, serve_inputs};

@@ -1,18 +1,21 @@
 //! Files are read, each in the thread that parses it.
 
-ghost use Rattle.std.specs.Prelude.{◌≡◌, IfOk, IfSome, Ok, string_bytes};
-ghost use Rattle.wh_file_faults.specs.Faults.{IsCauseOf, IsFaultOf, MayBeTold};
-ghost use Rattle.wh_file_faults.specs.Made.{IsMadeOf};
+ghost use Rattle.std.specs.Prelude.{◌≡◌, ◌⊎◌, Err, IfErr, IfOk, MatchResult, Ok, not, string_bytes};
+ghost use Rattle.wh_file_faults.specs.Faults.{HasHistory, IsCauseIn, IsFaultOf, IsToldOf};
+ghost use Rattle.wh_file_faults.specs.Made.{IsFaultIn, IsMadeOf};
+ghost use Rattle.wh_files.specs.declared.InputFault.TheVariants.{OutOfMemory as InputMemory};
 ghost use Rattle.wh_json.specs.Events.{history};
-ghost use Rattle.wh_service.specs.Readings.{AreRead, IsReading};
+ghost use Rattle.wh_replay.specs.Replays.{workflow_of};
+ghost use Rattle.wh_service.specs.Readings.{AreRead, IsReading, reading};
 
 use std::alloc::Global;
 use std::thread::Threads;
-use wh_events::{Event, EventKind};
+use wh_events::{Event, OutOfMemory};
 use wh_file_faults::{FileFault, all_made, code_fault, json_fault};
 use wh_files::InputFault;
 use wh_json::{ReadFault, read_events};
-use wh_replay::track_of;
+use wh_machines::Track;
+use wh_replay::{RunFault, track_of, workflow_of};
 use wh_workflow::Workflow;
 
 /// A file that was read: its name, with its history or why it cannot be read.
@@ -23,19 +26,16 @@ pub(crate) struct ReadFile {
 }
 
 /// Whether there is no code for the workflow type that a history begins with.
-fn lacks_code<W: Workflow>(events: &[Event]) -> bool {
-    let Some(event) = events.first() else {
-        return false;
-    };
-    match &event.body {
-        EventKind::WorkflowExecutionStarted { workflow, .. } => !W::handles(workflow.get()),
-        _ => false,
-    }
+fn lacks_code<W: Workflow>(events: &[Event]) -> bool
+    ensures { result ≡ not (W.program.knows (workflow_of events.now)) }
+{
+    !W::handles(workflow_of(events))
 }
 
 /// The history of bytes that were parsed before, once more.
 fn read_again(alloc: Global, bytes: &[u8]) -> Result<Vec<Event>, InputFault>
-    ensures { IfOk result (λ events. history bytes.now ≡ Ok events.items) }
+    ensures events { IfOk result (λ events. history bytes.now ≡ Ok events.items) }
+    ensures memory { IfErr result (λ fault. fault ≡ InputMemory) }
 {
     match read_events(alloc, bytes) {
         Ok(events) => Ok(events),
@@ -43,9 +43,26 @@ fn read_again(alloc: Global, bytes: &[u8]) -> Result<Vec<Event>, InputFault>
     }
 }
 
+/// A history in place, and its workflow type, if there is no code for it.
+fn with_code_fault<W: Workflow>(
+    alloc: Global,
+    name: &str,
+    track: Track,
+    bytes: &[u8],
+) -> Result<(Vec<Event>, Option<FileFault>), InputFault>
+    requires { HasHistory bytes.now track }
+    ensures events { IfOk result (λ own. history bytes.now ≡ Ok own.0.items) }
+    ensures fault { IfOk result (λ own. IsFaultOf (IsCauseIn W.program) name.now bytes.now own.1) }
+    ensures memory { IfErr result (λ fault. fault ≡ InputMemory) }
+{
+    match code_fault::<W>(alloc, name, &track) {
+        Ok(fault) => Ok((track.into_events(), fault)),
+        Err(OutOfMemory) => Err(InputFault::OutOfMemory),
+    }
+}
+
 /// A history, and its workflow type, for which there is no code, if its events are in place. Only
 /// where they are not, its bytes are parsed once more.
-#[tactic(auto, using(wh_file_faults::proofs::Faults::of_code))]
 fn placed<W: Workflow>(
     alloc: Global,
     name: &str,
@@ -54,13 +71,14 @@ fn placed<W: Workflow>(
 ) -> Result<(Vec<Event>, Option<FileFault>), InputFault>
     requires { history bytes.now ≡ Ok events.items }
     ensures events { IfOk result (λ own. history bytes.now ≡ Ok own.0.items) }
-    ensures fault { IfOk result (λ own. IfSome own.1 (IsFaultOf (IsCauseOf W.program) name.now bytes.now)) }
+    ensures fault { IfOk result (λ own. IsFaultOf (IsCauseIn W.program) name.now bytes.now own.1) }
+    ensures memory { IfErr result (λ fault. fault ≡ InputMemory) }
 {
-    let Ok(track) = track_of(alloc, events) else {
-        return Ok((read_again(alloc, bytes)?, None));
-    };
-    let fault = code_fault::<W>(alloc, name, &track);
-    Ok((track.into_events(), fault))
+    match track_of(alloc, events) {
+        Ok(track) => with_code_fault::<W>(alloc, name, track, bytes),
+        Err(RunFault::Fault(_)) => Ok((read_again(alloc, bytes)?, None)),
+        Err(RunFault::OutOfMemory) => Err(InputFault::OutOfMemory),
+    }
 }
 
 /// A history, and what is reported of its file: its workflow type, where there is no code for it.
@@ -72,7 +90,8 @@ fn with_fault<W: Workflow>(
 ) -> Result<(Vec<Event>, Option<FileFault>), InputFault>
     requires { history bytes.now ≡ Ok events.items }
     ensures events { IfOk result (λ own. history bytes.now ≡ Ok own.0.items) }
-    ensures fault { IfOk result (λ own. IfSome own.1 (IsFaultOf (IsCauseOf W.program) name.now bytes.now)) }
+    ensures fault { IfOk result (λ own. IsFaultOf (IsCauseIn W.program) name.now bytes.now own.1) }
+    ensures memory { IfErr result (λ fault. fault ≡ InputMemory) }
 {
     if lacks_code::<W>(events.as_slice()) {
         placed::<W>(alloc, name, events, bytes)
@@ -88,12 +107,34 @@ fn unread_fault<W: Workflow>(
     name: &str,
     fault: &ReadFault,
     bytes: &[u8],
-) -> Option<FileFault>
-    ensures { IfSome result (IsFaultOf (IsCauseOf W.program) name.now bytes.now) }
+) -> Result<Option<FileFault>, OutOfMemory>
+    requires { history bytes.now ≡ Err fault.now }
+    ensures { IfOk result (IsFaultOf (IsCauseIn W.program) name.now bytes.now) }
 {
     match fault {
         ReadFault::BadJson => json_fault(alloc, name, bytes),
-        _ => None,
+        _ => Ok(None),
+    }
+}
+
+/// What was read of a file that can't be read, and what is reported of it.
+fn unread<W: Workflow>(
+    alloc: Global,
+    name: String,
+    fault: ReadFault,
+    bytes: &[u8],
+) -> Result<(ReadFile, Option<FileFault>), InputFault>
+    requires { history bytes.now ≡ Err fault }
+    ensures reading { IfOk result (λ made. reading made.0 ≡ (string_bytes name, history bytes.now)) }
+    ensures fault { IfOk result (λ made. IsFaultOf (IsCauseIn W.program) (string_bytes name) bytes.now made.1) }
+    ensures memory { IfErr result (λ fault. fault ≡ InputMemory) }
+{
+    match unread_fault::<W>(alloc, name.as_str(), &fault, bytes) {
+        Ok(own) => {
+            let outcome = Err(fault);
+            Ok((ReadFile { name, outcome }, own))
+        }
+        Err(OutOfMemory) => Err(InputFault::OutOfMemory),
     }
 }
 
@@ -103,7 +144,8 @@ fn read_file<W: Workflow>(
     file: (String, Vec<u8>),
 ) -> Result<(ReadFile, Option<FileFault>), InputFault>
     ensures reading { IfOk result (λ made. IsReading file made.0) }
-    ensures fault { IfOk result (λ made. MayBeTold W.program file made.1) }
+    ensures fault { IfOk result (λ made. IsToldOf W.program file made.1) }
+    ensures memory { IfErr result (λ fault. fault ≡ InputMemory) }
 {
     let (name, bytes) = file;
     match read_events(alloc, bytes.as_slice()) {
@@ -113,18 +155,14 @@ fn read_file<W: Workflow>(
             Ok((ReadFile { name, outcome }, own.1))
         }
         Err(ReadFault::OutOfMemory) => Err(InputFault::OutOfMemory),
-        Err(fault) => {
-            let own = unread_fault::<W>(alloc, name.as_str(), &fault, bytes.as_slice());
-            let outcome = Err(fault);
-            Ok((ReadFile { name, outcome }, own))
-        }
+        Err(fault) => unread::<W>(alloc, name, fault, bytes.as_slice()),
     }
 }
 
 /// Reads inputs and parses them, in their order, and gives beside them where inputs are no JSON and
 /// for which workflow types there is no code. Each is read in the thread that parses it: so the
 /// bytes of no more files are there at once than there are threads, and only histories are held.
-/// The fault is that of the first that cannot be read.
+/// The fault is that of an input that cannot be read, as `read` gives it, or `OutOfMemory`.
 pub(crate) fn read_all<
     W: Workflow + Send,
     R: Threads + Sync,
@@ -137,8 +175,9 @@ pub(crate) fn read_all<
     read: F,
 ) -> Result<(Vec<ReadFile>, Vec<FileFault>), InputFault>
     requires { F.IsAlwaysCallable read }
-    ensures { IfOk result (λ parts. AreRead (λ input file. F.post read input (Ok file)) W.program
+    ensures read { IfOk result (λ parts. AreRead (λ input file. F.post read input (Ok file)) W.program
         inputs.items parts.0.items parts.1.items) }
+    ensures fault { IfErr result (IsFaultIn (λ input fault. F.post read input (Err fault)) inputs.items) }
 {
     let Ok(parts) = all_made(
         rt,
@@ -146,7 +185,9 @@ pub(crate) fn read_all<
         inputs,
         |input: T| -> Result<(ReadFile, Option<FileFault>), InputFault>
             requires { F.IsAlwaysCallable read }
-            ensures { IfOk result (IsMadeOf W.program (λ input file. F.post read input (Ok file)) IsReading input) }
+            ensures { MatchResult result
+                (IsMadeOf W.program (λ input file. F.post read input (Ok file)) IsReading input)
+                (λ fault. (fault ≡ InputMemory) ⊎ F.post read input (Err fault)) }
         {
             let file = read(input)?;
             read_file::<W>(alloc, file)

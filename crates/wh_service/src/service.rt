@@ -6,7 +6,7 @@ ghost use Rattle.wh_file_faults.specs.Faults.{AreFaultsOf};
 ghost use Rattle.wh_host.specs.Machine.{IsConfig};
 ghost use Rattle.wh_service.specs.Readings.{reading, reading_of};
 ghost use Rattle.wh_service.specs.Services.{HasItsTurns, IsHost, IsHosted, IsServiceEnd, IsServiceEndOver};
-ghost use Rattle.wh_service.specs.Services.{IsServiceOf, IsUnwritten, leaves, status_of};
+ghost use Rattle.wh_service.specs.Services.{IsServiceOf, IsUnserved, IsUnwritten, leaves, status_of};
 ghost use Rattle.wh_service.specs.Texts.{service_text};
 
 use crate::assignment::assign_sources;
@@ -172,9 +172,9 @@ where
 /// the workers are assigned the histories in turn. Of equal names each has the counts and the failed
 /// tasks of the first that its worker was assigned. `host` runs the host, as `host_of` does.
 ///
-/// `Input` names the first input that cannot be read; nothing is written then. Where the fault is
-/// `Report` with `OutOfMemory` nothing is written either, and with `Output` part of the report may
-/// be.
+/// `Input` has the fault of an input that cannot be read, as `read` gives it, or there was no memory;
+/// nothing is written then. Where the fault is `Report` with `OutOfMemory` nothing is written either,
+/// and with `Output` part of the report may be.
 pub fn serve_inputs<
     W: Workflow + Send,
     R: Threads + Sync,
@@ -198,6 +198,7 @@ where
     requires runs { IsHost (F.pre host) (leaves (F.post host)) }
     ensures report { IfOk result (IsServiceEndOver (λ input file. G.post read input (Ok file))
         W.program (leaves (F.post host)) config inputs.items (O.contents writer.old) (O.contents writer.new)) }
+    ensures fault { IfErr result (IsUnserved (λ input fault. G.post read input (Err fault)) inputs.items) }
     ensures unwritten { IfErr result (λ fault. IsUnwritten fault → writer.new ≡ writer.old) }
 {
     let read = match read_all::<W, R, T, G>(rt, alloc, inputs, read) {

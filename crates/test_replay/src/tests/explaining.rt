@@ -3,7 +3,8 @@
 use std::alloc::Global;
 use std::process::Abort;
 use test_support::{Scripted, bytes_of, row, same, with_status};
-use wh_explain::{explain, write_explanation};
+use wh_explain::explain;
+use wh_explain_report::write_explanation;
 use wh_report::line_status;
 use wh_sample_workflows::{All, Asker, Nap};
 use wh_workflow::Workflow;

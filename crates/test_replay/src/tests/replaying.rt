@@ -13,6 +13,7 @@ pub(crate) fn record_with(line: Line) -> Record {
     Record {
         line,
         cause: None,
+        detail: None,
         difference: None,
     }
 }

@@ -10,5 +10,5 @@ returns-clause-reported g c =
     let program = g.W.Workflow.program in
     let files = c.args.files.items in
     files_reported program files c.args.format c.as_slice.result.now (g.O.Write.contents c.args.writer.now) (g.O.Write.contents c.report.new.writer) c.report.result
-    (subst (λ l. AllZip (IsRecordOf program) files l) (sym c.as_slice.ensures.value) (records_of_files program files c.in-Ok.records.items c.in-Ok.ensures))
+    (subst (λ l. AllZip (IsRecordOf program) files l) (sym c.as_slice.ensures.value) (records_of_files program files c.in-Ok.records.items c.in-Ok.ensures.records))
     c.report.ensures.written c.report.ensures.status

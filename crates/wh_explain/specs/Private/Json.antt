@@ -1,7 +1,0 @@
--- Of Json: what only contracts of private functions cite.
-use Rattle.wh_explain.specs.declared.keys.Keys as code
-use Rattle.wh_explain.specs.Json.{Keys}
-
--- the keys that the code's are
-abbrev pub keys_seen : code.Keys → Keys
-keys_seen keys = record { id = keys.id.now; name = keys.name.now }

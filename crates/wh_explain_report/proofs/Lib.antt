@@ -1,0 +1,4 @@
+pub mod Lines
+pub mod Printable
+pub mod Calendar
+pub mod TimesRead

@@ -1,0 +1,10 @@
+use Rattle.std.proofs.Common.{take}
+use Rattle.std.specs.List.{flat_map}
+use Rattle.std.specs.Io.KnownBytes.{Appends}
+use Rattle.wh_explain_report.specs.Json.{sends_object}
+use Rattle.wh_explain_report.proofs.json_lines.write_sent.Given as goal
+
+-- the lines so far have been written
+abbrev pub invariant-loop-command : goal.invariant-loop-command
+invariant-loop-command g l =
+    Appends (g.O.Write.contents l.initial.writer) (g.O.Write.contents l.writer) (flat_map sends_object (take l.command-index l.sent))

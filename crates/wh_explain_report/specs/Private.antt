@@ -1,0 +1,2 @@
+-- What no contract of a public item cites: only those of private functions, and what types keep over private fields.
+pub mod Json

@@ -1,0 +1,94 @@
+-- The text of an explanation, line by line.
+use Rattle.std.specs.Prelude.{ℕ, List, [], ◌∷◌, ◌++◌, ◌-◌, length, codes, decimal, Option, Some, None, if◌then◌else◌, slice_get}
+use Rattle.std.specs.List.{flat_map}
+use Rattle.wh_workflow.specs.declared.command.Command.{Command}
+use Rattle.wh_workflow.specs.ActivationScripts.{Step}
+use Rattle.wh_workflow.specs.Jobs.{job_phrase}
+use Rattle.wh_workflow.specs.Names.{command_phrase}
+use Rattle.wh_tester.specs.Report.{shown, line_text}
+use Rattle.wh_explain.specs.declared.explanation.RecordedEvent.{RecordedEvent}
+use Rattle.wh_explain.specs.declared.explanation.Pairing.{Pairing}
+use Rattle.wh_explain.specs.declared.explanation.Pairing.TheVariants.{Alike, Different, CommandMissing, CommandExtra}
+use Rattle.wh_explain.specs.declared.explanation.Ending.{Ending}
+use Rattle.wh_explain.specs.declared.explanation.Ending.TheVariants.{Refused, Live, Recorded}
+use Rattle.wh_explain.specs.declared.explanation.ExplainedTask.{ExplainedTask}
+use Rattle.wh_explain.specs.declared.explanation.Explanation.{Explanation}
+use Rattle.wh_explain.specs.Pairings.{differs}
+use Rattle.wh_explain_report.specs.Phrases.{phrase_text, event_phrase}
+
+-- `gives COMMAND`
+abbrev pub gives_line : Command → List ℕ
+gives_line command = codes "    gives " ++ (phrase_text (command_phrase command) ++ 10 ∷ [])
+
+-- `told JOB`, and a line for each command that was given at it
+abbrev pub step_text : Step → List ℕ
+step_text step =
+    (codes "  told " ++ (phrase_text (job_phrase step.job) ++ 10 ∷ [])) ++ flat_map gives_line step.commands
+
+-- `refuses COMMAND`
+abbrev pub refuses_line : Option Command → List ℕ
+refuses_line None = []
+refuses_line (Some command) = codes "  refuses " ++ (phrase_text (command_phrase command) ++ 10 ∷ [])
+
+-- the last command of a step, if there is one
+abbrev pub last_given : Option Step → Option Command
+last_given None = None
+last_given (Some step) = slice_get step.commands (length step.commands - 1)
+
+-- the last command of the last step
+abbrev pub last_command : List Step → Option Command
+last_command steps = last_given (slice_get steps (length steps - 1))
+
+-- `NUMBER EVENT`
+abbrev pub event_text : RecordedEvent → List ℕ
+event_text event = decimal event.number ++ (codes " " ++ phrase_text (event_phrase event))
+
+-- `sends COMMAND`
+abbrev pub sends_text : Command → List ℕ
+sends_text command = codes "sends " ++ phrase_text (command_phrase command)
+
+-- a command of a live task
+abbrev pub sends_line : Command → List ℕ
+sends_line command = codes "  " ++ (sends_text command ++ 10 ∷ [])
+
+-- `sends COMMAND, recorded EVENT`
+abbrev pub both_text : Command → RecordedEvent → List ℕ
+both_text command event = sends_text command ++ (codes ", recorded " ++ event_text event)
+
+-- the same of a pairing; `nothing` stands for the one that is missing
+abbrev pub sides_text : Pairing → List ℕ
+sides_text (Alike command event) = both_text command event
+sides_text (Different command event) = both_text command event
+sides_text (CommandMissing event) = codes "sends nothing, recorded " ++ event_text event
+sides_text (CommandExtra command) = sends_text command ++ codes ", recorded nothing"
+
+-- that they differ, if so
+abbrev pub differs_text : Pairing → List ℕ
+differs_text pairing = if differs pairing then codes ", differs" else []
+
+-- what is sent, what is recorded, and that they differ, if so
+unfoldable pub pairing_line : Pairing → List ℕ
+pairing_line pairing = codes "  " ++ (sides_text pairing ++ (differs_text pairing ++ 10 ∷ []))
+
+-- how a task of these steps ends
+abbrev pub ending_text : List Step → Ending → List ℕ
+ending_text steps Refused = refuses_line (last_command steps)
+ending_text steps (Live sent) = flat_map sends_line sent ++ codes "  not recorded yet\n"
+ending_text steps (Recorded pairings) = flat_map pairing_line pairings
+
+-- a task: its number, its steps, its ending
+abbrev pub task_text : ExplainedTask → List ℕ
+task_text task =
+    (codes "task at " ++ (decimal task.at ++ 10 ∷ []))
+    ++ (flat_map step_text task.steps ++ ending_text task.steps task.ending)
+
+-- `no code for the workflow type NAME`, where there is none, shown as names in reports are
+abbrev pub unknown_line : Option (List ℕ) → List ℕ
+unknown_line None = []
+unknown_line (Some kind) = codes "no code for the workflow type " ++ (shown kind ++ 10 ∷ [])
+
+-- the whole text: the workflow type, where there is no code for it, the tasks in their order, and
+-- the line of the file as in the report of replay
+unfoldable pub explanation_text : Explanation → List ℕ
+explanation_text explanation =
+    unknown_line explanation.unknown ++ (flat_map task_text explanation.tasks ++ line_text explanation.line)

@@ -1,0 +1,374 @@
+//! An explanation as JSON.
+
+ghost use Rattle.std.specs.Prelude.{◌≡◌, ◌∷◌, ◌++◌, Some, OnOk, codes, option_map};
+ghost use Rattle.std.specs.Fmt.{DisplaysOnOk};
+ghost use Rattle.std.specs.List.{flat_map};
+ghost use Rattle.std.specs.Io.KnownBytes.{Appends};
+ghost use Rattle.wh_events.specs.Phrases.{phrase_seen};
+ghost use Rattle.wh_explain_report.specs.Texts.{last_command};
+ghost use Rattle.wh_explain_report.specs.Json.{word_member, detail_members, phrase_json, job_json, command_json};
+ghost use Rattle.wh_explain_report.specs.Private.Json.{keys_seen};
+ghost use Rattle.wh_explain_report.specs.Json.{event_json, gives_object, step_objects, refuses_object, recorded_member};
+ghost use Rattle.wh_explain_report.specs.Json.{both_members, sends_member, sends_object, pairing_members, pairing_object, ending_objects, task_objects};
+ghost use Rattle.wh_explain_report.specs.Json.{difference_members, json_explanation, last_object, unknown_object};
+ghost use Rattle.wh_explain.specs.Differences.{difference_at, if_differs, last_difference, last_of};
+ghost use Rattle.wh_tester.specs.Json.{following};
+
+use crate::keys::{Keys, command_keys, job_keys, kind_keys};
+use crate::phrase::event_phrase;
+use crate::times::TimeText;
+use std::io::Write;
+use std::{fmt, io};
+use wh_events::{Detail, Phrase, Text};
+use wh_explain::{Ending, ExplainedTask, Explanation, Pairing, RecordedEvent, Step, differs};
+use wh_tester::{EscapedName, write_open_json_line};
+use wh_workflow::{Command, Job};
+
+/// A word as a member after another one, where there is a word.
+#[derive(Drop)]
+struct WordMember<'a>(&'static str, Option<&'a str>);
+
+impl fmt::Display for WordMember<'_> {
+    ghost output = { λ w. Some (word_member w.0.now (option_map (λ s. s.now) w.1)) };
+
+    fn fmt<W: fmt::Write>(&self, f: &mut fmt::Formatter<W>) -> fmt::Result {
+        match self.1 {
+            Some(word) => {
+                let key = self.0;
+                let word = EscapedName(word);
+                write!(f, ",\"{key}\":\"{word}\"")
+            }
+            None => Ok(()),
+        }
+    }
+}
+
+/// The members of what stands after ids and types.
+#[derive(Clone, Copy)]
+struct DetailMembers(Detail);
+
+impl fmt::Display for DetailMembers {
+    ghost output = { λ d. Some (detail_members d.0) };
+
+    fn fmt<W: fmt::Write>(&self, f: &mut fmt::Formatter<W>) -> fmt::Result {
+        match self.0 {
+            Detail::Nothing => Ok(()),
+            Detail::Time(time) => {
+                let time = TimeText(time);
+                write!(f, ",\"time\":\"{time}\"")
+            }
+            Detail::Seconds(seconds) => write!(f, ",\"seconds\":{seconds}"),
+            Detail::Version(version) => write!(f, ",\"version\":{version}"),
+            Detail::Range { min, max } => write!(f, ",\"min\":{min},\"max\":{max}"),
+        }
+    }
+}
+
+/// The kind of a phrase as a string, and its other members under these keys.
+#[derive(Clone, Copy)]
+struct PhraseJson<'a>(Keys, Phrase<'a>);
+
+impl fmt::Display for PhraseJson<'_> {
+    ghost output = { λ p. Some (phrase_json (keys_seen p.0) (phrase_seen p.1)) };
+
+    fn fmt<W: fmt::Write>(&self, f: &mut fmt::Formatter<W>) -> fmt::Result {
+        let kind = EscapedName(self.1.kind);
+        let id = WordMember(self.0.id, self.1.id);
+        let name = WordMember(self.0.name, self.1.name);
+        let detail = DetailMembers(self.1.detail);
+        write!(f, "\"{kind}\"{id}{name}{detail}")
+    }
+}
+
+/// A command, and its members.
+#[derive(Drop)]
+struct CommandJson<'a>(&'a Command);
+
+impl fmt::Display for CommandJson<'_> {
+    ghost output = { λ c. Some (command_json c.0.now) };
+
+    fn fmt<W: fmt::Write>(&self, f: &mut fmt::Formatter<W>) -> fmt::Result {
+        let phrase = PhraseJson(command_keys(self.0), self.0.phrase());
+        write!(f, "{phrase}")
+    }
+}
+
+/// A recorded event, as a member.
+#[derive(Drop)]
+struct RecordedMember<'a>(&'a RecordedEvent);
+
+impl fmt::Display for RecordedMember<'_> {
+    ghost output = { λ t. Some (recorded_member t.0.now) };
+
+    fn fmt<W: fmt::Write>(&self, f: &mut fmt::Formatter<W>) -> fmt::Result {
+        let number = self.0.number.get();
+        let phrase = PhraseJson(kind_keys(&self.0.kind), event_phrase(self.0));
+        write!(f, "\"recorded\":{{\"event\":{number},\"type\":{phrase}}}")
+    }
+}
+
+/// Writes what is sent and what is recorded, as members.
+fn write_both<W: fmt::Write>(
+    command: &Command,
+    event: &RecordedEvent,
+    f: &mut fmt::Formatter<W>,
+) -> fmt::Result
+    ensures { let text = both_members command.now event.now in
+        DisplaysOnOk W.write_str_gives f.old result (Some text) f.new }
+{
+    let command = CommandJson(command);
+    let event = RecordedMember(event);
+    write!(f, "\"sends\":{command},{event}")
+}
+
+/// A command and the event in its place, as members: what is sent and what is recorded, with `null`
+/// for the one that is missing.
+#[derive(Drop)]
+struct PairingMembers<'a>(&'a Pairing);
+
+impl fmt::Display for PairingMembers<'_> {
+    ghost output = { λ p. Some (pairing_members p.0.now) };
+
+    fn fmt<W: fmt::Write>(&self, f: &mut fmt::Formatter<W>) -> fmt::Result {
+        match self.0 {
+            Pairing::Alike { command, event } => write_both(command, event, f),
+            Pairing::Different { command, event } => write_both(command, event, f),
+            Pairing::CommandMissing { event } => {
+                let event = RecordedMember(event);
+                write!(f, "\"sends\":null,{event}")
+            }
+            Pairing::CommandExtra { command } => {
+                let command = CommandJson(command);
+                write!(f, "\"sends\":{command},\"recorded\":null")
+            }
+        }
+    }
+}
+
+/// What is sent and what is recorded where they differ, as members after others, if they do.
+#[derive(Drop)]
+pub struct DifferenceMembers<'a>(pub Option<&'a Pairing>);
+
+impl fmt::Display for DifferenceMembers<'_> {
+    ghost output = { λ m. Some (following (difference_members (option_map (λ p. p.now) m.0))) };
+
+    fn fmt<W: fmt::Write>(&self, f: &mut fmt::Formatter<W>) -> fmt::Result {
+        match self.0 {
+            None => Ok(()),
+            Some(pairing) => {
+                let members = PairingMembers(pairing);
+                write!(f, ",{members}")
+            }
+        }
+    }
+}
+
+/// The object of the workflow type that there is no code for, if it is so.
+#[derive(Drop)]
+struct UnknownObject<'a>(Option<&'a str>);
+
+impl fmt::Display for UnknownObject<'_> {
+    ghost output = { λ u. Some (unknown_object (option_map (λ s. s.now) u.0)) };
+
+    fn fmt<W: fmt::Write>(&self, f: &mut fmt::Formatter<W>) -> fmt::Result {
+        match self.0 {
+            Some(kind) => {
+                let kind = EscapedName(kind);
+                write!(f, "{{\"unknownWorkflow\":\"{kind}\"}}\n")
+            }
+            None => Ok(()),
+        }
+    }
+}
+
+/// Writes the workflow type that there is no code for, if it is so.
+fn write_unknown<O: Write>(unknown: &Option<Text>, writer: &mut O) -> io::Result<()>
+    ensures { OnOk result (Appends (O.contents writer.old) (O.contents writer.new) (unknown_object unknown.now)) }
+{
+    let line = match unknown {
+        Some(kind) => UnknownObject(Some(kind.get())),
+        None => UnknownObject(None),
+    };
+    write!(writer, "{line}")
+}
+
+/// Writes an object for each command that was given at a job.
+fn write_commands<O: Write>(commands: &[Command], writer: &mut O) -> io::Result<()>
+    ensures { OnOk result
+        (Appends (O.contents writer.old) (O.contents writer.new) (flat_map gives_object commands.now)) }
+{
+    for command in commands {
+        let command = CommandJson(command);
+        write!(writer, "{{\"gives\":{command}}}\n")?;
+    }
+    Ok(())
+}
+
+/// Writes the objects of a step.
+fn write_step<O: Write>(step: &Step, writer: &mut O) -> io::Result<()>
+    ensures { OnOk result (Appends (O.contents writer.old) (O.contents writer.new) (step_objects step.now)) }
+{
+    let job = PhraseJson(job_keys(step.job()), step.job().phrase());
+    write!(writer, "{{\"told\":{job}}}\n")?;
+    write_commands(step.commands(), writer)
+}
+
+/// Writes the objects of steps.
+fn write_steps<O: Write>(steps: &[Step], writer: &mut O) -> io::Result<()>
+    ensures { OnOk result (Appends (O.contents writer.old) (O.contents writer.new) (flat_map step_objects steps.now)) }
+{
+    for step in steps {
+        write_step(step, writer)?;
+    }
+    Ok(())
+}
+
+/// Writes which command is refused: the last one of the last step.
+fn write_refused<O: Write>(steps: &[Step], writer: &mut O) -> io::Result<()>
+    ensures { OnOk result
+        (Appends (O.contents writer.old) (O.contents writer.new) (refuses_object (last_command steps.now))) }
+{
+    let Some(step) = steps.last() else {
+        return Ok(());
+    };
+    let Some(command) = step.commands().last() else {
+        return Ok(());
+    };
+    let command = CommandJson(command);
+    write!(writer, "{{\"refuses\":{command}}}\n")
+}
+
+/// Writes an object for each command that a live task sends.
+fn write_sent<O: Write>(sent: &[Command], writer: &mut O) -> io::Result<()>
+    ensures { OnOk result (Appends (O.contents writer.old) (O.contents writer.new) (flat_map sends_object sent.now)) }
+{
+    for command in sent {
+        let command = CommandJson(command);
+        write!(writer, "{{\"sends\":{command}}}\n")?;
+    }
+    Ok(())
+}
+
+/// Writes the object of a command and the event in its place.
+fn write_pairing<O: Write>(pairing: &Pairing, writer: &mut O) -> io::Result<()>
+    ensures { OnOk result (Appends (O.contents writer.old) (O.contents writer.new) (pairing_object pairing.now)) }
+{
+    let members = PairingMembers(pairing);
+    let differs = differs(pairing);
+    write!(writer, "{{{members},\"differs\":{differs}}}\n")
+}
+
+/// Writes an object for each command and the event in its place.
+fn write_pairings<O: Write>(pairings: &[Pairing], writer: &mut O) -> io::Result<()>
+    ensures { OnOk result
+        (Appends (O.contents writer.old) (O.contents writer.new) (flat_map pairing_object pairings.now)) }
+{
+    for pairing in pairings {
+        write_pairing(pairing, writer)?;
+    }
+    Ok(())
+}
+
+/// Writes how a task of these steps ends.
+fn write_ending<O: Write>(steps: &[Step], ending: &Ending, writer: &mut O) -> io::Result<()>
+    ensures { OnOk result
+        (Appends (O.contents writer.old) (O.contents writer.new) (ending_objects steps.now ending.now)) }
+{
+    match ending {
+        Ending::Refused => write_refused(steps, writer),
+        Ending::Live { sent } => {
+            write_sent(sent.get(), writer)?;
+            write!(writer, "{{\"live\":true}}\n")
+        }
+        Ending::Recorded { pairings } => write_pairings(pairings.get(), writer),
+    }
+}
+
+/// Writes the objects of a task.
+fn write_task<O: Write>(task: &ExplainedTask, writer: &mut O) -> io::Result<()>
+    ensures { OnOk result (Appends (O.contents writer.old) (O.contents writer.new) (task_objects task.now)) }
+{
+    let at = task.at.get();
+    write!(writer, "{{\"task\":{at}}}\n")?;
+    write_steps(task.steps.get(), writer)?;
+    write_ending(task.steps.get(), &task.ending, writer)
+}
+
+/// Writes the objects of tasks.
+fn write_tasks<O: Write>(tasks: &[ExplainedTask], writer: &mut O) -> io::Result<()>
+    ensures { OnOk result (Appends (O.contents writer.old) (O.contents writer.new) (flat_map task_objects tasks.now)) }
+{
+    for task in tasks {
+        write_task(task, writer)?;
+    }
+    Ok(())
+}
+
+/// The last pairing, if what is sent differs there from what is recorded.
+fn last_differing(pairings: &[Pairing]) -> Option<&Pairing>
+    ensures { option_map (λ p. p.now) result ≡ if_differs (last_of pairings.now) }
+{
+    let pairing = pairings.last()?;
+    if differs(pairing) {
+        Some(pairing)
+    } else {
+        None
+    }
+}
+
+/// The difference that a task ends in, if it does.
+fn difference_at(ending: &Ending) -> Option<&Pairing>
+    ensures { option_map (λ p. p.now) result ≡ difference_at ending.now }
+{
+    match ending {
+        Ending::Refused | Ending::Live { .. } => None,
+        Ending::Recorded { pairings } => last_differing(pairings.get()),
+    }
+}
+
+/// The difference that tasks end in, if they do.
+fn last_difference(tasks: &[ExplainedTask]) -> Option<&Pairing>
+    ensures { option_map (λ p. p.now) result ≡ last_difference tasks.now }
+{
+    match tasks.last() {
+        Some(task) => difference_at(&task.ending),
+        None => None,
+    }
+}
+
+/// Writes the object of the file.
+fn write_last<O: Write>(explanation: &Explanation, writer: &mut O) -> io::Result<()>
+    ensures { OnOk result (Appends (O.contents writer.old) (O.contents writer.new) (last_object explanation.now)) }
+{
+    write_open_json_line(&explanation.line, writer)?;
+    let difference = DifferenceMembers(last_difference(explanation.tasks.get()));
+    write!(writer, "{difference}}}\n")
+}
+
+/// Writes an explanation as lines of JSON (RFC 8259): an object for each line of the text, with its
+/// parts. Each object stands on a line of its own, with no spaces between its parts, and each line
+/// ends with one line feed. Words are shown as names in the report of replay are.
+///
+/// The objects, in the order of the text's lines:
+/// - `{"unknownWorkflow":"NAME"}`, where there is no code for the workflow type;
+/// - `{"task":N}` of each task, then for each step `{"told":JOB}` and `{"gives":COMMAND}` for each
+///   command given at it;
+/// - `{"refuses":COMMAND}`, where the last command can't stand;
+/// - `{"sends":COMMAND,"recorded":{"event":N,"type":EVENT},"differs":false}` of a command and the
+///   event in its place, with `null` for the one that is missing;
+/// - `{"sends":COMMAND}` of a live task, then `{"live":true}`;
+/// - last the object of the file in the report of replay, as `wh_tester::write_json_line` writes it,
+///   with what is sent and what is recorded after it, where they differ.
+///
+/// A job, a command or an event is its name, and after that its members in Temporal's words, as
+/// `"activityId"`, `"activityType"`, `"timerId"`, `"time"` and `"seconds"`. After an error some of
+/// the lines may have been written.
+#[tactic(auto, unfolding(crate::specs::Json::json_explanation))]
+pub fn write_json_explanation<O: Write>(explanation: &Explanation, writer: &mut O) -> io::Result<()>
+    ensures { OnOk result
+        (Appends (O.contents writer.old) (O.contents writer.new) (json_explanation explanation.now)) }
+{
+    write_unknown(&explanation.unknown, writer)?;
+    write_tasks(explanation.tasks.get(), writer)?;
+    write_last(explanation, writer)
+}

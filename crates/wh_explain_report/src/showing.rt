@@ -1,0 +1,245 @@
+//! The text of an explanation.
+
+ghost use Rattle.std.specs.Prelude.{◌≡◌, ◌∷◌, ◌++◌, Some, OnOk, codes, option_map};
+ghost use Rattle.std.specs.Fmt.{DisplaysOnOk};
+ghost use Rattle.std.specs.List.{flat_map};
+ghost use Rattle.std.specs.Io.KnownBytes.{Appends};
+ghost use Rattle.wh_explain_report.specs.Texts.{both_text, differs_text, event_text, gives_line, last_command};
+ghost use Rattle.wh_explain_report.specs.Texts.{pairing_line, refuses_line, sends_line, sends_text, sides_text};
+ghost use Rattle.wh_explain_report.specs.Texts.{ending_text, step_text, task_text};
+ghost use Rattle.wh_explain_report.specs.Texts.{unknown_line, explanation_text};
+
+use crate::phrase::{PhraseText, event_phrase};
+use std::io::Write;
+use std::{fmt, io};
+use wh_events::Text;
+use wh_explain::{Ending, ExplainedTask, Explanation, Pairing, RecordedEvent, Step, differs};
+use wh_tester::{Shown, write_line};
+use wh_workflow::Command;
+
+/// The number and the phrase of a recorded event.
+#[derive(Drop)]
+struct EventText<'a>(&'a RecordedEvent);
+
+impl fmt::Display for EventText<'_> {
+    ghost output = { λ t. Some (event_text t.0.now) };
+
+    fn fmt<W: fmt::Write>(&self, f: &mut fmt::Formatter<W>) -> fmt::Result {
+        let number = self.0.number.get();
+        let phrase = PhraseText(event_phrase(self.0));
+        write!(f, "{number} {phrase}")
+    }
+}
+
+/// What is sent.
+#[derive(Drop)]
+struct SendsText<'a>(&'a Command);
+
+impl fmt::Display for SendsText<'_> {
+    ghost output = { λ t. Some (sends_text t.0.now) };
+
+    fn fmt<W: fmt::Write>(&self, f: &mut fmt::Formatter<W>) -> fmt::Result {
+        let phrase = PhraseText(self.0.phrase());
+        write!(f, "sends {phrase}")
+    }
+}
+
+/// Writes what is sent and what is recorded.
+fn write_both<W: fmt::Write>(
+    command: &Command,
+    event: &RecordedEvent,
+    f: &mut fmt::Formatter<W>,
+) -> fmt::Result
+    ensures { let text = both_text command.now event.now in
+        DisplaysOnOk W.write_str_gives f.old result (Some text) f.new }
+{
+    let sends = SendsText(command);
+    let event = EventText(event);
+    write!(f, "{sends}, recorded {event}")
+}
+
+/// A command and the event in its place, as text: what is sent and what is recorded, with `nothing`
+/// for the one that is missing.
+#[derive(Drop)]
+pub struct SidesText<'a>(pub &'a Pairing);
+
+impl fmt::Display for SidesText<'_> {
+    ghost output = { λ p. Some (sides_text p.0.now) };
+
+    fn fmt<W: fmt::Write>(&self, f: &mut fmt::Formatter<W>) -> fmt::Result {
+        match self.0 {
+            Pairing::Alike { command, event } => write_both(command, event, f),
+            Pairing::Different { command, event } => write_both(command, event, f),
+            Pairing::CommandMissing { event } => {
+                let event = EventText(event);
+                write!(f, "sends nothing, recorded {event}")
+            }
+            Pairing::CommandExtra { command } => {
+                let sends = SendsText(command);
+                write!(f, "{sends}, recorded nothing")
+            }
+        }
+    }
+}
+
+/// That what is sent differs from what is recorded, if so.
+fn differs_text(pairing: &Pairing) -> &'static str
+    ensures { result.now ≡ differs_text pairing.now }
+{
+    if differs(pairing) { ", differs" } else { "" }
+}
+
+/// The line of the workflow type that there is no code for, if it is so.
+#[derive(Drop)]
+struct UnknownLine<'a>(Option<&'a str>);
+
+impl fmt::Display for UnknownLine<'_> {
+    ghost output = { λ u. Some (unknown_line (option_map (λ s. s.now) u.0)) };
+
+    fn fmt<W: fmt::Write>(&self, f: &mut fmt::Formatter<W>) -> fmt::Result {
+        match self.0 {
+            Some(kind) => {
+                let kind = Shown(kind);
+                write!(f, "no code for the workflow type {kind}\n")
+            }
+            None => Ok(()),
+        }
+    }
+}
+
+/// Writes the workflow type that there is no code for, if it is so.
+fn write_unknown<O: Write>(unknown: &Option<Text>, writer: &mut O) -> io::Result<()>
+    ensures { OnOk result (Appends (O.contents writer.old) (O.contents writer.new) (unknown_line unknown.now)) }
+{
+    let line = match unknown {
+        Some(kind) => UnknownLine(Some(kind.get())),
+        None => UnknownLine(None),
+    };
+    write!(writer, "{line}")
+}
+
+/// Writes a line for each command that was given at a job.
+fn write_commands<O: Write>(commands: &[Command], writer: &mut O) -> io::Result<()>
+    ensures { OnOk result (Appends (O.contents writer.old) (O.contents writer.new) (flat_map gives_line commands.now)) }
+{
+    for command in commands {
+        let phrase = PhraseText(command.phrase());
+        write!(writer, "    gives {phrase}\n")?;
+    }
+    Ok(())
+}
+
+/// Writes the lines of a step.
+fn write_step<O: Write>(step: &Step, writer: &mut O) -> io::Result<()>
+    ensures { OnOk result (Appends (O.contents writer.old) (O.contents writer.new) (step_text step.now)) }
+{
+    let phrase = PhraseText(step.job().phrase());
+    write!(writer, "  told {phrase}\n")?;
+    write_commands(step.commands(), writer)
+}
+
+/// Writes the lines of steps.
+fn write_steps<O: Write>(steps: &[Step], writer: &mut O) -> io::Result<()>
+    ensures { OnOk result (Appends (O.contents writer.old) (O.contents writer.new) (flat_map step_text steps.now)) }
+{
+    for step in steps {
+        write_step(step, writer)?;
+    }
+    Ok(())
+}
+
+/// Writes which command is refused: the last one of the last step.
+fn write_refused<O: Write>(steps: &[Step], writer: &mut O) -> io::Result<()>
+    ensures { OnOk result
+        (Appends (O.contents writer.old) (O.contents writer.new) (refuses_line (last_command steps.now))) }
+{
+    let Some(step) = steps.last() else {
+        return Ok(());
+    };
+    let Some(command) = step.commands().last() else {
+        return Ok(());
+    };
+    let phrase = PhraseText(command.phrase());
+    write!(writer, "  refuses {phrase}\n")
+}
+
+/// Writes a line for each command that a live task sends.
+fn write_sent<O: Write>(sent: &[Command], writer: &mut O) -> io::Result<()>
+    ensures { OnOk result (Appends (O.contents writer.old) (O.contents writer.new) (flat_map sends_line sent.now)) }
+{
+    for command in sent {
+        let sends = SendsText(command);
+        write!(writer, "  {sends}\n")?;
+    }
+    Ok(())
+}
+
+/// Writes the line of a command and the event in its place.
+#[tactic(auto, unfolding(crate::specs::Texts::pairing_line))]
+fn write_pairing<O: Write>(pairing: &Pairing, writer: &mut O) -> io::Result<()>
+    ensures { OnOk result (Appends (O.contents writer.old) (O.contents writer.new) (pairing_line pairing.now)) }
+{
+    let sides = SidesText(pairing);
+    let differs = differs_text(pairing);
+    write!(writer, "  {sides}{differs}\n")
+}
+
+/// Writes a line for each command and the event in its place.
+fn write_pairings<O: Write>(pairings: &[Pairing], writer: &mut O) -> io::Result<()>
+    ensures { OnOk result
+        (Appends (O.contents writer.old) (O.contents writer.new) (flat_map pairing_line pairings.now)) }
+{
+    for pairing in pairings {
+        write_pairing(pairing, writer)?;
+    }
+    Ok(())
+}
+
+/// Writes how a task of these steps ends.
+fn write_ending<O: Write>(steps: &[Step], ending: &Ending, writer: &mut O) -> io::Result<()>
+    ensures { OnOk result
+        (Appends (O.contents writer.old) (O.contents writer.new) (ending_text steps.now ending.now)) }
+{
+    match ending {
+        Ending::Refused => write_refused(steps, writer),
+        Ending::Live { sent } => {
+            write_sent(sent.get(), writer)?;
+            write!(writer, "  not recorded yet\n")
+        }
+        Ending::Recorded { pairings } => write_pairings(pairings.get(), writer),
+    }
+}
+
+/// Writes the lines of a task.
+fn write_task<O: Write>(task: &ExplainedTask, writer: &mut O) -> io::Result<()>
+    ensures { OnOk result (Appends (O.contents writer.old) (O.contents writer.new) (task_text task.now)) }
+{
+    let at = task.at.get();
+    write!(writer, "task at {at}\n")?;
+    write_steps(task.steps.get(), writer)?;
+    write_ending(task.steps.get(), &task.ending, writer)
+}
+
+/// Writes the lines of tasks.
+fn write_tasks<O: Write>(tasks: &[ExplainedTask], writer: &mut O) -> io::Result<()>
+    ensures { OnOk result (Appends (O.contents writer.old) (O.contents writer.new) (flat_map task_text tasks.now)) }
+{
+    for task in tasks {
+        write_task(task, writer)?;
+    }
+    Ok(())
+}
+
+/// Writes an explanation: the workflow type, where there is no code for it, the lines of its tasks
+/// in their order, and then the line of the file as in the report of replay. Each line ends with
+/// one line feed, and each name is shown as in that report. After an error some of the text may
+/// have been written.
+#[tactic(auto, unfolding(crate::specs::Texts::explanation_text))]
+pub fn write_explanation<O: Write>(explanation: &Explanation, writer: &mut O) -> io::Result<()>
+    ensures { OnOk result
+        (Appends (O.contents writer.old) (O.contents writer.new) (explanation_text explanation.now)) }
+{
+    write_unknown(&explanation.unknown, writer)?;
+    write_tasks(explanation.tasks.get(), writer)?;
+    write_line(&explanation.line, writer)
+}
