@@ -5,7 +5,7 @@ use crate::{Order, OrderState, receipt};
 use std::alloc::Global;
 use std::process::Abort;
 use wh_events::{Items, Payload, Text};
-use wh_queryable::{QueryResult, Queryable};
+use wh_queryable::{QueryResult, query_state};
 use wh_workflow::{ActivityEnd, ChildEnd, Command, Job, Meter, Workflow, no_payloads, text_of};
 
 fn text(rt: &impl Abort, alloc: Global, content: &str) -> Text {
@@ -224,7 +224,7 @@ fn a_charged_card_gives_back_what_it_was_charged_with(rt: HostRuntime) {
 
 /// What a query of an order gives, as a text: that of the only payload, or why there is none.
 fn queried(rt: &impl Abort, alloc: Global, state: &OrderState, query_type: &str) -> String {
-    let given = Order::query(alloc, state, query_type, &[]).expect(rt, "memory");
+    let given = query_state::<Order>(alloc, state, query_type, &[]).expect(rt, "memory");
     let text = match &given {
         QueryResult::Answered(payloads) => match payloads.get() {
             [only] => str::from_utf8(only.content.get()).expect(rt, "a text"),

@@ -1,40 +1,73 @@
 -- What is written of a query.
-use Rattle.std.specs.Prelude.{ℕ, Bool, ◌&&◌, List, [], ◌∷◌, ◌++◌, codes, bytes_eq, is_some, if◌then◌else◌}
-use Rattle.std.specs.List.{flat_map}
+use Rattle.std.specs.Prelude.{◌==◌, ℕ, Bool, ◌&&◌, List, [], ◌∷◌, ◌++◌, codes, bytes_eq, is_some, not, if◌then◌else◌}
+use Rattle.std.specs.List.{flat_map, list_any}
 use Rattle.base64.specs.Engines.{standard}
 use Rattle.base64.specs.GeneralPurpose.{encode_of}
+use Rattle.wh_console.specs.declared.format.Format.{Format}
+use Rattle.wh_console.specs.declared.format.Format.TheVariants as formats
 use Rattle.wh_events.specs.declared.event.Payload.{Payload}
 use Rattle.wh_json.specs.Fields.{document}
+use Rattle.wh_report.specs.Reports.{json_record}
+use Rattle.wh_report.specs.declared.records.Record.{Record}
+use Rattle.wh_tester.specs.Json.{escaped}
 use Rattle.wh_tester.specs.Report.{line_text, shown}
 use Rattle.wh_queryable.specs.declared.queryable.QueryResult.{QueryResult}
 use Rattle.wh_queryable.specs.declared.queryable.QueryResult.TheVariants.{Answered, Failed}
 use Rattle.wh_query_report.specs.declared.queried.Queried.{Queried}
-use Rattle.wh_query_report.specs.declared.queried.Queried.TheVariants.{Replayed, Unreplayed}
 
--- the payload is a JSON text under the encoding json/plain
+-- the text is on one line: no byte of it is a line feed
+abbrev pub is_on_one_line : List ℕ → Bool
+is_on_one_line text = not (list_any (λ byte. byte == 10) text)
+
+-- the payload is a JSON text under the encoding json/plain, on one line
 abbrev pub is_plain : Payload → Bool
-is_plain payload = bytes_eq payload.encoding (codes "json/plain") && is_some (document payload.content)
+is_plain payload =
+    bytes_eq payload.encoding (codes "json/plain")
+    && (is_on_one_line payload.content && is_some (document payload.content))
 
 -- an object with the encoding and the content of a payload in base64
 abbrev pub encoded_payload : Payload → List ℕ
 encoded_payload payload =
     codes "{\"data\":\"" ++ (encode_of standard payload.content ++ (codes "\",\"metadata\":{\"encoding\":\""
-    ++ (encode_of standard payload.encoding ++ codes "\"}}\n")))
+    ++ (encode_of standard payload.encoding ++ codes "\"}}")))
 
--- a payload on a line
-abbrev pub payload_line : Payload → List ℕ
-payload_line payload = if is_plain payload then payload.content ++ 10 ∷ [] else encoded_payload payload
+-- a payload as JSON
+abbrev pub payload_text : Payload → List ℕ
+payload_text payload = if is_plain payload then payload.content else encoded_payload payload
 
--- the line of a query that failed
-abbrev pub failed_text : List ℕ → List ℕ → List ℕ
-failed_text name reason = shown name ++ (codes ": query failed, " ++ (shown reason ++ codes "\n"))
+-- payloads on a line each
+abbrev pub payload_lines : List Payload → List ℕ
+payload_lines payloads = flat_map (λ payload. payload_text payload ++ 10 ∷ []) payloads
 
--- what is written of the result of a query of a file of this name
-abbrev pub result_text : List ℕ → QueryResult → List ℕ
-result_text name (Answered payloads) = flat_map payload_line payloads
-result_text name (Failed reason) = failed_text name reason
+-- payloads with a comma in front of each
+abbrev pub after_commas : List Payload → List ℕ
+after_commas payloads = flat_map (λ payload. 44 ∷ payload_text payload) payloads
 
--- what is written of a query: its result, or the line of the file in the report of replay
-abbrev pub queried_text : Queried → List ℕ
-queried_text (Replayed name given) = result_text name given
-queried_text (Unreplayed own) = line_text own.line
+-- payloads with a comma between them
+abbrev pub payload_list : List Payload → List ℕ
+payload_list [] = []
+payload_list (first ∷ others) = payload_text first ++ after_commas others
+
+-- the result of a query
+abbrev pub result_text : QueryResult → List ℕ
+result_text (Answered payloads) = payload_lines payloads
+result_text (Failed reason) = codes "query failed, " ++ (shown reason ++ codes "\n")
+
+-- the same as an object on a line
+abbrev pub result_object : QueryResult → List ℕ
+result_object (Answered payloads) = codes "{\"queryResult\":[" ++ (payload_list payloads ++ codes "]}\n")
+result_object (Failed reason) = codes "{\"queryFailed\":\"" ++ (escaped (shown reason) ++ codes "\"}\n")
+
+-- the result of a query, as text or as JSON
+abbrev pub result_as : Format → QueryResult → List ℕ
+result_as formats.Text given = result_text given
+result_as formats.Json given = result_object given
+
+-- what the report of replay has of a file, as text or as JSON
+abbrev pub record_as : Format → Record → List ℕ
+record_as formats.Text own = line_text own.line
+record_as formats.Json own = json_record own
+
+-- what is written of a query: what the report of replay has of the file, and then the result
+abbrev pub queried_as : Format → Queried → List ℕ
+queried_as format queried = record_as format queried.own ++ result_as format queried.given

@@ -1,109 +1,110 @@
 //! The command `query` over a file that is there already.
 
-ghost use Rattle.std.specs.Prelude.{◌≡◌, ◌≢◌, Err, IfOk, OnOk};
+ghost use Rattle.std.specs.Prelude.{◌≡◌, ◌≢◌, ◌++◌, Err, IfOk, OnOk};
 ghost use Rattle.std.specs.Io.KnownBytes.{Appends};
-ghost use Rattle.wh_query_report.specs.Queried.{HasQueried, status_of};
-ghost use Rattle.wh_tester.specs.Report.{line_text};
-ghost use Rattle.wh_query_report.specs.Texts.{queried_text};
+ghost use Rattle.wh_query_report.specs.Queried.{IsQueried, is_answered, status_of};
+ghost use Rattle.wh_query_report.specs.Texts.{queried_as, record_as};
 
 use crate::queried::{Queried, query_file};
-use crate::texts::result_text;
+use crate::texts::result_as;
 use std::alloc::Global;
+use std::io;
 use std::io::Write;
-use wh_events::Payload;
-use wh_queryable::{QueryResult, Queryable};
-use wh_report::CommandFault;
-use wh_tester::{Line, write_line};
+use wh_console::Format;
+use wh_queryable::{Query, QueryResult, Queryable};
+use wh_report::{CommandFault, Record, write_json_record};
+use wh_tester::{is_good, write_line};
 
-/// The status of a query: 0 where it was answered, and else 1.
-fn status_of(queried: &Queried) -> u8
-    ensures { result ≡ status_of queried.now }
+/// Whether a query gave payloads.
+fn is_answered(given: &QueryResult) -> bool
+    ensures { result ≡ is_answered given.now }
 {
-    match queried {
-        Queried::Replayed {
-            given: QueryResult::Answered(_),
-            ..
-        } => 0,
-        _ => 1,
+    match given {
+        QueryResult::Answered(_) => true,
+        QueryResult::Failed(_) => false,
     }
 }
 
-/// Writes a text.
-fn write_text<O: Write>(text: &[u8], writer: &mut O) -> Result<(), CommandFault>
-    ensures written { OnOk result (Appends (O.contents writer.old) (O.contents writer.new) text.now) }
+/// The status of a query: 0 where the file is good and the query was answered, and else 1.
+pub fn status_of(queried: &Queried) -> u8
+    ensures { result ≡ status_of queried.now }
+{
+    if is_good(&queried.own.line.verdict) && is_answered(&queried.given) {
+        0
+    } else {
+        1
+    }
+}
+
+/// Writes what the report of replay has of a file.
+fn write_record<O: Write>(own: &Record, format: Format, writer: &mut O) -> io::Result<()>
+    ensures { OnOk result (Appends (O.contents writer.old) (O.contents writer.new) (record_as format own.now)) }
+{
+    match format {
+        Format::Text => write_line(&own.line, writer),
+        Format::Json => write_json_record(own, writer),
+    }
+}
+
+/// Writes what the report of replay has of a file, and then a text.
+fn write_all<O: Write>(
+    own: &Record,
+    format: Format,
+    text: &[u8],
+    writer: &mut O,
+) -> Result<(), CommandFault>
+    ensures written { OnOk result
+        (Appends (O.contents writer.old) (O.contents writer.new) (record_as format own.now ++ text.now)) }
     ensures output { result ≢ Err CommandFault.OutOfMemory }
 {
+    let Ok(()) = write_record(own, format, writer) else {
+        return Err(CommandFault::Output);
+    };
     match writer.write_all(text) {
         Ok(()) => Ok(()),
         Err(_) => Err(CommandFault::Output),
     }
 }
 
-/// Writes the line of a file in the report of replay.
-fn write_verdict<O: Write>(line: &Line, writer: &mut O) -> Result<(), CommandFault>
-    ensures written { OnOk result (Appends (O.contents writer.old) (O.contents writer.new) (line_text line.now)) }
-    ensures output { result ≢ Err CommandFault.OutOfMemory }
-{
-    match write_line(line, writer) {
-        Ok(()) => Ok(()),
-        Err(_) => Err(CommandFault::Output),
-    }
-}
-
-/// Writes what came of a query: a line for each payload, the reason why it failed, or the line of
-/// the file in the report of replay.
-fn write_queried<O: Write>(
+/// Writes what came of a query: what the report of replay has of the file, and then the result. A
+/// payload that is a JSON text under the encoding `json/plain`, on one line, is written as it is, and
+/// any other as an object with its encoding and its content in base64 (RFC 4648). As text each
+/// payload has a line, and so has the reason of a query that failed; as JSON (RFC 8259) the result is
+/// an object on a line, with `queryResult`, a list of the payloads, or `queryFailed`, the reason.
+/// Nothing is written where the answer is `OutOfMemory`.
+pub fn write_queried<O: Write>(
     alloc: Global,
     queried: &Queried,
+    format: Format,
     writer: &mut O,
 ) -> Result<(), CommandFault>
-    ensures written { OnOk result (Appends (O.contents writer.old) (O.contents writer.new) (queried_text queried.now)) }
+    ensures written { OnOk result
+        (Appends (O.contents writer.old) (O.contents writer.new) (queried_as format queried.now)) }
     ensures unwritten { result ≡ Err CommandFault.OutOfMemory → writer.new ≡ writer.old }
 {
-    match queried {
-        Queried::Replayed { name, given } => {
-            let Ok(text) = result_text(alloc, name.get(), given) else {
-                return Err(CommandFault::OutOfMemory);
-            };
-            write_text(text.as_slice(), writer)
-        }
-        Queried::Unreplayed(own) => write_verdict(&own.line, writer),
-    }
+    let Ok(text) = result_as(alloc, &queried.given, format) else {
+        return Err(CommandFault::OutOfMemory);
+    };
+    write_all(&queried.own, format, text.as_slice(), writer)
 }
 
-/// Writes what came of a query, and gives the status: 0 where it was answered, and else 1. A payload
-/// that is a JSON text under the encoding `json/plain` is written as it is, and any other as an
-/// object with its encoding and its content in base64 (RFC 4648), each with a line feed. Where the
-/// query failed the reason is written, and where the file can't be read or replayed its line in the
-/// report of replay. Nothing is written where the answer is `OutOfMemory`.
-pub fn report_queried<O: Write>(
-    alloc: Global,
-    queried: &Queried,
-    writer: &mut O,
-) -> Result<u8, CommandFault>
-    ensures written { OnOk result (Appends (O.contents writer.old) (O.contents writer.new) (queried_text queried.now)) }
-    ensures status { IfOk result (λ status. status ≡ status_of queried.now) }
-    ensures unwritten { result ≡ Err CommandFault.OutOfMemory → writer.new ≡ writer.old }
-{
-    write_queried(alloc, queried, writer)?;
-    Ok(status_of(queried))
-}
-
-/// Queries a history file, given by name and bytes, with the code of `W`, writes what came of it,
-/// and gives the status of `report_queried`. Nothing is written where the answer is `OutOfMemory`.
+/// Queries a history file, given by name and bytes, with the code of `W`, writes what came of it, and
+/// gives that. Nothing is written where the answer is `OutOfMemory`.
 pub fn query_command<W: Queryable, O: Write>(
     alloc: Global,
     file: (String, Vec<u8>),
-    query_type: &str,
-    input: &[Payload],
+    query: &Query,
+    format: Format,
     writer: &mut O,
-) -> Result<u8, CommandFault>
-    ensures queried { IfOk result (HasQueried W.program W.queries file query_type.now input.now
-        (O.contents writer.old) (O.contents writer.new)) }
+) -> Result<Queried, CommandFault>
+    ensures queried { IfOk result (IsQueried W.program W.queries file query.now) }
+    ensures written { IfOk result (λ queried.
+        Appends (O.contents writer.old) (O.contents writer.new) (queried_as format queried)) }
     ensures unwritten { result ≡ Err CommandFault.OutOfMemory → writer.new ≡ writer.old }
 {
-    let Ok(queried) = query_file::<W>(alloc, file, query_type, input) else {
+    let Ok(queried) = query_file::<W>(alloc, file, query) else {
         return Err(CommandFault::OutOfMemory);
     };
-    report_queried(alloc, &queried, writer)
+    write_queried(alloc, &queried, format, writer)?;
+    Ok(queried)
 }

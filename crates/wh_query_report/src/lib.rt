@@ -6,6 +6,8 @@ mod inputs;
 mod queried;
 mod texts;
 
-pub use commands::{query_command, report_queried};
-pub use inputs::json_input;
+pub use commands::{query_command, status_of, write_queried};
+pub use inputs::query_of;
 pub use queried::{Queried, query_file};
+pub use wh_console::Format;
+pub use wh_report::CommandFault;

@@ -1,69 +1,79 @@
 //! What a query of a history file gives.
 
 ghost use Rattle.std.specs.Prelude.{◌≡◌, IfOk};
-ghost use Rattle.wh_query_report.specs.Queried.{IsQueried, file_query};
+ghost use Rattle.wh_queryable.specs.declared.queryable.QueryResult.TheVariants.{Failed};
+ghost use Rattle.wh_tester.specs.Faults.{replay_fault_text};
+ghost use Rattle.wh_tester.specs.Report.{fault_text};
+ghost use Rattle.wh_query_report.specs.Queried.{IsQueried, file_result};
 
 use std::alloc::Global;
-use wh_events::{OutOfMemory, Payload, Text};
+use wh_events::{OutOfMemory, Text};
 use wh_json::{ReadFault, read_events};
 use wh_query::query_history;
-use wh_queryable::{QueryResult, Queryable};
-use wh_replay::RunFault;
+use wh_queryable::{Query, QueryResult, Queryable};
+use wh_replay::{Fault, RunFault};
 use wh_report::{Record, record_of};
+use wh_tester::{FaultText, ReplayFaultText};
 
 /// What came of a query of a history file.
 #[derive(Drop)]
-pub enum Queried {
-    /// The history was replayed.
-    Replayed {
-        /// The name of the file.
-        name: Text,
-        /// What the query gave.
-        given: QueryResult,
-    },
-    /// The file can't be read or replayed: this is its record in the report of replay.
-    Unreplayed(Record),
+pub struct Queried {
+    /// The record of the file in the report of replay.
+    pub own: Record,
+    /// What the query gave.
+    pub given: QueryResult,
 }
 
-/// What a query gives at the history of bytes, where they can be read and replayed.
+/// The result of a query of a file that can't be read.
+fn unread(alloc: Global, fault: &ReadFault) -> Result<QueryResult, OutOfMemory>
+    ensures { IfOk result (λ given. given ≡ Failed (fault_text fault.now)) }
+{
+    let fault = FaultText(fault);
+    let text = format!(in alloc; "{fault}")?;
+    Ok(QueryResult::Failed(Text::new(text)))
+}
+
+/// The result of a query of a history that can't be replayed.
+fn unreplayed(alloc: Global, fault: Fault) -> Result<QueryResult, OutOfMemory>
+    ensures { IfOk result (λ given. given ≡ Failed (replay_fault_text fault)) }
+{
+    let fault = ReplayFaultText(fault);
+    let text = format!(in alloc; "{fault}")?;
+    Ok(QueryResult::Failed(Text::new(text)))
+}
+
+/// What a query gives at the history of bytes.
 fn query_bytes<W: Queryable>(
     alloc: Global,
     bytes: &[u8],
-    query_type: &str,
-    input: &[Payload],
-) -> Result<Option<QueryResult>, OutOfMemory>
-    ensures { IfOk result (λ given.
-        given ≡ file_query W.program W.queries bytes.now query_type.now input.now) }
+    query: &Query,
+) -> Result<QueryResult, OutOfMemory>
+    ensures { IfOk result (λ given. given ≡ file_result W.program W.queries bytes.now query.now) }
 {
     let events = match read_events(alloc, bytes) {
         Ok(events) => events,
         Err(ReadFault::OutOfMemory) => return Err(OutOfMemory),
-        Err(_) => return Ok(None),
+        Err(fault) => return unread(alloc, &fault),
     };
-    match query_history::<W>(alloc, events, query_type, input) {
-        Ok(given) => Ok(Some(given)),
+    match query_history::<W>(alloc, events, query.query_type.get(), query.input.get()) {
+        Ok(given) => Ok(given),
         Err(RunFault::OutOfMemory) => Err(OutOfMemory),
-        Err(RunFault::Fault(_)) => Ok(None),
+        Err(RunFault::Fault(fault)) => unreplayed(alloc, fault),
     }
 }
 
-/// Queries a history file, given by name and bytes, with the code of `W`. A history that can be
-/// replayed is replayed once. `OutOfMemory` where an allocation was refused; it may also be the
-/// verdict of the record.
+/// Queries a history file, given by name and bytes, with the code of `W`, at the state that its last
+/// task leaves, whether or not that is completed or the run is closed. Where the file can't be read
+/// or replayed the query fails with the text of that fault. `OutOfMemory` where an allocation was
+/// refused; it may also be the verdict of the record.
 pub fn query_file<W: Queryable>(
     alloc: Global,
     file: (String, Vec<u8>),
-    query_type: &str,
-    input: &[Payload],
+    query: &Query,
 ) -> Result<Queried, OutOfMemory>
-    ensures { IfOk result (IsQueried W.program W.queries file query_type.now input.now) }
+    ensures { IfOk result (IsQueried W.program W.queries file query.now) }
 {
-    match query_bytes::<W>(alloc, file.1.as_slice(), query_type, input)? {
-        Some(given) => {
-            let (name, _bytes) = file;
-            let name = Text::new(name);
-            Ok(Queried::Replayed { name, given })
-        }
-        None => Ok(Queried::Unreplayed(record_of::<W>(alloc, file))),
-    }
+    let given = query_bytes::<W>(alloc, file.1.as_slice(), query)?;
+    let own = record_of::<W>(alloc, file);
+    Ok(Queried { own, given })
 }

@@ -7,5 +7,5 @@ mod queryable;
 mod results;
 
 pub use no_queries::NoQueries;
-pub use queryable::{Query, QueryResult, Queryable, query_state};
+pub use queryable::{Query, QueryResult, Queryable, is_built_in, query_state};
 pub use results::{json_result, unknown_query};

@@ -1,5 +1,5 @@
 //! Queries, and what a workflow answers to them.
-ghost use Rattle.std.specs.Prelude.{◌≡◌, IfOk};
+ghost use Rattle.std.specs.Prelude.{◌≡◌, IfOk, false};
 ghost use Rattle.wh_queryable.specs.Queries.{is_built_in, result_in};
 
 use crate::results::built_in_query;
@@ -39,24 +39,26 @@ impl QueryResult {
 
 /// A workflow that answers queries. One that knows none is `NoQueries` of it.
 pub trait Queryable: Workflow {
-    ghost use Rattle.wh_queryable.specs.Queries.{Queries};
+    ghost use Rattle.wh_queryable.specs.Queries.{Queries, is_built_in};
 
     /// What its query handlers give, as a function of the state, the query type and the input.
     ghost queries: { Queries Self.State };
 
     /// The query handlers: what a query gives in a state. A type that begins with two underscores
-    /// never comes here. `OutOfMemory` where there was no memory for the result.
+    /// never comes here; `query_state` takes any. `OutOfMemory` where there was no memory for the
+    /// result.
     fn query(
         alloc: Global,
         state: &Self::State,
         query_type: &str,
         input: &[Payload],
     ) -> Result<QueryResult, OutOfMemory>
+        requires { is_built_in query_type.now ≡ false }
         ensures { IfOk result (λ given. given ≡ queries state.now query_type.now input.now) };
 }
 
 /// Whether the query type is one that Temporal's SDKs keep for themselves, as `__stack_trace`.
-fn is_built_in(query_type: &str) -> bool
+pub fn is_built_in(query_type: &str) -> bool
     ensures { result ≡ is_built_in query_type.now }
 {
     query_type.starts_with("__")

@@ -1,5 +1,5 @@
-use Rattle.std.proofs.Common.{refl, ◌∙◌}
-use Rattle.wh_query_report.proofs.texts.encoded_text.Goals as goal
+use Rattle.std.proofs.Common.{refl}
+use Rattle.wh_query_report.proofs.texts.encoded_payload.Goals as goal
 
 -- the text, with the base64 of the encoding and of the content in it
 pub returns : goal.returns
