@@ -1,8 +1,10 @@
 -- What the workers of a host poll.
 use Rattle.std.specs.List.{Contains}
-use Rattle.std.specs.Prelude.{◌≡◌, ◌<◌, ◌≤◌, ℕ, zero, suc, ◌/◌, max, Bool, true, nat_lt, nat_le, if◌then◌else◌, List, [], ◌∷◌, ◌++◌}
+use Rattle.std.specs.Prelude.{◌≡◌, ◌<◌, ◌≤◌, ℕ, zero, suc, ◌/◌, max, Bool, true, nat_lt, nat_le, if◌then◌else◌, List, [], ◌∷◌, ◌++◌, map}
 use Rattle.wh_client.specs.declared.options.Role.{Role}
 use Rattle.wh_client.specs.declared.options.Role.TheVariants.{Normal, Sticky, Activities}
+use Rattle.wh_live.specs.Deliveries.{LiveView, fresh}
+use Rattle.wh_messages.specs.declared.names.WorkerNames.{WorkerNames}
 
 -- how many workflow workers poll the queue of all workers: with a cache one in five, and at least one, else all
 abbrev pub normal_workers : ℕ → Bool → ℕ
@@ -17,6 +19,10 @@ role_at normal workers place =
 abbrev pub roles_of : ℕ → ℕ → ℕ → List Role
 roles_of normal workers zero = []
 roles_of normal workers (suc count) = roles_of normal workers count ++ role_at normal workers count ∷ []
+
+-- a source for each of so many workers, which has polled nothing
+abbrev pub sources_of : WorkerNames → ℕ → ℕ → ℕ → List LiveView
+sources_of names normal workers count = map (λ role. fresh role names) (roles_of normal workers count)
 
 -- ---- Laws
 

@@ -1,2 +1,3 @@
 pub mod Crews
-pub mod Private
+pub mod Counts
+pub mod Serving

@@ -1,8 +1,8 @@
 //! The workers of a host.
 
 ghost use Rattle.std.specs.Prelude.{◌≡◌, ◌≤◌, ◌<◌, true, IfOk, Some, is_some, map, replicate, vec_len};
-ghost use Rattle.wh_crew.specs.Crews.{normal_workers, role_at, roles_of};
-ghost use Rattle.wh_crew.specs.Private.Counts.{tallies_of};
+ghost use Rattle.wh_crew.specs.Counts.{tallies_of};
+ghost use Rattle.wh_crew.specs.Crews.{normal_workers, role_at, sources_of};
 
 use std::alloc::Global;
 use wh_client::{Connection, LiveOptions, Role};
@@ -50,8 +50,9 @@ pub(crate) fn setups_of<'a, L: Connection, A: Drop, O: Drop>(
 ) -> Result<Vec<WorkerSetup<LiveSource<'a, L>, A, O>>, OutOfMemory>
     ensures count { IfOk result (λ setups. vec_len setups ≡ vec_len crew) }
     ensures members { IfOk result (λ setups. map (λ setup. (setup.handler, setup.observer)) setups.items ≡ crew.items) }
-    ensures roles { IfOk result (λ setups. map (λ setup. setup.source.role) setups.items
-        ≡ roles_of (normal_workers workers (is_some options.entry.now.sticky)) workers (vec_len crew)) }
+    ensures sources { IfOk result (λ setups. map (λ setup. setup.source) setups.items
+        ≡ sources_of options.entry.now.names (normal_workers workers (is_some options.entry.now.sticky)) workers
+        (vec_len crew)) }
     ensures turns { IfOk result (λ setups. map (λ setup. setup.turns) setups.items ≡ replicate (vec_len crew) u64.MAX) }
 {
     let normal = normal_workers(workers, options.sticky.is_some());

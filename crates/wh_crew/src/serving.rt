@@ -1,6 +1,7 @@
 //! A host whose tasks a server gives.
 
 ghost use Rattle.std.specs.Prelude.{◌≡◌, ◌+◌, ◌↔◌, Err, IfOk, vec_len};
+ghost use Rattle.wh_crew.specs.Serving.{HasServed};
 ghost use Rattle.wh_host.specs.Machine.{IsConfig};
 
 use crate::bridge_connection::BridgeConnection;
@@ -81,6 +82,7 @@ pub fn serve_live<
     companion: Option<&P>,
 ) -> Result<LiveEnd, OpenFault>
     ensures bad { (result ≡ Err OpenFault.BadConfig) ↔ (¬ (IsConfig config × (config.seats ≡ vec_len crew))) }
+    ensures served { IfOk result (HasServed W.program A.may O.hears config options.now workers crew.items) }
     ensures balanced { IfOk result (λ end.
         end.totals.taken ≡ end.totals.completed + end.totals.failed + end.totals.in_hand) }
 {

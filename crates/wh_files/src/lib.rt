@@ -452,3 +452,18 @@ pub fn read_input<R: Files + AllocGlobal>(rt: &R, origin: Origin) -> Result<Vec<
         },
     }
 }
+
+/// Replaces what a file has, whole: who reads it sees what it had before or these bytes, and no part of
+/// them. They are written at `beside`, a path in the same folder, and that file then gets the name of
+/// the other one (POSIX, `rename`). After an error the file is as it was, and another one may be left
+/// at `beside`.
+pub fn replace_file<R: Files>(
+    rt: &R,
+    path: &str,
+    beside: &str,
+    bytes: &[u8],
+) -> Result<(), FolderFault> {
+    fs::write(rt, beside, bytes)?;
+    fs::rename(rt, beside, path)?;
+    Ok(())
+}

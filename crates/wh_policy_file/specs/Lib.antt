@@ -3,3 +3,4 @@ pub mod Tables
 pub mod Retries
 pub mod Kinds
 pub mod Policies
+pub mod Lines

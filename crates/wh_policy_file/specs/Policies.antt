@@ -1,11 +1,14 @@
 -- What a text gives.
-use Rattle.std.specs.Prelude.{◌≡◌, ℕ, List, Bool, ◌||◌, bytes_eq, codes, Some}
+use Rattle.std.specs.Prelude.{◌≡◌, ◌<◌, ℕ, List, Bool, ◌||◌, bytes_eq, codes, length, Some, None}
+use Rattle.std.specs.Str.{IsUtf8}
 use Rattle.toml.specs.Data.{Members}
 use Rattle.toml.specs.Parse.{parse_document}
 use Rattle.wh_policies.specs.Defaults as plain
 use Rattle.wh_policies.specs.declared.policies.Policies.{Policies}
 use Rattle.wh_policy_file.specs.Kinds.{GivesActivity, GivesChild, GivesContinuation, GivesFailure}
 use Rattle.wh_policy_file.specs.Tables.{AllKnown, GivesTable}
+use Rattle.wh_policy_file.specs.declared.fault.PolicyFault.{PolicyFault}
+use Rattle.wh_policy_file.specs.declared.fault.PolicyFault.TheVariants.{TooLong, NoText, NoToml}
 
 -- the tables of a text
 abbrev pub knows_table : List ℕ → Bool
@@ -28,3 +31,10 @@ pub record IsRead (seconds attempts : ℕ) (text : List ℕ) (policies : Policie
   pub parsed : parse_document text ≡ Some document
   pub known : AllKnown knows_table document
   pub given : GivesPolicies document (plain.policies seconds attempts) policies
+
+-- why the text is refused
+abbrev pub IsRefused : List ℕ → PolicyFault → Type 0
+IsRefused text TooLong = 65536 < length text
+IsRefused text NoText = ¬ (IsUtf8 text)
+IsRefused text (NoToml line reason) = parse_document text ≡ None
+IsRefused text _ = Unit {0}

@@ -3,60 +3,79 @@
 use std::alloc::{AllocError, AllocFailed, Global};
 use wh_events::{OutOfMemory, Text};
 
-/// Why a text gives no policies.
+/// Why a text gives no policies. Lines are counted from 1.
 #[derive(Debug, Drop)]
 pub enum PolicyFault {
+    /// It has more than 65,536 bytes.
+    TooLong,
     /// It is no text in UTF-8.
     NoText,
     /// It is no TOML.
     NoToml {
-        /// What is wrong, with the line and the column; each of its lines is ended.
+        /// The line in which it stops being TOML.
+        line: u64,
+        /// What is wrong there.
         reason: Text,
     },
     /// A key is not known.
     UnknownKey {
         /// The key, below the keys of its tables, with a point between each two.
         key: Text,
+        /// The line in which it, and what stands at it, ends.
+        line: u64,
     },
     /// What stands at a key is of another type, or out of its range.
     BadValue {
         /// The key, below the keys of its tables, with a point between each two.
         key: Text,
+        /// The line in which it, and what stands at it, ends.
+        line: u64,
     },
     /// There was no memory. This can come in place of all policies and of every fault.
     OutOfMemory,
 }
 
-impl From<AllocError> for PolicyFault {
+/// Why a table gives nothing.
+#[derive(Debug, Drop)]
+pub(crate) enum KeyFault {
+    /// A key of it is not known.
+    Unknown { key: Text },
+    /// What stands at a key of it is of another type, or out of its range.
+    Bad { key: Text },
+    /// There was no memory. This can come in place of every fault.
+    OutOfMemory,
+}
+
+impl From<AllocError> for KeyFault {
     ghost use Rattle.std.specs.Prelude.{◌≡◌};
-    ghost use Rattle.wh_policy_file.specs.declared.fault.PolicyFault.TheVariants.{OutOfMemory as NoMemory};
+    ghost use Rattle.wh_policy_file.specs.declared.fault.KeyFault.TheVariants.{OutOfMemory as NoMemory};
 
     ghost from_gives = { λ _ fault. fault ≡ NoMemory };
 
-    fn from(_refused: AllocError) -> PolicyFault {
-        PolicyFault::OutOfMemory
+    fn from(_refused: AllocError) -> KeyFault {
+        KeyFault::OutOfMemory
     }
 }
 
-impl<T: Drop> From<AllocFailed<T>> for PolicyFault {
+impl<T: Drop> From<AllocFailed<T>> for KeyFault {
     ghost use Rattle.std.specs.Prelude.{◌≡◌};
-    ghost use Rattle.wh_policy_file.specs.declared.fault.PolicyFault.TheVariants.{OutOfMemory as NoMemory};
+    ghost use Rattle.wh_policy_file.specs.declared.fault.KeyFault.TheVariants.{OutOfMemory as NoMemory};
 
     ghost from_gives = { λ _ fault. fault ≡ NoMemory };
 
-    fn from(_refused: AllocFailed<T>) -> PolicyFault {
-        PolicyFault::OutOfMemory
+    fn from(_refused: AllocFailed<T>) -> KeyFault {
+        KeyFault::OutOfMemory
     }
 }
 
-impl From<OutOfMemory> for PolicyFault {
+impl From<OutOfMemory> for KeyFault {
     ghost use Rattle.std.specs.Prelude.{◌≡◌};
-    ghost use Rattle.wh_policy_file.specs.declared.fault.PolicyFault.TheVariants.{OutOfMemory as NoMemory};
+    ghost use Rattle.wh_policy_file.specs.declared.fault.KeyFault.TheVariants.{OutOfMemory as NoMemory};
 
     ghost from_gives = { λ _ fault. fault ≡ NoMemory };
 
-    fn from(_refused: OutOfMemory) -> PolicyFault {
-        PolicyFault::OutOfMemory
+    fn from(_refused: OutOfMemory) -> KeyFault {
+        KeyFault::OutOfMemory
     }
 }
 
@@ -66,57 +85,36 @@ fn below(alloc: Global, table: &str, key: &str) -> Result<Text, AllocError> {
 }
 
 /// A key that is not known.
-pub(crate) fn unknown_key(alloc: Global, key: &str) -> PolicyFault {
+pub(crate) fn unknown_key(alloc: Global, key: &str) -> KeyFault {
     match String::from_str(alloc, key) {
-        Ok(key) => PolicyFault::UnknownKey {
+        Ok(key) => KeyFault::Unknown {
             key: Text::new(key),
         },
-        Err(_) => PolicyFault::OutOfMemory,
+        Err(_) => KeyFault::OutOfMemory,
     }
 }
 
 /// A key with a bad value.
-pub(crate) fn bad_value(alloc: Global, key: &str) -> PolicyFault {
+pub(crate) fn bad_value(alloc: Global, key: &str) -> KeyFault {
     match String::from_str(alloc, key) {
-        Ok(key) => PolicyFault::BadValue {
+        Ok(key) => KeyFault::Bad {
             key: Text::new(key),
         },
-        Err(_) => PolicyFault::OutOfMemory,
+        Err(_) => KeyFault::OutOfMemory,
     }
 }
 
 /// The fault of a key of a table, told with the key of the table.
-pub(crate) fn within(alloc: Global, table: &str, fault: PolicyFault) -> PolicyFault {
+pub(crate) fn within(alloc: Global, table: &str, fault: KeyFault) -> KeyFault {
     match fault {
-        PolicyFault::UnknownKey { key } => match below(alloc, table, key.get()) {
-            Ok(key) => PolicyFault::UnknownKey { key },
-            Err(_) => PolicyFault::OutOfMemory,
+        KeyFault::Unknown { key } => match below(alloc, table, key.get()) {
+            Ok(key) => KeyFault::Unknown { key },
+            Err(_) => KeyFault::OutOfMemory,
         },
-        PolicyFault::BadValue { key } => match below(alloc, table, key.get()) {
-            Ok(key) => PolicyFault::BadValue { key },
-            Err(_) => PolicyFault::OutOfMemory,
+        KeyFault::Bad { key } => match below(alloc, table, key.get()) {
+            Ok(key) => KeyFault::Bad { key },
+            Err(_) => KeyFault::OutOfMemory,
         },
-        other => other,
-    }
-}
-
-/// What is said of the fault of the file at a path: a line, or more where it is no TOML, each of them
-/// ended. `AllocError` where there was no memory for it, or that is the fault.
-pub fn fault_line(alloc: Global, path: &str, fault: &PolicyFault) -> Result<String, AllocError> {
-    match fault {
-        PolicyFault::NoText => format!(in alloc; "error: {path} is no UTF-8 text\n"),
-        PolicyFault::NoToml { reason } => {
-            let reason = reason.get();
-            format!(in alloc; "error: {path}: {reason}")
-        }
-        PolicyFault::UnknownKey { key } => {
-            let key = key.get();
-            format!(in alloc; "error: {path}: no policy has a key {key}\n")
-        }
-        PolicyFault::BadValue { key } => {
-            let key = key.get();
-            format!(in alloc; "error: {path}: {key} has no such value\n")
-        }
-        PolicyFault::OutOfMemory => Err(AllocError),
+        KeyFault::OutOfMemory => KeyFault::OutOfMemory,
     }
 }

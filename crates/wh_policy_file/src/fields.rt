@@ -6,7 +6,7 @@ ghost use Rattle.toml.specs.View.{view, table_view};
 ghost use Rattle.wh_policy_file.specs.Fields.{GivesNumber, GivesSeconds, GivesText, GivesTruth, HasTable};
 ghost use Rattle.wh_policy_file.specs.Fields.{number_in, seconds_in};
 
-use crate::fault::{PolicyFault, bad_value};
+use crate::fault::{KeyFault, bad_value};
 use std::alloc::Global;
 use toml::{Table, Value};
 use wh_events::Text;
@@ -38,7 +38,7 @@ pub(crate) fn number_at(
     least: u32,
     most: u32,
     otherwise: u32,
-) -> Result<u32, PolicyFault>
+) -> Result<u32, KeyFault>
     ensures { IfOk result (GivesNumber least most otherwise (get_member key.now (table_view table.now))) }
 {
     let Some(value) = value_at(table, key) else {
@@ -56,7 +56,7 @@ pub(crate) fn seconds_at(
     table: &Table,
     key: &str,
     otherwise: Option<u32>,
-) -> Result<Option<u32>, PolicyFault>
+) -> Result<Option<u32>, KeyFault>
     ensures { IfOk result (GivesSeconds otherwise (get_member key.now (table_view table.now))) }
 {
     let Some(value) = value_at(table, key) else {
@@ -74,7 +74,7 @@ pub(crate) fn truth_at(
     table: &Table,
     key: &str,
     otherwise: bool,
-) -> Result<bool, PolicyFault>
+) -> Result<bool, KeyFault>
     ensures { IfOk result (GivesTruth otherwise (get_member key.now (table_view table.now))) }
 {
     let Some(value) = value_at(table, key) else {
@@ -87,7 +87,7 @@ pub(crate) fn truth_at(
 }
 
 /// A copy of a text, if there is one.
-fn copy_of(text: &Option<Text>) -> Result<Option<Text>, PolicyFault>
+fn copy_of(text: &Option<Text>) -> Result<Option<Text>, KeyFault>
     ensures { IfOk result (λ copy. copy ≡ text.now) }
 {
     match text {
@@ -109,7 +109,7 @@ pub(crate) fn text_at(
     table: &Table,
     key: &str,
     otherwise: &Option<Text>,
-) -> Result<Option<Text>, PolicyFault>
+) -> Result<Option<Text>, KeyFault>
     ensures { IfOk result (GivesText otherwise.now (get_member key.now (table_view table.now))) }
 {
     let Some(value) = value_at(table, key) else {
@@ -126,7 +126,7 @@ pub(crate) fn table_at<'a>(
     alloc: Global,
     table: &'a Table,
     key: &str,
-) -> Result<Option<&'a Table>, PolicyFault>
+) -> Result<Option<&'a Table>, KeyFault>
     ensures { IfOk result (λ found. HasTable (option_map (λ t. table_view t.now) found)
         (get_member key.now (table_view table.now))) }
 {

@@ -5,7 +5,7 @@ ghost use Rattle.toml.specs.Data.{get_member};
 ghost use Rattle.toml.specs.View.{table_view};
 ghost use Rattle.wh_policy_file.specs.Kinds.{GivesClose, GivesReuse, close_named, reuse_named};
 
-use crate::fault::{PolicyFault, bad_value};
+use crate::fault::{KeyFault, bad_value};
 use crate::fields::{number_at, seconds_at, text_at, text_in, truth_at, value_at};
 use crate::reading::FromTable;
 use crate::retries::{retry_at, retry_if_any};
@@ -35,7 +35,7 @@ impl FromTable for ActivityPolicy {
         alloc: Global,
         table: &Table,
         otherwise: &ActivityPolicy,
-    ) -> Result<ActivityPolicy, PolicyFault> {
+    ) -> Result<ActivityPolicy, KeyFault> {
         let to_start = seconds_at(
             alloc,
             table,
@@ -87,7 +87,7 @@ fn close_at(
     alloc: Global,
     table: &Table,
     otherwise: Option<ParentClosePolicy>,
-) -> Result<Option<ParentClosePolicy>, PolicyFault>
+) -> Result<Option<ParentClosePolicy>, KeyFault>
     ensures { IfOk result (GivesClose otherwise (get_member (codes "parent_close") (table_view table.now))) }
 {
     let Some(value) = value_at(table, "parent_close") else {
@@ -119,7 +119,7 @@ fn reuse_at(
     alloc: Global,
     table: &Table,
     otherwise: Option<IdReusePolicy>,
-) -> Result<Option<IdReusePolicy>, PolicyFault>
+) -> Result<Option<IdReusePolicy>, KeyFault>
     ensures { IfOk result (GivesReuse otherwise (get_member (codes "id_reuse") (table_view table.now))) }
 {
     let Some(value) = value_at(table, "id_reuse") else {
@@ -155,7 +155,7 @@ impl FromTable for ChildPolicy {
         alloc: Global,
         table: &Table,
         otherwise: &ChildPolicy,
-    ) -> Result<ChildPolicy, PolicyFault> {
+    ) -> Result<ChildPolicy, KeyFault> {
         let execution = seconds_at(
             alloc,
             table,
@@ -195,7 +195,7 @@ impl FromTable for FailurePolicy {
         alloc: Global,
         table: &Table,
         otherwise: &FailurePolicy,
-    ) -> Result<FailurePolicy, PolicyFault> {
+    ) -> Result<FailurePolicy, KeyFault> {
         let failure_type = text_at(alloc, table, "type", &otherwise.failure_type)?;
         let retryable = truth_at(alloc, table, "retryable", otherwise.retryable)?;
         Ok(FailurePolicy {
@@ -220,7 +220,7 @@ impl FromTable for ContinuePolicy {
         alloc: Global,
         table: &Table,
         otherwise: &ContinuePolicy,
-    ) -> Result<ContinuePolicy, PolicyFault> {
+    ) -> Result<ContinuePolicy, KeyFault> {
         let run = seconds_at(alloc, table, "run_timeout", otherwise.run_timeout)?;
         let task = seconds_at(alloc, table, "task_timeout", otherwise.task_timeout)?;
         let task_queue = text_at(alloc, table, "task_queue", &otherwise.task_queue)?;

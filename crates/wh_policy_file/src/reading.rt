@@ -4,7 +4,7 @@ ghost use Rattle.std.specs.Prelude.{◌≡◌, IfNone, IfOk};
 ghost use Rattle.toml.specs.View.{table_view};
 ghost use Rattle.wh_policy_file.specs.Tables.{AllKnown};
 
-use crate::fault::{PolicyFault, unknown_key};
+use crate::fault::{KeyFault, unknown_key};
 use std::alloc::Global;
 use toml::Table;
 
@@ -25,7 +25,7 @@ pub(crate) trait FromTable: Sized + Drop {
 
     /// What the keys of the table give; what they leave out is as it is otherwise. Whether it has
     /// other keys is not asked.
-    fn read(alloc: Global, table: &Table, otherwise: &Self) -> Result<Self, PolicyFault>
+    fn read(alloc: Global, table: &Table, otherwise: &Self) -> Result<Self, KeyFault>
         ensures { IfOk result (gives (table_view table.now) otherwise.now) };
 }
 
@@ -46,7 +46,7 @@ pub(crate) fn given<P: FromTable>(
     alloc: Global,
     table: &Table,
     otherwise: &P,
-) -> Result<P, PolicyFault>
+) -> Result<P, KeyFault>
     ensures known { IfOk result (λ _. AllKnown P.known (table_view table.now)) }
     ensures given { IfOk result (P.gives (table_view table.now) otherwise.now) }
 {

@@ -6,7 +6,7 @@ ghost use Rattle.toml.specs.View.{array_view, table_view, view};
 ghost use Rattle.wh_policy_file.specs.Retries.{AreTexts, GivesCoefficient, GivesRetry, GivesRetryAt, GivesTypes};
 ghost use Rattle.wh_policy_file.specs.Retries.{GivesRetryIfAny};
 
-use crate::fault::{PolicyFault, bad_value, within};
+use crate::fault::{KeyFault, bad_value, within};
 use crate::fields::{number_at, seconds_at, table_at, value_at};
 use crate::reading::{FromTable, given};
 use std::alloc::Global;
@@ -21,7 +21,7 @@ fn coefficient_at(
     alloc: Global,
     table: &Table,
     otherwise: Option<f64>,
-) -> Result<Option<f64>, PolicyFault>
+) -> Result<Option<f64>, KeyFault>
     ensures { IfOk result (GivesCoefficient otherwise
         (get_member (codes "backoff_coefficient") (table_view table.now))) }
 {
@@ -65,11 +65,7 @@ fn texts_of(alloc: Global, values: &Array) -> Result<Option<Vec<Text>>, OutOfMem
 }
 
 /// The types of failures after which nothing is tried again, else those that hold otherwise.
-fn types_at(
-    alloc: Global,
-    table: &Table,
-    otherwise: &Items<Text>,
-) -> Result<Items<Text>, PolicyFault>
+fn types_at(alloc: Global, table: &Table, otherwise: &Items<Text>) -> Result<Items<Text>, KeyFault>
     ensures { IfOk result (GivesTypes otherwise.now (get_member (codes "non_retryable") (table_view table.now))) }
 {
     let Some(value) = value_at(table, "non_retryable") else {
@@ -107,7 +103,7 @@ impl FromTable for RetryPolicy {
         alloc: Global,
         table: &Table,
         otherwise: &RetryPolicy,
-    ) -> Result<RetryPolicy, PolicyFault> {
+    ) -> Result<RetryPolicy, KeyFault> {
         let attempts = otherwise.maximum_attempts;
         let attempts = number_at(alloc, table, "maximum_attempts", 0, MOST_ATTEMPTS, attempts)?;
         let initial = seconds_at(alloc, table, "initial_interval", otherwise.initial_interval)?;
@@ -129,7 +125,7 @@ pub(crate) fn retry_at(
     alloc: Global,
     table: &Table,
     otherwise: &RetryPolicy,
-) -> Result<RetryPolicy, PolicyFault>
+) -> Result<RetryPolicy, KeyFault>
     ensures { IfOk result (GivesRetryAt otherwise.now (get_member (codes "retry") (table_view table.now))) }
 {
     match table_at(alloc, table, "retry")? {
@@ -142,7 +138,7 @@ pub(crate) fn retry_at(
 }
 
 /// How something is tried again, where nothing holds otherwise: not at all, unless the table says how.
-fn retry_anew(alloc: Global, table: &Table) -> Result<Option<RetryPolicy>, PolicyFault>
+fn retry_anew(alloc: Global, table: &Table) -> Result<Option<RetryPolicy>, KeyFault>
     ensures { IfOk result (GivesRetryIfAny None (get_member (codes "retry") (table_view table.now))) }
 {
     let Some(retry) = table_at(alloc, table, "retry")? else {
@@ -160,7 +156,7 @@ pub(crate) fn retry_if_any(
     alloc: Global,
     table: &Table,
     otherwise: &Option<RetryPolicy>,
-) -> Result<Option<RetryPolicy>, PolicyFault>
+) -> Result<Option<RetryPolicy>, KeyFault>
     ensures { IfOk result (GivesRetryIfAny otherwise.now (get_member (codes "retry") (table_view table.now))) }
 {
     match otherwise {

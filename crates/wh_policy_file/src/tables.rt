@@ -1,13 +1,11 @@
 //! Reads the tables of a text.
 
-ghost use Rattle.std.specs.Prelude.{◌≡◌, IfOk, IfSome, Some, string_bytes};
-ghost use Rattle.toml.specs.Parse.{parse_document};
+ghost use Rattle.std.specs.Prelude.{◌≡◌, IfOk, string_bytes};
 ghost use Rattle.toml.specs.View.{table_view, view};
 ghost use Rattle.toml.specs.Data.{get_member};
-ghost use Rattle.wh_policy_file.specs.Policies.{IsRead};
 ghost use Rattle.wh_policy_file.specs.Tables.{AreRows, GivesAll, GivesRows, GivesTable, IsRow};
 
-use crate::fault::{PolicyFault, bad_value, within};
+use crate::fault::{KeyFault, bad_value, within};
 use crate::fields::table_at;
 use crate::reading::{FromTable, given};
 use std::alloc::Global;
@@ -21,7 +19,7 @@ fn row_given<P: FromTable>(
     name: &String,
     value: &Value,
     otherwise: &P,
-) -> Result<PolicyRow<P>, PolicyFault>
+) -> Result<PolicyRow<P>, KeyFault>
     ensures { IfOk result (IsRow P.gives otherwise.now (string_bytes name.now) (view value.now)) }
 {
     let Some(table) = value.as_table() else {
@@ -41,7 +39,7 @@ fn rows_given<P: FromTable>(
     alloc: Global,
     table: &Table,
     otherwise: &P,
-) -> Result<Vec<PolicyRow<P>>, PolicyFault>
+) -> Result<Vec<PolicyRow<P>>, KeyFault>
     ensures { IfOk result (λ rows. AreRows P.gives otherwise.now (table_view table.now) rows.items) }
 {
     let mut rows = Vec::new(alloc);
@@ -57,7 +55,7 @@ fn all_given<P: FromTable>(
     document: &Table,
     key: &str,
     plain: &P,
-) -> Result<P, PolicyFault>
+) -> Result<P, KeyFault>
     ensures { IfOk result (GivesAll P.gives plain.now (get_member key.now (table_view document.now))) }
 {
     match table_at(alloc, document, key)? {
@@ -75,7 +73,7 @@ fn each_given<P: FromTable>(
     document: &Table,
     key: &str,
     otherwise: &P,
-) -> Result<Vec<PolicyRow<P>>, PolicyFault>
+) -> Result<Vec<PolicyRow<P>>, KeyFault>
     ensures { IfOk result (λ rows.
         GivesRows P.gives otherwise.now (get_member key.now (table_view document.now)) rows.items) }
 {
@@ -95,7 +93,7 @@ fn table_given<P: FromTable>(
     all: &str,
     each: &str,
     plain: &P,
-) -> Result<PolicyTable<P>, PolicyFault>
+) -> Result<PolicyTable<P>, KeyFault>
     ensures { IfOk result (GivesTable P.gives all.now each.now plain.now (table_view document.now)) }
 {
     let otherwise = all_given(alloc, document, all, plain)?;
@@ -124,7 +122,7 @@ impl FromTable for Policies {
             || key == "continuation"
     }
 
-    fn read(alloc: Global, table: &Table, otherwise: &Policies) -> Result<Policies, PolicyFault> {
+    fn read(alloc: Global, table: &Table, otherwise: &Policies) -> Result<Policies, KeyFault> {
         let plain = &otherwise.activities.otherwise;
         let activities = table_given(alloc, table, "activities", "activity", plain)?;
         let plain = &otherwise.children.otherwise;
@@ -140,54 +138,4 @@ impl FromTable for Policies {
             continued,
         })
     }
-}
-
-/// The document that a text is.
-fn document_of(alloc: Global, text: &str) -> Result<Table, PolicyFault>
-    ensures { IfOk result (λ document. parse_document text.now ≡ Some (table_view document)) }
-{
-    match toml::table_from_str(alloc, text) {
-        Ok(document) => Ok(document),
-        Err(error) => {
-            if error.is_memory() {
-                return Err(PolicyFault::OutOfMemory);
-            }
-            let reason = format!(in alloc; "{error}")?;
-            Err(PolicyFault::NoToml {
-                reason: Text::new(reason),
-            })
-        }
-    }
-}
-
-/// The text that bytes are.
-fn text_of(bytes: &[u8]) -> Option<&str>
-    ensures { IfSome result (λ text. text.now ≡ bytes.now) }
-{
-    match str::from_utf8(bytes) {
-        Ok(text) => Some(text),
-        Err(_) => None,
-    }
-}
-
-/// The policies that a text in TOML 1.1 gives, beside these seconds for an attempt of each activity
-/// and this number of attempts. The fault names the first key that is bad, table by table, with the
-/// keys of its tables; a text that is no TOML is refused before.
-pub fn read_policies(
-    alloc: Global,
-    bytes: &[u8],
-    start_to_close: u32,
-    attempts: u32,
-) -> Result<Policies, PolicyFault>
-    ensures { IfOk result (IsRead start_to_close attempts bytes.now) }
-{
-    let Some(text) = text_of(bytes) else {
-        return Err(PolicyFault::NoText);
-    };
-    let document = document_of(alloc, text)?;
-    given(
-        alloc,
-        &document,
-        &Policies::plain(alloc, start_to_close, attempts),
-    )
 }

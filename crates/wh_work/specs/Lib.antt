@@ -1,2 +1,4 @@
 pub mod Plans
+pub mod Policies
 pub mod Reports
+pub mod Progress

@@ -2,11 +2,11 @@
 use Rattle.std.specs.Prelude.{◌≡◌, ℕ, ◌+◌, ◌<◌, ◌≤◌, ◌&&◌, Bool, IsSome, Option, Some, None, Result, Ok, if◌then◌else◌, leb}
 use Rattle.wh_command_line.specs.Sizes.{config_of}
 use Rattle.wh_command_line.specs.declared.work.WorkOptions.{WorkOptions}
-use Rattle.wh_policies.specs.Defaults as plain
 use Rattle.wh_host.specs.Machine.{IsConfig}
 use Rattle.wh_host.specs.declared.config.Config.{Config}
 use Rattle.wh_client.specs.declared.options.LiveOptions.{LiveOptions}
 use Rattle.wh_crew.specs.declared.serving.LiveEnd.{LiveEnd}
+use Rattle.wh_work.specs.Policies.{ArePolicies}
 use Rattle.wh_work.specs.declared.plan.LivePlan.{LivePlan}
 
 -- runs are kept between their tasks: there is a cache, and a worker beside the one that polls the queue of all workers
@@ -22,12 +22,11 @@ live_config options = config_of (options.workers + options.activity_workers)
 abbrev pub sticky_of : WorkOptions → Option ℕ
 sticky_of options = if keeps_runs options then Some options.sticky_timeout else None
 
--- what the workers poll and say of themselves is what the options name, and so is what is asked for with activities
+-- what the workers poll and say of themselves is what the options name
 pub record AreLiveOptions (options : WorkOptions) (live : LiveOptions) : Type 0 where
   pub namespace : live.names.namespace ≡ options.namespace
   pub task_queue : live.names.task_queue ≡ options.task_queue
   pub identity : live.names.identity ≡ options.identity
-  pub policies : live.policies ≡ plain.policies options.activity_timeout options.activity_attempts
   pub sticky : live.sticky ≡ sticky_of options
   pub verbose : live.verbose ≡ options.verbose
 
@@ -35,8 +34,11 @@ pub record AreLiveOptions (options : WorkOptions) (live : LiveOptions) : Type 0 
 pub record IsLivePlan (options : WorkOptions) (plan : LivePlan) : Type 0 where
   pub sizes : plan.config ≡ live_config options
   pub named : AreLiveOptions options plan.options
+  pub policies : ArePolicies options plan.options.policies
   pub workers : plan.workers ≡ options.workers
   pub stats : plan.stats ≡ options.stats
+  pub format : plan.format ≡ options.format
+  pub metrics : plan.metrics ≡ options.metrics
 
 -- what may be left of live tasks that were served by a plan
 abbrev pub LivesBy : Type 1

@@ -3,14 +3,20 @@
 #![tactic(auto)]
 
 mod calls;
+mod counted_calls;
+mod counting;
 pub mod laws;
+mod metrics_file;
 mod plan;
+mod policies;
 mod progress;
 mod report;
 mod watch;
 mod workers;
 
 pub use calls::calls_over;
+pub use metrics_file::FileReplacer;
 pub use plan::{LivePlan, live_plan};
+pub use policies::{BadPolicies, PlanFault};
 pub use report::{live_status, write_live_end};
 pub use workers::serve_calls;

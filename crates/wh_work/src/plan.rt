@@ -1,15 +1,18 @@
 //! How options ask to serve live tasks.
 
-ghost use Rattle.std.specs.Prelude.{◌≡◌, IfOk};
+ghost use Rattle.std.specs.Prelude.{◌≡◌, IfErr, IfOk};
 ghost use Rattle.wh_command_line.specs.Options.{IsWithinWorkLimits};
 ghost use Rattle.wh_host.specs.Machine.{IsConfig};
-ghost use Rattle.wh_policies.specs.Defaults as plain;
-ghost use Rattle.wh_work.specs.Plans.{AreLiveOptions, IsLivePlan, keeps_runs, live_config};
+ghost use Rattle.wh_work.specs.Plans.{IsLivePlan, keeps_runs, live_config, sticky_of};
+ghost use Rattle.wh_work.specs.Policies.{ArePolicies, IsPlanFault};
 
+use crate::policies::{PlanFault, policies_of};
 use std::alloc::Global;
+use std::rt::Files;
 use wh_client::LiveOptions;
 use wh_command_line::WorkOptions;
-use wh_events::OutOfMemory;
+use wh_console::Format;
+use wh_events::{OutOfMemory, Text};
 use wh_host::Config;
 use wh_messages::WorkerNames;
 use wh_policies::Policies;
@@ -23,8 +26,12 @@ pub struct LivePlan {
     pub options: LiveOptions,
     /// How many of the workers poll for workflow tasks.
     pub workers: u64,
-    /// After how many seconds each it is reported how many tasks were answered, if it is.
+    /// After how many seconds each the counts are reported, if they are.
     pub stats: Option<u64>,
+    /// In which form the counts are reported.
+    pub format: Format,
+    /// The file in which the counts are kept, if they are.
+    pub metrics: Option<Text>,
 }
 
 /// Whether runs are kept between their tasks. The tasks of such runs are polled by workers of their
@@ -49,35 +56,40 @@ fn live_config(options: &WorkOptions) -> Config
     }
 }
 
-/// The policies that the options ask for: for each activity a time for one attempt and a number of
-/// attempts.
-fn plain_policies(alloc: Global, options: &WorkOptions) -> Policies
+/// How many seconds a task waits in the sticky queue, if there is one.
+fn sticky_of(options: &WorkOptions) -> Option<u32>
     requires { IsWithinWorkLimits options.now }
-    ensures { result ≡ plain.policies options.now.activity_timeout options.now.activity_attempts }
+    ensures { result ≡ sticky_of options.now }
 {
-    Policies::plain(
-        alloc,
-        options.activity_timeout as u32,
-        options.activity_attempts as u32,
-    )
-}
-
-/// What the workers poll, and what they say of themselves and of their tasks.
-fn live_options(alloc: Global, options: WorkOptions) -> Result<LiveOptions, OutOfMemory>
-    requires { IsWithinWorkLimits options }
-    ensures { IfOk result (AreLiveOptions options) }
-{
-    let policies = plain_policies(alloc, &options);
-    let sticky = if keeps_runs(&options) {
+    if keeps_runs(options) {
         Some(options.sticky_timeout as u32)
     } else {
         None
-    };
+    }
+}
+
+/// The plan of options with these policies.
+fn plan_with(
+    alloc: Global,
+    options: WorkOptions,
+    policies: Policies,
+) -> Result<LivePlan, OutOfMemory>
+    requires limits { IsWithinWorkLimits options }
+    requires policies { ArePolicies options policies }
+    ensures config { IfOk result (λ plan. IsConfig plan.config) }
+    ensures asked { IfOk result (IsLivePlan options) }
+{
+    let config = live_config(&options);
+    let sticky = sticky_of(&options);
     let WorkOptions {
         task_queue,
         namespace,
         identity,
+        workers,
         verbose,
+        stats,
+        format,
+        metrics,
         ..
     } = options;
     let names = WorkerNames::new(
@@ -86,29 +98,40 @@ fn live_options(alloc: Global, options: WorkOptions) -> Result<LiveOptions, OutO
         task_queue.into_inner(),
         identity.into_inner(),
     )?;
-    Ok(LiveOptions {
+    let options = LiveOptions {
         names,
         policies,
         sticky,
         verbose,
-    })
-}
-
-/// How options ask to serve live tasks: by a host with a seat for each worker, and with a cache where
-/// tasks of cached runs come by a sticky queue. `OutOfMemory` where there was no memory for the names.
-pub fn live_plan(alloc: Global, options: WorkOptions) -> Result<LivePlan, OutOfMemory>
-    requires { IsWithinWorkLimits options }
-    ensures config { IfOk result (λ plan. IsConfig plan.config) }
-    ensures asked { IfOk result (IsLivePlan options) }
-{
-    let config = live_config(&options);
-    let workers = options.workers;
-    let stats = options.stats;
-    let options = live_options(alloc, options)?;
+    };
     Ok(LivePlan {
         config,
         options,
         workers,
         stats,
+        format,
+        metrics,
     })
+}
+
+/// How options ask to serve live tasks: by a host with a seat for each worker, and with a cache where
+/// tasks of cached runs come by a sticky queue. Nothing is read but the file of the policies, if the
+/// options name one.
+///
+/// `Unread` where that file can't be read, `BadPolicies` where it is too long, no UTF-8, no TOML, or
+/// has a key that is not known or a bad value. `OutOfMemory` where there was no memory.
+pub fn live_plan<R: Files + AllocGlobal>(
+    rt: &R,
+    options: WorkOptions,
+) -> Result<LivePlan, PlanFault>
+    requires { IsWithinWorkLimits options }
+    ensures config { IfOk result (λ plan. IsConfig plan.config) }
+    ensures asked { IfOk result (IsLivePlan options) }
+    ensures fault { IfErr result IsPlanFault }
+{
+    let policies = policies_of(rt, &options)?;
+    match plan_with(rt.alloc(), options, policies) {
+        Ok(plan) => Ok(plan),
+        Err(OutOfMemory) => Err(PlanFault::OutOfMemory),
+    }
 }

@@ -2,14 +2,13 @@
 
 use crate::progress::Progress;
 use std::sync::Wait;
-use std::time::Clock;
 use wh_poll::{Observer, Served, SourceFault};
 
 /// Counts the tasks of its worker, if they are counted.
 #[derive(Drop)]
 pub(crate) struct Watch<'a, R>(pub(crate) Option<&'a Progress<'a, R>>);
 
-impl<R: Wait + Clock> Observer for Watch<'_, R> {
+impl<R: Wait> Observer for Watch<'_, R> {
     ghost use Rattle.std.specs.Prelude.{◌≡◌};
 
     ghost hears = { λ old turn new. new ≡ old };

@@ -1,8 +1,11 @@
 //! The workers of live tasks.
 
 ghost use Rattle.std.specs.Prelude.{◌≡◌, ◌+◌, IfOk, vec_len};
+ghost use Rattle.wh_crew.specs.Serving.{AreServed};
 ghost use Rattle.wh_host.specs.Machine.{IsConfig};
 
+use crate::counted_calls::CountedCalls;
+use crate::metrics_file::{FileReplacer, MetricsFile};
 use crate::plan::LivePlan;
 use crate::progress::Progress;
 use crate::watch::Watch;
@@ -10,9 +13,11 @@ use std::alloc::Global;
 use std::sync::Wait;
 use std::thread::Threads;
 use std::time::Clock;
+use wh_console::Format;
 use wh_crew::{LiveEnd, serve_live};
-use wh_events::OutOfMemory;
+use wh_events::{OutOfMemory, Text};
 use wh_host::OpenFault;
+use wh_messages::WorkerNames;
 use wh_poll::ActivityHandler;
 use wh_rpc::Caller;
 use wh_workflow::Workflow;
@@ -34,15 +39,37 @@ fn crew_of<'a, R, A: Drop, M: Fn() -> A>(
     Ok(crew)
 }
 
+/// What reports and keeps the counts, if either is asked for: in a form after so many seconds each, and
+/// in the file at the path.
+fn progress_of<'a, R: Wait + Clock>(
+    rt: &'a R,
+    alloc: Global,
+    name: &'a str,
+    stats: Option<u64>,
+    format: Format,
+    path: &'a Option<Text>,
+    names: &'a WorkerNames,
+) -> Result<Option<Progress<'a, R>>, OutOfMemory> {
+    let file = match path {
+        Some(path) => Some(MetricsFile::new(alloc, path.get(), names)?),
+        None => None,
+    };
+    if stats.is_none() && file.is_none() {
+        return Ok(None);
+    }
+    Ok(Some(Progress::new(rt, name, stats, format, file)))
+}
+
 /// Starts to read what the bridge writes, by `listen`, which says whether it could, and serves the
 /// tasks that come by the calls until there are no more: by a host of the sizes of the plan, with a
 /// handler for each worker, which `make` makes. Lines on the standard error begin with the program's
-/// name.
+/// name. Counts are reported and kept as the plan says; where they can't be kept, that is reported, and
+/// the work goes on.
 ///
 /// `OutOfMemory` where there was no memory to begin with, or `listen` could not; no call is made then.
 pub fn serve_calls<
     W: Workflow + Send,
-    R: Threads + Wait + Clock + Eprint + Sync,
+    R: Threads + Wait + Clock + Eprint + FileReplacer + AllocGlobal + Sync,
     C: Caller + Sync,
     L: FnOnce() -> bool,
     A: ActivityHandler + Send + Drop,
@@ -60,7 +87,8 @@ where
     requires sizes { IsConfig plan.config }
     requires listens { L.IsAlwaysCallable listen }
     requires makes { M.IsAlwaysCallable make.now }
-    ensures { IfOk result (λ end.
+    ensures served { IfOk result (AreServed plan.config plan.options plan.workers) }
+    ensures balanced { IfOk result (λ end.
         end.totals.taken ≡ end.totals.completed + end.totals.failed + end.totals.in_hand) }
 {
     let LivePlan {
@@ -68,29 +96,38 @@ where
         options,
         workers,
         stats,
+        format,
+        metrics,
     } = plan;
     let alloc = calls.allocator();
-    let progress = match stats {
-        Some(seconds) => Some(Progress::new(rt, name, seconds)),
-        None => None,
-    };
-    let crew = crew_of(alloc, make, config.seats, progress.as_ref())?;
+    let progress = progress_of(rt, alloc, name, stats, format, &metrics, &options.names)?;
+    let progress = progress.as_ref();
+    let crew = crew_of(alloc, make, config.seats, progress)?;
+    if let Some(progress) = progress {
+        progress.begin();
+    }
     if !listen() {
         return Err(OutOfMemory);
     }
-    let end = serve_live::<W, R, C, A, Watch<R>, Progress<R>>(
+    let calls = CountedCalls { calls, progress };
+    let end = serve_live::<W, R, CountedCalls<C, R>, A, Watch<R>, Progress<R>>(
         rt,
         alloc,
         name,
         config,
-        calls,
+        &calls,
         &options,
         workers as usize,
         crew,
-        progress.as_ref(),
+        progress,
     );
     match end {
-        Ok(end) => Ok(end),
+        Ok(end) => {
+            if let Some(progress) = progress {
+                progress.end(&end);
+            }
+            Ok(end)
+        }
         Err(OpenFault::OutOfMemory) => Err(OutOfMemory),
         Err(OpenFault::BadConfig) => unreachable!(),
     }

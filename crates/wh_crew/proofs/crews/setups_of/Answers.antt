@@ -2,8 +2,9 @@ use Rattle.std.proofs.Common.{◌≡◌, ◌∙◌, ◌++◌, ◌∷◌, [], ap,
 use Rattle.std.proofs.lemmas.Iterator.Adapters.{YieldsList-from_vec}
 use Rattle.std.proofs.lemmas.Iterator.Consumers.{YieldsList-end}
 use Rattle.std.proofs.lemmas.List.{map-id}
-use Rattle.wh_crew.specs.Crews.{normal_workers, role_at, roles_of}
-use Rattle.wh_crew.proofs.Setups.{count_more, roles_more, shown_more, turns_more}
+use Rattle.wh_crew.specs.Crews.{normal_workers, role_at, sources_of}
+use Rattle.wh_live.specs.Deliveries.{fresh}
+use Rattle.wh_crew.proofs.Setups.{count_more, shown_more, sources_more, turns_more}
 use Rattle.wh_crew.proofs.crews.setups_of.Goals as goal
 
 -- the setup of one member more stands after those before it
@@ -12,18 +13,19 @@ loop-handler-preserved g c =
     let at = c.loop-handler in
     let workers = c.args.workers in
     let normal = c.normal_workers-normal.result in
-    let before = roles_of normal workers (length at.yielded) in
+    let names = c.args.options.now.names in
+    let before = sources_of names normal workers (length at.yielded) in
     let grown = c.in_ok-push.ensures.items in
     let place : c.len.result ≡ length at.yielded = search (rules, at.invariant.count) in
-    let role : c.new-source.result.role ≡ role_at normal workers (length at.yielded) =
-    ap (λ s. s.role) c.new-source.ensures ∙ c.role_at-role.ensures ∙ ap (role_at normal workers) place in
+    let source : c.new-source.result ≡ fresh (role_at normal workers (length at.yielded)) names =
+    c.new-source.ensures ∙ ap (λ role. fresh role names) (c.role_at-role.ensures ∙ ap (role_at normal workers) place) in
     record {
       count = count_more _ _ at.yielded _ c.in_ok-push.ensures.len at.invariant.count;
       members = shown_more (λ setup. (setup.handler, setup.observer)) at.setups.items c.push.new.self.items _ at.yielded grown at.invariant.members;
-      roles =
-          shown_more (λ setup. setup.source.role) at.setups.items c.push.new.self.items _ before grown at.invariant.roles
-          ∙ ap (λ r. before ++ r ∷ []) role
-          ∙ sym (roles_more normal workers at.yielded _);
+      sources =
+          shown_more (λ setup. setup.source) at.setups.items c.push.new.self.items _ before grown at.invariant.sources
+          ∙ ap (λ s. before ++ s ∷ []) source
+          ∙ sym (sources_more names normal workers at.yielded _);
       turns =
           shown_more (λ setup. setup.turns) at.setups.items c.push.new.self.items _ (replicate (length at.yielded) 18446744073709551615) grown at.invariant.turns
           ∙ sym (turns_more 18446744073709551615 at.yielded _);
@@ -35,6 +37,7 @@ returns g c =
     let at = c.loop-handler in
     let crew = c.args.crew.items in
     let workers = c.args.workers in
+    let names = c.args.options.now.names in
     let has_cache = is_some c.args.options.now.sticky in
     let given = c.into_iter-handler-iterator.ensures.into_iter_gives in
     let road = YieldsList-from_vec {s = c.into_iter-handler-iterator.result} crew given.0 (given.1 ∙ c.args.crew.ok.0) in
@@ -45,9 +48,9 @@ returns g c =
     record {
       count = at.invariant.count ∙ count;
       members = at.invariant.members ∙ all;
-      roles =
-          at.invariant.roles
-          ∙ ap (λ n. roles_of n workers (length at.yielded)) normal
-          ∙ ap (roles_of (normal_workers workers has_cache) workers) count;
+      sources =
+          at.invariant.sources
+          ∙ ap (λ n. sources_of names n workers (length at.yielded)) normal
+          ∙ ap (sources_of names (normal_workers workers has_cache) workers) count;
       turns = at.invariant.turns ∙ ap (λ n. replicate n 18446744073709551615) count;
     }

@@ -1,0 +1,79 @@
+-- Counts as Prometheus reads them.
+use Rattle.std.specs.Prelude.{ℕ, Option, Some, None, List, [], ◌++◌, codes, decimal}
+use Rattle.wh_metrics.specs.declared.metrics.Held.{Held}
+use Rattle.wh_metrics.specs.declared.metrics.Metrics.{Metrics}
+
+-- what stands before the samples of a metric: what it means, and its type
+abbrev pub head_text : (name kind help : List ℕ) → List ℕ
+head_text name kind help =
+    codes "# HELP " ++ (name ++ (codes " " ++ (help ++ (codes "\n# TYPE " ++ (name ++ (codes " " ++ (kind ++ codes "\n")))))))
+
+-- a sample: `NAME{LABELS} VALUE`, with more labels after those of the process
+abbrev pub sample_text : (name labels more : List ℕ) → ℕ → List ℕ
+sample_text name labels more value =
+    name ++ (codes "{" ++ (labels ++ (more ++ (codes "} " ++ (decimal value ++ codes "\n")))))
+
+-- a metric of one sample
+abbrev pub single_text : (name kind help labels : List ℕ) → ℕ → List ℕ
+single_text name kind help labels value = head_text name kind help ++ sample_text name labels [] value
+
+-- a metric of two samples, each with a label of its own
+abbrev pub pair_text : (name kind help labels first : List ℕ) → ℕ → (second : List ℕ) → ℕ → List ℕ
+pair_text name kind help labels first one second other =
+    head_text name kind help ++ (sample_text name labels first one ++ sample_text name labels second other)
+
+abbrev pub tasks_text : (labels : List ℕ) → Metrics → List ℕ
+tasks_text labels metrics =
+    pair_text (codes "wfhost_tasks_total") (codes "counter") (codes "Tasks that were answered, by their outcome.") labels
+    (codes ",outcome=\"completed\"") metrics.completed (codes ",outcome=\"failed\"") metrics.failed
+
+abbrev pub hits_text : (labels : List ℕ) → Metrics → List ℕ
+hits_text labels metrics =
+    single_text (codes "wfhost_sticky_cache_hit_total") (codes "counter")
+    (codes "Workflow tasks that were answered from a cached run.") labels metrics.hits
+    ++ single_text (codes "wfhost_sticky_cache_miss_total") (codes "counter")
+    (codes "Workflow tasks that were answered without a cached run.") labels metrics.misses
+
+abbrev pub polls_text : (labels : List ℕ) → Metrics → List ℕ
+polls_text labels metrics =
+    single_text (codes "wfhost_polls_total") (codes "counter")
+    (codes "Polls that got a result or an error.") labels metrics.polls
+    ++ single_text (codes "wfhost_polls_empty_total") (codes "counter")
+    (codes "Polls that gave no task.") labels metrics.empty_polls
+
+abbrev pub answers_text : (labels : List ℕ) → Metrics → List ℕ
+answers_text labels metrics =
+    single_text (codes "wfhost_answers_not_found_total") (codes "counter")
+    (codes "Answers whose task was over.") labels metrics.not_found
+    ++ single_text (codes "wfhost_answers_refused_total") (codes "counter")
+    (codes "Answers that the server refused as invalid.") labels metrics.refused
+
+abbrev pub cache_text : (labels : List ℕ) → Held → List ℕ
+cache_text labels held =
+    single_text (codes "wfhost_tasks_in_hand") (codes "gauge") (codes "Tasks in hand.") labels held.in_hand
+    ++ (single_text (codes "wfhost_sticky_cache_size") (codes "gauge")
+    (codes "Runs in the sticky cache.") labels held.cached
+    ++ single_text (codes "wfhost_sticky_cache_events") (codes "gauge")
+    (codes "Events that the cached runs hold together.") labels held.cached_events)
+
+abbrev pub slots_text : (labels : List ℕ) → Held → List ℕ
+slots_text labels held =
+    pair_text (codes "wfhost_worker_task_slots_used") (codes "gauge")
+    (codes "Task slots that a task has, or a poll.") labels
+    (codes ",worker_type=\"WorkflowWorker\"") held.workflow.used
+    (codes ",worker_type=\"ActivityWorker\"") held.activity.used
+    ++ pair_text (codes "wfhost_worker_task_slots_available") (codes "gauge")
+    (codes "Task slots that are free.") labels
+    (codes ",worker_type=\"WorkflowWorker\"") held.workflow.available
+    (codes ",worker_type=\"ActivityWorker\"") held.activity.available
+
+-- what the host holds, where it is known
+abbrev pub holdings_text : (labels : List ℕ) → Option Held → List ℕ
+holdings_text labels None = []
+holdings_text labels (Some held) = cache_text labels held ++ slots_text labels held
+
+-- all counts of a process with these labels
+abbrev pub metrics_text : (labels : List ℕ) → Metrics → List ℕ
+metrics_text labels metrics =
+    tasks_text labels metrics ++ (hits_text labels metrics
+    ++ (polls_text labels metrics ++ (answers_text labels metrics ++ holdings_text labels metrics.held)))

@@ -1,0 +1,57 @@
+-- Counts as a line.
+use Rattle.std.specs.Prelude.{ℕ, Option, Some, None, List, [], ◌++◌, codes, decimal}
+use Rattle.wh_metrics.specs.declared.metrics.Held.{Held}
+use Rattle.wh_metrics.specs.declared.metrics.Metrics.{Metrics}
+use Rattle.wh_metrics.specs.declared.metrics.Slots.{Slots}
+
+-- `in hand <in hand>, cached <runs> runs with <events> events, `, or nothing where it is not known
+abbrev pub held_text : Option Held → List ℕ
+held_text None = []
+held_text (Some held) =
+    codes "in hand " ++ (decimal held.in_hand ++ (codes ", cached " ++ (decimal held.cached
+    ++ (codes " runs with " ++ (decimal held.cached_events ++ codes " events, ")))))
+
+-- `completed <completed>, failed <failed>, <held>hits <hits>, misses <misses>, <rate> tasks a second`
+abbrev pub counts_text : Metrics → (rate : ℕ) → List ℕ
+counts_text metrics rate =
+    codes "completed " ++ (decimal metrics.completed ++ (codes ", failed " ++ (decimal metrics.failed
+    ++ (codes ", " ++ (held_text metrics.held ++ (codes "hits " ++ (decimal metrics.hits
+    ++ (codes ", misses " ++ (decimal metrics.misses ++ (codes ", " ++ (decimal rate ++ codes " tasks a second")))))))))))
+
+-- a member of an object: `"KEY":VALUE`
+abbrev pub member : List ℕ → List ℕ → List ℕ
+member key value = codes "\"" ++ (key ++ (codes "\":" ++ value))
+
+-- a member after another one
+abbrev pub next : List ℕ → List ℕ → List ℕ
+next key value = codes "," ++ member key value
+
+-- `{"used":<used>,"available":<available>}`
+abbrev pub slots_json : Slots → List ℕ
+slots_json slots =
+    codes "{" ++ (member (codes "used") (decimal slots.used)
+    ++ (next (codes "available") (decimal slots.available) ++ codes "}"))
+
+-- what the host holds, where it is known: tasks, the runs of the cache and their events, and slots
+abbrev pub held_json : Option Held → List ℕ
+held_json None = []
+held_json (Some held) =
+    next (codes "inHand") (decimal held.in_hand)
+    ++ (next (codes "cachedRuns") (decimal held.cached)
+    ++ (next (codes "cachedEvents") (decimal held.cached_events)
+    ++ (next (codes "workflowSlots") (slots_json held.workflow)
+    ++ next (codes "activitySlots") (slots_json held.activity))))
+
+-- all counts as an object
+abbrev pub json_text : Metrics → (rate : ℕ) → List ℕ
+json_text metrics rate =
+    codes "{" ++ (member (codes "completed") (decimal metrics.completed)
+    ++ (next (codes "failed") (decimal metrics.failed)
+    ++ (held_json metrics.held
+    ++ (next (codes "hits") (decimal metrics.hits)
+    ++ (next (codes "misses") (decimal metrics.misses)
+    ++ (next (codes "polls") (decimal metrics.polls)
+    ++ (next (codes "emptyPolls") (decimal metrics.empty_polls)
+    ++ (next (codes "answersNotFound") (decimal metrics.not_found)
+    ++ (next (codes "answersRefused") (decimal metrics.refused)
+    ++ (next (codes "tasksPerSecond") (decimal rate) ++ codes "}"))))))))))

@@ -1,0 +1,375 @@
+//! Counts in the form that Prometheus reads.
+
+ghost use Rattle.std.specs.Prelude.{Some};
+ghost use Rattle.wh_metrics.specs.Labels.{labels_text};
+ghost use Rattle.wh_metrics.specs.Exposition.{answers_text, cache_text, head_text, hits_text, holdings_text};
+ghost use Rattle.wh_metrics.specs.Exposition.{metrics_text, pair_text, polls_text, sample_text, single_text};
+ghost use Rattle.wh_metrics.specs.Exposition.{slots_text, tasks_text};
+
+use crate::labels::WorkerLabels;
+use crate::metrics::{Held, Metrics};
+use std::fmt;
+
+/// What stands before the samples of a metric: what it means, and its type.
+#[derive(Clone, Copy)]
+struct Head<'a> {
+    name: &'a str,
+    kind: &'a str,
+    help: &'a str,
+}
+
+impl fmt::Display for Head<'_> {
+    ghost output = { λ h. Some (head_text h.name.now h.kind.now h.help.now) };
+
+    fn fmt<W: fmt::Write>(&self, f: &mut fmt::Formatter<W>) -> fmt::Result {
+        let Head { name, kind, help } = *self;
+        write!(f, "# HELP {name} {help}\n# TYPE {name} {kind}\n")
+    }
+}
+
+/// A sample of a metric, with labels after those of the process.
+#[derive(Clone, Copy)]
+struct Sample<'a> {
+    name: &'a str,
+    labels: WorkerLabels<'a>,
+    more: &'a str,
+    value: u64,
+}
+
+impl fmt::Display for Sample<'_> {
+    ghost output = { λ s. Some (sample_text s.name.now
+        (labels_text s.labels.namespace.now s.labels.task_queue.now s.labels.identity.now) s.more.now s.value) };
+
+    fn fmt<W: fmt::Write>(&self, f: &mut fmt::Formatter<W>) -> fmt::Result {
+        let Sample {
+            name,
+            labels,
+            more,
+            value,
+        } = *self;
+        write!(f, "{name}{{{labels}{more}}} {value}\n")
+    }
+}
+
+/// A metric of one sample.
+#[derive(Clone, Copy)]
+struct Single<'a> {
+    head: Head<'a>,
+    labels: WorkerLabels<'a>,
+    value: u64,
+}
+
+impl fmt::Display for Single<'_> {
+    ghost output = { λ s. Some (single_text s.head.name.now s.head.kind.now s.head.help.now
+        (labels_text s.labels.namespace.now s.labels.task_queue.now s.labels.identity.now) s.value) };
+
+    fn fmt<W: fmt::Write>(&self, f: &mut fmt::Formatter<W>) -> fmt::Result {
+        let head = self.head;
+        let sample = Sample {
+            name: head.name,
+            labels: self.labels,
+            more: "",
+            value: self.value,
+        };
+        write!(f, "{head}{sample}")
+    }
+}
+
+/// A metric of two samples, each with a label of its own.
+#[derive(Clone, Copy)]
+struct Pair<'a> {
+    head: Head<'a>,
+    labels: WorkerLabels<'a>,
+    first: &'a str,
+    one: u64,
+    second: &'a str,
+    other: u64,
+}
+
+impl fmt::Display for Pair<'_> {
+    ghost output = { λ p. Some (pair_text p.head.name.now p.head.kind.now p.head.help.now
+        (labels_text p.labels.namespace.now p.labels.task_queue.now p.labels.identity.now)
+        p.first.now p.one p.second.now p.other) };
+
+    fn fmt<W: fmt::Write>(&self, f: &mut fmt::Formatter<W>) -> fmt::Result {
+        let head = self.head;
+        let first = Sample {
+            name: head.name,
+            labels: self.labels,
+            more: self.first,
+            value: self.one,
+        };
+        let second = Sample {
+            name: head.name,
+            labels: self.labels,
+            more: self.second,
+            value: self.other,
+        };
+        write!(f, "{head}{first}{second}")
+    }
+}
+
+/// Tasks by their outcome.
+#[derive(Clone, Copy)]
+struct Tasks<'a> {
+    labels: WorkerLabels<'a>,
+    metrics: Metrics,
+}
+
+impl fmt::Display for Tasks<'_> {
+    ghost output = { λ t. Some (tasks_text
+        (labels_text t.labels.namespace.now t.labels.task_queue.now t.labels.identity.now) t.metrics) };
+
+    fn fmt<W: fmt::Write>(&self, f: &mut fmt::Formatter<W>) -> fmt::Result {
+        let tasks = Pair {
+            head: Head {
+                name: "wfhost_tasks_total",
+                kind: "counter",
+                help: "Tasks that were answered, by their outcome.",
+            },
+            labels: self.labels,
+            first: ",outcome=\"completed\"",
+            one: self.metrics.completed,
+            second: ",outcome=\"failed\"",
+            other: self.metrics.failed,
+        };
+        write!(f, "{tasks}")
+    }
+}
+
+/// Workflow tasks with a cached run, and without one.
+#[derive(Clone, Copy)]
+struct Hits<'a> {
+    labels: WorkerLabels<'a>,
+    metrics: Metrics,
+}
+
+impl fmt::Display for Hits<'_> {
+    ghost output = { λ t. Some (hits_text
+        (labels_text t.labels.namespace.now t.labels.task_queue.now t.labels.identity.now) t.metrics) };
+
+    fn fmt<W: fmt::Write>(&self, f: &mut fmt::Formatter<W>) -> fmt::Result {
+        let hits = Single {
+            head: Head {
+                name: "wfhost_sticky_cache_hit_total",
+                kind: "counter",
+                help: "Workflow tasks that were answered from a cached run.",
+            },
+            labels: self.labels,
+            value: self.metrics.hits,
+        };
+        let misses = Single {
+            head: Head {
+                name: "wfhost_sticky_cache_miss_total",
+                kind: "counter",
+                help: "Workflow tasks that were answered without a cached run.",
+            },
+            labels: self.labels,
+            value: self.metrics.misses,
+        };
+        write!(f, "{hits}{misses}")
+    }
+}
+
+/// Polls, and those that gave no task.
+#[derive(Clone, Copy)]
+struct Polls<'a> {
+    labels: WorkerLabels<'a>,
+    metrics: Metrics,
+}
+
+impl fmt::Display for Polls<'_> {
+    ghost output = { λ t. Some (polls_text
+        (labels_text t.labels.namespace.now t.labels.task_queue.now t.labels.identity.now) t.metrics) };
+
+    fn fmt<W: fmt::Write>(&self, f: &mut fmt::Formatter<W>) -> fmt::Result {
+        let polls = Single {
+            head: Head {
+                name: "wfhost_polls_total",
+                kind: "counter",
+                help: "Polls that got a result or an error.",
+            },
+            labels: self.labels,
+            value: self.metrics.polls,
+        };
+        let empty = Single {
+            head: Head {
+                name: "wfhost_polls_empty_total",
+                kind: "counter",
+                help: "Polls that gave no task.",
+            },
+            labels: self.labels,
+            value: self.metrics.empty_polls,
+        };
+        write!(f, "{polls}{empty}")
+    }
+}
+
+/// Answers that the server did not take.
+#[derive(Clone, Copy)]
+struct Answers<'a> {
+    labels: WorkerLabels<'a>,
+    metrics: Metrics,
+}
+
+impl fmt::Display for Answers<'_> {
+    ghost output = { λ t. Some (answers_text
+        (labels_text t.labels.namespace.now t.labels.task_queue.now t.labels.identity.now) t.metrics) };
+
+    fn fmt<W: fmt::Write>(&self, f: &mut fmt::Formatter<W>) -> fmt::Result {
+        let not_found = Single {
+            head: Head {
+                name: "wfhost_answers_not_found_total",
+                kind: "counter",
+                help: "Answers whose task was over.",
+            },
+            labels: self.labels,
+            value: self.metrics.not_found,
+        };
+        let refused = Single {
+            head: Head {
+                name: "wfhost_answers_refused_total",
+                kind: "counter",
+                help: "Answers that the server refused as invalid.",
+            },
+            labels: self.labels,
+            value: self.metrics.refused,
+        };
+        write!(f, "{not_found}{refused}")
+    }
+}
+
+/// Tasks in hand, and what the cache holds.
+#[derive(Clone, Copy)]
+struct Cache<'a> {
+    labels: WorkerLabels<'a>,
+    held: Held,
+}
+
+impl fmt::Display for Cache<'_> {
+    ghost output = { λ t. Some (cache_text
+        (labels_text t.labels.namespace.now t.labels.task_queue.now t.labels.identity.now) t.held) };
+
+    fn fmt<W: fmt::Write>(&self, f: &mut fmt::Formatter<W>) -> fmt::Result {
+        let in_hand = Single {
+            head: Head {
+                name: "wfhost_tasks_in_hand",
+                kind: "gauge",
+                help: "Tasks in hand.",
+            },
+            labels: self.labels,
+            value: self.held.in_hand,
+        };
+        let runs = Single {
+            head: Head {
+                name: "wfhost_sticky_cache_size",
+                kind: "gauge",
+                help: "Runs in the sticky cache.",
+            },
+            labels: self.labels,
+            value: self.held.cached,
+        };
+        let events = Single {
+            head: Head {
+                name: "wfhost_sticky_cache_events",
+                kind: "gauge",
+                help: "Events that the cached runs hold together.",
+            },
+            labels: self.labels,
+            value: self.held.cached_events,
+        };
+        write!(f, "{in_hand}{runs}{events}")
+    }
+}
+
+/// Slots by their use.
+#[derive(Clone, Copy)]
+struct SlotUse<'a> {
+    labels: WorkerLabels<'a>,
+    held: Held,
+}
+
+impl fmt::Display for SlotUse<'_> {
+    ghost output = { λ t. Some (slots_text
+        (labels_text t.labels.namespace.now t.labels.task_queue.now t.labels.identity.now) t.held) };
+
+    fn fmt<W: fmt::Write>(&self, f: &mut fmt::Formatter<W>) -> fmt::Result {
+        let used = Pair {
+            head: Head {
+                name: "wfhost_worker_task_slots_used",
+                kind: "gauge",
+                help: "Task slots that a task has, or a poll.",
+            },
+            labels: self.labels,
+            first: ",worker_type=\"WorkflowWorker\"",
+            one: self.held.workflow.used,
+            second: ",worker_type=\"ActivityWorker\"",
+            other: self.held.activity.used,
+        };
+        let available = Pair {
+            head: Head {
+                name: "wfhost_worker_task_slots_available",
+                kind: "gauge",
+                help: "Task slots that are free.",
+            },
+            labels: self.labels,
+            first: ",worker_type=\"WorkflowWorker\"",
+            one: self.held.workflow.available,
+            second: ",worker_type=\"ActivityWorker\"",
+            other: self.held.activity.available,
+        };
+        write!(f, "{used}{available}")
+    }
+}
+
+/// What the host holds, where that is known.
+#[derive(Clone, Copy)]
+struct Holdings<'a> {
+    labels: WorkerLabels<'a>,
+    held: Option<Held>,
+}
+
+impl fmt::Display for Holdings<'_> {
+    ghost output = { λ t. Some (holdings_text
+        (labels_text t.labels.namespace.now t.labels.task_queue.now t.labels.identity.now) t.held) };
+
+    fn fmt<W: fmt::Write>(&self, f: &mut fmt::Formatter<W>) -> fmt::Result {
+        let Some(held) = self.held else {
+            return Ok(());
+        };
+        let labels = self.labels;
+        let cache = Cache { labels, held };
+        let slots = SlotUse { labels, held };
+        write!(f, "{cache}{slots}")
+    }
+}
+
+/// The counts of a process, as the text that Prometheus reads: of each metric what it means, its type
+/// and its samples, each ended by a line feed (Prometheus documentation, "Exposition formats"). The
+/// names are those of Temporal's documentation ("SDK metrics reference") where a metric of it means
+/// the same. What the host holds is left out where that is not known.
+#[derive(Clone, Copy, Debug)]
+pub struct Exposition<'a> {
+    /// Whose counts they are.
+    pub labels: WorkerLabels<'a>,
+    /// The counts.
+    pub metrics: Metrics,
+}
+
+impl fmt::Display for Exposition<'_> {
+    ghost output = { λ t. Some (metrics_text
+        (labels_text t.labels.namespace.now t.labels.task_queue.now t.labels.identity.now) t.metrics) };
+
+    fn fmt<W: fmt::Write>(&self, f: &mut fmt::Formatter<W>) -> fmt::Result {
+        let Exposition { labels, metrics } = *self;
+        let tasks = Tasks { labels, metrics };
+        let hits = Hits { labels, metrics };
+        let polls = Polls { labels, metrics };
+        let answers = Answers { labels, metrics };
+        let holdings = Holdings {
+            labels,
+            held: metrics.held,
+        };
+        write!(f, "{tasks}{hits}{polls}{answers}{holdings}")
+    }
+}

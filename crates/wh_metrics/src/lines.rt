@@ -1,0 +1,138 @@
+//! Counts as a line.
+
+ghost use Rattle.std.specs.Prelude.{Some};
+ghost use Rattle.wh_metrics.specs.Lines.{counts_text, held_json, held_text, json_text, slots_json};
+
+use crate::metrics::{Held, Metrics, Slots};
+use std::fmt;
+
+/// What the host holds, in words, with a comma behind it; nothing where that is not known.
+#[derive(Clone, Copy)]
+struct HeldText(Option<Held>);
+
+impl fmt::Display for HeldText {
+    ghost output = { λ t. Some (held_text t.0) };
+
+    fn fmt<W: fmt::Write>(&self, f: &mut fmt::Formatter<W>) -> fmt::Result {
+        let Some(held) = self.0 else {
+            return Ok(());
+        };
+        let Held {
+            in_hand,
+            cached,
+            cached_events,
+            ..
+        } = held;
+        write!(
+            f,
+            "in hand {in_hand}, cached {cached} runs with {cached_events} events, "
+        )
+    }
+}
+
+/// Counts in words: the tasks by their outcome, what the host holds where that is known, workflow
+/// tasks with a cached run and without one, and how many tasks were answered a second.
+#[derive(Clone, Copy, Debug)]
+pub struct CountsLine {
+    /// The counts.
+    pub metrics: Metrics,
+    /// How many tasks were answered a second since the line before.
+    pub rate: u64,
+}
+
+impl fmt::Display for CountsLine {
+    ghost output = { λ line. Some (counts_text line.metrics line.rate) };
+
+    fn fmt<W: fmt::Write>(&self, f: &mut fmt::Formatter<W>) -> fmt::Result {
+        let Metrics {
+            completed,
+            failed,
+            hits,
+            misses,
+            ..
+        } = self.metrics;
+        let held = HeldText(self.metrics.held);
+        let rate = self.rate;
+        write!(
+            f,
+            "completed {completed}, failed {failed}, {held}hits {hits}, misses {misses}, {rate} tasks a second"
+        )
+    }
+}
+
+/// The slots of a kind, as an object of JSON.
+#[derive(Clone, Copy)]
+struct SlotsJson(Slots);
+
+impl fmt::Display for SlotsJson {
+    ghost output = { λ s. Some (slots_json s.0) };
+
+    fn fmt<W: fmt::Write>(&self, f: &mut fmt::Formatter<W>) -> fmt::Result {
+        let Slots { used, available } = self.0;
+        write!(f, "{{\"used\":{used},\"available\":{available}}}")
+    }
+}
+
+/// What the host holds, as members of an object of JSON, each with a comma before it; none where that
+/// is not known.
+#[derive(Clone, Copy)]
+struct HeldJson(Option<Held>);
+
+impl fmt::Display for HeldJson {
+    ghost output = { λ t. Some (held_json t.0) };
+
+    fn fmt<W: fmt::Write>(&self, f: &mut fmt::Formatter<W>) -> fmt::Result {
+        let Some(held) = self.0 else {
+            return Ok(());
+        };
+        let Held {
+            in_hand,
+            cached,
+            cached_events,
+            ..
+        } = held;
+        let workflow = SlotsJson(held.workflow);
+        let activity = SlotsJson(held.activity);
+        write!(
+            f,
+            ",\"inHand\":{in_hand},\"cachedRuns\":{cached},\"cachedEvents\":{cached_events},\"workflowSlots\":{workflow},\"activitySlots\":{activity}"
+        )
+    }
+}
+
+/// The same counts, and those of polls and answers, as an object of JSON.
+#[derive(Clone, Copy, Debug)]
+pub struct JsonLine {
+    /// The counts.
+    pub metrics: Metrics,
+    /// How many tasks were answered a second since the line before.
+    pub rate: u64,
+}
+
+impl fmt::Display for JsonLine {
+    ghost output = { λ line. Some (json_text line.metrics line.rate) };
+
+    fn fmt<W: fmt::Write>(&self, f: &mut fmt::Formatter<W>) -> fmt::Result {
+        let Metrics {
+            completed,
+            failed,
+            hits,
+            misses,
+            polls,
+            empty_polls,
+            not_found,
+            refused,
+            ..
+        } = self.metrics;
+        let held = HeldJson(self.metrics.held);
+        let rate = self.rate;
+        write!(
+            f,
+            "{{\"completed\":{completed},\"failed\":{failed}{held},\"hits\":{hits},\"misses\":{misses},"
+        )?;
+        write!(
+            f,
+            "\"polls\":{polls},\"emptyPolls\":{empty_polls},\"answersNotFound\":{not_found},\"answersRefused\":{refused},\"tasksPerSecond\":{rate}}}"
+        )
+    }
+}

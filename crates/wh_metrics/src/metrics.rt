@@ -1,0 +1,48 @@
+//! What is counted.
+
+/// The task slots of a kind.
+#[derive(Clone, Copy, PartialEq, Eq, Debug)]
+pub struct Slots {
+    /// Those that a task has, or a poll.
+    pub used: u64,
+    /// Those that are free.
+    pub available: u64,
+}
+
+/// What a host holds now.
+#[derive(Clone, Copy, PartialEq, Eq, Debug)]
+pub struct Held {
+    /// Tasks in hand, of both kinds.
+    pub in_hand: u64,
+    /// Runs in the sticky cache.
+    pub cached: u64,
+    /// Events that the cached runs hold together.
+    pub cached_events: u64,
+    /// The slots of workflow tasks.
+    pub workflow: Slots,
+    /// The slots of activity tasks.
+    pub activity: Slots,
+}
+
+/// What the workers of a host have counted since they began, and what the host holds now.
+#[derive(Clone, Copy, PartialEq, Eq, Debug)]
+pub struct Metrics {
+    /// Tasks that were completed.
+    pub completed: u64,
+    /// Tasks that failed.
+    pub failed: u64,
+    /// What the host holds, where that is known.
+    pub held: Option<Held>,
+    /// Workflow tasks that were answered from a cached run.
+    pub hits: u64,
+    /// Workflow tasks that were answered without one.
+    pub misses: u64,
+    /// Polls that got a result or an error.
+    pub polls: u64,
+    /// Polls that gave no task.
+    pub empty_polls: u64,
+    /// Answers whose task was over: the server did not find it.
+    pub not_found: u64,
+    /// Answers that the server refused as invalid.
+    pub refused: u64,
+}

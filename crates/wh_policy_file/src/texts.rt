@@ -1,0 +1,143 @@
+//! Reads policies from a text.
+
+ghost use Rattle.std.specs.Prelude.{◌≡◌, ◌≤◌, ℕ, List, IfErr, IfNone, IfOk, IfSome, None, Some, length};
+ghost use Rattle.std.specs.Str.{IsUtf8};
+ghost use Rattle.toml.specs.Errors.{IsMemory, IsWithin};
+ghost use Rattle.toml.specs.Parse.{parse_document};
+ghost use Rattle.toml.specs.View.{table_view};
+ghost use Rattle.wh_policy_file.specs.Lines.{line_at};
+ghost use Rattle.wh_policy_file.specs.Policies.{IsRead, IsRefused};
+
+use crate::fault::{KeyFault, PolicyFault};
+use crate::reading::given;
+use std::alloc::Global;
+use toml::Table;
+use wh_events::Text;
+use wh_policies::Policies;
+
+/// How many bytes a text of policies has at most.
+const MOST_BYTES: usize = 65_536;
+
+/// The text that bytes are.
+fn text_of(bytes: &[u8]) -> Option<&str>
+    ensures text { IfSome result (λ text. text.now ≡ bytes.now) }
+    ensures none { IfNone result (¬ (IsUtf8 bytes.now)) }
+{
+    match str::from_utf8(bytes) {
+        Ok(text) => Some(text),
+        Err(_) => None,
+    }
+}
+
+/// The line of a place in a text, counted from 1.
+fn line_at(text: &str, place: usize) -> u64
+    requires { place ≤ length text.now }
+    ensures { result ≡ line_at place text.now }
+{
+    let before = &text.as_bytes()[..place];
+    let mut line = 1;
+    for byte in before {
+        if *byte == b'\n' {
+            line += 1;
+        }
+    }
+    line
+}
+
+/// Why a text is no TOML, as far as there is memory to say it.
+fn no_toml(alloc: Global, text: &str, error: &toml::de::Error) -> PolicyFault
+    requires within { IsWithin text.now error.now }
+    requires refused { ¬ (IsMemory error.now) → parse_document text.now ≡ None }
+    ensures { IsRefused text.now result }
+{
+    let place = match error.span() {
+        Some(span) => span.start,
+        None => return PolicyFault::OutOfMemory,
+    };
+    match String::from_str(alloc, error.message()) {
+        Ok(reason) => PolicyFault::NoToml {
+            line: line_at(text, place),
+            reason: Text::new(reason),
+        },
+        Err(_) => PolicyFault::OutOfMemory,
+    }
+}
+
+/// The document that a text is.
+fn document_of(alloc: Global, text: &str) -> Result<Table, PolicyFault>
+    ensures ok { IfOk result (λ document. parse_document text.now ≡ Some (table_view document)) }
+    ensures refused { IfErr result (IsRefused text.now) }
+{
+    match toml::table_from_str(alloc, text) {
+        Ok(document) => Ok(document),
+        Err(error) => Err(no_toml(alloc, text, &error)),
+    }
+}
+
+/// The fault of a key of the first bytes of a text, if they are TOML and have one.
+fn fault_in(alloc: Global, bytes: &[u8], plain: &Policies) -> Option<KeyFault> {
+    let Ok(document) = toml::table_from_str(alloc, text_of(bytes)?) else {
+        return None;
+    };
+    match given(alloc, &document, plain) {
+        Ok(policies) => {
+            drop::<Policies>(policies);
+            None
+        }
+        Err(fault) => Some(fault),
+    }
+}
+
+/// The fault of a key in its line.
+fn in_line(fault: KeyFault, line: u64) -> PolicyFault
+    ensures { (text : List ℕ) → IsRefused text result }
+{
+    match fault {
+        KeyFault::Unknown { key } => PolicyFault::UnknownKey { key, line },
+        KeyFault::Bad { key } => PolicyFault::BadValue { key, line },
+        KeyFault::OutOfMemory => PolicyFault::OutOfMemory,
+    }
+}
+
+/// The first fault of the keys of a text, in the first line that, with those before it, has one. The
+/// whole text has this one.
+fn first_fault(alloc: Global, bytes: &[u8], plain: &Policies, whole: KeyFault) -> PolicyFault
+    ensures { (text : List ℕ) → IsRefused text result }
+{
+    let mut line = 1;
+    for (index, byte) in bytes.iter().enumerate() {
+        if *byte == b'\n' {
+            if let Some(fault) = fault_in(alloc, &bytes[..index + 1], plain) {
+                return in_line(fault, line);
+            }
+            line = u64::saturating_add(line, 1);
+        }
+    }
+    in_line(whole, line)
+}
+
+/// The policies that a text in TOML 1.1 gives, beside these seconds for an attempt of each activity
+/// and this number of attempts. The fault is that of the first line with one; a text that is no TOML
+/// is refused before. Nothing is given then.
+pub fn read_policies(
+    alloc: Global,
+    bytes: &[u8],
+    start_to_close: u32,
+    attempts: u32,
+) -> Result<Policies, PolicyFault>
+    ensures read { IfOk result (IsRead start_to_close attempts bytes.now) }
+    ensures refused { IfErr result (IsRefused bytes.now) }
+{
+    if bytes.len() > MOST_BYTES {
+        return Err(PolicyFault::TooLong);
+    }
+    let Some(text) = text_of(bytes) else {
+        return Err(PolicyFault::NoText);
+    };
+    let document = document_of(alloc, text)?;
+    let plain = Policies::plain(alloc, start_to_close, attempts);
+    match given(alloc, &document, &plain) {
+        Ok(policies) => Ok(policies),
+        Err(fault) => Err(first_fault(alloc, bytes, &plain, fault)),
+    }
+}

@@ -1,0 +1,123 @@
+-- What is counted of the turns and the calls of workers, and what is told of it.
+use Rattle.std.specs.Prelude.{ℕ, ◌==◌, length, ◌*◌, ◌/◌, ◌-◌, ◌^◌, min, max, Bool, true, false, nat_eq, Option, Some, None, Result, Ok, Err, List, ◌++◌, codes}
+use Rattle.std.specs.List.{starts_with}
+use Rattle.serde_json.specs.Data.{Data}
+use Rattle.wh_client.specs.Codes.{refused_answer}
+use Rattle.wh_client.specs.declared.codes.Receipt.{Receipt}
+use Rattle.wh_client.specs.declared.codes.Receipt.TheVariants as receipt
+use Rattle.wh_client.specs.declared.codes.Status.{Status}
+use Rattle.wh_console.specs.declared.format.Format.{Format}
+use Rattle.wh_console.specs.declared.format.Format.TheVariants as formats
+use Rattle.wh_crew.specs.declared.serving.LiveEnd.{LiveEnd}
+use Rattle.wh_host.specs.declared.reply.Counts.{Counts}
+use Rattle.wh_host.specs.declared.reply.Outcome.{Outcome}
+use Rattle.wh_host.specs.declared.reply.Outcome.TheVariants.{Completed, Failed}
+use Rattle.wh_json.specs.Fields.{field, text_of}
+use Rattle.wh_live.specs.Tallies.{together}
+use Rattle.wh_metrics.specs.Lines.{counts_text, json_text}
+use Rattle.wh_metrics.specs.declared.metrics.Held.{Held}
+use Rattle.wh_metrics.specs.declared.metrics.Metrics.{Metrics}
+use Rattle.wh_metrics.specs.declared.metrics.Slots.{Slots}
+use Rattle.wh_poll.specs.declared.serve.Served.{Served}
+use Rattle.wh_poll.specs.declared.serve.Served.TheVariants.{Workflow, Activity}
+use Rattle.wh_slots.specs.declared.SlotCount.{SlotCount}
+use Rattle.wh_tasks.specs.declared.source.SourceFault.{SourceFault}
+
+-- nothing is counted
+abbrev pub nothing : Metrics
+nothing = record {
+  completed = 0;
+  failed = 0;
+  held = None;
+  hits = 0;
+  misses = 0;
+  polls = 0;
+  empty_polls = 0;
+  not_found = 0;
+  refused = 0;
+}
+
+-- a task more that ended so
+abbrev pub ended : Outcome → Metrics → Metrics
+ended Completed metrics = record metrics { completed = together metrics.completed 1 }
+ended Failed metrics = record metrics { failed = together metrics.failed 1 }
+
+-- a workflow task more, answered from a cached run or without one
+abbrev pub found : Bool → Metrics → Metrics
+found true metrics = record metrics { hits = together metrics.hits 1 }
+found false metrics = record metrics { misses = together metrics.misses 1 }
+
+-- a turn more: the task that it answered, if it did
+abbrev pub with_turn : Result Served SourceFault → Metrics → Metrics
+with_turn (Ok (Workflow name hit steps outcome)) metrics = ended outcome (found hit metrics)
+with_turn (Ok (Activity name outcome)) metrics = ended outcome metrics
+with_turn _ metrics = metrics
+
+-- a poll more, with a task or without one
+abbrev pub with_poll : Bool → Metrics → Metrics
+with_poll true metrics = record metrics { polls = together metrics.polls 1; empty_polls = together metrics.empty_polls 1 }
+with_poll false metrics = record metrics { polls = together metrics.polls 1 }
+
+-- the result of a poll has no task: there is no token, or an empty one
+abbrev pub has_no_task : Data → Bool
+has_no_task result = length (text_of (field (codes "taskToken") (Some result))) == 0
+
+-- an answer more of which this became
+abbrev pub with_receipt : Receipt → Metrics → Metrics
+with_receipt receipt.NotFound metrics = record metrics { not_found = together metrics.not_found 1 }
+with_receipt receipt.Invalid metrics = record metrics { refused = together metrics.refused 1 }
+with_receipt _ metrics = metrics
+
+-- an answer more that was refused with this status
+abbrev pub with_refusal : Status → Metrics → Metrics
+with_refusal status metrics = with_receipt (refused_answer status) metrics
+
+-- the method answers a task
+abbrev pub is_answer : List ℕ → Bool
+is_answer method = starts_with nat_eq method (codes "Respond")
+
+-- slots by their use: a poll has those that are reserved
+abbrev pub slots_of : SlotCount → Slots
+slots_of count = record { used = together count.reserved count.held; available = count.free }
+
+abbrev pub held_of : Counts → Held
+held_of counts = record {
+  in_hand = counts.in_hand;
+  cached = counts.cached;
+  cached_events = counts.cached_events;
+  workflow = slots_of counts.workflow;
+  activity = slots_of counts.activity;
+}
+
+-- what is counted, with what the host counts and holds, where it gives that
+abbrev pub metrics_now : Metrics → Option Counts → Metrics
+metrics_now metrics None = metrics
+metrics_now metrics (Some counts) =
+    record metrics { completed = counts.completed; failed = counts.failed; held = Some (held_of counts) }
+
+-- tasks that were answered
+abbrev pub answered : Metrics → ℕ
+answered metrics = together metrics.completed metrics.failed
+
+-- so many tasks in so many milliseconds are as many a second, rounded
+abbrev pub rate_of : (since more : ℕ) → ℕ
+rate_of since more = together (min (more * 1000) (2 ^ 64 - 1)) (since / 2) / since
+
+-- the line of counts: in words or as JSON
+abbrev pub line_as : Format → Metrics → (rate : ℕ) → List ℕ
+line_as formats.Text metrics rate = counts_text metrics rate
+line_as formats.Json metrics rate = json_text metrics rate
+
+-- what was counted in all: the totals of the host, what the sources counted, and which runs were cached
+abbrev pub end_metrics : Metrics → LiveEnd → Metrics
+end_metrics metrics end = record {
+  completed = end.totals.completed;
+  failed = end.totals.failed;
+  held = None;
+  hits = metrics.hits;
+  misses = metrics.misses;
+  polls = end.tally.polls;
+  empty_polls = end.tally.empty;
+  not_found = end.tally.not_found;
+  refused = end.tally.refused;
+}

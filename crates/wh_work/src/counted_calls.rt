@@ -1,0 +1,94 @@
+//! Calls that are counted.
+
+ghost use Rattle.std.specs.Prelude.{◌≡◌};
+ghost use Rattle.serde_json.specs.View.{view};
+ghost use Rattle.wh_work.specs.Progress.{has_no_task};
+
+use crate::counting::is_answer;
+use crate::progress::Progress;
+use serde_json::Value;
+use std::alloc::Global;
+use std::sync::Wait;
+use wh_client::{PollEnd, Status, poll_end, status_of};
+use wh_json::{field, text_of};
+use wh_rpc::{CallFault, Caller, Outcome, Response};
+
+/// Calls, of which polls and refused answers are counted, if anything is.
+#[derive(Drop)]
+pub(crate) struct CountedCalls<'a, C, R> {
+    pub(crate) calls: &'a C,
+    pub(crate) progress: Option<&'a Progress<'a, R>>,
+}
+
+/// Whether the result of a poll has no task: there is no token, or an empty one.
+fn has_no_task(value: &Value) -> bool
+    ensures { result ≡ has_no_task (view value.now) }
+{
+    text_of(field(Some(value), "taskToken")).is_empty()
+}
+
+/// Whether a poll gave no task, if it is counted: not where it was refused since there are no more.
+fn poll_of(response: &Result<(u64, Outcome), CallFault>) -> Option<bool> {
+    match response {
+        Ok((_, Outcome::Given(value))) => Some(has_no_task(value)),
+        Ok((_, Outcome::Refused { code, .. })) => match poll_end(status_of(*code)) {
+            PollEnd::Closed => None,
+            PollEnd::Never | PollEnd::Later => Some(false),
+        },
+        Err(_) => None,
+    }
+}
+
+/// With which status a call was refused, if it was.
+fn refusal_of(response: &Result<(u64, Outcome), CallFault>) -> Option<Status> {
+    match response {
+        Ok((_, Outcome::Refused { code, .. })) => Some(status_of(*code)),
+        _ => None,
+    }
+}
+
+impl<C: Caller, R: Wait> Caller for CountedCalls<'_, C, R> {
+    fn allocator(&self) -> Global {
+        self.calls.allocator()
+    }
+
+    fn call<Q: Wait>(
+        &self,
+        rt: &Q,
+        method: &str,
+        params: Value,
+    ) -> Result<(u64, Outcome), CallFault> {
+        let response = self.calls.call(rt, method, params);
+        if let (Some(progress), true) = (self.progress, is_answer(method)) {
+            if let Some(status) = refusal_of(&response) {
+                progress.count_refusal(status);
+            }
+        }
+        response
+    }
+
+    fn poll<Q: Wait>(
+        &self,
+        rt: &Q,
+        method: &str,
+        params: Value,
+    ) -> Result<(u64, Outcome), CallFault> {
+        let response = self.calls.poll(rt, method, params);
+        if let (Some(progress), Some(is_empty)) = (self.progress, poll_of(&response)) {
+            progress.count_poll(is_empty);
+        }
+        response
+    }
+
+    fn deliver<Q: Wait>(&self, rt: &Q, response: Response) -> bool {
+        self.calls.deliver(rt, response)
+    }
+
+    fn shut_down<Q: Wait>(&self, rt: &Q) {
+        self.calls.shut_down(rt);
+    }
+
+    fn close<Q: Wait>(&self, rt: &Q) {
+        self.calls.close(rt);
+    }
+}

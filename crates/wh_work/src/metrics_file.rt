@@ -1,0 +1,110 @@
+//! The file in which counts are kept.
+
+ghost use Rattle.std.specs.Prelude.{◌≡◌, IfOk, None, string_bytes};
+ghost use Rattle.wh_metrics.specs.Exposition.{metrics_text};
+ghost use Rattle.wh_metrics.specs.Labels.{labels_text};
+ghost use Rattle.wh_work.specs.Progress.{end_metrics};
+
+use std::alloc::{AllocError, Global};
+use std::rt::Files;
+use wh_crew::LiveEnd;
+use wh_files::{FolderFault, Reason, replace_file};
+use wh_messages::WorkerNames;
+use wh_metrics::{Exposition, Metrics, WorkerLabels};
+
+/// The file in which counts are kept, as Prometheus reads them.
+#[derive(Drop)]
+pub(crate) struct MetricsFile<'a> {
+    /// Its path.
+    pub(crate) path: &'a str,
+    /// The path beside it at which it is written first.
+    beside: String,
+    /// Whose counts they are.
+    labels: WorkerLabels<'a>,
+}
+
+/// The counts of a process as they are kept.
+fn exposed(alloc: Global, labels: WorkerLabels<'_>, metrics: Metrics) -> Result<String, AllocError>
+    ensures { IfOk result (λ text. string_bytes text ≡ metrics_text
+        (labels_text labels.entry.namespace.now labels.entry.task_queue.now labels.entry.identity.now) metrics) }
+{
+    let exposition = Exposition { labels, metrics };
+    format!(in alloc; "{exposition}")
+}
+
+/// What all workers have counted in the end: the totals of the host, what their calls have counted,
+/// and which runs were cached. The host holds nothing then.
+pub(crate) fn end_metrics(metrics: &Metrics, end: &LiveEnd) -> Metrics
+    ensures { result ≡ end_metrics metrics.now end.now }
+{
+    let LiveEnd { totals, tally } = *end;
+    Metrics {
+        completed: totals.completed,
+        failed: totals.failed,
+        held: None,
+        hits: metrics.hits,
+        misses: metrics.misses,
+        polls: tally.polls,
+        empty_polls: tally.empty,
+        not_found: tally.not_found,
+        refused: tally.refused,
+    }
+}
+
+/// Why a file can't be written, in words.
+fn words(fault: FolderFault) -> &'static str {
+    match fault {
+        FolderFault::OutOfMemory => "out of memory",
+        FolderFault::Unreadable {
+            reason: Reason::Other,
+        } => "the system can't write it",
+        FolderFault::Unreadable { reason } => reason.words(),
+    }
+}
+
+/// What can replace files whole, as a runtime with files can. It stands for `Files` where threads do so.
+pub trait FileReplacer {
+    /// Replaces what the file at `path` has, by way of a file at `beside`, as
+    /// [`replace_file`](wh_files::replace_file). After an error it is as it was.
+    fn replace(&self, path: &str, beside: &str, bytes: &[u8]) -> Result<(), FolderFault>;
+}
+
+impl<R: Files> FileReplacer for R {
+    fn replace(&self, path: &str, beside: &str, bytes: &[u8]) -> Result<(), FolderFault> {
+        replace_file(self, path, beside, bytes)
+    }
+}
+
+impl<'a> MetricsFile<'a> {
+    /// The file at a path, for the counts of a worker of these names.
+    pub(crate) fn new(
+        alloc: Global,
+        path: &'a str,
+        names: &'a WorkerNames,
+    ) -> Result<MetricsFile<'a>, AllocError> {
+        Ok(MetricsFile {
+            path,
+            beside: format!(in alloc; "{path}.tmp")?,
+            labels: WorkerLabels {
+                namespace: names.namespace.get(),
+                task_queue: names.task_queue.get(),
+                identity: names.identity.get(),
+            },
+        })
+    }
+
+    /// Replaces what the file has by these counts. Where it can't be written, why not.
+    pub(crate) fn write<R: FileReplacer + AllocGlobal>(
+        &self,
+        rt: &R,
+        metrics: Metrics,
+    ) -> Option<&'static str> {
+        let Ok(text) = exposed(rt.alloc(), self.labels, metrics) else {
+            return Some(words(FolderFault::OutOfMemory));
+        };
+        match rt.replace(self.path, self.beside.as_str(), text.as_bytes()) {
+            Ok(()) => None,
+            Err(fault) => Some(words(fault)),
+        }
+    }
+}

@@ -1,0 +1,161 @@
+//! The policies that options ask for.
+
+ghost use Rattle.std.specs.Prelude.{IfErr, IfOk, Some};
+ghost use Rattle.wh_command_line.specs.Options.{IsWithinWorkLimits};
+ghost use Rattle.wh_policy_file.specs.Policies.{IsRefused};
+ghost use Rattle.wh_work.specs.Policies.{AreOfFile, ArePolicies, IsPlanFault, bad_policies_text, fault_words};
+
+use std::alloc::{AllocError, Global};
+use std::fmt;
+use std::rt::Files;
+use wh_command_line::WorkOptions;
+use wh_events::Text;
+use wh_files::{InputFault, Origin, read_input};
+use wh_policies::Policies;
+use wh_policy_file::{PolicyFault, read_policies};
+use wh_tester::Shown;
+
+/// A file that gives no policies, and why not. As a text: the file, what is wrong with it, and the key
+/// and the line of that. Of each name the first 255 characters are shown, with `?` for each that is
+/// not printable.
+#[derive(Debug, Drop)]
+pub struct BadPolicies {
+    /// The path of the file.
+    pub path: Text,
+    /// Why it gives none.
+    pub fault: PolicyFault,
+}
+
+/// What is wrong with a file, in words.
+#[derive(Drop)]
+struct FaultWords<'a>(&'a PolicyFault);
+
+impl fmt::Display for FaultWords<'_> {
+    ghost output = { λ words. Some (fault_words words.0.now) };
+
+    fn fmt<W: fmt::Write>(&self, f: &mut fmt::Formatter<W>) -> fmt::Result {
+        match self.0 {
+            PolicyFault::TooLong => write!(f, "file too long"),
+            PolicyFault::NoText => write!(f, "not UTF-8 text"),
+            PolicyFault::NoToml { line, reason } => {
+                let reason = Shown(reason.get());
+                write!(f, "not TOML at line {line}: {reason}")
+            }
+            PolicyFault::UnknownKey { key, line } => {
+                let key = Shown(key.get());
+                write!(f, "unknown key {key} at line {line}")
+            }
+            PolicyFault::BadValue { key, line } => {
+                let key = Shown(key.get());
+                write!(f, "bad value of {key} at line {line}")
+            }
+            PolicyFault::OutOfMemory => write!(f, "out of memory"),
+        }
+    }
+}
+
+impl fmt::Display for BadPolicies {
+    ghost output = { λ bad. Some (bad_policies_text bad) };
+
+    fn fmt<W: fmt::Write>(&self, f: &mut fmt::Formatter<W>) -> fmt::Result {
+        let path = Shown(self.path.get());
+        let words = FaultWords(&self.fault);
+        write!(f, "{path}: {words}")
+    }
+}
+
+/// Why there is no plan to serve live tasks.
+#[derive(Debug, Drop)]
+pub enum PlanFault {
+    /// The file of the policies can't be read.
+    Unread {
+        /// Why not.
+        fault: InputFault,
+    },
+    /// The file of the policies gives none.
+    BadPolicies {
+        /// The file, and why not.
+        bad: BadPolicies,
+    },
+    /// There was no memory. This can come in place of every plan and of every fault.
+    OutOfMemory,
+}
+
+impl From<AllocError> for PlanFault {
+    ghost use Rattle.std.specs.Prelude.{◌≡◌};
+    ghost use Rattle.wh_work.specs.declared.policies.PlanFault.{PlanFault};
+
+    ghost from_gives = { λ _ fault. fault ≡ PlanFault.OutOfMemory };
+
+    fn from(_refused: AllocError) -> PlanFault {
+        PlanFault::OutOfMemory
+    }
+}
+
+/// The bytes of the file at a path.
+fn bytes_at<R: Files + AllocGlobal>(rt: &R, path: &str) -> Result<Vec<u8>, PlanFault>
+    ensures { IfErr result IsPlanFault }
+{
+    let path = String::from_str(rt.alloc(), path)?;
+    match read_input(rt, Origin::File { path }) {
+        Ok(bytes) => Ok(bytes),
+        Err(InputFault::OutOfMemory) => Err(PlanFault::OutOfMemory),
+        Err(fault) => Err(PlanFault::Unread { fault }),
+    }
+}
+
+/// That the file at a path gives no policies, since its bytes have a fault.
+fn bad_policies(alloc: Global, path: &str, bytes: &[u8], fault: PolicyFault) -> PlanFault
+    requires { IsRefused bytes.now fault }
+    ensures { IsPlanFault result }
+{
+    let Ok(path) = String::from_str(alloc, path) else {
+        drop(fault);
+        return PlanFault::OutOfMemory;
+    };
+    let bad = BadPolicies {
+        path: Text::new(path),
+        fault,
+    };
+    match bad.fault {
+        PolicyFault::OutOfMemory => PlanFault::OutOfMemory,
+        _ => PlanFault::BadPolicies { bad },
+    }
+}
+
+/// The policies that the file at a path gives, beside these seconds for an attempt of each activity
+/// and this number of attempts.
+fn policies_at<R: Files + AllocGlobal>(
+    rt: &R,
+    path: &str,
+    seconds: u32,
+    attempts: u32,
+) -> Result<Policies, PlanFault>
+    ensures read { IfOk result (AreOfFile seconds attempts) }
+    ensures fault { IfErr result IsPlanFault }
+{
+    let bytes = bytes_at(rt, path)?;
+    match read_policies(rt.alloc(), bytes.as_slice(), seconds, attempts) {
+        Ok(policies) => Ok(policies),
+        Err(fault) => Err(bad_policies(rt.alloc(), path, bytes.as_slice(), fault)),
+    }
+}
+
+/// The policies that the options ask for: those of their file, if they name one. Where that does not
+/// say another thing, or there is none, an activity has a time for one attempt and a number of
+/// attempts.
+pub(crate) fn policies_of<R: Files + AllocGlobal>(
+    rt: &R,
+    options: &WorkOptions,
+) -> Result<Policies, PlanFault>
+    requires { IsWithinWorkLimits options.now }
+    ensures read { IfOk result (ArePolicies options.now) }
+    ensures fault { IfErr result IsPlanFault }
+{
+    let seconds = options.activity_timeout as u32;
+    let attempts = options.activity_attempts as u32;
+    match &options.policies {
+        Some(path) => policies_at(rt, path.get(), seconds, attempts),
+        None => Ok(Policies::plain(rt.alloc(), seconds, attempts)),
+    }
+}
