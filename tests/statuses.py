@@ -10,7 +10,7 @@ import tempfile
 from functools import partial
 from pathlib import Path
 
-from statuses import command_lines, files, reports, services, streams, views
+from statuses import command_lines, files, policies, queries, reports, services, streams, views
 from statuses.rooms import Room, TOP
 from statuses.runs import compared
 
@@ -21,10 +21,12 @@ TABLES = [
     command_lines.names,
     reports.reports,
     views.views,
+    queries.queries,
     files.files,
     files.odd_names,
     files.links_and_pipes,
     files.rights,
+    policies.policies,
     streams.sizes,
     streams.streams,
 ]

@@ -5,7 +5,8 @@ that stands there, written by hand. It ends with status 1 where something differ
 A talk is a file of lines:
 
     # WORDS          a comment
-    run WORDS        the options of the command, after those that all talks have
+    run WORDS        the options of the command, after those that all talks have; @top in one is the folder of the repository,
+                     @new a folder that is made for the talk
     called PATH      the path by which the program is called, otherwise its own
     let NAME TEXT    $NAME stands for the text in what is sent
     -> LINE          the next request, which has to be this line
@@ -21,6 +22,8 @@ A talk is a file of lines:
     status N         its exit status, otherwise 0
     says TEXT        what is within one of the lines on its standard error
     hides TEXT       what is within none of them
+    sees FILE LINE   a line that a file in @new has now, or gets soon
+    has FILE LINE    a line that a file in @new has at the end; its lines stand one after another, and @new has no other file
 """
 
 import argparse
@@ -30,6 +33,7 @@ import select
 import shutil
 import subprocess
 import sys
+import tempfile
 import time
 from pathlib import Path
 
@@ -139,9 +143,13 @@ class Talk:
 
     def __init__(self, program, lines):
         called = next((line.partition(" ")[2] for line in lines if line.startswith("called ")), program[0])
-        self.worker = Worker(program, called, next(line.split()[1:] for line in lines if line.startswith("run ")))
+        self.room = tempfile.TemporaryDirectory()
+        self.new = Path(self.room.name)
+        words = next(line.split()[1:] for line in lines if line.startswith("run "))
+        places = {"top": str(HERE.parent), "new": self.room.name}
+        self.worker = Worker(program, called, [with_names(word, places, "@") for word in words])
         self.lines, self.texts, self.numbers = lines, {}, {}
-        self.status, self.says, self.hides, self.wanted = 0, [], [], []
+        self.status, self.says, self.hides, self.wanted, self.files = 0, [], [], [], {}
 
     def play(self):
         """Plays it to its end."""
@@ -156,6 +164,7 @@ class Talk:
             if self.worker.child.poll() is None:
                 self.worker.child.kill()
                 self.worker.child.wait()
+            self.room.cleanup()
 
     def take(self, word, rest):
         """Does what a line says."""
@@ -185,6 +194,19 @@ class Talk:
             self.says.append(rest)
         elif word == "hides":
             self.hides.append(rest)
+        elif word == "sees":
+            self.see(*rest.split(" ", 1))
+        elif word == "has":
+            name, line = rest.split(" ", 1)
+            self.files.setdefault(name, []).append(line)
+
+    def see(self, name, line):
+        """A file has the line now, or gets it soon."""
+        path = self.new / name
+        while not path.exists() or line not in path.read_text().splitlines():
+            if time.monotonic() > self.worker.until:
+                raise Wrong(f"{name} does not get the line {line}")
+            time.sleep(0.1)
 
     def last(self, seconds):
         """So many seconds have gone by since the program was started."""
@@ -202,6 +224,10 @@ class Talk:
         for text in self.hides:
             if text in said:
                 raise Wrong(f"it says {text!r}: {said!r}")
+        left = {path.name: path.read_text() for path in self.new.iterdir()}
+        wanted = {name: "".join(f"{line}\n" for line in lines) for name, lines in self.files.items()}
+        if left != wanted:
+            raise Wrong(f"the files are\n{left}\nnot\n{wanted}")
 
 
 def main():

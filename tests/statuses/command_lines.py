@@ -10,6 +10,7 @@ HELP = """Usage: wfhost [COMMAND]
 Commands:
   replay   Replays each history of folders and files, and prints a line for each
   explain  Replays a history, and prints what the workflow was told and gave, task by task
+  query    Replays a history, and prints what the workflow answers to a query after its last task
   serve    Serves each history of a folder as workflow tasks, and prints how they ended
   work     Serves live tasks, which it asks for and answers in JSON on the standard output and input
   help     Print this message or the help of the given subcommand(s)
@@ -49,6 +50,19 @@ Options:
       --last <N>        With --recorded: only the last N tasks
   -h, --help            Print help
 """
+QUERY_HELP = """Replays a history, and prints what the workflow answers to a query after its last task
+
+Usage: wfhost query [OPTIONS] <FILE> <TYPE> [JSON]...
+
+Arguments:
+  <FILE>     The history file that is read, or - for the standard input
+  <TYPE>     The query type
+  [JSON]...  The arguments of the query, each a JSON text; -- before one that begins with -
+
+Options:
+      --json  Prints the verdict and the result as JSON
+  -h, --help  Print help
+"""
 SERVE_HELP = """Serves each history of a folder as workflow tasks, and prints how they ended
 
 Usage: wfhost serve [OPTIONS] <DIR>
@@ -79,9 +93,12 @@ Options:
       --activity-workers <N>        How many workers more poll for activity tasks, of 64 workers at most, 0 to 63 [default: 0]
       --activity-timeout <SECONDS>  How long an activity may take from its start, 1 to 4294967295 [default: 60]
       --activity-attempts <N>       How often an activity is tried, where 0 leaves it to the server, 0 to 65535 [default: 1]
+      --policies <FILE>             A TOML file that says what the server is asked for with activities, children and failures
       --sticky-timeout <SECONDS>    How long a task waits for the workers that keep its run, 1 to 4294967295 [default: 10]
       --verbose                     Tells more on the standard error
       --stats <SECONDS>             Tells the counts on the standard error, each time after as many seconds, 1 to 4294967295
+      --json                        Tells the counts as JSON
+      --metrics <FILE>              A file in which the counts are kept, in the form that Prometheus reads
   -h, --help                        Print help
 
 Status:
@@ -120,6 +137,7 @@ def command_lines(room):
         *((words, 0, VERSION, "") for words in (["--version"], ["-V"])),
         *((words, 0, REPLAY_HELP, "") for words in (["replay", "--help"], ["help", "replay"])),
         *((words, 0, EXPLAIN_HELP, "") for words in (["explain", "--help"], ["help", "explain"])),
+        *((words, 0, QUERY_HELP, "") for words in (["query", "--help"], ["help", "query"])),
         *((words, 0, SERVE_HELP, "") for words in (["serve", "--help"], ["help", "serve"])),
         *((words, 0, WORK_HELP, "") for words in (["work", "--help"], ["help", "work"])),
         ([], 2, "", NO_COMMAND),

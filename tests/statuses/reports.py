@@ -1,10 +1,12 @@
 """What is reported of files of each kind, and what is said beside it."""
 
-from .rooms import EXAMPLES, NAP, TOP, up_to
+from .rooms import EXAMPLES, NAP, TOP, long_nap, up_to
 from .runs import Like
 from .texts import EXPLAINED, REPLAYED, SERVED, UNCOMPARED
-from .verdicts import NOT_JSON_PLACE, REPLAYED_VERDICTS, SERVED_VERDICTS, STOPPED_VERDICTS, TOLD_VERDICTS, VERDICTS
+from .verdicts import NOT_JSON_PLACE, REPLAY_TOLD, REPLAYED_VERDICTS, SERVED_VERDICTS, TOLD_VERDICTS, VERDICTS
 
+# What the program is run on in the gate: a nap, and an order whose table comes with the run.
+STORED = "nap.json: ok, 2 tasks\norder_table.json: ok, 4 tasks\n2 files, 2 ok\n"
 REPLAYED_JSON = '{"file":"nap.json","verdict":"ok","tasks":2,"live":false}\n{"files":1,"ok":1}\n'
 EXPLAINED_JSON = """{"task":3}
 {"told":"Time","time":"2024-05-01T10:00:03Z"}
@@ -102,13 +104,74 @@ REPLAYED_VERDICTS_JSON = r"""{"file":"a.json","verdict":"ok","tasks":2,"live":fa
 {"file":"c.json","verdict":"unreadable","fault":"not JSON","line":2,"column":3}
 {"file":"d.json","verdict":"fault","event":5,"fault":"event 5 differs","sends":"StartTimer","timerId":"nap","seconds":60,"recorded":{"event":5,"type":"TimerStarted","timerId":"nip"}}
 {"file":"e.json","verdict":"fault","task":1,"fault":"task at 1: UnknownWorkflow","workflowType":"Nope"}
-{"file":"f.json","verdict":"fault","event":6,"fault":"event 6 is not in place: NoSuchRef"}
-{"file":"g.json","verdict":"unreadable","event":5,"fault":"event 5 lacks a field"}
+{"file":"f.json","verdict":"fault","event":6,"fault":"event 6 is not in place: NoSuchRef","refersTo":9}
+{"file":"g.json","verdict":"unreadable","event":5,"fault":"event 5 lacks a field","field":"timerId"}
 {"file":"h.json","verdict":"fault","task":3,"fault":"command 2 of the task at 3 has no event","sends":"StartTimer","timerId":"t","seconds":30,"recorded":null}
 {"file":"i.json","verdict":"fault","event":6,"fault":"event 6 has no command","sends":null,"recorded":{"event":6,"type":"TimerStarted","timerId":"x"}}
 {"file":"j.json","verdict":"unreadable","event":4,"fault":"event 4 has the unsupported type A?B\"C\\D"}
 {"files":10,"ok":2}
 """
+# The last object has both sides of the difference.
+EXPLAINED_DIFFERENCE_JSON = """{"task":3}
+{"told":"Time","time":"2024-05-01T10:00:03Z"}
+{"told":"Start","workflowType":"Nap"}
+{"gives":"StartTimer","timerId":"nap","seconds":60}
+{"sends":"StartTimer","timerId":"nap","seconds":60,"recorded":{"event":5,"type":"TimerStarted","timerId":"nap"},"differs":false}
+{"sends":null,"recorded":{"event":6,"type":"TimerStarted","timerId":"x"},"differs":true}
+{"file":"i.json","verdict":"fault","event":6,"fault":"event 6 has no command","sends":null,"recorded":{"event":6,"type":"TimerStarted","timerId":"x"}}
+"""
+AFTER = {"eventId": "11", "eventTime": "2024-05-01T10:02:00Z", "eventType": "WorkflowExecutionSignaled"}
+CHILD_CANCELED = {
+    "eventId": "5",
+    "eventTime": "2024-05-01T10:00:05Z",
+    "eventType": "RequestCancelExternalWorkflowExecutionInitiated",
+    "requestCancelExternalWorkflowExecutionInitiatedEventAttributes": {"workflowExecution": {"workflowId": "kid"}},
+}
+UNTYPED = {
+    "eventId": "5",
+    "eventTime": "2024-05-01T10:00:05Z",
+    "eventType": "ActivityTaskScheduled",
+    "activityTaskScheduledEventAttributes": {"activityId": "1"},
+}
+# Histories, each with its fault, what is told of that, and the member of its object that says the same.
+DETAILS = {
+    "a.json": (
+        up_to(NAP, 10, AFTER | {"workflowExecutionSignaledEventAttributes": {"signalName": "go"}}),
+        '"fault","event":11,"fault":"event 11 is not in place: AfterClose"',
+        "event 11 follows event 10, which closes the run",
+        '"closedBy":10',
+    ),
+    "b.json": (
+        up_to(NAP, 4, CHILD_CANCELED),
+        '"fault","event":5,"fault":"event 5 is not in place: NoSuchRef"',
+        "event 5 refers to the child kid",
+        '"workflowId":"kid"',
+    ),
+    "c.json": (
+        NAP.replace(b'"startedEventId":"5"', b'"startedEventId":"1"'),
+        '"fault","event":6,"fault":"event 6 is not in place: WrongKindRef"',
+        "event 6 refers to event 1",
+        '"refersTo":1',
+    ),
+    "d.json": (
+        NAP.replace(b'"eventTime":"2024-05-01T10:00:05Z"', b'"eventTime":null'),
+        '"unreadable","event":5,"fault":"event 5 lacks a field"',
+        "event 5 lacks eventTime",
+        '"field":"eventTime"',
+    ),
+    "e.json": (
+        up_to(NAP, 4, UNTYPED),
+        '"unreadable","event":5,"fault":"event 5 lacks a field"',
+        "event 5 lacks activityType.name",
+        '"field":"activityType.name"',
+    ),
+    "f.json": (
+        up_to(NAP, 10, AFTER),
+        '"unreadable","event":11,"fault":"event 11 lacks a field"',
+        "event 11 lacks signalName",
+        '"field":"signalName"',
+    ),
+}
 STARTED = "task at 3\n  told Time 2024-05-01T10:00:03Z\n  told Start "
 EXPLAINED_VERDICTS = {
     "b.json": f"""{STARTED}Nap
@@ -146,10 +209,14 @@ def reports(room):
     places = room.folder({f"{number}.json": text.encode() for number, text in enumerate(PLACES)})
     unread = "".join(f"{number}.json: unreadable, not JSON\n" for number in range(len(PLACES)))
     stopped = "".join(f"wfhost: {number}.json: not JSON at {place}\n" for number, place in enumerate(PLACES.values()))
+    details = room.folder({name: detail[0] for name, detail in DETAILS.items()})
+    detailed = "".join(f'{{"file":"{name}","verdict":{fault},{member}}}\n' for name, (_, fault, _, member) in DETAILS.items())
+    told = "".join(f"wfhost: {name}: {detail}\n" for name, (_, _, detail, _) in DETAILS.items())
+    repeated = room.folder({"long.json": long_nap(400).replace(b'"nap"}', b'"nip"}')})
     lines = dict(line.split(": ", 1) for line in REPLAYED_VERDICTS.splitlines()[:-1])
     examples = str(EXAMPLES)
     return [
-        (["replay", str(TOP / "crates/wfhost/data/histories")], 0, REPLAYED, ""),
+        (["replay", str(TOP / "crates/wfhost/data/histories")], 0, STORED, ""),
         (["replay", well, "--json"], 0, REPLAYED_JSON, ""),
         (["replay", f"{well}/nap.json"], 0, REPLAYED, ""),
         (["explain", f"{well}/nap.json"], 0, EXPLAINED, ""),
@@ -162,8 +229,16 @@ def reports(room):
         (["replay", hostile], 1, REPLAYED_HOSTILE, Like(HOSTILE_PLACES)),
         (["replay", places], 1, f"{unread}5 files, 0 ok\n", stopped),
         (["serve", places], 1, f"{unread}taken 0, completed 0, failed 0, in hand 0\n", stopped),
-        (["replay", verdicts], 1, REPLAYED_VERDICTS, STOPPED_VERDICTS),
-        (["replay", "--json", verdicts], 1, REPLAYED_VERDICTS_JSON, STOPPED_VERDICTS),
+        (["replay", verdicts], 1, REPLAYED_VERDICTS, REPLAY_TOLD),
+        (["replay", "--json", verdicts], 1, REPLAYED_VERDICTS_JSON, REPLAY_TOLD),
+        (["replay", "--json", details], 1, f'{detailed}{{"files":6,"ok":0}}\n', told),
+        (
+            ["serve", repeated],
+            1,
+            "long.json: 400 tasks, 1 completed, 399 failed\ntaken 400, completed 1, failed 399, in hand 0\n",
+            f"wfhost: long.json: task at 7: event 5 differs, and 398 more\n{UNCOMPARED}",
+        ),
+        (["explain", "--json", f"{verdicts}/i.json"], 1, EXPLAINED_DIFFERENCE_JSON, ""),
         *(
             (["serve", verdicts, *options], 1, SERVED_VERDICTS, TOLD_VERDICTS)
             for options in ([], ["--workers", "3"], ["--workers", "64", "--slots", "64"], ["--cache", "0"])
@@ -178,7 +253,7 @@ def reports(room):
             for name, tasks in EXPLAINED_VERDICTS.items()
         ),
         # The report first, and then what is said beside it.
-        (["replay", verdicts], 1, REPLAYED_VERDICTS + STOPPED_VERDICTS, "", {"merged": True}),
+        (["replay", verdicts], 1, REPLAYED_VERDICTS + REPLAY_TOLD, "", {"merged": True}),
         (["serve", verdicts], 1, SERVED_VERDICTS + TOLD_VERDICTS, "", {"merged": True}),
         (["explain", f"{verdicts}/c.json"], 1, f"c.json: {lines['c.json']}\n{NOT_JSON_PLACE}", "", {"merged": True}),
     ]

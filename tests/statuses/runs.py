@@ -30,6 +30,7 @@ def run(
     given=b"",
     source=None,
     called=None,
+    program=None,
     folder=None,
     out=None,
     error=None,
@@ -39,7 +40,7 @@ def run(
     data=0,
     as_nobody=False,
 ):
-    """Runs the program, called by a path, with this standard input, or that of a device, in a folder, with streams that take
+    """Runs the program, or another one, called by a path, with this standard input, or that of a device, in a folder, with streams that take
     nothing, with one stream for all, with a stream that is closed, with a limit on its addresses, or on what it may write to,
     so that there is no memory for the stack of a thread, or as nobody where wanted."""
 
@@ -59,7 +60,7 @@ def run(
     try:
         return subprocess.run(
             [room.program if called is None else called, *words],
-            executable=room.program,
+            executable=program or room.program,
             **({"stdin": ends[0]} if source else {"input": given}),
             cwd=folder,
             stdout=ends[bool(source)] if out else subprocess.PIPE,
@@ -86,6 +87,8 @@ def differs(room, words, status, out, error, how):
         ran = run(room, words, **how)
     except subprocess.TimeoutExpired:
         return f"no end in {LIMIT_SECONDS} seconds"
+    except FileNotFoundError as error:
+        return f"{error.filename} is not there"
     stdout, stderr = ((written or b"").decode(errors="replace") for written in (ran.stdout, ran.stderr))
     if ran.returncode != status:
         return f"status {ran.returncode}, not {status}; standard error {shown(stderr)}"

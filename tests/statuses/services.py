@@ -85,15 +85,16 @@ def worker_options(room):
 
 def short_memory_fault(ran, files, tasks):
     """What is not as it should be where a service of so many long naps has too little memory: it ends without a report, or as
-    with ample memory, or with a report of tasks that failed, each of which is told, and then whether a worker has a fault."""
+    with ample memory, or with a report of tasks that failed, each of which is told or counted, and then whether a worker has a fault."""
     out, error = ran.stdout.decode(), ran.stderr.decode()
     *rows, total = [[int(number) for number in re.findall(r"\d+", line.split(": ")[-1])] for line in out.splitlines() or [""]]
     sums = [sum(column) for column in zip(*rows)]
+    repeated = sum(int(number) for number in re.findall(r", and (\d+) more\n", error))
     failure = r"wfhost: \d+\.json: task at \d+: .+\n"
     told = re.fullmatch(f"((?:{failure})*?)(?:{WORKER_FAULT})?{UNCOMPARED}", error)
     is_right = {
         0: (out, error) == (long_report(files, tasks), UNCOMPARED),
-        1: told and len(rows) == files and total == [*sums, 0] and sums[0] - sums[1] == sums[2] == told[1].count("\n") > 0,
+        1: told and len(rows) == files and total == [*sums, 0] and sums[0] - sums[1] == sums[2] == told[1].count("\n") + repeated > 0,
         2: (out, error) == ("", NO_MEMORY),
     }
     return "" if is_right.get(ran.returncode) else f"status {ran.returncode}, {shown(out)}, {shown(error)}"

@@ -29,7 +29,7 @@ NO_FILE = "is no file"
 
 def cannot_read(path, why, entry=None):
     """What is said of a path that can't be read, or of a folder where an entry of it can't be."""
-    return f"wfhost: cannot read {path}\nwfhost: cannot read {path if entry is None else f'{path}/{entry}'}: {why}\n"
+    return f"wfhost: cannot read {path if entry is None else f'{path}/{entry}'}: {why}\n"
 
 
 def long_report(files, tasks):

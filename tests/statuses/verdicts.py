@@ -49,9 +49,17 @@ taken 11, completed 7, failed 4, in hand 0
 """
 NOT_JSON_PLACE = "wfhost: c.json: not JSON at line 2 column 3\n"
 STOPPED_VERDICTS = f"{NOT_JSON_PLACE}wfhost: e.json: no code for the workflow type Nope\n"
-# Where files are no JSON and for which workflow types there is no code, then why tasks failed, and then the hint.
+# What `replay` tells, file by file: both sides of a difference, where a file is no JSON, a type without code.
+REPLAY_TOLD = f"""{NOT_JSON_PLACE}wfhost: d.json: sends StartTimer nap (60 s), recorded 5 TimerStarted nip
+wfhost: e.json: no code for the workflow type Nope
+wfhost: f.json: event 6 refers to event 9
+wfhost: g.json: event 5 lacks timerId
+wfhost: h.json: sends StartTimer t (30 s), recorded nothing
+wfhost: i.json: sends nothing, recorded 6 TimerStarted x
+"""
+# Where files are no JSON and for which workflow types there is no code, then why tasks failed, a repeated fault once, and
+# then the hint.
 TOLD_VERDICTS = f"""{STOPPED_VERDICTS}wfhost: d.json: task at 8: event 5 differs
-wfhost: e.json: task at 3: UnknownWorkflow
-wfhost: e.json: task at 8: UnknownWorkflow
+wfhost: e.json: task at 3: UnknownWorkflow, and 1 more
 wfhost: f.json: task at 8: event 6 is not in place: NoSuchRef
 {UNCOMPARED}"""

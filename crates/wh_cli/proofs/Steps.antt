@@ -11,11 +11,17 @@ use Rattle.wh_host.specs.declared.config.Config.{Config}
 use Rattle.wh_workflow.specs.Law.{Program}
 use Rattle.wh_console.specs.Consoles.{ConsoleView, IsQuiet, Printed, Reported}
 use Rattle.wh_console.proofs.Printing.{printed_kept, quiet_twice, written_kept}
+use Rattle.wh_queryable.specs.Queries.{Queries}
+use Rattle.wh_queryable.specs.declared.queryable.Query.{Query}
+use Rattle.wh_query_report.specs.Inputs.{query_of}
+use Rattle.wh_query_report.specs.Queried.{IsQueried, status_of as query_status}
+use Rattle.wh_query_report.specs.Texts.{queried_as}
+use Rattle.wh_query_report.specs.declared.queried.Queried.{Queried}
 use Rattle.wh_service.specs.declared.service.ServiceEnd.{ServiceEnd}
 use Rattle.wh_cli.specs.declared.failures.Failure.{Failure}
 use Rattle.wh_files.specs.Inputs.{IsCalled, IsOf, IsReadFrom, IsSingle}
-use Rattle.wh_cli.specs.Private.Commands.{HasEnded, HasExplained, HasExplainedInput, HasExplainedPath, HasPrinted, HasReplayed, HasReplayedPaths, HasReported, HasServedAll, HasServedFolder, HasToldOf, HasViewed, HasViewedInput, HasViewedPath, view_as}
-use Rattle.wh_cli.specs.Private.Complaints.{fault_line, fault_lines, service_told}
+use Rattle.wh_cli.specs.Private.Commands.{HasEnded, HasExplained, HasExplainedInput, HasExplainedPath, HasPrinted, HasReplayed, HasReplayedPaths, HasQueried, HasQueriedInput, HasQueriedPath, HasReported, HasServedAll, HasServedFolder, HasToldOf, HasViewed, HasViewedInput, HasViewedPath, view_as}
+use Rattle.wh_cli.specs.Private.Complaints.{fault_line, fault_lines, record_told, records_told, service_told}
 use Rattle.wh_cli.specs.Private.Listings.{AreListed, IsListed, is_by_path}
 use Rattle.wh_cli.specs.Private.Readings.{Gives, IsReadAs}
 use Rattle.wh_service.specs.Services.{IsServiceEndOver}
@@ -25,8 +31,9 @@ use Rattle.wh_cli.specs.Private.Statuses.{lacks_files, status_with}
 use Rattle.wh_service.proofs.Workers.{by_closure, end_by}
 use Rattle.wh_file_faults.specs.declared.command_fault.CommandFault.{CommandFault}
 use Rattle.wh_report.specs.Commands.{IsExplained}
-use Rattle.wh_report.specs.Reports.{faults_in, lines_of, report_as, status_of}
+use Rattle.wh_report.specs.Reports.{lines_of, report_as, status_of}
 use Rattle.wh_report.specs.declared.records.Record.{Record}
+use Rattle.wh_tester.specs.Verdicts.{IsVerdict}
 use Rattle.wh_tester.specs.declared.line.Line.{Line}
 use Rattle.wh_view.specs.Views.{IsViewIn}
 use Rattle.wh_view.specs.declared.view.View.{View}
@@ -46,7 +53,7 @@ fault_told (Ok x) a b told faults fault name are is h =
     subst (λ l. Appends a b (fault_lines l name)) (sym (ap told_of is) ∙ are) (subst (Appends a b) (sym (append-nil (fault_line fault name))) h)
 fault_told (Err e) a b told faults fault name are is h = tt
 
-nothing_added : (a : Option (List ℕ)) → Appends a a []
+pub nothing_added : (a : Option (List ℕ)) → Appends a a []
 nothing_added None = tt
 nothing_added (Some x) = sym (append-nil x)
 
@@ -97,7 +104,7 @@ pub report_told : (records seen : List Record) (format : Format) (lacks : Bool) 
     → seen ≡ records
     → OnOk answer (Printed old first (report_as format seen)) → IfOk answer (λ status. status ≡ status_of (lines_of seen))
     → IsQuiet first between → Keeps first.output between.output → answer ≡ Ok own
-    → Reported between new (fault_lines (faults_in records)) → status ≡ status_with lacks own
+    → Reported between new (records_told records) → status ≡ status_with lacks own
     → HasReported records format lacks old new status
 report_told records seen format lacks old first between new (Ok given) own status same printed ends quiet kept is told given_status = record {
   between = between;
@@ -124,17 +131,19 @@ explained_kept program name bytes format a b c status h kept = record {
 pub explanation_told : {S : Type 0} (program : Program S) (name bytes : List ℕ) (format : Format) (old first between new : ConsoleView) (line : Line) (answer : Result ℕ CommandFault) (given status : ℕ)
     → IsQuiet old first → IsExplained program name bytes format old.output first.output (status_of (line ∷ []))
     → IsQuiet first between → Keeps first.output between.output
-    → line.name ≡ name → HasToldOf line.name bytes between new
+    → line.name ≡ name → IsVerdict program bytes line.verdict → HasToldOf line.name line.verdict bytes between new
     → given ≡ status_of (line ∷ []) → answer ≡ Ok given → answer ≡ Ok status
     → HasExplained program name bytes format old new status
-explanation_told program name bytes format old first between new line answer given status quiet explained more kept named told is same_given same_status =
+explanation_told program name bytes format old first between new line answer given status quiet explained more kept named judged told is same_given same_status =
     let same : given ≡ status = cc in
     record {
       between = between;
       quiet = quiet_twice old first between quiet more;
       explained = subst (IsExplained program name bytes format old.output between.output) (sym is ∙ same)
           (explained_kept program name bytes format old.output first.output between.output (status_of (line ∷ [])) explained kept);
-      told = subst (λ n. HasToldOf n bytes between new) named told;
+      verdict = line.verdict;
+      judged = judged;
+      told = subst (λ n. HasToldOf n line.verdict bytes between new) named told;
     }
 
 -- an input that was read as a file was explained
@@ -157,6 +166,40 @@ pub explained_path : {S : Type 0} (program : Program S) (path : List ℕ) (input
 explained_path program path input format old new (Ok status) called from single h =
     record { input = input; called = called; from = from; single = single; explained = h }
 explained_path program path input format old new (Err failure) called from single h = tt
+
+-- what came of a query was written, and once that was out the rest was told
+pub query_told : {S : Type 0} (program : Program S) (queries : Queries S) (file : File) (query : Query) (format : Format) (old first between new : ConsoleView) (queried : Queried) (answer : Result ℕ CommandFault) (given status : ℕ)
+    → IsQueried program queries file query queried → Printed old first (queried_as format queried)
+    → IsQuiet first between → Keeps first.output between.output
+    → Reported between new (record_told queried.own)
+    → given ≡ query_status queried → answer ≡ Ok given → answer ≡ Ok status
+    → HasQueried program queries file query format old new status
+query_told program queries file query format old first between new queried answer given status is printed quiet kept told is_given same_given same_status =
+    let same : given ≡ status = cc in
+    record {
+      queried = queried;
+      between = between;
+      is = is;
+      printed = printed_kept old first between (queried_as format queried) printed quiet kept;
+      told = told;
+      ends = sym same ∙ is_given;
+    }
+
+-- an input that was read as a file was queried
+pub queried_input : {S : Type 0} (gives : Gives) (program : Program S) (queries : Queries S) (input : Input) (file : File) (query : Query) (format : Format) (old new : ConsoleView) (answer : Result ℕ Failure)
+    → IsReadAs gives input file → IfOk answer (HasQueried program queries file query format old new)
+    → IfOk answer (HasQueriedInput gives program queries input query format old new)
+queried_input gives program queries input file query format old new (Ok status) read h = record { file = file; read = read; queried = h }
+queried_input gives program queries input file query format old new (Err failure) read h = tt
+
+-- an input of a path was queried
+pub queried_path : {S : Type 0} (program : Program S) (queries : Queries S) (path query_type : List ℕ) (words : List (List ℕ)) (query : Query) (input : Input) (format : Format) (old new : ConsoleView) (answer : Result ℕ Failure)
+    → query_of query_type words ≡ Some query → IsCalled false input → IsOf path input.origin → IsSingle input.origin
+    → IfOk answer (HasQueriedInput IsReadFrom program queries input query format old new)
+    → IfOk answer (HasQueriedPath program queries path query_type words format old new)
+queried_path program queries path query_type words query input format old new (Ok status) asked called from single h =
+    record { query = query; asked = asked; input = input; called = called; from = from; single = single; queried = h }
+queried_path program queries path query_type words query input format old new (Err failure) asked called from single h = tt
 
 -- the view of bytes was printed
 pub view_printed : (bytes : List ℕ) (view : View) (selection : Selection) (format : Format) (old new : ConsoleView) (answer : Result ℕ Failure)

@@ -1,19 +1,24 @@
 //! The commands, each as what it writes, what it reports and its status.
 
-ghost use Rattle.std.specs.Prelude.{◌≡◌, ◌∷◌, [], Err, IfOk, IfSome, Ok, OnOk, string_bytes, vec_len};
+ghost use Rattle.std.specs.Prelude.{◌≡◌, ◌∷◌, [], Err, IfOk, IfSome, Ok, OnOk, Some, string_bytes, vec_len};
 ghost use Rattle.std.specs.Io.KnownBytes.{Appends, Keeps};
 ghost use Rattle.wh_console.specs.Consoles.{IsQuiet, Printed};
 ghost use Rattle.wh_cli.specs.Private.Commands.{HasExplained, HasExplainedInput, HasExplainedPath};
 ghost use Rattle.wh_cli.specs.Private.Commands.{HasViewed, HasViewedInput, HasViewedPath, view_as};
 ghost use Rattle.wh_cli.specs.Private.Commands.{HasPrinted, HasReplayed, HasReplayedPaths, HasReported};
+ghost use Rattle.wh_cli.specs.Private.Commands.{HasQueried, HasQueriedInput, HasQueriedPath};
 ghost use Rattle.wh_cli.specs.Private.Commands.{HasEnded, HasServedAll, HasServedFolder, HasToldOf, HasWorked, Obeys};
 ghost use Rattle.wh_work.specs.Plans.{MayServe, lives};
 ghost use Rattle.wh_cli.specs.Private.Readings.{IsReadAs};
 ghost use Rattle.wh_service.specs.Services.{IsHost, IsHosted, IsServiceEndOver, leaves};
 ghost use Rattle.wh_cli.specs.Private.Statuses.{lacks_files, status_with};
-ghost use Rattle.wh_file_faults.specs.Faults.{IsFaultOf, IsNoJson};
+ghost use Rattle.wh_file_faults.specs.Faults.{IsFaultOf, IsUnreadCause};
+ghost use Rattle.wh_tester.specs.Verdicts.{IsVerdict};
 ghost use Rattle.wh_command_line.specs.Options.{IsWithinLimits, IsWithinWorkLimits, sizes_of};
 ghost use Rattle.wh_host.specs.Machine.{IsConfig};
+ghost use Rattle.wh_query_report.specs.Inputs.{query_of};
+ghost use Rattle.wh_query_report.specs.Queried.{IsQueried};
+ghost use Rattle.wh_query_report.specs.Texts.{queried_as};
 ghost use Rattle.wh_report.specs.Commands.{IsExplained};
 ghost use Rattle.wh_report.specs.Reports.{lines_of, report_as, status_of};
 
@@ -24,7 +29,7 @@ use crate::listing::{all_inputs, folder_of, input_of};
 use std::alloc::Global;
 use std::io;
 use std::io::Write;
-use std::rt::Runtime;
+use std::rt::{Files, Runtime};
 use std::sync::Wait;
 use std::thread::Threads;
 use wh_command_line::{Plan, ServeOptions, WorkOptions};
@@ -34,6 +39,8 @@ use wh_events::{OutOfMemory, Text};
 use wh_file_faults::{CommandFault, FileFault, unread_cause};
 use wh_files::{Input, InputFault};
 use wh_host::Config;
+use wh_query_report::{Queried, query_command, query_of};
+use wh_queryable::{Query, Queryable};
 use wh_report::{Record, check_all, explain_file, line_status, report};
 use wh_service::{ServiceEnd, ServiceFault, ServiceHost, ServiceSetup, host_of, serve_inputs};
 use wh_tester::Line;
@@ -112,8 +119,8 @@ fn print_report<O: Write, E: Write>(
     report(records, format, &mut console.output)
 }
 
-/// Writes the report of records, and once it is out, reports where files are no JSON and for which
-/// workflow types there is no code.
+/// Writes the report of records, and once it is out, reports what is sent and what is recorded where
+/// they differ, where files are no JSON, and for which workflow types there is no code.
 fn tell_report<O: Write, E: Write>(
     records: Vec<Record>,
     format: Format,
@@ -128,8 +135,8 @@ fn tell_report<O: Write, E: Write>(
     Ok(status_with(lacks, status))
 }
 
-/// Replays inputs, writes the report of their records, and once it is out, reports where they are no
-/// JSON and for which workflow types there is no code.
+/// Replays inputs, writes the report of their records, and once it is out, reports what is told of
+/// them beside it.
 fn replay<W: Workflow + Send, R: InputReader + AllocGlobal + Threads + Sync, O: Write, E: Write>(
     rt: &R,
     inputs: Vec<Input>,
@@ -151,13 +158,14 @@ fn replay<W: Workflow + Send, R: InputReader + AllocGlobal + Threads + Sync, O: 
 }
 
 /// Where the file of a line is no JSON, if that is its verdict.
-fn unread_fault(alloc: Global, line: Line, bytes: &[u8]) -> Option<FileFault>
-    ensures { IfSome result (IsFaultOf IsNoJson line.name bytes.now) }
+fn unread_fault(alloc: Global, line: Line, bytes: &[u8]) -> Result<Option<FileFault>, OutOfMemory>
+    ensures { IfOk result (IsFaultOf (IsUnreadCause line.verdict) line.name bytes.now) }
 {
     let Line { name, verdict } = line;
-    match unread_cause(alloc, &verdict, bytes) {
-        Some(cause) => Some(FileFault { name, cause }),
-        None => None,
+    let cause = unread_cause(alloc, &verdict, bytes)?;
+    match cause {
+        Some(cause) => Ok(Some(FileFault { name, cause })),
+        None => Ok(None),
     }
 }
 
@@ -167,12 +175,15 @@ fn tell_if_bad<O: Write, E: Write>(
     line: Line,
     bytes: &[u8],
     console: &mut Console<'_, O, E>,
-)
-    ensures { HasToldOf line.name bytes.now console.old console.new }
+) -> Result<(), Failure>
+    ensures { OnOk result (HasToldOf line.name line.verdict bytes.now console.old console.new) }
 {
-    if let Some(fault) = unread_fault(alloc, line, bytes) {
-        console.report(Complaint::BadJson { fault });
+    match unread_fault(alloc, line, bytes) {
+        Ok(Some(fault)) => console.report(Complaint::BadJson { fault }),
+        Ok(None) => {}
+        Err(OutOfMemory) => return Err(Failure::OutOfMemory),
     }
+    Ok(())
 }
 
 /// Writes the explanation of a file, and gives its line.
@@ -187,6 +198,7 @@ fn print_explanation<W: Workflow, O: Write, E: Write>(
     ensures explained { IfOk result (λ line. IsExplained W.program (string_bytes name) bytes.now format
         console.old.output console.new.output (status_of (line ∷ []))) }
     ensures name { IfOk result (λ line. line.name ≡ string_bytes name) }
+    ensures verdict { IfOk result (λ line. IsVerdict W.program bytes.now line.verdict) }
 {
     explain_file::<W, Outlet<O>>(alloc, name, bytes, format, &mut console.output)
 }
@@ -207,7 +219,7 @@ fn explain<W: Workflow, O: Write, E: Write>(
         Err(fault) => return flushed(Err(fault), console),
     };
     let status = flushed(Ok(line_status(&line)), console)?;
-    tell_if_bad(alloc, line, bytes, console);
+    tell_if_bad(alloc, line, bytes, console)?;
     Ok(status)
 }
 
@@ -222,6 +234,56 @@ fn explain_input<W: Workflow, R: InputReader + AllocGlobal, O: Write, E: Write>(
 {
     let (name, bytes) = file_from(rt, input)?;
     explain::<W, O, E>(rt.alloc(), name, bytes.as_slice(), format, console)
+}
+
+/// Queries a file, and writes what came of that.
+fn print_query<W: Queryable, O: Write, E: Write>(
+    alloc: Global,
+    file: (String, Vec<u8>),
+    query: &Query,
+    format: Format,
+    console: &mut Console<'_, O, E>,
+) -> Result<Queried, CommandFault>
+    ensures queried { IfOk result (IsQueried W.program W.queries file query.now) }
+    ensures printed { IfOk result (λ queried. Printed console.old console.new (queried_as format queried)) }
+{
+    query_command::<W, Outlet<O>>(alloc, file, query, format, &mut console.output)
+}
+
+/// Queries a file, writes what came of that, and once it is out, reports where the file is no JSON
+/// or for which workflow type there is no code.
+fn query_file<W: Queryable, O: Write, E: Write>(
+    alloc: Global,
+    file: (String, Vec<u8>),
+    query: &Query,
+    format: Format,
+    console: &mut Console<'_, O, E>,
+) -> Result<u8, Failure>
+    ensures { IfOk result (HasQueried W.program W.queries file query.now format console.old console.new) }
+{
+    let queried = match print_query::<W, O, E>(alloc, file, query, format, console) {
+        Ok(queried) => queried,
+        Err(fault) => return flushed(Err(fault), console),
+    };
+    let status = flushed(Ok(wh_query_report::status_of(&queried)), console)?;
+    let Queried { own, .. } = queried;
+    console.report(Complaint::Queried { own });
+    Ok(status)
+}
+
+/// Reads an input, and queries it.
+fn query_input<W: Queryable, R: InputReader + AllocGlobal, O: Write, E: Write>(
+    rt: &R,
+    input: Input,
+    query: &Query,
+    format: Format,
+    console: &mut Console<'_, O, E>,
+) -> Result<u8, Failure>
+    ensures { IfOk result
+        (HasQueriedInput R.gives W.program W.queries input query.now format console.old console.new) }
+{
+    let file = file_from(rt, input)?;
+    query_file::<W, O, E>(rt.alloc(), file, query, format, console)
 }
 
 /// Writes a view in a form.
@@ -401,6 +463,34 @@ fn explain_path<W: Workflow, R: Runtime + AllocGlobal, O: Write, E: Write>(
     explain_input::<W, R, O, E>(rt, input, format, console)
 }
 
+/// The query that words of the command line ask for.
+fn query_asked(alloc: Global, query_type: Text, words: Vec<Text>) -> Result<Query, Failure>
+    ensures { IfOk result (λ query. query_of query_type words.items ≡ Some query) }
+{
+    match query_of(alloc, query_type, words.as_slice()) {
+        Ok(Some(query)) => Ok(query),
+        Ok(None) => Err(Failure::BadInput),
+        Err(_) => Err(Failure::OutOfMemory),
+    }
+}
+
+/// Queries what is at a path.
+fn query_path<W: Queryable, R: Runtime + AllocGlobal, O: Write, E: Write>(
+    rt: &R,
+    path: Text,
+    query_type: Text,
+    words: Vec<Text>,
+    format: Format,
+    console: &mut Console<'_, O, E>,
+) -> Result<u8, Failure>
+    ensures { IfOk result
+        (HasQueriedPath W.program W.queries path query_type words.items format console.old console.new) }
+{
+    let query = query_asked(rt.alloc(), query_type, words)?;
+    let input = input_of(rt, path)?;
+    query_input::<W, R, O, E>(rt, input, &query, format, console)
+}
+
 /// Shows what is recorded in what is at a path.
 fn view_path<R: Runtime + AllocGlobal, O: Write, E: Write>(
     rt: &R,
@@ -450,33 +540,37 @@ where
 }
 
 /// Serves live tasks as options ask for, reports how they ended, and gives the status.
-fn work<F: FnOnce(LivePlan) -> Result<LiveEnd, OutOfMemory>, O: Write, E: Write>(
-    alloc: Global,
-    options: WorkOptions,
-    live: F,
-    console: &mut Console<'_, O, E>,
-) -> Result<u8, Failure>
+fn work<
+    R: Files + AllocGlobal,
+    F: FnOnce(LivePlan) -> Result<LiveEnd, OutOfMemory>,
+    O: Write,
+    E: Write,
+>(rt: &R, options: WorkOptions, live: F, console: &mut Console<'_, O, E>) -> Result<u8, Failure>
 where
     F: Drop,
     requires limits { IsWithinWorkLimits options }
     requires serves { MayServe (F.pre live) }
     ensures { IfOk result (HasWorked (lives (F.post live)) options console.old console.new) }
 {
-    let Ok(plan) = live_plan(alloc, options) else {
-        drop(live);
-        return Err(Failure::OutOfMemory);
+    let plan = match live_plan(rt, options) {
+        Ok(plan) => plan,
+        Err(fault) => {
+            drop(live);
+            return Err(Failure::from(fault));
+        }
     };
+    let format = plan.format;
     let Ok(end) = live(plan) else {
         return Err(Failure::OutOfMemory);
     };
     let status = live_status(&end);
-    console.report(Complaint::Worked { end });
+    console.report(Complaint::Worked { end, format });
     Ok(status)
 }
 
 /// Does what is asked for, and gives the status. Where there is none, why.
 pub(crate) fn obey<
-    W: Workflow + Send,
+    W: Queryable + Send,
     R: Runtime + AllocGlobal + Threads + Wait + Sync,
     O: Write,
     E: Write,
@@ -488,7 +582,7 @@ where
     F: Drop,
     requires limits { IsWithinLimits plan }
     requires serves { MayServe (F.pre live) }
-    ensures { IfOk result (Obeys W.program (lives (F.post live)) plan console.old console.new) }
+    ensures { IfOk result (Obeys W.program W.queries (lives (F.post live)) plan console.old console.new) }
 {
     match plan {
         Plan::Replay {
@@ -503,12 +597,18 @@ where
             selection,
             format,
         } => view_path::<R, O, E>(rt, file, selection, format, console),
+        Plan::Query {
+            file,
+            query_type,
+            input,
+            format,
+        } => query_path::<W, R, O, E>(rt, file, query_type, input, format, console),
         Plan::Serve {
             dir,
             options,
             require_files,
         } => serve_folder::<W, R, O, E>(rt, dir, options, require_files, console),
-        Plan::Work { options } => work(rt.alloc(), options, live, console),
+        Plan::Work { options } => work::<R, F, O, E>(rt, options, live, console),
         Plan::Help { text } => print(text.get(), console),
     }
 }

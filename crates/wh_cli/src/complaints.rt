@@ -1,28 +1,31 @@
 //! What is reported on standard error.
 
-ghost use Rattle.std.specs.Prelude.{◌≡◌, ◌++◌, OnOk, codes};
+ghost use Rattle.std.specs.Prelude.{◌≡◌, ◌++◌, None, OnOk, codes, option_map};
 ghost use Rattle.std.specs.Io.KnownBytes.{Appends};
 ghost use Rattle.wh_cli.specs.Private.Complaints.{bad_name_line, bad_name_lines, complaint_text};
-ghost use Rattle.wh_cli.specs.Private.Complaints.{entry_line, failed_text};
-ghost use Rattle.wh_cli.specs.Private.Complaints.{failure_line, failure_lines, fault_line, fault_lines};
+ghost use Rattle.wh_cli.specs.Private.Complaints.{detail_lines, difference_lines, entry_line, failed_text};
+ghost use Rattle.wh_cli.specs.Private.Complaints.{notes_told, record_told, records_told};
+ghost use Rattle.wh_cli.specs.Private.Complaints.{failure_line, failure_lines, fault_line, fault_lines, is_told_before};
 ghost use Rattle.wh_cli.specs.Private.Complaints.{path_line, reason_line, service_told, told_line};
 ghost use Rattle.wh_cli.specs.Private.Complaints.{uncompared_told, unviewed_line, worker_told};
 ghost use Rattle.wh_file_faults.specs.Faults.{told_of};
-ghost use Rattle.wh_report.specs.Reports.{fault_of, faults_in};
+ghost use Rattle.wh_report.specs.Reports.{fault_of};
+ghost use Rattle.wh_work.specs.Policies.{bad_policies_text};
 
 use crate::failures::Failure;
 use std::io;
 use std::io::Write;
-use wh_console::Message;
+use wh_console::{Format, Message};
 use wh_crew::LiveEnd;
 use wh_events::Text;
+use wh_explain_report::SidesText;
 use wh_file_faults::FileFault;
 use wh_files::Reason;
 use wh_json::ReadFault;
 use wh_report::Record;
-use wh_service::{FileFailure, ServiceEnd};
+use wh_service::{FileFailure, RepeatedFailure, ServiceEnd, is_repeat, repeats};
 use wh_tester::{FaultText, Line, Shown};
-use wh_work::write_live_end;
+use wh_work::{BadPolicies, write_live_end};
 
 /// What may be reported of a run.
 #[derive(Drop)]
@@ -33,12 +36,15 @@ pub(crate) enum Complaint {
     BadNames { dir: Text, names: Vec<String> },
     /// A file is no JSON.
     BadJson { fault: FileFault },
-    /// Which of the files of these records are no JSON or lack code.
+    /// What is sent and what is recorded of the files of these records where they differ, and which of
+    /// them are no JSON or lack code.
     BadFiles { records: Vec<Record> },
+    /// Why the file with this record, which was queried, is no JSON or lacks code, if it does.
+    Queried { own: Record },
     /// What is reported of a service beside its report.
     Served { end: ServiceEnd },
     /// How live tasks ended.
-    Worked { end: LiveEnd },
+    Worked { end: LiveEnd, format: Format },
     /// There is no full report.
     Failed { failure: Failure },
 }
@@ -93,8 +99,10 @@ fn fault_of(own: Record) -> Option<FileFault>
     let Record {
         line,
         cause,
+        detail,
         difference,
     } = own;
+    drop(detail);
     drop(difference);
     let Line { name, verdict } = line;
     drop(verdict);
@@ -105,7 +113,7 @@ fn fault_of(own: Record) -> Option<FileFault>
 }
 
 /// Writes why a file is named beside the report, if it is.
-fn tell_record<E: Write>(own: Record, name: &str, writer: &mut E) -> io::Result<()>
+fn tell_cause<E: Write>(own: Record, name: &str, writer: &mut E) -> io::Result<()>
     ensures { OnOk result (Appends (E.contents writer.old) (E.contents writer.new)
         (fault_lines (fault_of own own.cause) name.now)) }
 {
@@ -115,10 +123,58 @@ fn tell_record<E: Write>(own: Record, name: &str, writer: &mut E) -> io::Result<
     }
 }
 
-/// Writes why files are named beside the report, a line for each.
+/// Writes what is sent and what is recorded of a file, where they differ.
+fn tell_difference<E: Write>(own: &Record, name: &str, writer: &mut E) -> io::Result<()>
+    ensures { OnOk result (Appends (E.contents writer.old) (E.contents writer.new)
+        (difference_lines own.now.line.name own.now.difference name.now)) }
+{
+    let Some(pairing) = &own.difference else {
+        return Ok(());
+    };
+    let file = Shown(own.line.name.get());
+    let sides = SidesText(pairing);
+    let name = Shown(name);
+    writeln!(writer, "{name}: {file}: {sides}")
+}
+
+/// Writes what the fault of a file leaves out, if something.
+fn tell_detail<E: Write>(own: &Record, name: &str, writer: &mut E) -> io::Result<()>
+    ensures { OnOk result (Appends (E.contents writer.old) (E.contents writer.new)
+        (detail_lines own.now.line.name own.now.detail name.now)) }
+{
+    let Some(detail) = &own.detail else {
+        return Ok(());
+    };
+    let file = Shown(own.line.name.get());
+    let name = Shown(name);
+    writeln!(writer, "{name}: {file}: {detail}")
+}
+
+/// Writes what stands beside the fault of a file: its difference, or what the fault leaves out.
+fn tell_notes<E: Write>(own: &Record, name: &str, writer: &mut E) -> io::Result<()>
+    ensures { OnOk result (Appends (E.contents writer.old) (E.contents writer.new) (notes_told own.now name.now)) }
+{
+    tell_difference(own, name, writer)?;
+    tell_detail(own, name, writer)
+}
+
+/// Writes what is told of a file beside the report: what stands beside its fault, and why it is named.
+fn tell_record<E: Write>(own: Record, name: &str, writer: &mut E) -> io::Result<()>
+    ensures { OnOk result (Appends (E.contents writer.old) (E.contents writer.new) (record_told own name.now)) }
+{
+    match tell_notes(&own, name, writer) {
+        Ok(()) => tell_cause(own, name, writer),
+        Err(error) => {
+            drop(own);
+            Err(error)
+        }
+    }
+}
+
+/// Writes what is told of files beside the report, in their order.
 fn tell_records<E: Write>(records: Vec<Record>, name: &str, writer: &mut E) -> io::Result<()>
     ensures { OnOk result (Appends (E.contents writer.old) (E.contents writer.new)
-        (fault_lines (faults_in records.items) name.now)) }
+        (records_told records.items name.now)) }
 {
     for own in records {
         tell_record(own, name, writer)?;
@@ -126,21 +182,56 @@ fn tell_records<E: Write>(records: Vec<Record>, name: &str, writer: &mut E) -> i
     Ok(())
 }
 
-/// Writes why a task failed.
-fn tell_failure<E: Write>(failure: FileFailure, name: &str, writer: &mut E) -> io::Result<()>
-    ensures { OnOk result (Appends (E.contents writer.old) (E.contents writer.new) (failure_line failure name.now)) }
+/// Whether a failed task repeats the one before it, if there is one.
+fn is_told_before(before: Option<&FileFailure>, failure: &FileFailure) -> bool
+    ensures { result ≡ is_told_before (option_map (λ one. one.now) before.entry) failure.now }
 {
+    match before {
+        Some(before) => is_repeat(before, failure),
+        None => false,
+    }
+}
+
+/// Writes why a task failed, and how many of those after it repeat that, unless it repeats the one
+/// before.
+fn tell_failure<E: Write>(
+    before: Option<&FileFailure>,
+    failure: &FileFailure,
+    rest: &[FileFailure],
+    name: &str,
+    writer: &mut E,
+) -> io::Result<()>
+    ensures { let line = failure_line (option_map (λ one. one.now) before.entry) failure.now rest.now name.now in
+        OnOk result (Appends (E.contents writer.old) (E.contents writer.new) line) }
+{
+    if is_told_before(before, failure) {
+        return Ok(());
+    }
+    let more = repeats(failure, rest);
+    let failure = RepeatedFailure { failure, more };
     let name = Shown(name);
     writeln!(writer, "{name}: {failure}")
 }
 
-/// Writes why tasks failed, a line for each.
-fn tell_failures<E: Write>(failures: Vec<FileFailure>, name: &str, writer: &mut E) -> io::Result<()>
+/// Writes why a file gives no policies.
+fn tell_policies<E: Write>(bad: &BadPolicies, name: &str, writer: &mut E) -> io::Result<()>
     ensures { OnOk result (Appends (E.contents writer.old) (E.contents writer.new)
-        (failure_lines failures.items name.now)) }
+        (told_line (bad_policies_text bad.now) name.now)) }
 {
-    for failure in failures {
-        tell_failure(failure, name, writer)?;
+    let name = Shown(name);
+    writeln!(writer, "{name}: {bad}")
+}
+
+/// Writes why tasks failed, a line for each, but for those that repeat one.
+fn tell_failures<E: Write>(failures: &[FileFailure], name: &str, writer: &mut E) -> io::Result<()>
+    ensures { OnOk result (Appends (E.contents writer.old) (E.contents writer.new)
+        (failure_lines None failures.now name.now)) }
+{
+    let mut before = None;
+    for index in 0..failures.len() {
+        let failure = &failures[index];
+        tell_failure(before, failure, &failures[index + 1..], name, writer)?;
+        before = Some(failure);
     }
     Ok(())
 }
@@ -174,7 +265,7 @@ fn tell_uncompared<E: Write>(uncompared: bool, name: &str, writer: &mut E) -> io
     )
 }
 
-/// Writes where files are no JSON and why tasks failed, a line for each, and then in a line each
+/// Writes where files are no JSON and why tasks failed, and then in a line each
 /// where a worker has a fault and where `serve` did not compare all that is recorded.
 fn tell_service<E: Write>(end: ServiceEnd, name: &str, writer: &mut E) -> io::Result<()>
     ensures { OnOk result (Appends (E.contents writer.old) (E.contents writer.new) (service_told end name.now)) }
@@ -187,7 +278,7 @@ fn tell_service<E: Write>(end: ServiceEnd, name: &str, writer: &mut E) -> io::Re
         ..
     } = end;
     tell_faults(file_faults, name, writer)?;
-    tell_failures(failures, name, writer)?;
+    tell_failures(failures.as_slice(), name, writer)?;
     tell_worker(faultless, name, writer)?;
     tell_uncompared(uncompared, name, writer)
 }
@@ -215,15 +306,6 @@ fn tell_entry<E: Write>(
     let entry = Shown(entry);
     let name = Shown(name);
     writeln!(writer, "{name}: cannot read {dir}/{entry}: {why}")
-}
-
-/// Writes that a folder or a file can't be read.
-fn tell_unread<E: Write>(dir: &str, name: &str, writer: &mut E) -> io::Result<()>
-    ensures { OnOk result (Appends (E.contents writer.old) (E.contents writer.new)
-        (told_line (codes "cannot read " ++ dir.now) name.now)) }
-{
-    let name = Shown(name);
-    writeln!(writer, "{name}: cannot read {dir}")
 }
 
 /// Writes that an entry of a folder can't be read, since its name is no UTF-8.
@@ -256,8 +338,8 @@ fn tell_bad_names<E: Write>(
     Ok(())
 }
 
-/// Writes what can't be read: the folder or the file, and in another line why not, of the entry of
-/// the folder where it is one.
+/// Writes what can't be read, and why not: the folder or the file, or the entry of the folder where
+/// it is one.
 fn tell_unreadable<E: Write>(
     dir: &str,
     entry: &Option<String>,
@@ -266,9 +348,8 @@ fn tell_unreadable<E: Write>(
     writer: &mut E,
 ) -> io::Result<()>
     ensures { OnOk result (Appends (E.contents writer.old) (E.contents writer.new)
-        (told_line (codes "cannot read " ++ dir.now) name.now ++ reason_line dir.now entry.now reason name.now)) }
+        (reason_line dir.now entry.now reason name.now)) }
 {
-    tell_unread(dir, name, writer)?;
     let why = reason.words();
     match entry {
         Some(entry) => tell_entry(dir, entry.as_str(), why, name, writer),
@@ -300,11 +381,13 @@ fn tell_failed<E: Write>(failure: &Failure, name: &str, writer: &mut E) -> io::R
         Failure::BadLine { text } => tell_text(text.get(), writer),
         Failure::BadArguments => tell_line("arguments must be UTF-8 text", name, writer),
         Failure::FewSlots => tell_line("slots must be at least workers", name, writer),
+        Failure::BadInput => tell_line("the arguments of a query must be JSON", name, writer),
         Failure::Unreadable { dir, entry, reason } => {
             tell_unreadable(dir.get(), entry, *reason, name, writer)
         }
         Failure::NotJson { fault } => tell_fault(fault, name, writer),
         Failure::NotViewed { file, fault } => tell_not_viewed(file.get(), fault, name, writer),
+        Failure::BadPolicies { bad } => tell_policies(bad, name, writer),
         Failure::Output => tell_line("cannot write", name, writer),
         Failure::OutOfMemory => tell_line("out of memory", name, writer),
     }
@@ -320,8 +403,9 @@ fn tell_complaint<E: Write>(complaint: Complaint, name: &str, writer: &mut E) ->
         Complaint::BadNames { dir, names } => tell_bad_names(dir.get(), names, name, writer),
         Complaint::BadJson { fault } => tell_fault(&fault, name, writer),
         Complaint::BadFiles { records } => tell_records(records, name, writer),
+        Complaint::Queried { own } => tell_record(own, name, writer),
         Complaint::Served { end } => tell_service(end, name, writer),
-        Complaint::Worked { end } => write_live_end(end, writer),
+        Complaint::Worked { end, format } => write_live_end(end, format, writer),
         Complaint::Failed { failure } => tell_failed(&failure, name, writer),
     }
 }

@@ -4,11 +4,12 @@ ghost use Rattle.std.specs.Prelude.{◌≡◌, None};
 ghost use Rattle.wh_files.specs.declared.Reason.{Reason};
 
 use std::alloc::Global;
-use wh_events::Text;
+use wh_events::{OutOfMemory, Text};
 use wh_file_faults::{CommandFault, FileFault, json_fault};
 use wh_files::{FolderFault, InputFault, Reason};
 use wh_json::ReadFault;
 use wh_service::ServiceFault;
+use wh_work::{BadPolicies, PlanFault};
 
 /// Why a run ends without a full report.
 #[derive(Drop)]
@@ -21,6 +22,8 @@ pub(crate) enum Failure {
     BadArguments,
     /// There are fewer slots than workers.
     FewSlots,
+    /// An argument of a query is no JSON.
+    BadInput,
     /// A folder or a file, or the entry of the folder that is named, cannot be read, and why not.
     Unreadable {
         dir: Text,
@@ -35,6 +38,10 @@ pub(crate) enum Failure {
     NotViewed {
         file: Text,
         fault: ReadFault,
+    },
+    /// A file gives no policies, and why not.
+    BadPolicies {
+        bad: BadPolicies,
     },
     /// The report cannot be written.
     Output,
@@ -91,6 +98,16 @@ impl From<ServiceFault> for Failure {
     }
 }
 
+impl From<PlanFault> for Failure {
+    fn from(fault: PlanFault) -> Failure {
+        match fault {
+            PlanFault::Unread { fault } => Failure::from(fault),
+            PlanFault::BadPolicies { bad } => Failure::BadPolicies { bad },
+            PlanFault::OutOfMemory => Failure::OutOfMemory,
+        }
+    }
+}
+
 /// Why nothing can be read at a path.
 pub(crate) fn unreadable(path: Text, fault: FolderFault) -> Failure
     ensures unreadable { (reason : Reason) → fault ≡ FolderFault.Unreadable reason
@@ -112,10 +129,11 @@ pub(crate) fn unviewed(alloc: Global, file: Text, fault: ReadFault, bytes: &[u8]
     let place = match fault {
         ReadFault::OutOfMemory => return Failure::OutOfMemory,
         ReadFault::BadJson => json_fault(alloc, file.get(), bytes),
-        _ => None,
+        _ => Ok(None),
     };
     match place {
-        Some(fault) => Failure::NotJson { fault },
-        None => Failure::NotViewed { file, fault },
+        Ok(Some(fault)) => Failure::NotJson { fault },
+        Ok(None) => Failure::NotViewed { file, fault },
+        Err(OutOfMemory) => Failure::OutOfMemory,
     }
 }

@@ -24,9 +24,9 @@ use wh_console::{Console, ErrorPrinter};
 use wh_crew::LiveEnd;
 use wh_events::OutOfMemory;
 use wh_poll::ActivityHandler;
+use wh_queryable::Queryable;
 use wh_rpc::Caller;
-use wh_work::{LivePlan, serve_calls};
-use wh_workflow::Workflow;
+use wh_work::{FileReplacer, LivePlan, serve_calls};
 
 /// The status of a run that ends without a full report.
 const FAILED: u8 = 2;
@@ -118,7 +118,7 @@ fn fail<O: Write, E: Write>(failure: Failure, console: &mut Console<'_, O, E>) -
 /// Does what the words of the command line ask for, or reports why there is no full report, and
 /// gives the status.
 fn answer<
-    W: Workflow + Send,
+    W: Queryable + Send,
     R: Runtime + AllocGlobal + Threads + Wait + Sync,
     O: Write,
     E: Write,
@@ -129,7 +129,8 @@ where
     R::Dir: Send,
     F: Drop,
     requires { MayServe (F.pre live) }
-    ensures { Answers W.program (lives (F.post live)) (map string_bytes words.now) console.old console.new result }
+    ensures { Answers W.program W.queries (lives (F.post live)) (map string_bytes words.now)
+        console.old console.new result }
 {
     match plan(rt.alloc(), words) {
         Ok(plan) => match obey::<W, R, O, E, F>(rt, plan, live, console) {
@@ -148,7 +149,7 @@ fn fail_under<R: Eprint>(rt: &R, name: &str, failure: Failure) -> u8 {
 
 /// Does what the words of the command line ask for, with the standard streams, and gives the status.
 fn run_words<
-    W: Workflow + Send,
+    W: Queryable + Send,
     R: Runtime + AllocGlobal + Threads + Wait + Sync,
     F: FnOnce(LivePlan) -> Result<LiveEnd, OutOfMemory>,
 >(rt: &R, words: &[String], live: F) -> u8
@@ -173,6 +174,32 @@ pub fn no_memory<R: Eprint>(rt: &R) -> ExitCode {
     ExitCode::from(fail_under(rt, UNCALLED, Failure::OutOfMemory))
 }
 
+/// Runs the program under its arguments, and gives the status.
+fn run_over<
+    W: Queryable + Send,
+    R: Runtime + AllocGlobal + FileReplacer + Threads + Wait + Sync,
+    C: Caller + Sync,
+    L: FnOnce() -> bool,
+    A: ActivityHandler + Send + Drop,
+    M: Fn() -> A,
+>(rt: &R, words: &[String], calls: &C, listen: L, make: M) -> u8
+where
+    R::File: Send,
+    R::Dir: Send,
+    L: Drop,
+    M: Drop,
+    requires listens { L.IsAlwaysCallable listen }
+    requires makes { M.IsAlwaysCallable make }
+{
+    let name = called(words);
+    let live = |plan: LivePlan| -> Result<LiveEnd, OutOfMemory>
+        requires sizes { IsConfig plan.config }
+        requires listens { L.IsAlwaysCallable listen }
+        requires makes { M.IsAlwaysCallable make }
+    { serve_calls::<W, R, C, L, A, M>(rt, name, calls, listen, &make, plan) };
+    run_words::<W, R, _>(rt, words, live)
+}
+
 /// Runs the program for the workflows of a type: it does what the arguments ask for, writes the
 /// report to the standard output and, where there is no full report, why to the standard error, and
 /// gives the status. Where the one who reads the report closes it, that is not reported.
@@ -184,7 +211,7 @@ pub fn no_memory<R: Eprint>(rt: &R) -> ExitCode {
 /// which has to start a thread that reads the other end by `read_input`, and says whether it could;
 /// that thread is not waited for. `make` makes the handler of each worker, which runs activities.
 pub fn run<
-    W: Workflow + Send,
+    W: Queryable + Send,
     R: Runtime + AllocGlobal + Threads + Wait + Sync,
     C: Caller + Sync,
     L: FnOnce() -> bool,
@@ -203,11 +230,5 @@ where
         Ok(words) => words,
         Err(failure) => return ExitCode::from(fail_under(rt, UNCALLED, failure)),
     };
-    let name = called(words.as_slice());
-    let live = |plan: LivePlan| -> Result<LiveEnd, OutOfMemory>
-        requires sizes { IsConfig plan.config }
-        requires listens { L.IsAlwaysCallable listen }
-        requires makes { M.IsAlwaysCallable make }
-    { serve_calls::<W, R, C, L, A, M>(rt, name, calls, listen, &make, plan) };
-    ExitCode::from(run_words::<W, R, _>(rt, words.as_slice(), live))
+    ExitCode::from(run_over::<W, R, C, L, A, M>(rt, words.as_slice(), calls, listen, make))
 }

@@ -70,6 +70,7 @@ pub explained_by : (name : Text) (rows : List Row) (plan : Plan) → name ≡ co
 explained_by name rows (plans.Replay dir more format require_files) named given = absurd given
 explained_by name rows (plans.Explain file format) named given = (named, given)
 explained_by name rows (plans.View file selection format) named given = (named, given)
+explained_by name rows (plans.Query file query_type input format) named given = absurd given
 explained_by name rows (plans.Serve dir options require_files) named given = absurd given
 explained_by name rows (plans.Work options) named given = absurd given
 explained_by name rows (plans.Help text) named given = absurd given

@@ -3,6 +3,7 @@ pub mod Given
 pub mod Lines
 pub mod Options
 pub mod Plans
+pub mod Queries
 pub mod Refusals
 pub mod Sizes
 pub mod Work

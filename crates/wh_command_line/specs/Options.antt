@@ -45,13 +45,15 @@ with_names app = with_rule (with_rule (with_rule app (as_needed (option (codes "
 
 -- a subcommand with the options more that bound activities and waits
 abbrev pub with_limits : App → App
-with_limits app = with_rule (with_rule (with_rule (with_rule app
+with_limits app = with_rule (with_rule (with_rule (with_rule (with_rule app
     (option_or (codes "activity-workers") (codes "0"))) (option_or (codes "activity-timeout") (codes "60")))
-    (option_or (codes "activity-attempts") (codes "1"))) (option_or (codes "sticky-timeout") (codes "10"))
+    (option_or (codes "activity-attempts") (codes "1"))) (option (codes "policies")))
+    (option_or (codes "sticky-timeout") (codes "10"))
 
 -- a subcommand with the options more that say what is told
 abbrev pub with_reports : App → App
-with_reports app = with_rule (with_rule app (flag (codes "verbose"))) (option (codes "stats"))
+with_reports app = with_rule (with_rule (with_rule (with_rule app (flag (codes "verbose"))) (option (codes "stats")))
+    (flag (codes "json"))) (option (codes "metrics"))
 
 -- the rows give numbers within their limits, with fewer slots than workers
 pub record GivesFewSlots (rows : List Row) : Type 0 where

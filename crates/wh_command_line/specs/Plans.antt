@@ -7,10 +7,11 @@ use Rattle.wh_command_line.specs.Explanations.{GivesExplanation, LacksExplanatio
 use Rattle.wh_command_line.specs.Given.{GivesFlag, GivesFolder, GivesFormat, GivesPaths, LacksText}
 use Rattle.wh_command_line.specs.Lines.{program}
 use Rattle.wh_command_line.specs.Options.{GivesFewSlots}
+use Rattle.wh_command_line.specs.Queries.{GivesQuery, LacksQuery}
 use Rattle.wh_command_line.specs.Sizes.{GivesAllWithin, GivesNumbers}
 use Rattle.wh_command_line.specs.Work.{GivesFewWorkSlots, GivesWork, LacksWork}
 use Rattle.wh_command_line.specs.declared.command_line.Plan.{Plan}
-use Rattle.wh_command_line.specs.declared.command_line.Plan.TheVariants.{Replay, Explain, View, Serve, Work, Help}
+use Rattle.wh_command_line.specs.declared.command_line.Plan.TheVariants.{Replay, Explain, View, Query, Serve, Work, Help}
 
 -- the plan is to print a text
 abbrev pub IsHelp : Plan → Type 0
@@ -25,6 +26,8 @@ IsGiven name rows (Replay dir more format require_files) = (name ≡ codes "repl
 IsGiven name rows (Explain file format) = (name ≡ codes "explain") × GivesExplanation rows (Explain file format)
 IsGiven name rows (View file selection format) =
     (name ≡ codes "explain") × GivesExplanation rows (View file selection format)
+IsGiven name rows (Query file query_type input format) =
+    (name ≡ codes "query") × GivesQuery rows (Query file query_type input format)
 IsGiven name rows (Serve dir options require_files) = (name ≡ codes "serve") × GivesFolder rows dir
     × GivesNumbers rows options.workers options.cache options.cache_events options.slots
     × GivesFlag (codes "require-files") rows require_files
@@ -83,7 +86,8 @@ LacksService rows = LacksText (codes "DIR") rows ⊎ ¬ (GivesAllWithin rows)
 
 -- the subcommand of a name is none of the program's
 abbrev pub IsNoCommand : Text → Type 0
-IsNoCommand name = (name ≢ codes "replay") × (name ≢ codes "explain") × (name ≢ codes "serve") × (name ≢ codes "work")
+IsNoCommand name = (name ≢ codes "replay") × (name ≢ codes "explain") × (name ≢ codes "query")
+    × (name ≢ codes "serve") × (name ≢ codes "work")
 
 -- the subcommand of a name can't do with its rows: it lacks its path or name, or a number within its
 -- limits, or selects tasks twice, or of a replay
@@ -91,8 +95,9 @@ abbrev pub IsBadGiven : Text → List Row → Type 0
 IsBadGiven name rows =
     ((name ≡ codes "replay") × LacksText (codes "DIR") rows)
     ⊎ (((name ≡ codes "explain") × LacksExplanation rows)
+    ⊎ (((name ≡ codes "query") × LacksQuery rows)
     ⊎ (((name ≡ codes "serve") × LacksService rows)
-    ⊎ (((name ≡ codes "work") × LacksWork rows) ⊎ IsNoCommand name)))
+    ⊎ (((name ≡ codes "work") × LacksWork rows) ⊎ IsNoCommand name))))
 
 -- the words are none of the program's: clap finds a mistake, or it reads them, and there is no
 -- subcommand, or that can't do with what it is given

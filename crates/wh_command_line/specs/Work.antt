@@ -1,7 +1,7 @@
 -- What `work` is given.
 use Rattle.std.specs.Prelude.{◌≡◌, ◌⊎◌, ℕ, ◌+◌, ◌≤◌, List, codes, Option, Some}
-use Rattle.clap.specs.Words.{Row}
-use Rattle.wh_command_line.specs.Given.{GivesFlag, GivesText, GivesWithin, LacksName, LacksText, MayGiveWithin}
+use Rattle.clap.specs.Words.{Row, Text, first_of}
+use Rattle.wh_command_line.specs.Given.{GivesFlag, GivesFormat, GivesText, GivesWithin, LacksName, LacksText, MayGiveWithin}
 use Rattle.wh_command_line.specs.Given.{value_named}
 use Rattle.wh_command_line.specs.Options.{IsWithinWorkLimits, LacksSlots}
 use Rattle.wh_command_line.specs.Sizes.{GivesAllWithin, GivesNumbers}
@@ -26,6 +26,11 @@ pub record GivesBeside (rows : List Row) (workers : ℕ) : Type 0 where
   pub within : GivesWithin rows (codes "activity-workers") 0 63
   pub together : (number : ℕ) → value_named rows (codes "activity-workers") ≡ Some number → workers + number ≤ 64
 
+-- the rows give the files, as far as there are any
+pub record GivesFiles (rows : List Row) (policies metrics : Option Text) : Type 0 where
+  pub gives_policies : first_of (codes "policies") rows ≡ policies
+  pub gives_metrics : first_of (codes "metrics") rows ≡ metrics
+
 -- the rows give the options
 pub record GivesWork (rows : List Row) (options : WorkOptions) : Type 0 where
   pub task_queue : GivesText (codes "task-queue") rows options.task_queue
@@ -34,7 +39,9 @@ pub record GivesWork (rows : List Row) (options : WorkOptions) : Type 0 where
   pub sizes : GivesNumbers rows options.workers options.cache options.cache_events options.slots
   pub activity_workers : value_named rows (codes "activity-workers") ≡ Some options.activity_workers
   pub limits : GivesLimits rows options.activity_timeout options.activity_attempts options.sticky_timeout options.stats
+  pub files : GivesFiles rows options.policies options.metrics
   pub verbose : GivesFlag (codes "verbose") rows options.verbose
+  pub format : GivesFormat rows options.format
 
 -- the rows give options within their limits, with fewer slots of a kind than workers of it
 pub record GivesFewWorkSlots (rows : List Row) : Type 0 where

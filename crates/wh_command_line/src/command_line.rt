@@ -3,7 +3,7 @@
 ghost use Rattle.std.specs.Prelude.{◌≡◌, ◌≢◌, ◌↔◌, ◌<◌, false, codes, Err, IfOk, IfErr, IfSome, map};
 ghost use Rattle.std.specs.Prelude.{string_bytes};
 ghost use Rattle.clap.specs.Words.{App, Rule, app_of, new_app, found_of, rows_of, rule_of, kind_of};
-ghost use Rattle.clap.specs.Words.{with_rule, with_subcommand};
+ghost use Rattle.clap.specs.Words.{first_of, with_rule, with_subcommand};
 ghost use Rattle.clap.specs.declared.builder.Command.TheViews.{out-Command as fields_of};
 ghost use Rattle.wh_command_line.specs.Given.{GivesFlag, GivesFormat, GivesPaths, GivesText, LacksText};
 ghost use Rattle.wh_command_line.specs.Lines.{program, replay, serve, needed, folder, paths};
@@ -17,6 +17,7 @@ ghost use Rattle.wh_command_line.specs.Refusals.{IfBad};
 
 use crate::explain::{explain, explanation_given};
 use crate::options::{CACHE, CACHE_EVENTS, Helps, NumberOption, SLOTS, WORKERS};
+use crate::query::{query, query_given};
 use crate::serve_options::ServeOptions;
 use crate::work::{WorkOptions, work};
 use clap::error::ErrorKind;
@@ -63,6 +64,15 @@ pub enum Plan {
         /// Which of its tasks are shown.
         selection: Selection,
         /// In which form they are written.
+        format: Format,
+    },
+    /// Query the workflow after the last task of the history in a file.
+    Query {
+        file: Text,
+        query_type: Text,
+        /// The arguments of the query, in their order, each of which has to be a JSON text.
+        input: Vec<Text>,
+        /// In which form the result is written.
         format: Format,
     },
     /// Serve the tasks of each history in a folder. There are at least as many slots as workers.
@@ -346,6 +356,7 @@ fn command<'a>(alloc: Global, name: &str, helps: &'a Helps) -> Result<Command<'a
 {
     let program = with_subcommand(program_alone(alloc, name), replay(alloc));
     let program = with_subcommand(program, explain(alloc));
+    let program = with_subcommand(program, query(alloc));
     let program = with_subcommand(program, serve(alloc, helps));
     with_subcommand(program, work(alloc, helps))
 }
@@ -394,8 +405,23 @@ pub(crate) fn text_given(alloc: Global, given: &ArgMatches<'_>, name: &str) -> R
     text_copy(alloc, text)
 }
 
+/// The text that a subcommand is given under a name, if it is given one.
+pub(crate) fn text_if_given(
+    alloc: Global,
+    given: &ArgMatches<'_>,
+    name: &str,
+) -> Result<Option<Text>, Refusal>
+    ensures given { IfOk result (λ text. first_of name.now (rows_of (found_of given.now)) ≡ text) }
+    ensures err { IfErr result (λ e. e ≡ Refusal.OutOfMemory) }
+{
+    let Some(text) = given.get_str(name) else {
+        return Ok(None);
+    };
+    Ok(Some(text_copy(alloc, text)?))
+}
+
 /// Copies of texts, in their order.
-fn text_copies(alloc: Global, texts: &[&str]) -> Result<Vec<Text>, Refusal>
+pub(crate) fn text_copies(alloc: Global, texts: &[&str]) -> Result<Vec<Text>, Refusal>
     ensures ok { IfOk result (λ copies. copies.items ≡ map (λ text. text.now) texts.now) }
     ensures err { IfErr result (λ e. e ≡ Refusal.OutOfMemory) }
 {
@@ -476,6 +502,7 @@ fn asked(alloc: Global, name: &str, given: &ArgMatches<'_>) -> Result<Plan, Refu
             })
         }
         "explain" => explanation_given(alloc, given),
+        "query" => query_given(alloc, given),
         "serve" => {
             let dir = text_given(alloc, given, "DIR")?;
             let options = ServeOptions::given(alloc, given)?;

@@ -5,6 +5,7 @@
 mod command_line;
 mod explain;
 mod options;
+mod query;
 mod serve_options;
 mod work;
 

@@ -10,16 +10,18 @@ ghost use Rattle.wh_command_line.specs.Refusals.{IfBad};
 ghost use Rattle.wh_command_line.specs.Options.{AreLimits, IsWithinWorkLimits, LacksSlots};
 ghost use Rattle.wh_command_line.specs.Options.{with_names, with_limits, with_reports};
 ghost use Rattle.wh_command_line.specs.Sizes.{config_of};
-ghost use Rattle.wh_command_line.specs.Work.{GivesBeside, GivesLimits, GivesLimitsWithin, GivesWork, LacksWork};
+ghost use Rattle.wh_command_line.specs.Work.{GivesBeside, GivesFiles, GivesLimits, GivesLimitsWithin, GivesWork};
+ghost use Rattle.wh_command_line.specs.Work.{LacksWork};
 
 use crate::command_line::{
-    Refusal, as_needed, bad_line, flag_argument, flag_given, option_argument, subcommand,
-    text_given, with_argument, with_default, with_number, with_sizes,
+    Refusal, as_needed, bad_line, flag_argument, flag_given, format_given, option_argument,
+    subcommand, text_given, text_if_given, with_argument, with_default, with_number, with_sizes,
 };
 use crate::options::{Helps, NumberOption};
 use crate::serve_options::ServeOptions;
 use clap::{ArgMatches, Command};
 use std::alloc::{AllocError, Global};
+use wh_console::Format;
 use wh_events::Text;
 use wh_host::{Config, MOST_SEATS};
 
@@ -186,6 +188,13 @@ fn with_limits<'a>(
         &ACTIVITY_ATTEMPTS,
         helps.activity_attempts.as_str(),
     );
+    let policies = option_argument(
+        alloc,
+        "policies",
+        "FILE",
+        "A TOML file that says what the server is asked for with activities, children and failures",
+    );
+    let command = with_argument(command, policies);
     with_number(
         alloc,
         command,
@@ -205,7 +214,16 @@ fn with_reports<'a>(
     let verbose = flag_argument(alloc, "verbose", "Tells more on the standard error");
     let command = with_argument(command, verbose);
     let stats = option_argument(alloc, "stats", "SECONDS", helps.stats.as_str());
-    with_argument(command, stats)
+    let command = with_argument(command, stats);
+    let json = flag_argument(alloc, "json", "Tells the counts as JSON");
+    let command = with_argument(command, json);
+    let metrics = option_argument(
+        alloc,
+        "metrics",
+        "FILE",
+        "A file in which the counts are kept, in the form that Prometheus reads",
+    );
+    with_argument(command, metrics)
 }
 
 /// The subcommand `work`.
@@ -242,12 +260,19 @@ pub struct WorkOptions {
     pub activity_timeout: u64,
     /// How often an activity is tried: 1 to 65,535, or 0, which leaves it to the server.
     pub activity_attempts: u64,
+    /// The file that has the policies, if there is one. What it leaves out of activities is as the
+    /// two options before say.
+    pub policies: Option<Text>,
     /// How many seconds a task waits for the workers that keep its run: 1 to 4,294,967,295.
     pub sticky_timeout: u64,
     /// Whether each task is reported on standard error.
     pub verbose: bool,
     /// After how many seconds each the counts are reported, if they are: 1 to 4,294,967,295.
     pub stats: Option<u64>,
+    /// In which form the counts are reported.
+    pub format: Format,
+    /// The file in which the counts are kept, if they are.
+    pub metrics: Option<Text>,
 }
 
 /// The options of `work` that are neither names nor sizes of a host.
@@ -273,6 +298,25 @@ fn limits_given(alloc: Global, given: &ArgMatches<'_>) -> Result<Limits, Refusal
         activity_attempts: ACTIVITY_ATTEMPTS.number(alloc, given)?,
         sticky_timeout: STICKY_TIMEOUT.number(alloc, given)?,
         stats: STATS.number_if_given(alloc, given)?,
+    })
+}
+
+/// The files of `work`.
+#[derive(Drop)]
+struct Files {
+    policies: Option<Text>,
+    metrics: Option<Text>,
+}
+
+/// The files that a subcommand is given.
+fn files_given(alloc: Global, given: &ArgMatches<'_>) -> Result<Files, Refusal>
+    ensures given { IfOk result (λ files. GivesFiles (rows_of (found_of given.now)) files.policies files.metrics) }
+    ensures err { IfErr result (λ e. e ≡ Refusal.OutOfMemory) }
+{
+    let policies = text_if_given(alloc, given, "policies")?;
+    Ok(Files {
+        policies,
+        metrics: text_if_given(alloc, given, "metrics")?,
     })
 }
 
@@ -323,6 +367,7 @@ impl WorkOptions {
         let sizes = ServeOptions::given(alloc, given)?;
         let activity_workers = activity_workers_given(alloc, given, sizes.workers)?;
         let limits = limits_given(alloc, given)?;
+        let files = files_given(alloc, given)?;
         let task_queue = task_queue_given(alloc, given)?;
         let namespace = text_given(alloc, given, "namespace")?;
         Ok(WorkOptions {
@@ -336,9 +381,12 @@ impl WorkOptions {
             slots: sizes.slots,
             activity_timeout: limits.activity_timeout,
             activity_attempts: limits.activity_attempts,
+            policies: files.policies,
             sticky_timeout: limits.sticky_timeout,
             verbose: flag_given(given, "verbose"),
             stats: limits.stats,
+            format: format_given(given),
+            metrics: files.metrics,
         })
     }
 

@@ -34,6 +34,15 @@ explain --recorded --around 2 --last 2 x => bad line
 explain --around 2 x => bad line
 explain --last 2 x => bad line
 explain --recorded => bad line
+query x status => query x status
+query - status 1 [2] => query - status 1 [2]
+query x status --json {} => query x status {} as JSON
+query x status -- -1 => query x status -1
+query x status -1 => bad line
+query x => bad line
+query => bad line
+query --json x => bad line
+query x status --json --json => bad line
 serve d => serve d, workers 1, cache 100, cache events 0, slots 100
 serve d --workers 64 --cache 0 --cache-events 512000000 --slots 1000 => serve d, workers 64, cache 0, cache events 512000000, slots 1000
 serve d --workers 1 --cache 10000 --slots 1 => serve d, workers 1, cache 10000, cache events 0, slots 1
@@ -163,13 +172,12 @@ fn add_flags(rt: &impl Abort, text: &mut String, json: bool, require_files: bool
     text.push_str(need).expect(rt, "memory");
 }
 
-/// A plan to replay, in words.
-fn replay_text(rt: &impl Abort, alloc: Global, dir: &Text, more: &[Text]) -> String {
-    let mut text = String::from_str(alloc, "replay ").expect(rt, "memory");
-    text.push_str(dir.get()).expect(rt, "memory");
-    for path in more {
+/// A command with its words.
+fn command_text(rt: &impl Abort, alloc: Global, name: &str, first: &Text, more: &[Text]) -> String {
+    let mut text = joined(rt, alloc, name, first.get());
+    for word in more {
         text.push_str(" ").expect(rt, "memory");
-        text.push_str(path.get()).expect(rt, "memory");
+        text.push_str(word.get()).expect(rt, "memory");
     }
     text
 }
@@ -232,7 +240,7 @@ fn plan_text(rt: &impl Abort, alloc: Global, plan: &Plan) -> String {
             format,
             require_files,
         } => {
-            let mut text = replay_text(rt, alloc, dir, more);
+            let mut text = command_text(rt, alloc, "replay ", dir, more);
             add_flags(rt, &mut text, *format == Format::Json, *require_files);
             text
         }
@@ -250,6 +258,18 @@ fn plan_text(rt: &impl Abort, alloc: Global, plan: &Plan) -> String {
             let view = joined(rt, alloc, "view ", selection.as_str());
             let view = joined(rt, alloc, view.as_str(), " of ");
             let mut text = joined(rt, alloc, view.as_str(), file.get());
+            add_flags(rt, &mut text, *format == Format::Json, false);
+            text
+        }
+        Plan::Query {
+            file,
+            query_type,
+            input,
+            format,
+        } => {
+            let name = joined(rt, alloc, "query ", file.get());
+            let name = joined(rt, alloc, name.as_str(), " ");
+            let mut text = command_text(rt, alloc, name.as_str(), query_type, input.as_slice());
             add_flags(rt, &mut text, *format == Format::Json, false);
             text
         }

@@ -28,7 +28,7 @@ greet | 'name':'greet' -> 'name':'greets'
 {'told':'Start','workflowType':'Greet'}
 {'gives':'StartActivity','activityId':'1','activityType':'greet'}
 {'sends':'StartActivity','activityId':'1','activityType':'greet','recorded':{'event':5,'type':'ActivityTaskScheduled','activityId':'1','activityType':'greets'},'differs':true}
-{'file':'x.json','verdict':'fault','event':5,'fault':'event 5 differs'}
+{'file':'x.json','verdict':'fault','event':5,'fault':'event 5 differs','sends':'StartActivity','activityId':'1','activityType':'greet','recorded':{'event':5,'type':'ActivityTaskScheduled','activityId':'1','activityType':'greets'}}
 status 1
 
 family/6 signal:stop S T C cancel_child:kid child_canceled:5 cancel_sent:11 S T
@@ -72,7 +72,7 @@ nap/5 timer:x
 {'gives':'StartTimer','timerId':'nap','seconds':60}
 {'sends':'StartTimer','timerId':'nap','seconds':60,'recorded':{'event':5,'type':'TimerStarted','timerId':'nap'},'differs':false}
 {'sends':null,'recorded':{'event':6,'type':'TimerStarted','timerId':'x'},'differs':true}
-{'file':'x.json','verdict':'fault','event':6,'fault':'event 6 has no command'}
+{'file':'x.json','verdict':'fault','event':6,'fault':'event 6 has no command','sends':null,'recorded':{'event':6,'type':'TimerStarted','timerId':'x'}}
 status 1
 
 nap/4
@@ -81,7 +81,7 @@ nap/4
 {'told':'Start','workflowType':'Nap'}
 {'gives':'StartTimer','timerId':'nap','seconds':60}
 {'sends':'StartTimer','timerId':'nap','seconds':60,'recorded':null,'differs':true}
-{'file':'x.json','verdict':'fault','task':3,'fault':'command 1 of the task at 3 has no event'}
+{'file':'x.json','verdict':'fault','task':3,'fault':'command 1 of the task at 3 has no event','sends':'StartTimer','timerId':'nap','seconds':60,'recorded':null}
 status 1
 
 start:Nap timer:nap S T
@@ -104,7 +104,7 @@ nap/5 | 'timerId':'nap' -> 'timerId':'\u{e9}\\\\b'
 {'told':'Start','workflowType':'Nap'}
 {'gives':'StartTimer','timerId':'nap','seconds':60}
 {'sends':'StartTimer','timerId':'nap','seconds':60,'recorded':{'event':5,'type':'TimerStarted','timerId':'?\\\\b'},'differs':true}
-{'file':'x.json','verdict':'fault','event':5,'fault':'event 5 differs'}
+{'file':'x.json','verdict':'fault','event':5,'fault':'event 5 differs','sends':'StartTimer','timerId':'nap','seconds':60,'recorded':{'event':5,'type':'TimerStarted','timerId':'?\\\\b'}}
 status 1";
 
 /// What explains a history as JSON, with the status after it.

@@ -1,17 +1,23 @@
 -- Of Commands: what only contracts of private functions cite.
 use Rattle.std.specs.Path.{path_file_name}
-use Rattle.std.specs.Prelude.{◌≡◌, ◌⊎◌, ℕ, List, [], ◌∷◌, codes, Bool, false, Option, IfSome, unwrap_or, if◌then◌else◌, string_bytes}
+use Rattle.std.specs.Prelude.{◌≡◌, ◌⊎◌, ℕ, List, [], ◌∷◌, codes, Bool, false, Option, Some, IfSome, unwrap_or, if◌then◌else◌, string_bytes}
 use Rattle.std.specs.Io.KnownBytes.{Keeps}
 use Rattle.wh_command_line.specs.Options.{sizes_of}
 use Rattle.wh_command_line.specs.Plans.{IsAskedBy}
 use Rattle.wh_command_line.specs.declared.command_line.Plan.{Plan}
 use Rattle.wh_command_line.specs.declared.work.WorkOptions.{WorkOptions}
-use Rattle.wh_command_line.specs.declared.command_line.Plan.TheVariants.{Replay, Explain, View, Serve, Work, Help}
+use Rattle.wh_command_line.specs.declared.command_line.Plan.TheVariants.{Replay, Explain, View, Query, Serve, Work, Help}
 use Rattle.wh_files.specs.Inputs.{IsCalled, IsOf, IsReadFrom, IsSingle}
 use Rattle.wh_files.specs.declared.Input.{Input}
 use Rattle.wh_host.specs.declared.config.Config.{Config}
 use Rattle.wh_crew.specs.declared.serving.LiveEnd.{LiveEnd}
 use Rattle.wh_workflow.specs.Law.{Program}
+use Rattle.wh_queryable.specs.Queries.{Queries}
+use Rattle.wh_queryable.specs.declared.queryable.Query.{Query as Question}
+use Rattle.wh_query_report.specs.Inputs.{query_of}
+use Rattle.wh_query_report.specs.Queried.{IsQueried, status_of as query_status}
+use Rattle.wh_query_report.specs.Texts.{queried_as}
+use Rattle.wh_query_report.specs.declared.queried.Queried.{Queried}
 use Rattle.wh_cli.specs.declared.failures.Failure.{Failure}
 use Rattle.wh_cli.specs.declared.failures.Failure.TheVariants.{Output}
 use Rattle.wh_file_faults.specs.declared.file_faults.FileFault.{FileFault}
@@ -25,12 +31,14 @@ use Rattle.wh_view.specs.declared.view.View.{View as FileView}
 use Rattle.wh_view_report.specs.Json.{view_objects}
 use Rattle.wh_view_report.specs.Texts.{view_text}
 use Rattle.wh_view_report.specs.declared.text.Selection.{Selection}
-use Rattle.wh_cli.specs.Private.Complaints.{failed_text, fault_lines, service_told}
+use Rattle.wh_cli.specs.Private.Complaints.{failed_text, fault_lines, record_told, records_told, service_told}
 use Rattle.wh_file_faults.specs.Faults.{IsFaultOf, told_of}
-use Rattle.wh_file_faults.specs.Faults.{IsNoJson}
+use Rattle.wh_file_faults.specs.Faults.{IsUnreadCause}
+use Rattle.wh_tester.specs.Verdicts.{IsVerdict}
+use Rattle.wh_tester.specs.declared.line.Verdict.{Verdict}
 use Rattle.wh_cli.specs.Private.Listings.{AreListed, IsListed, is_by_path}
 use Rattle.wh_work.specs.Plans.{IsLivePlan, LivesBy}
-use Rattle.wh_work.specs.Reports.{live_status, live_text}
+use Rattle.wh_work.specs.Reports.{live_as, live_status}
 use Rattle.wh_cli.specs.Private.Readings.{Gives, IsReadAs}
 use Rattle.wh_service.specs.Services.{IsServiceEndOver}
 use Rattle.wh_file_faults.specs.Faults.{File}
@@ -39,20 +47,20 @@ use Rattle.wh_cli.specs.Private.Statuses.{lacks_files, status_with}
 use Rattle.wh_report.specs.declared.records.Record.{Record}
 use Rattle.wh_report.specs.Commands.{IsExplained}
 use Rattle.wh_report.specs.Records.{AreRecordsOf}
-use Rattle.wh_report.specs.Reports.{faults_in, lines_of, report_as, status_of}
+use Rattle.wh_report.specs.Reports.{lines_of, report_as, status_of}
 
 -- a text was written, and the status is 0
 pub record HasPrinted (text : List ℕ) (old new : ConsoleView) (status : ℕ) : Type 0 where
   pub printed : Printed old new text
   pub ends : status ≡ 0
 
--- the report of records was written, then why files are named beside it was told, and the status is that of the report,
--- unless files are lacking
+-- the report of records was written, then the rest of them was told, and the status is that of the report, unless files
+-- are lacking
 pub record HasReported (records : List Record) (format : Format) (lacks : Bool) (old new : ConsoleView)
     (status : ℕ) : Type 0 where
   pub between : ConsoleView
   pub printed : Printed old between (report_as format records)
-  pub told : Reported between new (fault_lines (faults_in records))
+  pub told : Reported between new (records_told records)
   pub ends : status ≡ status_with lacks (status_of (lines_of records))
 
 -- inputs were read as files and replayed, and the report of their records was written
@@ -62,19 +70,21 @@ pub record HasReplayed {S : Type 0} (gives : Gives) (program : Program S) (input
   pub found : AreRecordsOf program (IsReadAs gives) inputs records
   pub reported : HasReported records format lacks old new status
 
--- at most one line was told of a file, that it is no JSON
-pub record HasToldOf (name bytes : List ℕ) (old new : ConsoleView) : Type 0 where
+-- a line was told of a file where its verdict is that it is no JSON, and else nothing
+pub record HasToldOf (name : List ℕ) (verdict : Verdict) (bytes : List ℕ) (old new : ConsoleView) : Type 0 where
   pub fault : Option FileFault
-  pub own : IfSome fault (IsFaultOf IsNoJson name bytes)
+  pub own : IsFaultOf (IsUnreadCause verdict) name bytes fault
   pub told : Reported old new (fault_lines (told_of fault))
 
--- a file was explained, and at most one line was told of it, that it is no JSON
+-- a file was explained, and then a line was told of it where its verdict is that it is no JSON
 pub record HasExplained {S : Type 0} (program : Program S) (name bytes : List ℕ) (format : Format)
     (old new : ConsoleView) (status : ℕ) : Type 0 where
   pub between : ConsoleView
   pub quiet : IsQuiet old between
   pub explained : IsExplained program name bytes format old.output between.output status
-  pub told : HasToldOf name bytes between new
+  pub verdict : Verdict
+  pub judged : IsVerdict program bytes verdict
+  pub told : HasToldOf name verdict bytes between new
 
 -- an input was read as a file, and explained
 pub record HasExplainedInput {S : Type 0} (gives : Gives) (program : Program S) (input : Input) (format : Format)
@@ -82,6 +92,23 @@ pub record HasExplainedInput {S : Type 0} (gives : Gives) (program : Program S) 
   pub file : File
   pub read : IsReadAs gives input file
   pub explained : HasExplained program (string_bytes file.0) file.1.items format old new status
+
+-- a file was queried and what came of it was written, then what is told of its record, and the status is that of the query
+pub record HasQueried {S : Type 0} (program : Program S) (queries : Queries S) (file : File) (query : Question)
+    (format : Format) (old new : ConsoleView) (status : ℕ) : Type 0 where
+  pub queried : Queried
+  pub between : ConsoleView
+  pub is : IsQueried program queries file query queried
+  pub printed : Printed old between (queried_as format queried)
+  pub told : Reported between new (record_told queried.own)
+  pub ends : status ≡ query_status queried
+
+-- an input was read as a file, and that was queried
+pub record HasQueriedInput {S : Type 0} (gives : Gives) (program : Program S) (queries : Queries S) (input : Input)
+    (query : Question) (format : Format) (old new : ConsoleView) (status : ℕ) : Type 0 where
+  pub file : File
+  pub read : IsReadAs gives input file
+  pub queried : HasQueried program queries file query format old new status
 
 -- what is written of a view
 abbrev pub view_as : FileView → Selection → Format → List ℕ
@@ -140,6 +167,17 @@ pub record HasExplainedPath {S : Type 0} (program : Program S) (path : List ℕ)
   pub single : IsSingle input.origin
   pub explained : HasExplainedInput IsReadFrom program input format old new status
 
+-- what a path names, which is no folder, was queried, with words as the arguments
+pub record HasQueriedPath {S : Type 0} (program : Program S) (queries : Queries S) (path query_type : List ℕ)
+    (words : List (List ℕ)) (format : Format) (old new : ConsoleView) (status : ℕ) : Type 0 where
+  pub query : Question
+  pub asked : query_of query_type words ≡ Some query
+  pub input : Input
+  pub called : IsCalled false input
+  pub from : IsOf path input.origin
+  pub single : IsSingle input.origin
+  pub queried : HasQueriedInput IsReadFrom program queries input query format old new status
+
 -- the view of what a path names, which is no folder, was written
 pub record HasViewedPath (path : List ℕ) (selection : Selection) (format : Format) (old new : ConsoleView)
     (status : ℕ) : Type 0 where
@@ -165,26 +203,30 @@ pub record HasWorked (lives : LivesBy) (options : WorkOptions) (old new : Consol
   pub planned : IsLivePlan options plan
   pub end : LiveEnd
   pub served : lives plan end
-  pub told : Reported old new (λ name. live_text end)
+  pub told : Reported old new (λ name. live_as plan.format end)
   pub ends : status ≡ live_status end
 
 -- what a plan asks for was done
-abbrev pub Obeys : {S : Type 0} → Program S → LivesBy → Plan → (old new : ConsoleView) → (status : ℕ) → Type 0
-Obeys program lives (Replay dir more format required) old new status =
+abbrev pub Obeys : {S : Type 0} → Program S → Queries S → LivesBy → Plan → (old new : ConsoleView) → (status : ℕ)
+    → Type 0
+Obeys program queries lives (Replay dir more format required) old new status =
     HasReplayedPaths program dir more.items format required old new status
-Obeys program lives (Explain file format) old new status = HasExplainedPath program file format old new status
-Obeys program lives (View file selection format) old new status = HasViewedPath file selection format old new status
-Obeys program lives (Serve dir options required) old new status =
+Obeys program queries lives (Explain file format) old new status = HasExplainedPath program file format old new status
+Obeys program queries lives (View file selection format) old new status =
+    HasViewedPath file selection format old new status
+Obeys program queries lives (Query file query_type input format) old new status =
+    HasQueriedPath program queries file query_type input.items format old new status
+Obeys program queries lives (Serve dir options required) old new status =
     HasServedFolder program dir (sizes_of options) required old new status
-Obeys program lives (Work options) old new status = HasWorked lives options old new status
-Obeys program lives (Help text) old new status = HasPrinted text old new status
+Obeys program queries lives (Work options) old new status = HasWorked lives options old new status
+Obeys program queries lives (Help text) old new status = HasPrinted text old new status
 
 -- the words ask for a plan, and what that asks for was done
-pub record ObeysWords {S : Type 0} (program : Program S) (lives : LivesBy) (words : List (List ℕ))
-    (old new : ConsoleView) (status : ℕ) : Type 0 where
+pub record ObeysWords {S : Type 0} (program : Program S) (queries : Queries S) (lives : LivesBy)
+    (words : List (List ℕ)) (old new : ConsoleView) (status : ℕ) : Type 0 where
   pub plan : Plan
   pub asked : IsAskedBy words plan
-  pub obeys : Obeys program lives plan old new status
+  pub obeys : Obeys program queries lives plan old new status
 
 -- what a program at a path is called: the last part of the path, or `wfhost` where there is none
 abbrev pub name_of : List ℕ → List ℕ
@@ -212,5 +254,7 @@ pub record HasFailed (new : ConsoleView) (status : ℕ) : Type 0 where
   pub ends : status ≡ 2
 
 -- what the words ask for was done, or there is no full report
-abbrev pub Answers : {S : Type 0} → Program S → LivesBy → List (List ℕ) → (old new : ConsoleView) → (status : ℕ) → Type 0
-Answers program lives words old new status = ObeysWords program lives words old new status ⊎ HasFailed new status
+abbrev pub Answers : {S : Type 0} → Program S → Queries S → LivesBy → List (List ℕ) → (old new : ConsoleView)
+    → (status : ℕ) → Type 0
+Answers program queries lives words old new status =
+    ObeysWords program queries lives words old new status ⊎ HasFailed new status

@@ -18,8 +18,8 @@ listing_told path inputs names name =
     if not (length names == 0) then bad_name_lines path names name
     else (if length inputs == 0 then told_line (codes "no .json file in " ++ path) name else [])
 
--- the inputs are those of a path, called as is asked for; files are left out where there are bad names, which were told;
--- where there is no file, that was told
+-- the inputs are those of a path, called as is asked for; files are left out where there are bad names, which were
+-- told; where there is no file, that was told
 pub record IsListed (by_path : Bool) (path : List ℕ) (inputs : List Input) (left_out : Bool)
     (old new : ConsoleView) : Type 0 where
   pub called : All (IsCalled by_path) inputs

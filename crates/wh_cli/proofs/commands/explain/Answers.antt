@@ -9,5 +9,5 @@ returns g c =
     let line = c.in-Ok in
     explanation_told g.W.Workflow.program (string_bytes c.args.name) c.args.bytes.now c.args.format
     c.args.console.now c.print_explanation.new.console c.flushed-2.new.console c.tell_if_bad.new.console line.line (Ok c.line_status.result) c.line_status.result c.in_ok-status.status
-    line.ensures.quiet line.ensures.explained c.in_ok-status.ensures.quiet c.in_ok-status.ensures.kept line.ensures.name
-    c.tell_if_bad.ensures c.line_status.ensures refl c.in_ok-status.ensures.status
+    line.ensures.quiet line.ensures.explained c.in_ok-status.ensures.quiet c.in_ok-status.ensures.kept line.ensures.name line.ensures.verdict
+    c.in_ok-tell_if_bad.ensures c.line_status.ensures refl c.in_ok-status.ensures.status

@@ -1,16 +1,15 @@
+use Rattle.std.proofs.Common.{refl}
 use Rattle.wh_report.specs.Reports.{fault_of}
-use Rattle.wh_cli.proofs.Steps.{fault_told, nothing_told_of}
+use Rattle.wh_cli.specs.Private.Complaints.{fault_lines, notes_told}
+use Rattle.wh_cli.proofs.Steps.{something_more}
 use Rattle.wh_cli.proofs.complaints.tell_record.Goals as goal
 
--- the line is that of the file's fault
-pub returns-in-Some : goal.returns-in-Some
-returns-in-Some g c =
+-- why it is named stands after what stands beside its fault
+pub returns-in-Ok : goal.returns-in-Ok
+returns-in-Ok g c =
     let contents = g.E.Write.contents in
     let own = c.args.own in
-    fault_told c.tell_fault.result (contents c.args.writer.now) (contents c.tell_fault.new.writer) c.fault_of.result (fault_of own own.cause) c.in-Some.fault c.args.name.now c.fault_of.ensures c.in-Some.is c.tell_fault.ensures
-
--- and there is none where the file has none
-pub returns-in-None : goal.returns-in-None
-returns-in-None g c =
-    let own = c.args.own in
-    nothing_told_of (g.E.Write.contents c.args.writer.now) c.fault_of.result (fault_of own own.cause) c.args.name.now c.fault_of.ensures c.in-None.is
+    let name = c.args.name.now in
+    let faults = fault_lines (fault_of own own.cause) name in
+    something_more c.tell_cause.result (contents c.args.writer.now) (contents c.tell_notes.new.writer) (contents c.tell_cause.new.writer)
+    (notes_told own name) faults faults c.in-Ok.ensures c.tell_cause.ensures refl

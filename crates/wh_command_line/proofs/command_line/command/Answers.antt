@@ -1,4 +1,4 @@
-use Rattle.wh_command_line.specs.Lines.{program, replay, explain, serve, work}
+use Rattle.wh_command_line.specs.Lines.{program, replay, explain, query, serve, work}
 use Rattle.wh_command_line.proofs.command_line.command.Goals as goal
 
 pub returns : goal.returns
@@ -6,5 +6,6 @@ unfolding program
 returns c =
     let first = c.with_subcommand-program.ensures _ replay c.program_alone.ensures c.replay.ensures in
     let second = c.with_subcommand-program-2.ensures _ explain first c.explain.ensures in
-    let third = c.with_subcommand-program-3.ensures _ serve second c.serve.ensures in
-    c.with_subcommand.ensures _ work third c.work.ensures
+    let third = c.with_subcommand-program-3.ensures _ query second c.query.ensures in
+    let fourth = c.with_subcommand-program-4.ensures _ serve third c.serve.ensures in
+    c.with_subcommand.ensures _ work fourth c.work.ensures

@@ -5,4 +5,5 @@ returns c = λ app stands.
     let workers = c.with_number-command.ensures app stands in
     let timeout = c.with_number-command-2.ensures _ workers in
     let attempts = c.with_number-command-3.ensures _ timeout in
-    c.with_number.ensures _ attempts
+    let policies = c.with_argument-command.ensures _ _ c.option_argument-policies.ensures.rule c.option_argument-policies.ensures.local attempts in
+    c.with_number.ensures _ policies
