@@ -88,7 +88,13 @@ def of_orders(room):
             for name, (tasks, state) in said.items()
         ),
         (["query", f"{folder}/held.json", "status", "1"], 0, 'held.json: ok, 2 tasks, last live\n"held"\n', "", how),
-        (["query", f"{folder}/other.json", "status"], 1, f"other.json: fault, {fault}\nquery failed, {fault}\n", "", how),
+        (
+            ["query", f"{folder}/other.json", "status"],
+            1,
+            f"other.json: fault, {fault}\nquery failed, {fault}\n",
+            "orders: other.json: sends StartActivity charge ChargeCard, recorded 5 ActivityTaskScheduled charges ChargeCard\n",
+            how,
+        ),
         (
             ["query", f"{folder}/closed.json", "price"],
             1,
