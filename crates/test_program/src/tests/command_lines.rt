@@ -86,21 +86,22 @@ work --help => help
 
 /// What a line after the program's name and `work` asks for: its Task Queue, namespace and identity,
 /// workers and activity workers, cache, its events and slots, the timeout and attempts of activities,
-/// the sticky timeout, whether it is verbose, and the time between counts.
+/// the file of policies, the sticky timeout, whether it is verbose, the time between counts, their
+/// form, and the file that they are kept in.
 const WORK_LINES: &str = "\
---task-queue q => work q, default, wfhost, 2, 0, 100, 0, 100, 60, 1, 10, false, None
---task-queue q --namespace n --identity i => work q, n, i, 2, 0, 100, 0, 100, 60, 1, 10, false, None
---task-queue=q --namespace= --identity= => work q, , , 2, 0, 100, 0, 100, 60, 1, 10, false, None
---task-queue q --workers 1 --slots 1 => work q, default, wfhost, 1, 0, 100, 0, 1, 60, 1, 10, false, None
---task-queue q --workers 64 => work q, default, wfhost, 64, 0, 100, 0, 100, 60, 1, 10, false, None
---task-queue q --workers 1 --activity-workers 63 => work q, default, wfhost, 1, 63, 100, 0, 100, 60, 1, 10, false, None
---task-queue q --activity-workers 62 => work q, default, wfhost, 2, 62, 100, 0, 100, 60, 1, 10, false, None
---task-queue q --cache 0 --cache-events 7 --slots 9 => work q, default, wfhost, 2, 0, 0, 7, 9, 60, 1, 10, false, None
---task-queue q --activity-timeout 1 --activity-attempts 0 --sticky-timeout 2 => work q, default, wfhost, 2, 0, 100, 0, 100, 1, 0, 2, false, None
---activity-timeout 4294967295 --task-queue q => work q, default, wfhost, 2, 0, 100, 0, 100, 4294967295, 1, 10, false, None
---task-queue q --activity-attempts 65535 => work q, default, wfhost, 2, 0, 100, 0, 100, 60, 65535, 10, false, None
---task-queue q --verbose => work q, default, wfhost, 2, 0, 100, 0, 100, 60, 1, 10, true, None
---stats 30 --verbose --task-queue q => work q, default, wfhost, 2, 0, 100, 0, 100, 60, 1, 10, true, Some(30)
+--task-queue q => work q, default, wfhost, 2, 0, 100, 0, 100, 60, 1, None, 10, false, None, Text, None
+--task-queue q --namespace n --identity i => work q, n, i, 2, 0, 100, 0, 100, 60, 1, None, 10, false, None, Text, None
+--task-queue=q --namespace= --identity= => work q, , , 2, 0, 100, 0, 100, 60, 1, None, 10, false, None, Text, None
+--task-queue q --workers 1 --slots 1 => work q, default, wfhost, 1, 0, 100, 0, 1, 60, 1, None, 10, false, None, Text, None
+--task-queue q --workers 64 => work q, default, wfhost, 64, 0, 100, 0, 100, 60, 1, None, 10, false, None, Text, None
+--task-queue q --workers 1 --activity-workers 63 => work q, default, wfhost, 1, 63, 100, 0, 100, 60, 1, None, 10, false, None, Text, None
+--task-queue q --activity-workers 62 => work q, default, wfhost, 2, 62, 100, 0, 100, 60, 1, None, 10, false, None, Text, None
+--task-queue q --cache 0 --cache-events 7 --slots 9 => work q, default, wfhost, 2, 0, 0, 7, 9, 60, 1, None, 10, false, None, Text, None
+--task-queue q --activity-timeout 1 --activity-attempts 0 --sticky-timeout 2 => work q, default, wfhost, 2, 0, 100, 0, 100, 1, 0, None, 2, false, None, Text, None
+--activity-timeout 4294967295 --task-queue q => work q, default, wfhost, 2, 0, 100, 0, 100, 4294967295, 1, None, 10, false, None, Text, None
+--task-queue q --activity-attempts 65535 => work q, default, wfhost, 2, 0, 100, 0, 100, 60, 65535, None, 10, false, None, Text, None
+--task-queue q --verbose => work q, default, wfhost, 2, 0, 100, 0, 100, 60, 1, None, 10, true, None, Text, None
+--stats 30 --verbose --task-queue q => work q, default, wfhost, 2, 0, 100, 0, 100, 60, 1, None, 10, true, Some(30), Text, None
 --task-queue q --slots 1 => too few slots
 --task-queue q --activity-workers 3 --slots 2 => too few slots
 --task-queue= --slots 1 => bad line
@@ -111,7 +112,11 @@ d --task-queue q => bad line
 --namespace n => bad line
 --task-queue q --task-queue q => bad line
 --task-queue q --verbose --verbose => bad line
---task-queue q --json => bad line
+--task-queue q --json => work q, default, wfhost, 2, 0, 100, 0, 100, 60, 1, None, 10, false, None, Json, None
+--task-queue q --policies p --metrics m --stats 5 => work q, default, wfhost, 2, 0, 100, 0, 100, 60, 1, Some(p), 10, false, Some(5), Text, Some(m)
+--task-queue q --json --json => bad line
+--task-queue q --policies => bad line
+--task-queue q --metrics => bad line
 --task-queue q --stats => bad line
 ";
 
@@ -205,7 +210,7 @@ fn joined(rt: &impl Abort, alloc: Global, word: &str, rest: &str) -> String {
 }
 
 /// What the derived text of options has in front of each, none of which is the end of a later one.
-const NAMES: [&str; 14] = [
+const NAMES: [&str; 17] = [
     "WorkOptions ",
     "task_queue: ",
     "namespace: ",
@@ -217,9 +222,12 @@ const NAMES: [&str; 14] = [
     "slots: ",
     "activity_timeout: ",
     "activity_attempts: ",
+    "policies: ",
     "sticky_timeout: ",
     "verbose: ",
     "stats: ",
+    "format: ",
+    "metrics: ",
 ];
 
 /// A plan to work, in words: its options in their order.
