@@ -1,4 +1,5 @@
-//! Replays a folder of histories, or serves their tasks or live ones, for the workflows that are tables of rows.
+//! Replays a folder of histories, or serves their tasks or live ones, for the workflows that are
+//! tables of rows.
 #![tactic(auto)]
 
 use row_samples::All;

@@ -18,7 +18,8 @@
 //! | `done ID PAYLOADS`, `failed ID`, `timed-out ID`, `canceled ID` | `Activity` with that end |
 //! | `fired ID` | `TimerFired` |
 //! | `child-started ID` | `ChildStarted` |
-//! | `child-done ID PAYLOADS`, `child-failed ID`, `child-timed-out ID`, `child-canceled ID` | `Child` with that end |
+//! | `child-done ID PAYLOADS`, `child-failed ID`, `child-timed-out ID` | `Child` with that end |
+//! | `child-canceled ID` | so too |
 //! | `child-terminated ID`, `child-not-started ID` | so too |
 //! | `version CHANGE NUMBER` | `Version` |
 //!

@@ -17,13 +17,16 @@
 //! |---|---|
 //! | `start`, `cancel`, `signal NAME` | `Start`, `CancelRequested`, `Signal` |
 //! | `done ID`, `failed ID`, `fired ID` | `Done`, `NotDone`, `Fired` |
-//! | `child-started ID`, `child-done ID`, `child-canceled ID`, `child-failed ID` | `ChildStarted`, `ChildDone`, `ChildCanceled`, `ChildNotDone` |
+//! | `child-started ID`, `child-done ID` | `ChildStarted`, `ChildDone` |
+//! | `child-canceled ID`, `child-failed ID` | `ChildCanceled`, `ChildNotDone` |
 //! | `version CHANGE NUMBER`, `version CHANGE` | `Version`, `AnyVersion` |
 //! | `COUNTER < NUMBER`, `COUNTER >= NUMBER` | `Below`, `AtLeast` |
 //! | `up COUNTER`, `zero COUNTER`, `keep` | `Up`, `Zero`, `Keep` |
-//! | `activity ID TYPE SOURCE`, `child ID TYPE SOURCE`, `signal ID NAME SOURCE` | `StartActivity`, `StartChild`, `SignalExternal` |
+//! | `activity ID TYPE SOURCE`, `child ID TYPE SOURCE` | `StartActivity`, `StartChild` |
+//! | `signal ID NAME SOURCE` | `SignalExternal` |
 //! | `timer ID SECONDS` | `StartTimer` |
-//! | `cancel-activity ID`, `cancel-timer ID`, `cancel-child ID` | `CancelActivity`, `CancelTimer`, `CancelChild` |
+//! | `cancel-activity ID`, `cancel-timer ID` | `CancelActivity`, `CancelTimer` |
+//! | `cancel-child ID` | `CancelChild` |
 //! | `ask CHANGE LEAST GREATEST` | `Ask` |
 //! | `complete SOURCE`, `fail MESSAGE`, `cancel` | `Complete`, `Fail`, `Cancel` |
 //! | `continue TYPE SOURCE`, `again SOURCE` | `ContinueAsNew`; `again` with an empty type |
