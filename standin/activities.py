@@ -3,7 +3,7 @@
 from findings import readable
 from history import left_out
 from messages import milliseconds_of
-from peers import NOT_FOUND, UNAVAILABLE, Refused
+from peers import INVALID, NOT_FOUND, UNAVAILABLE, Refused
 from queues import Offer
 
 
@@ -15,7 +15,8 @@ class Activities:
     """What the server does with activities."""
 
     def __init__(self, server):
-        self.server, self.troubles, self.by_token = server, server.troubles, {}
+        # Of each token: the run, the activity and who has it; and those that were answered.
+        self.server, self.troubles, self.by_token, self.over = server, server.troubles, {}, set()
 
     def schedule(self, run, activity):
         world = self.server.world
@@ -48,10 +49,11 @@ class Activities:
     def give(self, poll, run, activity):
         """A poll gets an activity task."""
         token = activity.token = self.server.tokens.new("activity")
-        self.by_token[token] = (run, activity)
+        self.by_token[token] = (run, activity, poll.peer)
         self.start(run, activity)
-        timeout = milliseconds_of(self.server.settings.activity_timeout)
-        self.server.clock.at(timeout, lambda: self.time_out(run, activity, token))
+        timeout = milliseconds_of(activity.timeout)
+        self.server.clock.at(timeout, lambda: self.time_out(run, activity, token, "TIMEOUT_TYPE_START_TO_CLOSE"))
+        self.wait_for_beat(run, activity, token)
         self.server.findings.counts["activities given"] += 1
         if self.troubles.happens("lost"):
             self.server.findings.counts["lost polls"] += 1
@@ -72,23 +74,26 @@ class Activities:
             "activityType": {"name": activity.kind},
             "input": activity.input,
             "attempt": activity.attempt,
-            "startToCloseTimeout": self.server.settings.activity_timeout,
+            "startToCloseTimeout": activity.timeout,
+            "heartbeatTimeout": activity.heartbeat,
+            "heartbeatDetails": activity.details,
         }
         return left_out(result)
 
-    def time_out(self, run, activity, token):
+    def time_out(self, run, activity, token, kind):
         if is_open(run, activity) and activity.token == token:
             self.server.in_hand.forget(token)
             self.server.findings.counts["activities timed out"] += 1
             if not self.try_again(run, activity):
-                self.end(run, activity, "ActivityTaskTimedOut", {"failure": {"message": "timeout"}})
+                failure = {"message": "timeout", "timeoutFailureInfo": {"timeoutType": kind}}
+                self.end(run, activity, "ActivityTaskTimedOut", {"failure": failure})
 
     def try_again(self, run, activity):
         """Whether a failed activity is tried again."""
         if activity.cancelled or (activity.most and activity.attempt >= activity.most):
             return False
         activity.attempt += 1
-        activity.token = None
+        activity.token = activity.beaten_at = None
         self.schedule(run, activity)
         return True
 
@@ -116,18 +121,69 @@ class Activities:
             self.end(run, activity, "ActivityTaskFailed", {"failure": params["failure"]})
         return self.taken()
 
+    def canceled(self, peer, params):
+        run, activity = self.answered(peer, params)
+        if not activity.cancelled:
+            self.server.findings.blame(peer, f"the activity {activity.id} is canceled, which nobody asked for")
+            raise Refused(INVALID, "no cancellation was requested")
+        self.server.findings.counts["activities canceled"] += 1
+        made = {"details": params.get("details"), "latestCancelRequestedEventId": str(activity.cancel_requested)}
+        self.end(run, activity, "ActivityTaskCanceled", left_out(made))
+        return self.taken()
+
     def answered(self, peer, params):
         """The run and the activity of an answer that is still waited for."""
         token = params["taskToken"]
         peer.counts["activity answers"] += 1
-        if token not in self.by_token:
-            self.server.findings.blame(peer, f"an answer to the activity {readable(token)}, which was not given")
-            raise Refused(NOT_FOUND, "no such activity")
+        self.check_token(peer, token, "an answer to")
         self.server.in_hand.discard(token, peer)
-        run, activity = self.by_token[token]
+        self.over.add(token)
+        return self.waited_for(token)
+
+    def check_token(self, peer, token, what):
+        """Blames a worker that names an activity which it was not given, or which it has answered already."""
+        if token not in self.by_token or self.by_token[token][2] is not peer:
+            self.server.findings.blame(peer, f"{what} the activity {readable(token)}, which it was not given")
+            raise Refused(NOT_FOUND, "no such activity")
+        if token in self.over and not peer.is_disturbed:
+            self.server.findings.blame(peer, f"{what} the activity {readable(token)}, which it has answered")
+
+    def waited_for(self, token):
+        """The run and the activity of a token, as long as it is waited for."""
+        run, activity, _ = self.by_token[token]
         if not is_open(run, activity) or activity.token != token:
             raise Refused(NOT_FOUND, "activity not found")
         return run, activity
+
+    # Beats.
+
+    def beat(self, peer, params):
+        """An activity goes on, and hears whether its cancellation is asked for."""
+        token = params["taskToken"]
+        self.check_token(peer, token, "a beat of")
+        peer.counts["beats"] += 1
+        self.server.findings.counts["beats"] += 1
+        run, activity = self.waited_for(token)
+        activity.details, activity.beaten_at = params.get("details"), self.server.clock.now
+        self.wait_for_beat(run, activity, token)
+        if self.troubles.happens("beaten"):
+            self.server.world.bring_forward(run)
+        if not activity.cancelled:
+            return {}
+        self.server.findings.counts["cancels heard"] += 1
+        return {"cancelRequested": True}
+
+    def wait_for_beat(self, run, activity, token):
+        """An activity that does not beat in time times out, where it has to beat at all."""
+        if activity.heartbeat is None:
+            return
+        beaten_at = activity.beaten_at
+
+        def look():
+            if activity.beaten_at == beaten_at:
+                self.time_out(run, activity, token, "TIMEOUT_TYPE_HEARTBEAT")
+
+        self.server.clock.at(milliseconds_of(activity.heartbeat), look)
 
     def taken(self):
         """What an answer that was taken gets, unless its response is lost."""

@@ -29,12 +29,27 @@ class Clients:
             "DescribeWorkflowExecution": self.describe,
             "GetWorkflowExecutionHistory": self.history,
         }
+        # Those whose response comes later, by a call of what is handed in with the request.
+        self.later = {"QueryWorkflow": self.query}
 
     def call(self, method, params):
         self.server.clock.now += 1
         if params.get("namespace") != self.server.settings.namespace:
             raise Refused(NOT_FOUND, f"no namespace {params.get('namespace')}")
         return self.calls[method](params)
+
+    def call_later(self, method, params, reply):
+        self.server.clock.now += 1
+        self.later[method](params, reply)
+
+    def query(self, params, reply):
+        """Asks a run, open or closed. A query that fails is refused with its text."""
+        run, query = self.run_of(params["execution"], is_open=False), params["query"]
+
+        def then(is_answered, given):
+            reply({"queryResult": given} if is_answered else None, None if is_answered else (INVALID, given))
+
+        self.server.queries.ask_for(run, query["queryType"], query.get("queryArgs"), then)
 
     def start(self, params):
         queue = params["taskQueue"]["name"]

@@ -39,15 +39,23 @@ class Check:
         if name in self.activities:
             return f"the activity {name} is open already"
         self.activities.add(name)
-        if attributes["startToCloseTimeout"] != self.settings.activity_timeout:
-            return f"startToCloseTimeout is {attributes['startToCloseTimeout']}"
-        if attributes.get("retryPolicy", {}).get("maximumAttempts", 0) != self.settings.activity_attempts:
+        fault = "" if self.settings.has_policies else self.unasked(attributes)
+        return fault or self.queue(attributes)
+
+    def unasked(self, attributes):
+        """What a worker without policies does not ask for."""
+        if attributes.get("startToCloseTimeout") != self.settings.activity_timeout:
+            return f"startToCloseTimeout is {attributes.get('startToCloseTimeout')}"
+        most = self.settings.activity_attempts
+        if attributes.get("retryPolicy", {}) != ({"maximumAttempts": most} if most else {}):
             return f"retryPolicy is {attributes.get('retryPolicy')}"
-        return self.queue(attributes)
+        strange = [name for name in ("heartbeatTimeout", "scheduleToStartTimeout", "scheduleToCloseTimeout") if name in attributes]
+        return f"it has a {strange[0]}" if strange else ""
 
     def queue(self, attributes):
         name = attributes["taskQueue"]["name"]
-        return "" if name == self.run.queue else f"the task queue is {name}"
+        is_good = name in self.settings.queues if self.settings.has_policies else name == self.run.queue
+        return "" if is_good else f"the task queue is {name}"
 
     def request_cancel_activity_task(self, attributes):
         scheduled = int(attributes["scheduledEventId"])
@@ -160,11 +168,11 @@ class Effects:
 
     def request_cancel_activity_task(self, attributes):
         scheduled = int(attributes["scheduledEventId"])
-        self.run.append("ActivityTaskCancelRequested", attributes)
+        number = self.run.append("ActivityTaskCancelRequested", attributes)
         activity = self.run.activities.get(scheduled)
         if activity is None:
             return
-        activity.cancelled = True
+        activity.cancelled, activity.cancel_requested = True, number
         if activity.started_at is None:
             del self.run.activities[scheduled]
             self.run.append("ActivityTaskCanceled", {"scheduledEventId": str(scheduled)})

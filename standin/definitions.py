@@ -21,6 +21,9 @@ QueryResultType QUERY_RESULT_TYPE_ UNSPECIFIED ANSWERED FAILED
 TimeoutType TIMEOUT_TYPE_ UNSPECIFIED START_TO_CLOSE SCHEDULE_TO_START SCHEDULE_TO_CLOSE HEARTBEAT
 WorkflowExecutionStatus WORKFLOW_EXECUTION_STATUS_ UNSPECIFIED RUNNING COMPLETED FAILED CANCELED TERMINATED
     CONTINUED_AS_NEW TIMED_OUT
+ParentClosePolicy PARENT_CLOSE_POLICY_ UNSPECIFIED TERMINATE ABANDON REQUEST_CANCEL
+WorkflowIdReusePolicy WORKFLOW_ID_REUSE_POLICY_ UNSPECIFIED ALLOW_DUPLICATE ALLOW_DUPLICATE_FAILED_ONLY
+    REJECT_DUPLICATE TERMINATE_IF_RUNNING
 RetryState RETRY_STATE_ UNSPECIFIED IN_PROGRESS NON_RETRYABLE_FAILURE TIMEOUT
 StartFailedCause START_CHILD_WORKFLOW_EXECUTION_FAILED_CAUSE_ UNSPECIFIED WORKFLOW_ALREADY_EXISTS
 CancelFailedCause CANCEL_EXTERNAL_WORKFLOW_EXECUTION_FAILED_CAUSE_ UNSPECIFIED EXTERNAL_WORKFLOW_EXECUTION_NOT_FOUND
@@ -58,13 +61,16 @@ Memo fields 1 >Payload
 SearchAttributes indexed_fields 1 >Payload
 TaskQueue name 1 string, kind 2 TaskQueueKind, normal_name 3 string
 ApplicationFailureInfo type 1 string, non_retryable 2 bool
-Failure message 1 string, source 2 string, application_failure_info 5 ApplicationFailureInfo
+TimeoutFailureInfo timeout_type 1 TimeoutType
+Failure message 1 string, source 2 string, application_failure_info 5 ApplicationFailureInfo, timeout_failure_info 6
+    TimeoutFailureInfo
 StickyExecutionAttributes worker_task_queue 1 TaskQueue, schedule_to_start_timeout 2 Duration
 WorkflowQuery query_type 1 string, query_args 2 Payloads
 WorkflowQueryResult result_type 1 QueryResultType, answer 2 Payloads, error_message 3 string
 
 ScheduleActivityTaskCommandAttributes activity_id 1 string, activity_type 2 ActivityType, task_queue 4 TaskQueue,
-    input 6 Payloads, start_to_close_timeout 9 Duration, retry_policy 11 RetryPolicy
+    input 6 Payloads, schedule_to_close_timeout 7 Duration, schedule_to_start_timeout 8 Duration,
+    start_to_close_timeout 9 Duration, heartbeat_timeout 10 Duration, retry_policy 11 RetryPolicy
 RequestCancelActivityTaskCommandAttributes scheduled_event_id 1 int64
 StartTimerCommandAttributes timer_id 1 string, start_to_fire_timeout 2 Duration
 CompleteWorkflowExecutionCommandAttributes result 1 Payloads
@@ -77,9 +83,11 @@ SignalExternalWorkflowExecutionCommandAttributes namespace 1 string, execution 2
     string, input 4 Payloads
 RecordMarkerCommandAttributes marker_name 1 string, details 2 >Payloads
 ContinueAsNewWorkflowExecutionCommandAttributes workflow_type 1 WorkflowType, task_queue 2 TaskQueue, input 3
-    Payloads, retry_policy 7 RetryPolicy, memo 13 Memo, search_attributes 14 SearchAttributes
+    Payloads, workflow_run_timeout 4 Duration, workflow_task_timeout 5 Duration, retry_policy 7 RetryPolicy, memo 13 Memo, search_attributes 14 SearchAttributes
 StartChildWorkflowExecutionCommandAttributes namespace 1 string, workflow_id 2 string, workflow_type 3 WorkflowType,
-    task_queue 4 TaskQueue, input 5 Payloads
+    task_queue 4 TaskQueue, input 5 Payloads, workflow_execution_timeout 6 Duration, workflow_run_timeout 7 Duration,
+    workflow_task_timeout 8 Duration, parent_close_policy 9 ParentClosePolicy, workflow_id_reuse_policy 11
+    WorkflowIdReusePolicy, retry_policy 12 RetryPolicy
 Command command_type 1 CommandType, schedule_activity_task_command_attributes 2
     ScheduleActivityTaskCommandAttributes, start_timer_command_attributes 3 StartTimerCommandAttributes,
     complete_workflow_execution_command_attributes 4 CompleteWorkflowExecutionCommandAttributes,
@@ -107,8 +115,9 @@ WorkflowTaskTimedOutEventAttributes scheduled_event_id 1 int64, started_event_id
 WorkflowTaskFailedEventAttributes scheduled_event_id 1 int64, started_event_id 2 int64, cause 3
     WorkflowTaskFailedCause, failure 4 Failure
 ActivityTaskScheduledEventAttributes activity_id 1 string, activity_type 2 ActivityType, task_queue 4 TaskQueue,
-    input 6 Payloads, start_to_close_timeout 9 Duration, workflow_task_completed_event_id 11 int64, retry_policy 12
-    RetryPolicy
+    input 6 Payloads, schedule_to_close_timeout 7 Duration, schedule_to_start_timeout 8 Duration,
+    start_to_close_timeout 9 Duration, heartbeat_timeout 10 Duration, workflow_task_completed_event_id 11 int64,
+    retry_policy 12 RetryPolicy
 ActivityTaskStartedEventAttributes scheduled_event_id 1 int64, attempt 4 int32
 ActivityTaskCompletedEventAttributes result 1 Payloads, scheduled_event_id 2 int64, started_event_id 3 int64
 ActivityTaskFailedEventAttributes failure 1 Failure, scheduled_event_id 2 int64, started_event_id 3 int64
@@ -117,7 +126,8 @@ TimerStartedEventAttributes timer_id 1 string, start_to_fire_timeout 2 Duration,
     int64
 TimerFiredEventAttributes timer_id 1 string, started_event_id 2 int64
 ActivityTaskCancelRequestedEventAttributes scheduled_event_id 1 int64, workflow_task_completed_event_id 2 int64
-ActivityTaskCanceledEventAttributes scheduled_event_id 3 int64, started_event_id 4 int64
+ActivityTaskCanceledEventAttributes details 1 Payloads, latest_cancel_requested_event_id 2 int64, scheduled_event_id 3
+    int64, started_event_id 4 int64
 TimerCanceledEventAttributes timer_id 1 string, started_event_id 2 int64, workflow_task_completed_event_id 3 int64
 MarkerRecordedEventAttributes marker_name 1 string, details 2 >Payloads, workflow_task_completed_event_id 3 int64
 WorkflowExecutionSignaledEventAttributes signal_name 1 string, input 2 Payloads
@@ -131,10 +141,14 @@ RequestCancelExternalWorkflowExecutionFailedEventAttributes cause 1 CancelFailed
 ExternalWorkflowExecutionCancelRequestedEventAttributes initiated_event_id 1 int64, workflow_execution 3
     WorkflowExecution
 WorkflowExecutionContinuedAsNewEventAttributes new_execution_run_id 1 string, workflow_type 2 WorkflowType,
-    task_queue 3 TaskQueue, input 4 Payloads, workflow_task_completed_event_id 7 int64, memo 13 Memo,
+    task_queue 3 TaskQueue, input 4 Payloads, workflow_run_timeout 5 Duration, workflow_task_timeout 6 Duration,
+    workflow_task_completed_event_id 7 int64, memo 13 Memo,
     search_attributes 14 SearchAttributes
 StartChildWorkflowExecutionInitiatedEventAttributes namespace 1 string, workflow_id 2 string, workflow_type 3
-    WorkflowType, task_queue 4 TaskQueue, input 5 Payloads, workflow_task_completed_event_id 11 int64
+    WorkflowType, task_queue 4 TaskQueue, input 5 Payloads, workflow_execution_timeout 6 Duration,
+    workflow_run_timeout 7 Duration, workflow_task_timeout 8 Duration, parent_close_policy 9 ParentClosePolicy,
+    workflow_task_completed_event_id 11 int64, workflow_id_reuse_policy 12 WorkflowIdReusePolicy, retry_policy 13
+    RetryPolicy
 StartChildWorkflowExecutionFailedEventAttributes workflow_id 2 string, workflow_type 3 WorkflowType, cause 4
     StartFailedCause, initiated_event_id 6 int64
 ChildWorkflowExecutionStartedEventAttributes initiated_event_id 2 int64, workflow_execution 3 WorkflowExecution,
@@ -169,11 +183,15 @@ RespondWorkflowTaskFailedResponse
 PollActivityTaskQueueRequest namespace 1 string, task_queue 2 TaskQueue, identity 3 string
 PollActivityTaskQueueResponse task_token 1 bytes, workflow_namespace 2 string, workflow_type 3 WorkflowType,
     workflow_execution 4 WorkflowExecution, activity_type 5 ActivityType, activity_id 6 string, input 8 Payloads,
-    attempt 13 int32, start_to_close_timeout 15 Duration
+    heartbeat_details 9 Payloads, attempt 13 int32, start_to_close_timeout 15 Duration, heartbeat_timeout 16 Duration
 RespondActivityTaskCompletedRequest task_token 1 bytes, result 2 Payloads, identity 3 string, namespace 4 string
 RespondActivityTaskCompletedResponse
 RespondActivityTaskFailedRequest task_token 1 bytes, failure 2 Failure, identity 3 string, namespace 4 string
 RespondActivityTaskFailedResponse
+RespondActivityTaskCanceledRequest task_token 1 bytes, details 2 Payloads, identity 3 string, namespace 4 string
+RespondActivityTaskCanceledResponse
+RecordActivityTaskHeartbeatRequest task_token 1 bytes, details 2 Payloads, identity 3 string, namespace 4 string
+RecordActivityTaskHeartbeatResponse cancel_requested 1 bool
 RespondQueryTaskCompletedRequest task_token 1 bytes, completed_type 2 QueryResultType, query_result 3 Payloads,
     error_message 4 string, namespace 6 string
 RespondQueryTaskCompletedResponse
@@ -191,6 +209,8 @@ StartWorkflowExecutionResponse run_id 1 string
 SignalWorkflowExecutionRequest namespace 1 string, workflow_execution 2 WorkflowExecution, signal_name 3 string, input 4
     Payloads, identity 5 string, request_id 6 string
 SignalWorkflowExecutionResponse
+QueryWorkflowRequest namespace 1 string, execution 2 WorkflowExecution, query 3 WorkflowQuery
+QueryWorkflowResponse query_result 1 Payloads
 RequestCancelWorkflowExecutionRequest namespace 1 string, workflow_execution 2 WorkflowExecution, identity 3 string,
     request_id 4 string
 RequestCancelWorkflowExecutionResponse

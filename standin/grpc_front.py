@@ -19,13 +19,15 @@ from google.protobuf import json_format
 from clients import Clients
 from definitions import CLASSES
 from forwarder import Forwarder
-from peers import CANCELLED, EXHAUSTED, UNAVAILABLE, Peer, Refused
+from peers import CANCELLED, DEADLINE, EXHAUSTED, UNAVAILABLE, Peer, Refused
 
 TOP = Path(__file__).resolve().parent
 CODES = {code.value[0]: code for code in grpc.StatusCode}
 # What a call of a worker is refused with for good: the bridge tries again after the codes of an outage.
 FINAL_CODES = (9,)
 MOST_THREADS = 400
+# After how many seconds the query of a client is given up.
+QUERY_SECONDS = 8
 # After how many seconds a bridge has found out that its connection is dead.
 DEAD_SECONDS = 60
 
@@ -82,7 +84,9 @@ class Calls(grpc.GenericRpcHandler):
         params = json_format.MessageToDict(message)
         with self.lock:
             peer = None if self.is_of_clients_alone(method) else self.peer_of(params, context)
-        if peer is None and self.is_open and method in self.clients.calls:
+        if peer is None and self.is_open and method in self.clients.later:
+            result, error = self.of_client_later(method, params)
+        elif peer is None and self.is_open and method in self.clients.calls:
             result, error = self.of_client(method, params)
         else:
             result, error = self.of_worker(peer, method, params, context)
@@ -91,7 +95,7 @@ class Calls(grpc.GenericRpcHandler):
         return json_format.ParseDict(result, response())
 
     def is_of_clients_alone(self, method):
-        return method in self.clients.calls and method not in self.server.calls
+        return method in (self.clients.calls | self.clients.later) and method not in self.server.calls
 
     def peer_of(self, params, context):
         """The worker that a call comes from."""
@@ -108,6 +112,16 @@ class Calls(grpc.GenericRpcHandler):
                 return self.clients.call(method, params), None
         except Refused as why:
             return None, (why.code, why.message)
+
+    def of_client_later(self, method, params):
+        waiting = Waiting()
+        try:
+            with self.lock:
+                self.clients.call_later(method, params, waiting)
+        except Refused as why:
+            return None, (why.code, why.message)
+        waiting.done.wait(QUERY_SECONDS)
+        return waiting.result, waiting.error or (None if waiting.done.is_set() else (DEADLINE, "nobody has answered"))
 
     def of_worker(self, peer, method, params, context):
         waiting = Waiting()

@@ -63,8 +63,11 @@ class Histories:
 
     def first(self, peer, run):
         """The first page. The events of a task that follows a failed one are shown, those of a speculative one are not."""
+        is_shown = run.task is not None and not run.task.is_speculative
+        events = run.events + (run.unwritten() if is_shown else [])
         for given in peer.has.get(run, []):
             given.has_fetched = True
             given.is_stale = given.is_stale or run.task is not given.task
-        is_shown = run.task is not None and not run.task.is_speculative
-        return self.pages.first(run.execution, run.events + (run.unwritten() if is_shown else []))
+            given.fetched.append(events)
+        self.server.queries.saw(peer, run, events)
+        return self.pages.first(run.execution, events)

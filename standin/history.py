@@ -54,11 +54,15 @@ class Activity:
         self.queue = attributes["taskQueue"]["name"]
         self.input = attributes.get("input")
         self.most = attributes.get("retryPolicy", {}).get("maximumAttempts", 0)
+        self.timeout, self.heartbeat = attributes.get("startToCloseTimeout", "60s"), attributes.get("heartbeatTimeout")
         self.attempt = 1
         self.token = None
         self.started_at = None
         self.started = None
         self.cancelled = False
+        # The number of the event that asks for its cancellation, what its last beat said, and when that was.
+        self.cancel_requested = 0
+        self.details = self.beaten_at = None
 
 
 class Child:
@@ -226,10 +230,12 @@ class Run:
         self.append("WorkflowTaskCompleted", completed)
         self.before = task.started
         self.task, self.attempt = None, 1
+        self.server.queries.ask_again(task)
 
     def drop_task(self):
         """The speculative task in hand was completed and did nothing: no trace of it is left."""
-        self.task, self.attempt = None, 1
+        task, self.task, self.attempt = self.task, None, 1
+        self.server.queries.ask_again(task)
 
     def end_task(self, kind, attributes):
         """The task in hand failed or timed out: what was held back is written. The run is not sticky any more."""
@@ -240,6 +246,7 @@ class Run:
         if task.is_written:
             self.append(kind, {**numbers, **attributes})
         self.attempt = 1 if self.flush() else task.attempt + 1
+        self.server.queries.ask_again(task)
 
     def leave_sticky(self, is_recorded):
         """The task waits in a sticky queue that nobody takes it from: it goes to the normal queue, with an event of a

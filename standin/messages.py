@@ -41,6 +41,10 @@ def is_true(value):
     return value is True
 
 
+def is_number(value):
+    return type(value) in (int, float)
+
+
 def is_object(value):
     return isinstance(value, dict)
 
@@ -52,7 +56,11 @@ def one_of(*texts):
 PAYLOADS = {"payloads?": [{"data?": is_base64, "metadata?": {"encoding?": is_base64}}]}
 QUEUE = {"name": is_text}
 NAMED = {"name": is_text}
-FAILURE = {"applicationFailureInfo": {}, "message": is_any_text, "source": is_text}
+FAILURE = {
+    "applicationFailureInfo": {"nonRetryable?": is_true, "type?": is_text},
+    "message": is_any_text,
+    "source": is_text,
+}
 POLL = {
     "identity": is_text,
     "namespace": is_text,
@@ -62,7 +70,8 @@ POLL = {
         "normalName?": is_text,
     },
 }
-QUERY_RESULT = {"errorMessage": is_text, "resultType": one_of("QUERY_RESULT_TYPE_FAILED")}
+QUERY_RESULT_TYPE = one_of("QUERY_RESULT_TYPE_ANSWERED", "QUERY_RESULT_TYPE_FAILED")
+QUERY_RESULT = {"answer?": PAYLOADS, "errorMessage?": is_text, "resultType": QUERY_RESULT_TYPE}
 STICKY = {
     "scheduleToStartTimeout": is_duration,
     "workerTaskQueue": {"kind": one_of("TASK_QUEUE_KIND_STICKY"), "name": is_text, "normalName": is_text},
@@ -90,23 +99,37 @@ REQUESTS = {
     },
     "RespondWorkflowTaskFailed": {**ANSWER, "cause": one_of(*CAUSES), "failure": FAILURE},
     "RespondQueryTaskCompleted": {
-        "completedType": one_of("QUERY_RESULT_TYPE_FAILED"),
-        "errorMessage": is_text,
+        "completedType": QUERY_RESULT_TYPE,
+        "errorMessage?": is_text,
         "namespace": is_text,
+        "queryResult?": PAYLOADS,
         "taskToken": is_base64,
     },
     "RespondActivityTaskCompleted": {**ANSWER, "result?": PAYLOADS},
     "RespondActivityTaskFailed": {**ANSWER, "failure": FAILURE},
+    "RespondActivityTaskCanceled": {**ANSWER, "details?": PAYLOADS},
+    "RecordActivityTaskHeartbeat": {**ANSWER, "details?": PAYLOADS},
     "ShutdownWorker": {"identity": is_text, "namespace": is_text, "stickyTaskQueue": is_text},
+}
+
+RETRY_POLICY = {
+    "backoffCoefficient?": is_number,
+    "initialInterval?": is_duration,
+    "maximumAttempts?": is_count,
+    "maximumInterval?": is_duration,
+    "nonRetryableErrorTypes?": [is_text],
 }
 
 COMMANDS = {
     "SCHEDULE_ACTIVITY_TASK": {
         "activityId": is_text,
         "activityType": NAMED,
+        "heartbeatTimeout?": is_duration,
         "input?": PAYLOADS,
-        "retryPolicy?": {"maximumAttempts": is_count},
-        "startToCloseTimeout": is_duration,
+        "retryPolicy?": RETRY_POLICY,
+        "scheduleToCloseTimeout?": is_duration,
+        "scheduleToStartTimeout?": is_duration,
+        "startToCloseTimeout?": is_duration,
         "taskQueue": QUEUE,
     },
     "REQUEST_CANCEL_ACTIVITY_TASK": {"scheduledEventId": is_number_text},
@@ -115,8 +138,14 @@ COMMANDS = {
     "START_CHILD_WORKFLOW_EXECUTION": {
         "input?": PAYLOADS,
         "namespace": is_text,
+        "parentClosePolicy?": is_text,
+        "retryPolicy?": RETRY_POLICY,
         "taskQueue": QUEUE,
+        "workflowExecutionTimeout?": is_duration,
         "workflowId": is_text,
+        "workflowIdReusePolicy?": is_text,
+        "workflowRunTimeout?": is_duration,
+        "workflowTaskTimeout?": is_duration,
         "workflowType": NAMED,
     },
     "REQUEST_CANCEL_EXTERNAL_WORKFLOW_EXECUTION": {
@@ -143,6 +172,8 @@ COMMANDS = {
         "retryPolicy?": is_object,
         "searchAttributes?": is_object,
         "taskQueue": QUEUE,
+        "workflowRunTimeout?": is_duration,
+        "workflowTaskTimeout?": is_duration,
         "workflowType": NAMED,
     },
 }

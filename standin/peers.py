@@ -16,10 +16,11 @@ class Refused(Exception):
 
 
 class Settings:
-    """How the workers were started, as far as their requests show it."""
+    """How the workers were started, as far as their requests show it. Where they have policies of their own, what these
+    ask for is not looked at, but for its form and the Task Queues."""
 
-    def __init__(self, namespace="default", queues=("q",), activity_timeout=60, activity_attempts=1, is_sticky=True):
-        self.namespace, self.queues = namespace, queues
+    def __init__(self, namespace="default", queues=("q",), activity_timeout=60, activity_attempts=1, is_sticky=True, has_policies=False):
+        self.namespace, self.queues, self.has_policies = namespace, queues, has_policies
         self.activity_timeout = f"{activity_timeout}s"
         self.activity_attempts = activity_attempts
         self.is_sticky = is_sticky
@@ -55,6 +56,8 @@ class Given:
         self.times, self.answers, self.hits, self.repeats = 1, 0, 0, 0
         self.before, self.last_cached = run.before, peer.cached.get(run)
         self.is_speculative, self.has_fetched, self.is_stale = task.is_speculative, False, False
+        # The histories that the worker has fetched since.
+        self.fetched = []
         peer.has.setdefault(run, []).append(self)
 
 

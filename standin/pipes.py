@@ -45,7 +45,7 @@ class Process:
         os.set_blocking(self.child.stdin.fileno(), False)
         os.set_blocking(self.child.stdout.fileno(), False)
         self.read, self.ready, self.unsent = b"", [], b""
-        self.ids, self.is_over, self.is_cut = set(), False, False
+        self.ids, self.is_over, self.is_cut, self.is_killed = set(), False, False, False
         # Whether it was told to shut down, and what then ends its open polls, and until when.
         self.is_stopped, self.ending, self.ends_until = False, None, 0
 
@@ -142,6 +142,8 @@ class Pipes:
 
     def close(self, process):
         """A worker has closed its output."""
+        if not (process.is_stopped or process.is_cut or process.is_killed):
+            self.server.findings.blame(process.peer, f"it has ended: {process.report()[-500:]}")
         if process.read:
             self.server.findings.blame(process.peer, f"its last line has no end: {process.read[:100]!r}")
         if process.ids and len(process.ids) != max(process.ids):
@@ -153,6 +155,7 @@ class Pipes:
 
     def kill(self, process):
         """Kills a worker."""
+        process.is_killed = True
         process.child.kill()
         process.child.wait()
         process.read, process.ids = b"", set()

@@ -16,6 +16,13 @@ from workflows import Orders, Own, Samples
 from world import World
 
 
+class Served(Own):
+    """The workflows whose runs clients start: those of some types, and tables."""
+
+    def is_outside(self, kind):
+        return super().is_outside(kind) and kind.partition(":")[0] != "Table"
+
+
 def options():
     parser = argparse.ArgumentParser(description=__doc__)
     parser.add_argument("--port", type=int, default=0, help="0: a free one")
@@ -23,6 +30,7 @@ def options():
     parser.add_argument("--speed", type=float, default=6, help="how much faster its clock is than others")
     parser.add_argument("--trouble", type=names_of, default="none", help="as for tests/loops.py")
     parser.add_argument("--seed", type=int, default=1)
+    parser.add_argument("--policies", action="store_true", help="the workers have policies, which are not looked at")
     return parser.parse_args()
 
 
@@ -33,8 +41,9 @@ def stop(*_):
 def main():
     asked = options()
     troubles = Troubles(asked.seed, asked.trouble)
-    workflows = Own(random.Random(asked.seed), Samples.kinds + Orders.kinds, {"all": None}, ())
-    server = Server(Settings(queues=asked.task_queues), troubles, World(troubles, workflows, 0, 0, True))
+    workflows = Served(random.Random(asked.seed), Samples.kinds + Orders.kinds, {"all": None}, ())
+    settings = Settings(queues=asked.task_queues, has_policies=asked.policies)
+    server = Server(settings, troubles, World(troubles, workflows, 0, 0, True))
     calls = Calls(server, is_open=True)
     calls.listen(asked.port)
     signal.signal(signal.SIGTERM, stop)

@@ -12,16 +12,19 @@ from histories import Histories
 from messages import REQUESTS, fault_in
 from peers import INVALID, InHand, Refused
 from polls import Polling, Polls
+from queries import Queries
 from queues import Queues
 from relations import Relations
 from runs import Runs
-from tasks import Queries, WorkflowTasks
+from tasks import WorkflowTasks
 
 # How many seconds a worker that has something in hand is waited for before the clock goes on, and how many where only a
 # poll is missing.
 PATIENCE, SHORT_PATIENCE = 1.0, 0.02
 # The codes by which an answer fails for good, where nobody tries it again.
 FINAL_CODES = (2, 8, 10, 13)
+# The calls that are no answers to tasks, so that no worker counts where they are refused.
+UNCOUNTED = ("RespondQueryTaskCompleted", "RecordActivityTaskHeartbeat")
 
 
 class Server:
@@ -45,6 +48,8 @@ class Server:
             "RespondQueryTaskCompleted": self.queries.answered,
             "RespondActivityTaskCompleted": self.activities.completed,
             "RespondActivityTaskFailed": self.activities.failed,
+            "RespondActivityTaskCanceled": self.activities.canceled,
+            "RecordActivityTaskHeartbeat": self.activities.beat,
             "ShutdownWorker": self.tasks.give_up_queue,
         }
 
@@ -78,10 +83,14 @@ class Server:
             return self.polling.take(peer, method == "PollActivityTaskQueue", params, reply)
         with self.queues.hold():
             try:
-                reply(*self.response(peer, method, params))
+                result, error = self.response(peer, method, params)
             except Refused as why:
-                peer.counts[why.code] += 1
-                reply(None, (why.code, why.message))
+                if method not in UNCOUNTED:
+                    peer.counts[why.code] += 1
+                result, error = None, (why.code, why.message)
+            if self.world.handlers:
+                self.world.handlers.replied(peer, method, params, result, error)
+            reply(result, error)
 
     def response(self, peer, method, params):
         """The response to an answer or to the call for a page, which may fail for good, before or after what it does."""

@@ -1,44 +1,16 @@
-"""Workflow tasks and queries: how they wait in queues, and what a poll gets."""
+"""Workflow tasks: how they wait in queues, and what a poll gets."""
 
-from findings import readable
 from histories import page_of
 from history import left_out
-from peers import NOT_FOUND, UNAVAILABLE, Given, Refused
+from peers import UNAVAILABLE, Given
 from queues import Offer
 
 TASK_TIMEOUT = 10_000
-BESIDE_A_TASK = {"first": {"queryType": "state"}, "second": {"queryType": "__stack_trace"}}
 
 
 def is_waiting(run, task, name):
     """Whether a task still waits in the queue of this name."""
     return run.task is task and task.started is None and task.queue == name
-
-
-class Queries:
-    """Queries on their own."""
-
-    def __init__(self, server):
-        self.server, self.asked = server, {}
-
-    def ask(self, poll, run):
-        """A poll gets a query."""
-        token, peer = self.server.tokens.new("query"), poll.peer
-        self.asked[token] = peer
-        peer.counts["queries"] += 1
-        self.server.in_hand.add(token, peer)
-        result = {"taskToken": token, "workflowExecution": run.execution, "workflowType": {"name": run.kind}}
-        page = page_of(self.server.histories.pages.first(run.execution, list(run.events)))
-        poll.answer({**result, **page, "query": {"queryType": "state"}})
-
-    def answered(self, peer, params):
-        token = params["taskToken"]
-        if self.asked.pop(token, None) is not peer:
-            if not peer.is_disturbed:
-                self.server.findings.blame(peer, f"an answer to {readable(token)}, which it was not asked")
-            raise Refused(NOT_FOUND, "no such query")
-        self.server.in_hand.discard(token, peer)
-        return {}
 
 
 class WorkflowTasks:
@@ -94,7 +66,7 @@ class WorkflowTasks:
         """A poll gets the workflow task of a run; whether it got it, and not a query before it."""
         task = run.task
         if self.troubles.happens("queries"):
-            self.server.queries.ask(poll, run)
+            self.server.queries.ask(poll, run, task.queue != run.queue)
             poll = self.server.polls.take((False, task.queue))
             if poll is None:
                 return False
@@ -102,7 +74,7 @@ class WorkflowTasks:
         beyond = run.start_task(self.server.tokens.new("task"), poll.peer.identity)
         events = run.events[run.before if is_partial else 0 :] + beyond
         if self.troubles.happens("queries"):
-            task.queries = dict(BESIDE_A_TASK)
+            task.queries = self.server.queries.beside(run)
         self.clock.at(TASK_TIMEOUT, lambda: self.time_out(run, task))
         self.counts["given"] += 1
         if self.troubles.happens("lost"):
@@ -149,7 +121,7 @@ class WorkflowTasks:
             "previousStartedEventId": str(run.before) if run.before else "",
             "startedEventId": str(task.started),
             "attempt": task.attempt,
-            "queries": task.queries or None,
+            "queries": {name: asked.form for name, asked in task.queries.items()} or None,
         }
         return left_out({**result, "history": {}, **page_of(page)})
 
@@ -164,6 +136,7 @@ class WorkflowTasks:
 
     def give_up(self, peer, params):
         """A call for a task has failed: the worker answers the task no more."""
+        self.server.queries.give_up(peer, params)
         execution = params.get("execution", {})
         for token in self.server.in_hand.tokens_of(peer):
             given = self.given.get((token, peer))

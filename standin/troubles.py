@@ -19,6 +19,7 @@ KINDS = {
     "open": (1.00, "at a shutdown open polls are never answered, which docs/WIRE.md excludes (pipes alone; not in `all`)"),
     "queries": (0.03, "a query on its own, or beside a task"),
     "during": (0.15, "a signal, a cancel or a timer comes while the task is in hand"),
+    "beaten": (0.40, "a signal or a cancel comes as an activity beats"),
     "late": (0.30, "the event of an activity's start is written at once, and not only with that of its end"),
     "speculative": (0.50, "an update gives a run a task whose events are not written"),
     "strangers": (0.03, "a run of a type that the workers have no code for"),

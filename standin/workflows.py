@@ -2,19 +2,20 @@
 are right.
 
 `Samples` are the seven workflows of `wh_sample_workflows` that the program has code for, `Orders` those of `order`, and
-`Own` are workflows of which only the types are known.
+`Own` are workflows of which only the types are known. Those of `Followed` are followed beside the worker: of each task it
+is known which commands it has to give, and of each history what a query gives there.
 """
 
 import base64
 import json
 
+from courses import BUILT_IN, Course, Fault, fault_of
+from programs import PROGRAMS
+
 SECOND, DAY = 1_000, 86_400_000
 # What nobody serves, and what a worker has to say of it.
 STRANGE, SAID_OF_STRANGE = "Nobody", "task at 1: UnknownWorkflow"
 OPENINGS = ("activityTaskScheduledEventAttributes", "startChildWorkflowExecutionInitiatedEventAttributes")
-CHILD, TIMER = "startChildWorkflowExecutionCommandAttributes", "startTimerCommandAttributes"
-CONTINUE, COMPLETE = "continueAsNewWorkflowExecutionCommandAttributes", "completeWorkflowExecutionCommandAttributes"
-STARTED = "workflowExecutionStartedEventAttributes"
 # What a run begins with that the one which continues it begins with too. None is tried again where it fails.
 CARRIED = {
     "memo": {"fields": {"team": {"metadata": {"encoding": "anNvbi9wbGFpbg=="}, "data": "InNob3Ai"}}},
@@ -38,11 +39,6 @@ def payloads(*values):
     return {"payloads": [{"metadata": metadata, "data": base64_of(json.dumps(value))} for value in values]}
 
 
-def payloads_in(attributes):
-    """The payloads of the input of a run, or of a command that continues one."""
-    return attributes.get("input", {}).get("payloads", [])
-
-
 class Workflows:
     """Some workflow types. What is the same for all of them stands here."""
 
@@ -50,10 +46,10 @@ class Workflows:
     kinds, spread, lifetime = (), 60 * SECOND, 60 * SECOND
     # Types of children that another worker would serve.
     outside = ()
-    # Of each timer, how long it is; nothing is known of others.
-    timers = {}
     # Whether a run that waits for nothing is a fault.
     must_close = False
+    # After how many milliseconds a run that is still open is terminated, or none.
+    ends_after = None
 
     def __init__(self, dice):
         self.dice = dice
@@ -95,20 +91,110 @@ class Workflows:
 
     def fault(self, run, commands):
         """What is wrong with the commands of a run, or nothing."""
-        timers = [one[TIMER] for one in commands if TIMER in one]
-        strange = [one for one in timers if self.timers.get(one["timerId"]) != one["startToFireTimeout"]]
-        return f"a timer is {strange[0]}" if strange else ""
+        return ""
 
     def cannot_close(self, run):
         """Whether a run waits for nothing."""
         return False
 
+    # Queries.
 
-class Samples(Workflows):
+    # The query types of each workflow type.
+    knows = {}
+
+    def asks(self, run):
+        """The type of a query that is asked of a run, and its arguments."""
+        known = self.knows.get(run.kind, ())
+        kind = self.dice.choice(known) if known and self.dice.random() < 0.75 else self.dice.choice(("weather", "__stack_trace"))
+        return kind, self.dice.choice((None, payloads(), payloads({"from": 1}, "x")))
+
+    def queried(self, run, events, kind, values, is_beside=False):
+        """What a query gives at a history of a run, after its last completed task, or after the one in hand where it comes
+        beside that: `(True, JSON value)` or `(False, text)`; none where that is not known."""
+        known = self.knows.get(run.kind, ())
+        if run.kind == STRANGE:
+            return False, SAID_OF_STRANGE
+        if kind.startswith("__"):
+            return False, BUILT_IN + kind
+        return None if kind in known else (False, f"unknown query type {kind}; known: {', '.join(known) or 'none'}")
+
+    def goes_on(self, run):
+        """Whether a run that is watched may go on; else it is terminated."""
+        return True
+
+    def failure(self, run, events):
+        """With which message the task has to be failed in which a history of a run ends, or none."""
+        return None
+
+    def fails(self, run):
+        """Whether the task in hand of a run has to fail."""
+        return False
+
+    def is_long(self, run):
+        """Whether a run has to be terminated after a task that it has completed."""
+        return False
+
+    def failed(self, run):
+        """A task of a run was failed, as it has to be."""
+
+    def closed(self, run):
+        """A run has closed."""
+
+
+class Followed(Workflows):
+    """Workflows that are followed beside the worker, each run by a program that `begin` makes."""
+
+    def __init__(self, dice):
+        super().__init__(dice)
+        self.courses = {}
+
+    def begin(self, kind, payloads):
+        return PROGRAMS[kind]()
+
+    def course(self, run):
+        """The course of a run, up to its last event."""
+        course = self.courses.get(run)
+        if course is None:
+            course = self.courses[run] = Course(self.begin)
+        course.read(run.events)
+        return course
+
+    def fault(self, run, commands):
+        return fault_of(self.course(run), run.events + run.unwritten(), run.task.started, commands)
+
+    def queried(self, run, events, kind, values, is_beside=False):
+        if run.kind == STRANGE:
+            return super().queried(run, events, kind, values)
+        course = Course(self.begin)
+        course.read(events)
+        return course.queried_beside(kind, values) if is_beside else course.queried(kind, values)
+
+    def fails(self, run):
+        try:
+            self.course(run).answered(run.events + run.unwritten())
+        except Fault:
+            return True
+        return False
+
+    def failure(self, run, events):
+        course = Course(self.begin)
+        course.read(events)
+        try:
+            if course.is_live:
+                course.activated()
+        except Fault as fault:
+            return f"task at {course.started}: {fault}"
+        return None
+
+    def closed(self, run):
+        self.courses.pop(run, None)
+
+
+class Samples(Followed):
     """The samples."""
 
     kinds = ("Nap", "Greet", "Branch", "Family", "Racer", "Caller", "Relay")
-    timers = {"nap": "60s", "t": "30s", "u": "5s", "leg": "5s"}
+    knows = {"Racer": ("phase",)}
 
     def next_kind(self, open_runs):
         """The child of a Family has the same id in each, so most wait for the one before."""
@@ -132,9 +218,6 @@ class Samples(Workflows):
     def cancels(self, run):
         return 0.4 if run.kind == "Greet" else 0
 
-    def fault(self, run, commands):
-        return super().fault(run, commands) or (relay_fault(run, commands) if run.kind == "Relay" else "")
-
     def cannot_close(self, run):
         """Whether its opening was called off in the very task of its start, which drops both, so that its table has no
         way to close."""
@@ -142,35 +225,17 @@ class Samples(Workflows):
         return run.kind in ("Greet", "Family") and run.before > 0 and run.task is None and not opened
 
 
-def relay_fault(run, commands):
-    """What is wrong with the commands of a Relay: it goes on with all values but the first, and ends where it has none."""
-    values = payloads_in(run.events[0][STARTED])
-    for command in commands:
-        if COMPLETE in command and values:
-            return f"it ends before {values}"
-        if CONTINUE in command:
-            more, kind = payloads_in(command[CONTINUE]), command[CONTINUE]["workflowType"]["name"]
-            if not values or more != values[1:] or kind != run.kind:
-                return f"after {values} comes {kind} with {more}"
-    return ""
-
-
-class Orders(Workflows):
+class Orders(Followed):
     """Orders. Their children are runs that the worker of orders has no code for."""
 
     kinds, spread, lifetime = ("Order",), DAY, 2 * DAY
-    outside, timers = ("Ship", "ShipTracked"), {"hold": "86400s"}
-
-    def __init__(self, dice):
-        super().__init__(dice)
-        self.parcels = {}
+    outside, knows = ("Ship", "ShipTracked"), {"Order": ("status",)}
 
     def input(self, kind, number, workflow_id):
         """Most orders have a name, after which their child has an id of its own: the children of the others have one id,
         so that of two at a time the second is refused."""
-        is_named, price = self.dice.random() < 0.7, {"cents": number}
-        self.parcels[workflow_id] = f"parcel-{workflow_id}" if is_named else "parcel"
-        if is_named:
+        price = {"cents": number}
+        if self.dice.random() < 0.7:
             return payloads(price, workflow_id)
         # A number is no name, nor is a text whose JSON has an escape.
         return self.dice.choice([None, payloads(price), payloads(price, number), payloads(price, f"{workflow_id}\n")])
@@ -178,10 +243,6 @@ class Orders(Workflows):
     def signals(self, run):
         return super().signals(run) + [(0.5, "cancel", [])]
 
-    def fault(self, run, commands):
-        children = [one[CHILD]["workflowId"] for one in commands if CHILD in one]
-        wrong = [child for child in children if child != self.parcels[run.workflow_id]]
-        return super().fault(run, commands) or (f"the children are {children}" if wrong else "")
 
 
 class Own(Workflows):
@@ -212,8 +273,8 @@ class Own(Workflows):
     def is_outside(self, kind):
         return kind not in self.kinds and kind != STRANGE
 
-    def fault(self, run, commands):
-        return ""
+    def queried(self, run, events, kind, values, is_beside=False):
+        return None
 
     def cannot_close(self, run):
         return run.task is None

@@ -22,7 +22,9 @@ class World:
         self.dice, self.troubles, self.workflows = troubles.dice, troubles, workflows
         self.runs, self.most_open, self.has_activity_workers = runs, most_open, has_activity_workers
         self.server, self.started, self.coming, self.stuck, self.open = None, 0, 0, 0, set()
-        self.planned, self.failures = {}, []
+        self.planned, self.failures, self.handlers = {}, [], None
+        # How many queries each run is asked at most, and how many of them are still to come.
+        self.most_queries, self.asking = 0, 0
 
     # Runs.
 
@@ -56,7 +58,22 @@ class World:
                 once = Once(action)
                 self.planned.setdefault(run, []).append(once)
                 self.server.clock.at(self.dice.randrange(self.workflows.lifetime), once)
+        self.plan_queries(run)
+        if not self.workflows.goes_on(run):
+            return self.server.runs.terminate(run)
+        if self.workflows.ends_after is not None:
+            self.server.clock.at(self.workflows.ends_after, lambda: self.server.runs.terminate(run))
         self.signal_again(run, 0)
+
+    def plan_queries(self, run):
+        """Plans what a run is asked, soon or late, open or closed."""
+        for _ in range(self.dice.randrange(self.most_queries + 1) if self.most_queries else 0):
+            self.asking += 1
+            self.server.clock.at(self.dice.randrange(self.dice.choice((100, 30 * SECOND, self.workflows.lifetime))), lambda: self.ask(run))
+
+    def ask(self, run):
+        self.asking -= 1
+        self.server.queries.plan(run)
 
     def from_outside(self, run):
         """What may come to a run, and how often."""
@@ -91,6 +108,7 @@ class World:
         """A run has closed."""
         self.open.discard(run)
         self.planned.pop(run, None)
+        self.workflows.closed(run)
 
     def end_stuck(self):
         """Terminates the runs that can't close, once nothing else is to come."""
@@ -102,18 +120,21 @@ class World:
 
     def is_over(self):
         """Whether all runs were started and are closed."""
-        return self.started == self.runs and self.coming == 0 and not self.server.runs.open
+        are_answered = self.asking == 0 and self.server.queries.open == 0
+        return self.started == self.runs and self.coming == 0 and not self.server.runs.open and are_answered
 
     # Answers.
 
     def failed(self, given, message):
-        """A worker has failed a task. It may where nobody knows the run's type, and where the task was over by the time
-        that it asked for the history."""
+        """A worker has failed a task. It may where nobody knows the run's type, where it has to be failed, and where the
+        task was over by the time that it asked for the history: that may end in a later task, or in none."""
         run = given.run
-        is_right = message == (SAID_OF_STRANGE if run.kind == STRANGE else "not a task" if given.is_stale else None)
-        if not is_right:
-            what = "a speculative task" if given.is_speculative else "a task"
-            self.failures.append(f"{what} of {run.kind} {run.workflow_id} was failed: {message}")
+        right = SAID_OF_STRANGE if run.kind == STRANGE else self.workflows.failure(run, run.events[: given.task.started])
+        is_later = given.is_stale and message in ("not a task", *(self.workflows.failure(run, one) for one in given.fetched))
+        if message == right or is_later:
+            return self.workflows.failed(run)
+        what = "a speculative task" if given.is_speculative else "a task"
+        self.failures.append(f"{what} of {run.kind} {run.workflow_id} was failed: {message}" + (f", not {right}" if right else ""))
 
     def completed(self, run, commands):
         """A worker has completed a task of a run: what is wrong with that, or nothing."""
@@ -121,7 +142,7 @@ class World:
 
     def is_answered(self, run, attempt):
         """Whether a worker answers a task of a run at an attempt: it fails a task at the first one alone."""
-        return run.kind != STRANGE or attempt == 1
+        return attempt == 1 or (run.kind != STRANGE and not self.workflows.fails(run))
 
     # Timers, and runs that another worker would serve.
 
@@ -166,6 +187,12 @@ class World:
         return self.dice.randrange(50)
 
     # What comes while a task is in hand.
+
+    def bring_forward(self, run):
+        """A signal or a cancel comes now that would have come later, where there is one."""
+        left = [once for once in self.planned.get(run, []) if not once.is_done]
+        if left:
+            self.dice.choice(left)()
 
     def disturb(self, run):
         """Something comes to a run now that would have come later."""

@@ -414,9 +414,11 @@ def tried(crate, kit, room):
     trial = Trial(crate, kit, room / crate.name)
     try:
         trial.try_all()
-    except Wrong as why:
+    except (Wrong, OSError) as why:
         say(f"{crate.name}: {why}")
         trial.wrong = max(trial.wrong, len([*crate.folder.glob("edits/*.edit")]) - trial.refused)
+    # What its checks wrote is hundreds of megabytes for a large crate.
+    shutil.rmtree(trial.room, ignore_errors=True)
     return trial.refused, trial.wrong
 
 

@@ -1,71 +1,156 @@
 #!/usr/bin/env python3
-"""Tries the tables of examples/tables: each has to follow the scenarios beside it, by the workflow whose table comes with the
-run, in a copy of test_tables. It proves nothing. The last line is `N tried, M wrong`, and the status is 1 where one is wrong."""
+"""Tries the tables of examples/tables with the built program: `check` finds no fault in any, `try` finds that each follows the
+scenarios beside it, and `check --html` writes a page that is well formed, with each state of the table and a way from each row
+that leaves its state. A twin of a table for each of its promises breaks that one: `check` has to print the way that is written
+below, and `try` to find that the twin follows it.
 
+    tests/examples.py [--program PATH..]
+
+The last line is `N tried, M wrong`, and the status is 1 where one is wrong."""
+
+import argparse
+import html
 import json
 import re
-import shutil
 import subprocess
 import sys
 import tempfile
+import xml.etree.ElementTree as tree
 from pathlib import Path
 
 TOP = Path(__file__).resolve().parent.parent
-LIMIT_SECONDS = 1_800
-CRATE = "test_tables"
-ENDED = re.compile(r"^test tests::examples::(\w+) \.\.\. (.*)$", re.MULTILINE)
-HEAD = """//! The examples follow their scenarios.
+LIMIT_SECONDS = 60
+CLOSING = ("complete", "fail", "cancel", "again", "continue")
+# Twins of tables: what is another text in them, the number of the promise that they break, and the jobs of a shortest way, or
+# how many there are.
+TWINS = {
+    "order": [
+        ([("refunds 2", "refunds 3"), ("refunds < 2", "refunds < 3")], 1,
+         "start; done charge; signal cancel" + 3 * "; failed refund; fired again"),
+        ([('["calling-off","failed charge","","complete"]',
+           '["calling-off","failed charge","","activity refund RefundCard kept","refunding"]')], 2,
+         "start; signal cancel; failed charge"),
+        ([('["cancel-timer hold","activity refund RefundCard kept"],"refunding"',
+           '["cancel-timer hold","activity ship ShipOrder input"],"shipping"')], 3,
+         "start; done charge; signal cancel"),
+    ],
+    "subscription": [
+        ([("months 12", "months 13"), ("months < 12", "months < 13")], 1, 73),
+        ([('"signal cancel","",["cancel-timer again","complete"]', '"signal cancel","",["cancel-timer again"]')], 2,
+         "start; failed charge; signal cancel; fired again"),
+    ],
+    "approval": [
+        ([("reminders 3", "reminders 4"), ("reminders < 3", "reminders < 4")], 1, "start; done ask" + 4 * "; fired day"),
+        ([('["cancel-timer day","fail rejected"]', '["cancel-timer day","complete brought"]')], 2,
+         "start; done ask; signal reject"),
+    ],
+    "trip": [
+        ([('"fail no flight"', '"activity hotel BookHotel input","hotel"')], 1, "start; failed flight"),
+        ([('["car","failed car"', '["car","cancel","","fail called off"],["car","failed car"')], 2,
+         "start; done flight; done hotel; cancel"),
+    ],
+    "poller": [
+        ([("looks 99", "looks 100"), ("looks < 99", "looks < 100")], 1, 201),
+        ([('"done look","","complete brought"', '"done look","","continue Next brought"')], 2, "start; done look"),
+    ],
+}
 
-use crate::tests::words::run_follows;
-use std::test::Fail;
-"""
+
+def jobs_in(scenario):
+    """How many jobs a scenario has."""
+    return sum(line.partition("=>")[0].count(";") + 1 for line in scenario.splitlines() if line.strip())
 
 
-def crates_below(name):
-    """The crates of the repository that this one needs, and itself."""
-    lines = [line.split(":") for line in (TOP / "crates.txt").read_text().splitlines() if ":" in line]
-    below = {head.split()[0]: rest.split() for head, rest in lines if not head.startswith("#")}
-    found, left = {}, [name]
-    while left:
-        crate = left.pop()
-        if crate in below and crate not in found:
-            found[crate] = below[crate]
-            left += below[crate]
-    return found
+def leaves(row):
+    """Whether a row closes the run or leads to another state."""
+    row = row + [""] * (6 - len(row))
+    commands = [row[3]] if isinstance(row[3], str) else row[3]
+    closes = any(command.split(" ")[0] in CLOSING for command in commands)
+    return closes or row[4] not in ("", "same", row[0])
 
 
-def test_of(table):
-    """A test of a table, whose scenarios have the word TABLE where a run gets it."""
-    text = json.dumps(json.loads(table.read_text()), separators=(",", ":"), ensure_ascii=False)
-    scenarios = re.sub(r"^start\b", "start TABLE", table.with_suffix(".txt").read_text(), flags=re.MULTILINE)
-    return (f"\n#[test]\nfn {table.stem}(rt: HostRuntime) -> Result<(), Fail> {{\n"
-            f'    run_follows(rt.alloc(), r##"{text}"##, r##"{scenarios}"##)\n}}\n')
+def faults_of_page(page, table):
+    """What is wrong with a page."""
+    picture = re.search(r"<svg.*</svg>", page, re.DOTALL)
+    if not picture or "<script" in page:
+        yield "no picture, or a script"
+        return
+    drawn = tree.fromstring(picture[0])
+    texts = {"".join(text.itertext()) for text in drawn.iter("text")}
+    for state in {row[0] for row in table["rows"]}:
+        if state not in texts:
+            yield f"no state {state}"
+    ways = sum("way" in path.get("class", "").split() for path in drawn.iter("path"))
+    if ways != sum(map(leaves, table["rows"])):
+        yield f"{ways} ways"
+    if table["title"] not in html.unescape(page):
+        yield "no title"
+
+
+def faults_of(program, path):
+    """What is wrong with a table."""
+    run = lambda *words: subprocess.run([*program, *words], capture_output=True, text=True, timeout=LIMIT_SECONDS)
+    table, scenario = json.loads(path.read_text()), path.with_suffix(".txt").read_text()
+    checked = run("check", path)
+    if checked.returncode or not checked.stdout.startswith(f"{path.name}: ok, {len(table['rows'])} rows\n"):
+        yield f"check: {checked.stdout}{checked.stderr}"
+    for words in ((path,), (path, scenario)):
+        tried = run("try", *words)
+        if tried.returncode or not tried.stdout.endswith(f"{path.name}: ok, {jobs_in(scenario)} jobs\n"):
+            yield f"try: {tried.stdout}{tried.stderr}"
+    paged = run("check", "--html", path)
+    if paged.returncode:
+        yield f"check --html: {paged.stderr}"
+    else:
+        yield from faults_of_page(paged.stdout, table)
+
+
+def twin_of(table, changes):
+    """The text of a table with other texts."""
+    text = json.dumps(table, separators=(",", ":"), ensure_ascii=False)
+    for old, new in changes:
+        assert text.count(old) == 1, f"{old} stands {text.count(old)} times"
+        text = text.replace(old, new)
+    return text
+
+
+def faults_of_twin(program, text, number, way):
+    """What is wrong with what is said of the promise of this number, which the table breaks."""
+    with tempfile.TemporaryDirectory() as folder:
+        path = Path(folder, "twin.json")
+        path.write_text(text)
+        run = lambda *words: subprocess.run([*program, *words], capture_output=True, text=True, timeout=LIMIT_SECONDS)
+        checked = run("check", "--json", path)
+        found = json.loads(checked.stdout.splitlines()[0])["promises"][number - 1]
+        steps = found.get("scenario", [])
+        jobs = "; ".join(step["job"] for step in steps)
+        if checked.returncode != 1 or (jobs if isinstance(way, str) else len(steps)) != way:
+            yield f"status {checked.returncode}, {found}"
+        scenario = "".join(f"{step['job']} => {step['gives']}\n" for step in steps)
+        tried = run("try", path, scenario)
+        if tried.returncode or not tried.stdout.endswith(f"twin.json: ok, {len(steps)} jobs\n"):
+            yield f"try: {tried.stdout}{tried.stderr}"
+
+
+def faults_of_twins(program, path):
+    """What is wrong with what is said of the twins of a table."""
+    table = json.loads(path.read_text())
+    for changes, number, way in TWINS[path.stem]:
+        for fault in faults_of_twin(program, twin_of(table, changes), number, way):
+            yield f"twin of promise {number}: {fault}"
 
 
 def main():
-    tables = sorted((TOP / "examples/tables").glob("*.json"))
-    with tempfile.TemporaryDirectory() as path:
-        room = Path(path)
-        crates = crates_below(CRATE)
-        for crate in crates:
-            shutil.copytree(TOP / "crates" / crate, room / "crates" / crate, ignore=shutil.ignore_patterns("out"))
-        (room / "crates.txt").write_text("".join(f"{crate}: {' '.join(below)}\n" for crate, below in crates.items()))
-        shutil.copy(TOP / "HANDLES", room)
-        source = room / "crates" / CRATE / "src"
-        for file in (source / "tests").iterdir():
-            if file.name != "words.rt":
-                file.unlink()
-        (source / "tests.rt").write_text("//! The examples.\n\nmod examples;\nmod words;\n")
-        (source / "tests/examples.rt").write_text(HEAD + "".join(map(test_of, tables)))
-        ran = subprocess.run(["rt", "try", "--test"], cwd=room / "crates" / CRATE, capture_output=True, text=True,
-                             timeout=LIMIT_SECONDS)
-    ended = dict(ENDED.findall(ran.stdout + ran.stderr))
-    wrong = [table for table in tables if ended.get(table.stem) != "ok"]
-    for table in wrong:
-        print(f"examples/tables/{table.name}: {ended.get(table.stem, 'not tried')}")
-    if wrong:
-        print(ran.stdout + ran.stderr)
-    print(f"{len(tables)} tried, {len(wrong)} wrong")
+    words = argparse.ArgumentParser(description=__doc__, formatter_class=argparse.RawDescriptionHelpFormatter)
+    words.add_argument("--program", nargs="+", default=[str(TOP / "crates/wfhost/out/wfhost")])
+    program = words.parse_args().program
+    tables, wrong = sorted((TOP / "examples/tables").glob("*.json")), 0
+    for path in tables:
+        faults = [*faults_of(program, path), *faults_of_twins(program, path)]
+        wrong += bool(faults)
+        for fault in faults:
+            print(f"examples/tables/{path.name}: {fault}")
+    print(f"{len(tables)} tried, {wrong} wrong")
     return 1 if wrong or not tables else 0
 
 

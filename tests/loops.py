@@ -6,6 +6,7 @@ stand-in has counted. Each loop prints a line; the last line is `N tried, M wron
 
     tests/loops.py --runs 2000 --samples --workers 1,4,16 --cache 0,10,1000 --trouble all
     tests/loops.py --runs 2000 --orders --trouble all --kill
+    tests/loops.py --runs 2000 --tables --trouble all --kill
     tests/loops.py --runs 200 --samples --trouble all --grpc
 
 The loops of a seed are not the same twice, since the workers' threads are not. Whoever looks for the cause of a wrong one
@@ -28,15 +29,25 @@ TOP = Path(__file__).resolve().parent.parent
 sys.path.insert(0, str(TOP / "standin"))
 sys.dont_write_bytecode = True
 
+from handlers import Till  # noqa: E402
 from peers import Settings  # noqa: E402
 from pipes import Pipes  # noqa: E402
 from server import Server  # noqa: E402
+from table_runs import Tables  # noqa: E402
 from troubles import KINDS, Troubles, names_of  # noqa: E402
 from workflows import STRANGE, Orders, Own, Samples  # noqa: E402
 from world import World  # noqa: E402
 
 PROGRAMS = {"samples": TOP / "crates/wfhost/out/wfhost", "orders": TOP / "crates/order_worker/out/order_worker"}
 BRIDGE = TOP / "bridge/temporal_bridge.py"
+# What the workers ask for, where activities are on a Task Queue of their own.
+POLICIES = """
+[activities]
+task_queue = "till"
+start_to_close = 60
+heartbeat = 30
+retry = { maximum_attempts = 1 }
+"""
 LIMIT_SECONDS = 600
 END_SECONDS = 30
 MOST_WRONG = 100
@@ -51,23 +62,39 @@ class Loop:
         self.options, self.workers, self.cache = options, max(workers, 2) if cache else workers, cache
         self.troubles = Troubles(seed, options.trouble)
         self.workflows = workflows_of(options, self.troubles.dice)
-        self.world = World(self.troubles, self.workflows, options.runs, options.open, options.activity_workers > 0)
-        self.server = Server(Settings(is_sticky=cache > 0), self.troubles, self.world)
+        has_till = bool(options.till)
+        self.world = World(self.troubles, self.workflows, options.runs, options.open, options.activity_workers > 0 or has_till)
+        self.world.most_queries = options.queries
+        settings = Settings(queues=("q", "till") if has_till else ("q",), is_sticky=cache > 0, has_policies=has_till)
+        self.server = Server(settings, self.troubles, self.world)
+        self.server.queries.is_judged = options.queries > 0
+        self.world.handlers = Till(self.server) if has_till else None
         self.front = front(options, self.server, self.troubles)
         self.dice, self.begun, self.killed, self.count = random.Random(seed), time.monotonic(), 0, 0
         self.title = f"seed {seed}, {workers} workers, cache {cache}"
 
     def command(self, identity):
         """The command of a worker."""
-        words = [*self.options.program, "work", "--task-queue", "q", "--namespace", "default", "--identity", identity]
-        words += ["--workers", self.workers, "--activity-workers", self.options.activity_workers, "--cache", self.cache]
-        words += ["--activity-timeout", 60, "--activity-attempts", 1, "--sticky-timeout", 10]
+        workers, activity_workers = self.sizes(identity)
+        is_till = identity.startswith("till")
+        words = [*(self.options.till if is_till else self.options.program), "work", "--task-queue", "till" if is_till else "q"]
+        words += ["--namespace", "default", "--identity", identity, "--workers", workers, "--activity-workers", activity_workers]
+        words += ["--cache", 0 if is_till else self.cache, "--activity-timeout", 60, "--activity-attempts", 1, "--sticky-timeout", 10]
+        words += ["--policies", self.options.policies] if self.options.till and not is_till else []
         return [str(word) for word in words] + self.options.more
 
-    def start_worker(self):
-        self.count += 1
-        name = f"worker-{self.count}"
-        self.front.start(self.command(name), name, self.workers + self.options.activity_workers)
+    def sizes(self, identity):
+        """How many workers of each kind a process has."""
+        return (1, 3) if identity.startswith("till") else (self.workers, self.options.activity_workers)
+
+    def start_missing(self):
+        """Starts the processes that are not there: those for workflows, and one for activities where there is to be one."""
+        names = [process.peer.name.partition("-")[0] for process in self.living()]
+        missing = ["worker"] * (self.options.processes - names.count("worker"))
+        for kind in missing + (["till"] if self.options.till and "till" not in names else []):
+            self.count += 1
+            name = f"{kind}-{self.count}"
+            self.front.start(self.command(name), name, sum(self.sizes(name)))
 
     def living(self):
         """The workers that are neither killed nor cut off."""
@@ -80,8 +107,7 @@ class Loop:
 
     def run(self):
         """Runs the loop, and answers what is wrong."""
-        for _ in range(self.options.processes):
-            self.start_worker()
+        self.start_missing()
         killed_at = time.monotonic()
         while not self.is_over():
             self.front.turn()
@@ -89,8 +115,8 @@ class Loop:
                 killed_at = time.monotonic()
                 self.killed += 1
                 self.dice.choice([self.front.kill, self.front.cut])(self.dice.choice(self.living()))
-            while self.options.kill and len(self.living()) < self.options.processes:
-                self.start_worker()
+            if self.options.kill:
+                self.start_missing()
             if not self.living():
                 break
         ended = self.front.stop_all(END_SECONDS)
@@ -98,6 +124,8 @@ class Loop:
         wrong = list(self.server.findings.wrong)
         wrong += [f"not closed: {run.kind} {run.workflow_id}" for run in self.server.runs.all if not run.closed]
         wrong += self.world.failures
+        if self.server.queries.open:
+            wrong.append(f"{self.server.queries.open} queries without an answer")
         return wrong + self.replayed() + [what for process in ended for what in self.reported(process)]
 
     def keep(self, ended):
@@ -139,12 +167,13 @@ class Loop:
         rows = [("in hand", in_hand, 0), ("taken", taken, completed + failed)]
         if not process.peer.is_cut and not process.peer.is_disturbed:
             # Of one whose input has ended, or whose connection was lost, nobody knows which responses reached it.
-            rows += self.rows_of(process.peer.counts, calls)
+            rows += self.rows_of(process.peer, calls)
         wrong = [f"{name}: {what} {said}, by the server {counted}" for what, said, counted in rows if said != counted]
         return wrong + self.bounds(process.peer, taken)
 
-    def rows_of(self, counts, calls):
+    def rows_of(self, peer, calls):
         """What a worker has counted of its calls, beside what the server has."""
+        counts = peer.counts
         _, empty, not_found, refused = map(int, calls.groups())
         # The bridge gives an empty poll for one that is late.
         late = counts["late polls"] if self.options.grpc else 0
@@ -152,7 +181,7 @@ class Loop:
         yield "answers not found", not_found, counts[5]
         yield "answers refused", refused, counts[3]
         if not self.troubles.met.get("calls"):
-            yield "sticky queues given up", counts["farewells"], int(self.cache > 0)
+            yield "sticky queues given up", counts["farewells"], int(self.cache > 0 and not peer.name.startswith("till"))
 
     def bounds(self, peer, taken):
         """A worker takes no more tasks than it was given, and no fewer than it answered."""
@@ -171,6 +200,10 @@ class Loop:
         seconds = time.monotonic() - self.begun
         met = ", ".join(f"{name} {times}" for name, times in self.troubles.met.items() if times)
         line = f"{self.title}: {len(self.server.runs.all)} runs, {counts['given']} tasks, {hits} hits, {misses} misses, "
+        if counts["asked"] or counts["asked beside"]:
+            line += f"{counts['asked']} queries, {counts['asked beside']} beside tasks with {counts['left out']} left out, "
+        if counts["beats"]:
+            line += f"{counts['beats']} beats with {counts['cancels heard']} cancels, {counts['activities canceled']} canceled, "
         line += f"{not_found} not found, {refused} refused, {self.killed} killed, {seconds:.1f} s"
         return line + (f"; {met}" if met else "")
 
@@ -179,6 +212,8 @@ def workflows_of(asked, dice):
     """The workflows that are run."""
     if asked.kinds:
         return Own(dice, asked.kinds, asked.timers, asked.signals, asked.input)
+    if asked.tables:
+        return Tables(dice, Till.kinds) if asked.till else Tables(dice)
     return Orders(dice) if asked.orders else Samples(dice)
 
 
@@ -234,11 +269,15 @@ def options():
     which = parser.add_mutually_exclusive_group()
     which.add_argument("--samples", action="store_true", help="the seven samples of wfhost (otherwise)")
     which.add_argument("--orders", action="store_true", help="orders, by order_worker")
+    which.add_argument("--tables", action="store_true", help="runs of random tables, by wfhost")
     which.add_argument("--kinds", type=names, help="workflow types, with commas, of the program that --program names")
     parser.add_argument("--workers", type=numbers, default=[4], help="numbers of workers, with commas")
     parser.add_argument("--activity-workers", type=int, default=0, help="0: the stand-in serves the activities")
     parser.add_argument("--cache", type=numbers, default=[10], help="capacities of the cache, with commas")
     parser.add_argument("--trouble", type=names_of, default="all", help="none, or kinds with commas, where -KIND leaves one out: all, " + ", ".join(KINDS))
+    parser.add_argument("--till", type=str.split, nargs="?", const=[str(PROGRAMS["orders"])], help="with --tables: the activities are "
+                        "on a Task Queue of their own, which policies name, and this program, otherwise order_worker, serves them and beats")
+    parser.add_argument("--queries", type=int, nargs="?", const=4, default=0, help="asks each run so many queries at most")
     parser.add_argument("--kill", type=float, nargs="?", const=1.0, default=0, help="every so many seconds kills a worker or ends its input")
     parser.add_argument("--grpc", action="store_true", help="through the bridge, over gRPC")
     parser.add_argument("--bridge", default=BRIDGE, help="with --grpc, another bridge")
@@ -263,6 +302,13 @@ def main():
     asked = options()
     if asked.keep:
         Path(asked.keep).mkdir(parents=True, exist_ok=True)
+    with tempfile.TemporaryDirectory() as folder:
+        asked.policies = Path(folder, "policies.toml")
+        asked.policies.write_text(POLICIES)
+        return all_loops(asked)
+
+
+def all_loops(asked):
     tried = wrong = 0
     for seed, workers, cache in product(asked.seeds, asked.workers, asked.cache):
         loop = Loop(asked, seed, workers, cache)

@@ -9,13 +9,21 @@ into the deciding, one after another, and each has to be found.
 What is decided here is a second writing of the definition, not the definition itself, of which the law
 `keeps_its_promises` is proved: so this tells of the meaning of rows and promises, and not of the prover.
 
-    tests/promises.py [--tables N] [--seed S]
+With a program, which is a built `wfhost`, the tables are written as files too, and `check` decides their promises: none that
+it says to be kept is broken by a scenario, each way that it prints breaks its promise and is a shortest one, and each command
+that the way says is counted. Tables are mended first, so that they break no rule.
+
+    tests/promises.py [--tables N] [--seed S] [--program WFHOST]
 
 The last line is `N tried, M wrong`, and the status is 0 where nothing is wrong."""
 
 import argparse
+import json
+import os
 import random
+import subprocess
 import sys
+import tempfile
 from collections import deque
 
 # A pattern, a job: a word, a text, for versions a number. A command: a word and a text. A happening: "comes" with a
@@ -109,7 +117,7 @@ def summed(promise, known, entry):
 
 
 def broken_by_scenario(table, promise, jobs):
-    """Whether a start and up to 10 jobs after it break the promise."""
+    """How many jobs a start and up to 10 jobs after it take at least to break the promise; 0 where they don't."""
     start = (table["first"], False, (0, 0))
     seen, left = set(), {(start, 0)}
     for place in range(MOST_JOBS + 1):
@@ -121,11 +129,11 @@ def broken_by_scenario(table, promise, jobs):
                 for command in commands:
                     told = summed(promise, told, ("gave", command))
                 if told == "broken":
-                    return True
+                    return place + 1
                 after.add((then, told))
         left = after - seen
         seen |= left
-    return False
+    return 0
 
 
 # How a promise is decided.
@@ -268,11 +276,11 @@ def any_row(chance, states, bounds):
     }
 
 
-def any_table(chance):
-    """A table."""
+def any_table(chance, least=3, most=9):
+    """A table with so many rows."""
     states = ["p", "q", "r", "s"][: chance.randint(2, 4)]
     bounds = [chance.randint(0, 3), chance.choice((0, 0, 2))]
-    rows = [any_row(chance, states, bounds) for _ in range(chance.randint(3, 9))]
+    rows = [any_row(chance, states, bounds) for _ in range(chance.randint(least, most))]
     rows[0].update(state="p", job=("start", ""))
     return {"first": "p", "bounds": bounds, "rows": rows}
 
@@ -322,10 +330,178 @@ def walked(chance, table, promise):
     return is_broken(promise, course)
 
 
+# Tables as files.
+
+WORDS = {"not-done": "failed", "child-not-done": "child-failed", "any-version": "version"}
+CLOSES = {"completes": "complete", "fails": "fail broken", "cancels": "cancel", "continues": "continue Other"}
+CLOSED = {"completes": "complete", "fails": "fail", "cancels": "canceled", "continues": "continued", "closes": "close"}
+
+
+def implies(one, wanted):
+    """Whether the second condition holds wherever the first does."""
+    if one[:2] != wanted[:2]:
+        return False
+    return one[2] <= wanted[2] if one[0] else wanted[2] <= one[2]
+
+
+def hides(earlier, later):
+    """Whether the earlier row fits wherever the later one does."""
+    return (
+        earlier["state"] in ("any", later["state"])
+        and covers(earlier["job"], later["job"])
+        and all(any(implies(one, wanted) for one in later["if"]) for wanted in earlier["if"])
+    )
+
+
+def closes(row):
+    """Whether the row closes the run."""
+    return any(command[0] in CLOSING for command in row["gives"])
+
+
+def mended(table):
+    """The table without the rows that break a rule."""
+    rows = table["rows"]
+    while True:
+        states = {row["state"] for row in rows} - {"any"}
+        led = {
+            state for state in states
+            if any(row["next"] == state != row["state"] and not closes(row) for row in rows)
+        } | {"any", table["first"]}
+        good = [
+            row for place, row in enumerate(rows)
+            if row["state"] in led and (closes(row) or row["next"] is None or row["next"] in states)
+            and not any(hides(earlier, row) for earlier in rows[:place])
+        ]
+        if len(good) == len(rows):
+            return {**table, "rows": rows}
+        rows = good
+
+
+def pattern_words(pattern):
+    """A pattern, as a row writes it."""
+    return " ".join(str(word) for word in (WORDS.get(pattern[0], pattern[0]), *pattern[1:]) if word != "")
+
+
+def command_words(place, command):
+    """A command, as a row writes it."""
+    word, text = command
+    if word in CLOSES:
+        return CLOSES[word]
+    ids = {"activity": f"activity a{place} {text}", "child": f"child k{place} {text}", "sends": f"signal other {text}"}
+    return ids.get(word, f"timer t{place} 5")
+
+
+def what_words(what):
+    """What may happen, as a promise writes it."""
+    if what[0] == "comes":
+        return pattern_words(what[1])
+    if what[0] == "gives":
+        return f"{'send' if what[1][0] == 'sends' else what[1][0]} {what[1][1]}"
+    return CLOSED[what[0]]
+
+
+def promise_words(promise):
+    """A promise, as a table writes it."""
+    word, *rest = promise
+    if word == "at most":
+        return f"at most {rest[0]} {what_words(rest[1])}"
+    if word == "between":
+        return f"after {what_words(rest[0])}, before {what_words(rest[1])}: {what_words(rest[2])}"
+    return f"{word} {what_words(rest[0])}: {what_words(rest[1])}"
+
+
+def table_words(table, promise):
+    """A table, as a file has it."""
+    names = "xy"
+    rows = [
+        [
+            row["state"],
+            pattern_words(row["job"]),
+            [f"{names[counter]} {'<' if below else '>='} {number}" for below, counter, number in row["if"]],
+            [command_words(place, command) for place, command in enumerate(row["gives"])],
+            "" if row["next"] is None or closes(row) else row["next"],
+            [f"{'up' if up else 'zero'} {names[counter]}" for up, counter in row["do"]],
+        ]
+        for row in table["rows"]
+    ]
+    counters = [f"{name} {bound}" for name, bound in zip(names, table["bounds"])]
+    return json.dumps({"version": 1, "counters": counters, "rows": rows, "promises": promise_words(promise)})
+
+
+def job_of(words):
+    """The job that a scenario's words are."""
+    word, *rest = words.split(" ")
+    if word == "version":
+        return ("version", rest[0], int(rest[1]))
+    return ("not-done" if word == "failed" else word, rest[0] if rest else "")
+
+
+def fault_of_way(table, promise, scenario):
+    """What is wrong with a way that a program prints, if something is."""
+    run, course = (table["first"], False, (0, 0)), []
+    for step_said in scenario:
+        job = job_of(step_said["job"])
+        _, commands, run = step(table, run, job)
+        given = [one for one in step_said["gives"].split("; ") if one]
+        if len(given) != len(commands):
+            return f"{len(commands)} commands are given at {step_said['job']}"
+        course += [("came", job)] + [("gave", command) for command in commands]
+    if not is_broken(promise, course):
+        return "it does not break the promise"
+    shortest = broken_by_scenario(table, promise, JOBS)
+    if len(scenario) <= MOST_JOBS + 1 and shortest != len(scenario):
+        return f"a shortest one has {shortest} jobs"
+    return None
+
+
+def checked(program, tables):
+    """What the program says of each promise."""
+    with tempfile.TemporaryDirectory() as folder:
+        names = []
+        for number, (table, promise) in enumerate(tables):
+            names.append(os.path.join(folder, f"t{number:05}.json"))
+            with open(names[-1], "w") as file:
+                file.write(table_words(table, promise))
+        said = []
+        for place in range(0, len(names), 200):
+            lines = subprocess.run([program, "check", "--json", *names[place : place + 200]], capture_output=True, text=True)
+            said += [json.loads(line) for line in lines.stdout.splitlines()]
+    return [one["promises"][0] if "promises" in one else one for one in said if "file" in one]
+
+
+def by_program(program, seed, many):
+    """What is wrong with what the program says of so many tables."""
+    chance = random.Random(seed)
+    tables = []
+    while len(tables) < many:
+        table = mended(any_table(chance, 6, 18))
+        if table["rows"] and table["rows"][0]["state"] == table["first"]:
+            tables.append((table, any_promise(chance)))
+    said = checked(program, tables)
+    wrong, counts = int(len(said) != many), {}
+    for number, ((table, promise), found) in enumerate(zip(tables, said)):
+        verdict = found.get("verdict")
+        counts[verdict] = counts.get(verdict, 0) + 1
+        fault = None
+        if verdict == "kept":
+            if broken_by_scenario(table, promise, JOBS) or any(walked(chance, table, promise) for _ in range(20)):
+                fault = "is kept, and a scenario breaks it"
+        elif verdict == "broken":
+            fault = fault_of_way(table, promise, found["scenario"])
+        elif verdict != "not decided" or decided(table, promise) is None:
+            fault = f"is {verdict}"
+        if fault:
+            wrong += 1
+            print(f"promises: file {number}: {promise_words(promise)}: {fault}: {table_words(table, promise)}: {found}")
+    print(f"promises: by check {', '.join(f'{times} {verdict}' for verdict, times in sorted(counts.items()))}")
+    return wrong
+
+
 def main():
     words = argparse.ArgumentParser(description=__doc__, formatter_class=argparse.RawDescriptionHelpFormatter)
     words.add_argument("--tables", type=int, default=2000, help="how many tables")
     words.add_argument("--seed", type=int, default=1, help="what the random choices begin with")
+    words.add_argument("--program", help="a built program whose `check` decides too")
     asked = words.parse_args()
     chance = random.Random(asked.seed)
     wrong, held, broken, found = 0, 0, 0, dict.fromkeys(FAULTS, 0)
@@ -349,7 +525,11 @@ def main():
         print(f"promises: where {fault}, {times} are found")
         wrong += not times
     print(f"promises: {held} hold, {broken} may be broken")
-    print(f"{asked.tables + len(FAULTS)} tried, {wrong} wrong")
+    tried_all = asked.tables + len(FAULTS)
+    if asked.program:
+        wrong += by_program(asked.program, asked.seed, asked.tables)
+        tried_all += asked.tables
+    print(f"{tried_all} tried, {wrong} wrong")
     return wrong > 0
 
 

@@ -46,6 +46,8 @@ SAMPLES = ("Nap", "Greet", "Branch", "Family", "Racer", "Caller", "Relay")
 # The signals and the cancels that some runs of a type get: how often, and which signal.
 SIGNALS = {"Family": (0.5, "stop"), "Order": (1.0, "cancel"), "Nap": (0.3, "noise"), "Relay": (0.3, "noise")}
 CANCELS = {"Greet": 0.3}
+# The queries that runs of a type answer, with all answers, of which the last one is that of a closed run.
+QUERIES = {"Order": ("status", ['"charging"', '"held"', '"shipping"', '"closed"']), "Racer": ("phase", ['"racing"', '"late"', '"done"'])}
 # The options that the bridge is given as they are, beside --tls.
 BRIDGE_OPTIONS = ("--tls-cert", "--tls-key", "--tls-ca", "--tls-server-name", "--api-key")
 OPENINGS = ("activityTaskScheduledEventAttributes", "startChildWorkflowExecutionInitiatedEventAttributes")
@@ -135,6 +137,14 @@ class Client:
     def request_cancel(self, execution):
         same = {"workflow_execution": execution, "identity": self.identity, "request_id": str(uuid.uuid4())}
         self.call("RequestCancelWorkflowExecution", **same)
+
+    def query(self, execution, kind):
+        """What a query gives: its JSON, or why it failed."""
+        try:
+            found = self.call("QueryWorkflow", execution=execution, query={"query_type": kind})
+        except Wrong as why:
+            return str(why)
+        return " ".join(one.data.decode() for one in found.query_result.payloads) if found else "no such run"
 
     def terminate(self, execution):
         self.call("TerminateWorkflowExecution", workflow_execution=execution, reason="the trial is over", identity=self.identity)
@@ -263,6 +273,17 @@ class Trial:
         events = self.client.history(execution) if kind in ("Greet", "Family") else [OPENINGS]
         return any(name in event for event in events for name in OPENINGS)
 
+    def ask(self, are_closed=False):
+        """Asks the runs of some types for what they answer, and all others for what they don't know."""
+        if not self.asked.queries:
+            return
+        for workflow_id, (_, kind, execution) in self.executions.items():
+            name, right = QUERIES.get(kind, ("weather", ["unknown query type weather; known: none"]))
+            given = self.client.query({"workflow_id": workflow_id}, name)
+            if not any(one in given for one in (right[-1:] if are_closed else right)):
+                self.wrong.append(f"the query {name} of {workflow_id} gives {given}")
+            self.done["queries"] += 1
+
     def kill_workers(self):
         """Kills each bridge with its worker, and starts them again a little later."""
         for service in self.services:
@@ -303,11 +324,14 @@ class Trial:
             self.say(f"{len(self.executions)} runs started on {', '.join(service.queue for service in self.services)}")
             time.sleep(self.asked.pause)
             self.disturb()
+            self.ask()
             self.kill_workers()
             time.sleep(self.asked.pause)
             self.disturb()
-            self.say(", ".join(f"{count} {what}" for what, count in self.done.items()))
+            self.ask()
             self.wait()
+            self.ask(are_closed=True)
+            self.say(", ".join(f"{count} {what}" for what, count in self.done.items()))
         except (Wrong, KeyboardInterrupt) as why:
             self.wrong.append(str(why) or "interrupted")
         finally:
@@ -419,6 +443,7 @@ def options():
     parser.add_argument("--program", type=str.split, default=[str(PROGRAM)], help="another program with the samples, as words")
     parser.add_argument("--orders", type=str.split, help="the program of orders, as words, of which runs are started too")
     parser.add_argument("--bridge", default=BRIDGE, help="another bridge")
+    parser.add_argument("--queries", action="store_true", help="asks each run three times, with the workers at work, again and after the end")
     parser.add_argument("--keep", help="a folder for the histories")
     parser.add_argument("--seed", type=int, default=1, help="which runs are signaled and asked to be cancelled (1)")
     parser.add_argument("--tls", action="store_true", help="as for the bridge, as are the following")

@@ -10,7 +10,7 @@ import tempfile
 from functools import partial
 from pathlib import Path
 
-from statuses import command_lines, files, policies, queries, reports, services, streams, views
+from statuses import command_lines, files, policies, queries, reports, services, streams, tables, views
 from statuses.rooms import Room, TOP
 from statuses.runs import compared
 
@@ -21,6 +21,7 @@ TABLES = [
     command_lines.names,
     reports.reports,
     views.views,
+    tables.tables,
     queries.queries,
     files.files,
     files.odd_names,

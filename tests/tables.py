@@ -265,7 +265,7 @@ def made(dice):
 
 def explained(program, path):
     """The verdict on a history, and the commands that it shows."""
-    done = subprocess.run([*program, "explain", str(path)], capture_output=True, text=True, timeout=120)
+    done = subprocess.run([*program, "explain", "--all", str(path)], capture_output=True, text=True, timeout=120)
     lines = done.stdout.splitlines()
     return lines[-1] if lines else done.stderr, [line.strip()[6:] for line in lines if line.strip().startswith("gives ")]
 

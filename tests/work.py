@@ -7,6 +7,7 @@ A talk is a file of lines:
     # WORDS          a comment
     run WORDS        the options of the command, after those that all talks have; @top in one is the folder of the repository,
                      @new a folder that is made for the talk
+    program NAME     the crate whose program is called, if it is not the one that is given
     called PATH      the path by which the program is called, otherwise its own
     let NAME TEXT    $NAME stands for the text in what is sent
     -> LINE          the next request, which has to be this line
@@ -138,10 +139,19 @@ def is_in_any_order(word):
     return re.fullmatch("=[0-9]*>", word) is not None
 
 
+def built(crate):
+    """The program of a crate."""
+    path = HERE.parent / "crates" / crate / "out" / crate
+    if not path.exists():
+        raise Wrong(f"{path} is not there: `rt run` in crates/{crate} builds it")
+    return str(path)
+
+
 class Talk:
     """A talk with a worker, line by line."""
 
     def __init__(self, program, lines):
+        program = next(([built(line.split()[1])] for line in lines if line.startswith("program ")), program)
         called = next((line.partition(" ")[2] for line in lines if line.startswith("called ")), program[0])
         self.room = tempfile.TemporaryDirectory()
         self.new = Path(self.room.name)

@@ -11,6 +11,8 @@ Commands:
   replay   Replays each history of folders and files, and prints a line for each
   explain  Replays a history, and prints what the workflow was told and gave, task by task
   query    Replays a history, and prints what the workflow answers to a query after its last task
+  check    Checks workflows that are tables in files, and prints each fault
+  try      Gives a workflow that is a table in a file the jobs of a scenario, and prints its commands
   serve    Serves each history of a folder as workflow tasks, and prints how they ended
   work     Serves live tasks, which it asks for and answers in JSON on the standard output and input
   help     Print this message or the help of the given subcommand(s)
@@ -46,8 +48,10 @@ Arguments:
 Options:
       --json            Prints the explanation as JSON
       --recorded        Prints what is recorded, of any workflow type, and replays nothing
-      --around <EVENT>  With --recorded: only the task of this event, two before and two after it
-      --last <N>        With --recorded: only the last N tasks
+      --html            Prints a page of the run as one HTML file
+      --all             All tasks, also those that are alike or have nothing to do with a fault
+      --around <EVENT>  Only the task of this event, two before and two after it
+      --last <N>        Only the last N tasks
   -h, --help            Print help
 """
 QUERY_HELP = """Replays a history, and prints what the workflow answers to a query after its last task
@@ -61,6 +65,29 @@ Arguments:
 
 Options:
       --json  Prints the verdict and the result as JSON
+  -h, --help  Print help
+"""
+CHECK_HELP = """Checks workflows that are tables in files, and prints each fault
+
+Usage: wfhost check [OPTIONS] <FILE>...
+
+Arguments:
+  <FILE>...  A table (JSON), or - for the standard input
+
+Options:
+      --json  Prints the faults as JSON
+      --html  Prints a page with a picture of the states
+  -h, --help  Print help
+"""
+TRY_HELP = """Gives a workflow that is a table in a file the jobs of a scenario, and prints its commands
+
+Usage: wfhost try <FILE> [SCENARIO]
+
+Arguments:
+  <FILE>      A table (JSON)
+  [SCENARIO]  Jobs, and after => their commands; without it the file beside FILE, whose name ends in .txt
+
+Options:
   -h, --help  Print help
 """
 SERVE_HELP = """Serves each history of a folder as workflow tasks, and prints how they ended
@@ -121,6 +148,9 @@ def command_lines(room):
         ["serve", well, well],
         ["serve", well, "--json"],
         ["no-such-command"],
+        ["check"],
+        ["try"],
+        ["try", well, "start", "start"],
         *(["serve", well, "--workers", number] for number in ("0", "65", "x", "")),
         *(["serve", well, "--cache", number] for number in ("-1", "10001")),
         ["serve", well, "--cache-events", "512000001"],
@@ -138,6 +168,8 @@ def command_lines(room):
         *((words, 0, REPLAY_HELP, "") for words in (["replay", "--help"], ["help", "replay"])),
         *((words, 0, EXPLAIN_HELP, "") for words in (["explain", "--help"], ["help", "explain"])),
         *((words, 0, QUERY_HELP, "") for words in (["query", "--help"], ["help", "query"])),
+        *((words, 0, CHECK_HELP, "") for words in (["check", "--help"], ["help", "check"])),
+        *((words, 0, TRY_HELP, "") for words in (["try", "--help"], ["help", "try"])),
         *((words, 0, SERVE_HELP, "") for words in (["serve", "--help"], ["help", "serve"])),
         *((words, 0, WORK_HELP, "") for words in (["work", "--help"], ["help", "work"])),
         ([], 2, "", NO_COMMAND),

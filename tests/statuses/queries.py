@@ -1,5 +1,7 @@
-"""Queries of histories: of a race, and by the program of orders of its orders, with what each says by its definition."""
+"""Queries of histories: of a race, of a table, and by the program of orders of its orders, with what each says by its
+definition."""
 
+import base64
 import json
 
 from .rooms import NAP, NOT_JSON, RACER, TOP, up_to
@@ -29,6 +31,25 @@ SHIPPED = [
     "task",
     ("StartChildWorkflowExecutionInitiated", {"workflowId": "parcel", "workflowType": {"name": "Ship"}}),
     ("ChildWorkflowExecutionStarted", {"initiatedEventId": "15"}),
+]
+# The events of a run whose table comes with it: it waits, and then is done.
+TABLE = {"version": 1, "rows": [
+    ['waiting "now"', "start", "", "timer nap 30"],
+    ['waiting "now"', "fired nap", "", "", "rested"],
+    ["rested", "signal on", "", "complete"],
+]}
+RESTED = [
+    ("WorkflowExecutionStarted", {
+        "workflowType": {"name": "Table:nap"},
+        "input": {"payloads": [{
+            "metadata": {"encoding": base64.b64encode(b"json/plain").decode()},
+            "data": base64.b64encode(json.dumps(TABLE).encode()).decode(),
+        }]},
+    }),
+    "task",
+    ("TimerStarted", {"timerId": "nap"}),
+    ("TimerFired", {"timerId": "nap", "startedEventId": "5"}),
+    "task",
 ]
 PHASES = "unknown query type status; known: phase"
 NONE = "unknown query type phase; known: none"
@@ -105,6 +126,22 @@ def of_orders(room):
     ]
 
 
+def of_tables(room):
+    """What a run that brought its table says of its state."""
+    rested = order(RESTED)
+    folder = room.folder({"waiting.json": up_to(rested, 5), "rested.json": rested})
+    return [
+        (["query", f"{folder}/waiting.json", "state"], 0, 'waiting.json: ok, 1 tasks\n"waiting \\"now\\""\n', ""),
+        (["query", f"{folder}/rested.json", "state"], 0, 'rested.json: ok, 2 tasks\n"rested"\n', ""),
+        (
+            ["query", f"{folder}/rested.json", "counters"],
+            1,
+            "rested.json: ok, 2 tasks\nquery failed, unknown query type counters; known: state\n",
+            "",
+        ),
+    ]
+
+
 def queries(room):
     """What is said of queries of each kind."""
     folder, missing = room.folder({
@@ -122,6 +159,7 @@ def queries(room):
     not_json = "wfhost: the arguments of a query must be JSON\n"
     return [
         *of_orders(room),
+        *of_tables(room),
         (phase, 0, done, ""),
         (["query", "-", "phase"], 0, done.replace("race.json", "-"), "", {"given": RACER}),
         ([*phase, "--json"], 0, f'{coded}{{"queryResult":["done"]}}\n', ""),

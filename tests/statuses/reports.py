@@ -3,19 +3,20 @@
 from .rooms import EXAMPLES, NAP, TOP, long_nap, up_to
 from .runs import Like
 from .texts import EXPLAINED, REPLAYED, SERVED, UNCOMPARED
+from .views import VIEWED
 from .verdicts import NOT_JSON_PLACE, REPLAY_TOLD, REPLAYED_VERDICTS, SERVED_VERDICTS, TOLD_VERDICTS, VERDICTS
 
 # What the program is run on in the gate: a nap, and an order whose table comes with the run.
 STORED = "nap.json: ok, 2 tasks\norder_table.json: ok, 4 tasks\n2 files, 2 ok\n"
 REPLAYED_JSON = '{"file":"nap.json","verdict":"ok","tasks":2,"live":false}\n{"files":1,"ok":1}\n'
 EXPLAINED_JSON = """{"task":3}
-{"told":"Time","time":"2024-05-01T10:00:03Z"}
-{"told":"Start","workflowType":"Nap"}
+{"told":"Time","time":"2024-05-01T10:00:03Z","event":3}
+{"told":"Start","workflowType":"Nap","event":1}
 {"gives":"StartTimer","timerId":"nap","seconds":60}
 {"sends":"StartTimer","timerId":"nap","seconds":60,"recorded":{"event":5,"type":"TimerStarted","timerId":"nap"},"differs":false}
 {"task":8}
-{"told":"Time","time":"2024-05-01T10:01:07Z"}
-{"told":"TimerFired","timerId":"nap"}
+{"told":"Time","time":"2024-05-01T10:01:07Z","event":8}
+{"told":"TimerFired","timerId":"nap","event":6}
 {"gives":"Complete"}
 {"sends":"Complete","recorded":{"event":10,"type":"WorkflowExecutionCompleted"},"differs":false}
 {"file":"nap.json","verdict":"ok","tasks":2,"live":false}
@@ -113,8 +114,8 @@ REPLAYED_VERDICTS_JSON = r"""{"file":"a.json","verdict":"ok","tasks":2,"live":fa
 """
 # The last object has both sides of the difference.
 EXPLAINED_DIFFERENCE_JSON = """{"task":3}
-{"told":"Time","time":"2024-05-01T10:00:03Z"}
-{"told":"Start","workflowType":"Nap"}
+{"told":"Time","time":"2024-05-01T10:00:03Z","event":3}
+{"told":"Start","workflowType":"Nap","event":1}
 {"gives":"StartTimer","timerId":"nap","seconds":60}
 {"sends":"StartTimer","timerId":"nap","seconds":60,"recorded":{"event":5,"type":"TimerStarted","timerId":"nap"},"differs":false}
 {"sends":null,"recorded":{"event":6,"type":"TimerStarted","timerId":"x"},"differs":true}
@@ -172,28 +173,30 @@ DETAILS = {
         '"field":"signalName"',
     ),
 }
-STARTED = "task at 3\n  told Time 2024-05-01T10:00:03Z\n  told Start "
+# What is recorded follows the line of a file whose workflow type has no code.
+VIEWED_OF_NOPE = VIEWED.replace("Nap", "Nope")
+STARTED = "task at 3\n  told Time 2024-05-01T10:00:03Z (event 3)\n  told Start "
 EXPLAINED_VERDICTS = {
-    "b.json": f"""{STARTED}Nap
+    "b.json": f"""{STARTED}Nap (event 1)
     gives StartTimer nap (60 s)
   sends StartTimer nap (60 s)
   not recorded yet
 """,
     "c.json": "",
-    "d.json": f"""{STARTED}Nap
+    "d.json": f"""{STARTED}Nap (event 1)
     gives StartTimer nap (60 s)
   sends StartTimer nap (60 s), recorded 5 TimerStarted nip, differs
 """,
     "e.json": "no code for the workflow type Nope\n",
     "f.json": "",
     "g.json": "",
-    "h.json": f"""{STARTED}Racer
+    "h.json": f"""{STARTED}Racer (event 1)
     gives StartActivity 1 race
     gives StartTimer t (30 s)
   sends StartActivity 1 race, recorded 5 ActivityTaskScheduled 1 race
   sends StartTimer t (30 s), recorded nothing, differs
 """,
-    "i.json": f"""{STARTED}Nap
+    "i.json": f"""{STARTED}Nap (event 1)
     gives StartTimer nap (60 s)
   sends StartTimer nap (60 s), recorded 5 TimerStarted nap
   sends nothing, recorded 6 TimerStarted x, differs
@@ -247,7 +250,7 @@ def reports(room):
             (
                 ["explain", f"{verdicts}/{name}"],
                 int("ok" not in lines[name]),
-                f"{tasks}{name}: {lines[name]}\n",
+                f"{tasks}{name}: {lines[name]}\n{VIEWED_OF_NOPE if name == 'e.json' else ''}",
                 NOT_JSON_PLACE if name == "c.json" else "",
             )
             for name, tasks in EXPLAINED_VERDICTS.items()

@@ -9,13 +9,13 @@ UNCOMPARED = "wfhost: the last task of a recorded history is not compared with i
 REPLAYED = "nap.json: ok, 2 tasks\n1 files, 1 ok\n"
 SERVED = "nap.json: 2 tasks, 2 completed, 0 failed\ntaken 2, completed 2, failed 0, in hand 0\n"
 EXPLAINED = """task at 3
-  told Time 2024-05-01T10:00:03Z
-  told Start Nap
+  told Time 2024-05-01T10:00:03Z (event 3)
+  told Start Nap (event 1)
     gives StartTimer nap (60 s)
   sends StartTimer nap (60 s), recorded 5 TimerStarted nap
 task at 8
-  told Time 2024-05-01T10:01:07Z
-  told TimerFired nap
+  told Time 2024-05-01T10:01:07Z (event 8)
+  told TimerFired nap (event 6)
     gives Complete
   sends Complete, recorded 10 WorkflowExecutionCompleted
 nap.json: ok, 2 tasks

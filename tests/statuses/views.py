@@ -3,7 +3,8 @@
 import json
 
 from .rooms import NAP, NOT_JSON
-from .texts import MISSING, cannot_read
+from .runs import Like
+from .texts import EXPLAINED, MISSING, cannot_read
 
 HEAD = "Nap: 10 events, 2 tasks completed, 1 things\n"
 FIRST_TASK = """  told WorkflowExecutionStarted Nap (event 1) 2024-05-01T10:00:01Z
@@ -33,13 +34,62 @@ task 6: WorkflowTaskCompleted (event 6) 2024-05-01T10:00:06Z
 VIEWED_AS_JSON = """{"events":7,"tasks":7,"things":0}
 {"place":7,"event":7,"task":7,"is":"completes","recorded":{"eventId":"7","eventTime":"2024-05-01T10:00:07Z","eventType":"WorkflowTaskCompleted"}}
 """
-TWICE = "error: --around and --last can't be given together\n"
-OF_REPLAY = "error: --around and --last need --recorded\n"
+TWICE = "error: --all, --around and --last can't be given together\n"
+LEFT = "tasks are left out: --all shows them, --last N or --around EVENT some of them\n"
+SIGNALS = 4_998
+
+
+def signalled_nap(end):
+    """A nap with many signals and this end: 20,002 events."""
+    task = ["WorkflowTaskScheduled", "WorkflowTaskStarted", "WorkflowTaskCompleted"]
+    events = ["WorkflowExecutionStarted", *task, "TimerStarted"]
+    events += ["WorkflowExecutionSignaled", *task] * SIGNALS
+    events += ["TimerFired", *task, end]
+    given = {
+        "WorkflowExecutionStarted": {"workflowExecutionStartedEventAttributes": {"workflowType": {"name": "Nap"}}},
+        "WorkflowExecutionSignaled": {"workflowExecutionSignaledEventAttributes": {"signalName": "poke"}},
+        "TimerStarted": {"timerStartedEventAttributes": {"timerId": "nap"}},
+        "TimerFired": {"timerFiredEventAttributes": {"startedEventId": "5"}},
+    }
+    numbered = [
+        {"eventId": str(number), "eventTime": "2024-05-01T10:00:01Z", "eventType": kind} | given.get(kind, {})
+        for number, kind in enumerate(events, 1)
+    ]
+    return json.dumps(numbered).encode()
+
+
+STARTS = """task at 3
+  told Time 2024-05-01T10:00:01Z (event 3)
+  told Start Nap (event 1)
+    gives StartTimer nap (60 s)
+  sends StartTimer nap (60 s), recorded 5 TimerStarted nap
+"""
+WAKES = """task at 20000
+  told Time 2024-05-01T10:00:01Z (event 20000)
+  told TimerFired nap (event 19998)
+    gives Complete
+  sends Complete, recorded 20002 """
+# The task of the fault, and that which started its timer.
+FAULTY = f"""4998 {LEFT}{STARTS}{WAKES}WorkflowExecutionFailed, differs
+failed.json: fault, event 20002 differs
+"""
+FOLDED = f"""{STARTS}task at 8
+  told Time 2024-05-01T10:00:01Z (event 8)
+  told Signal poke (event 6)
+4997 more tasks, up to that at 19996, are alike but for numbers and times
+{WAKES}WorkflowExecutionCompleted
+long.json: ok, 5000 tasks
+"""
+LAST_OF_LONG = f"""4999 {LEFT}{WAKES}WorkflowExecutionCompleted
+long.json: ok, 5000 tasks
+"""
+NO_PAGE = "error: --html can't be given with --json, --all, --around or --last\n"
 
 
 def views(room):
     """All tasks of a history, the last of them, or those round an event; and what can't be shown."""
-    files = {"nap.json": NAP, "tasks.json": json.dumps(TASKS).encode(), "cut.json": NOT_JSON, "empty.json": b"[]"}
+    long = {"long.json": signalled_nap("WorkflowExecutionCompleted"), "failed.json": signalled_nap("WorkflowExecutionFailed")}
+    files = long | {"nap.json": NAP, "tasks.json": json.dumps(TASKS).encode(), "cut.json": NOT_JSON, "empty.json": b"[]"}
     folder, missing = room.folder(files | {"other.json": NAP.replace(b'"name":"Nap"', b'"name":"Nope"')}), str(room.new())
     nap, tasks = f"{folder}/nap.json", f"{folder}/tasks.json"
     show = ["explain", "--recorded"]
@@ -57,8 +107,19 @@ def views(room):
         ([*show, f"{folder}/empty.json"], 2, "", "wfhost: empty.json: unreadable, no events\n"),
         ([*show, missing], 2, "", cannot_read(missing, MISSING)),
         ([*show, nap, "--last", "1", "--around", "1"], 2, "", TWICE),
-        (["explain", nap, "--last", "1"], 2, "", OF_REPLAY),
-        (["explain", nap, "--around", "1"], 2, "", OF_REPLAY),
+        (["explain", f"{folder}/failed.json"], 1, FAULTY, ""),
+        (["explain", f"{folder}/long.json"], 0, FOLDED, ""),
+        (["explain", f"{folder}/long.json", "--last", "1"], 0, LAST_OF_LONG, ""),
+        (["explain", "--all", nap], 0, EXPLAINED, ""),
+        (["explain", "--around", "6", nap], 0, EXPLAINED, ""),
+        (["explain", nap, "--all", "--last", "1"], 2, "", TWICE),
+        (["explain", "--html", nap], 0, Like("<!doctype html>*ok, 2 tasks*"), ""),
+        (["explain", "--html", f"{folder}/failed.json"], 1, Like("<!doctype html>*fault, event 20002 differs*"), ""),
+        ([*show, "--html", nap], 0, Like("<!doctype html>*recorded, and not replayed*"), ""),
+        (["explain", "--html", f"{folder}/cut.json"], 2, "", "wfhost: cut.json: not JSON at line 2 column 3\n"),
+        (["explain", "--html", missing], 2, "", cannot_read(missing, MISSING)),
+        (["explain", "--html", "--json", nap], 2, "", NO_PAGE),
+        (["explain", "--html", "--last", "2", nap], 2, "", NO_PAGE),
         ([*show, nap, "--last", "0"], 2, "", "error: --last must be 1 to 67108864\n"),
         ([*show, nap, "--last", "67108865"], 2, "", "error: --last must be 1 to 67108864\n"),
         ([*show, nap, "--around", "0"], 2, "", "error: --around must be 1 to 9223372036854775807\n"),

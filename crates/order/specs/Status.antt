@@ -1,18 +1,21 @@
 -- What an order answers to queries.
-use Rattle.std.specs.Prelude.{ℕ, List, codes, bytes_eq, if◌then◌else◌}
-use Rattle.wh_queryable.specs.Queries.{Queries, json_result, unknown_query}
+use Rattle.std.specs.Prelude.{ℕ, List, ◌∷◌, [], codes, bytes_eq, if◌then◌else◌}
+use Rattle.serde_json.specs.Data.{string}
+use Rattle.wh_json_payloads.specs.Values.{payload_written}
+use Rattle.wh_queryable.specs.Queries.{Queries, unknown_query}
+use Rattle.wh_queryable.specs.declared.queryable.QueryResult.TheVariants.{Answered}
 use Rattle.order.specs.declared.OrderState.{OrderState}
 use Rattle.order.specs.declared.OrderState.TheVariants.{Charging, Held, Shipping, Closed}
 
--- how far an order has come, as a JSON text
+-- how far an order has come
 abbrev pub status : OrderState → List ℕ
-status (Charging parcel) = codes "\"charging\""
-status (Held parcel) = codes "\"held\""
-status (Shipping parcel) = codes "\"shipping\""
-status Closed = codes "\"closed\""
+status (Charging parcel) = codes "charging"
+status (Held parcel) = codes "held"
+status (Shipping parcel) = codes "shipping"
+status Closed = codes "closed"
 
 -- `status` gives that, and no other query type is known
 abbrev pub order_queries : Queries OrderState
 order_queries state query_type input =
-    if bytes_eq query_type (codes "status") then json_result (status state)
+    if bytes_eq query_type (codes "status") then Answered (payload_written (string (status state)) ∷ [])
     else unknown_query query_type (codes "status")

@@ -5,17 +5,18 @@ ghost use Rattle.order.specs.Status.{status};
 use crate::{Order, OrderState};
 use std::alloc::Global;
 use wh_events::{OutOfMemory, Payload};
-use wh_queryable::{QueryResult, Queryable, json_result, unknown_query};
+use wh_json_payloads::{one_payload, text_payload};
+use wh_queryable::{QueryResult, Queryable, unknown_query};
 
-/// How far an order has come, as a JSON text.
+/// How far an order has come.
 fn status(state: &OrderState) -> &'static str
     ensures { result.now ≡ status state.now }
 {
     match state {
-        OrderState::Charging { .. } => "\"charging\"",
-        OrderState::Held { .. } => "\"held\"",
-        OrderState::Shipping { .. } => "\"shipping\"",
-        OrderState::Closed => "\"closed\"",
+        OrderState::Charging { .. } => "charging",
+        OrderState::Held { .. } => "held",
+        OrderState::Shipping { .. } => "shipping",
+        OrderState::Closed => "closed",
     }
 }
 
@@ -31,7 +32,10 @@ impl Queryable for Order {
         _input: &[Payload],
     ) -> Result<QueryResult, OutOfMemory> {
         match query_type {
-            "status" => json_result(alloc, String::from_str(alloc, status(state))?),
+            "status" => {
+                let result = text_payload(alloc, status(state))?;
+                Ok(QueryResult::Answered(one_payload(alloc, result)?))
+            }
             _ => unknown_query(alloc, query_type, "status"),
         }
     }

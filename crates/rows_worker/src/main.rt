@@ -6,14 +6,13 @@ use row_samples::All;
 use std::process::ExitCode;
 use std::thread;
 use wh_cli::{NoActivities, calls_over, no_memory, read_input, run};
-use wh_queryable::NoQueries;
 
 fn main(rt: HostRuntime) -> ExitCode {
     let alloc = rt.alloc();
     let Ok((calls, theirs)) = calls_over(alloc, rt.stdout()) else {
         return no_memory(&rt);
     };
-    run::<NoQueries<All>, _, _, _, _, _>(
+    run::<All, _, _, _, _, _>(
         &rt,
         &*calls,
         || thread::spawn(&rt, move || read_input(&rt, alloc, &*theirs)).is_ok(),

@@ -1,6 +1,2 @@
--- What no contract of a public item cites: only those of private functions, and what types keep over private fields.
+-- What no contract of a public item cites: only those of private functions.
 pub mod Commands
-pub mod Complaints
-pub mod Listings
-pub mod Readings
-pub mod Statuses

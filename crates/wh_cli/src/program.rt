@@ -8,8 +8,6 @@ ghost use Rattle.wh_work.specs.Plans.{MayServe, lives};
 ghost use Rattle.wh_host.specs.Machine.{IsConfig};
 
 use crate::commands::obey;
-use crate::complaints::Complaint;
-use crate::failures::Failure;
 use std::alloc::Global;
 use std::env::Env;
 use std::io::{BufWriter, ErrorKind, Print, Printer, Write};
@@ -22,6 +20,7 @@ use std::{env, io};
 use wh_command_line::{Plan, Refusal, parse};
 use wh_console::{Console, ErrorPrinter};
 use wh_crew::LiveEnd;
+use wh_diagnostics::{Diagnostic, Failure};
 use wh_events::OutOfMemory;
 use wh_poll::ActivityHandler;
 use wh_queryable::Queryable;
@@ -110,7 +109,7 @@ fn fail<O: Write, E: Write>(failure: Failure, console: &mut Console<'_, O, E>) -
     if is_unread(&failure, console.is_closed()) {
         drop(failure);
     } else {
-        console.report(Complaint::Failed { failure });
+        console.report(Diagnostic::Failed { failure });
     }
     FAILED
 }

@@ -5,9 +5,9 @@ use Rattle.std.proofs.lemmas.List.{append-nil}
 use Rattle.std.specs.Prelude.{◌==◌, codes, length, true, Some}
 use Rattle.serde_json.specs.Data.{Data}
 use Rattle.wh_events.specs.declared.key.RunKey.{RunKey}
-use Rattle.wh_messages.specs.declared.names.WorkerNames.{WorkerNames}
-use Rattle.wh_messages.specs.Requests.{history}
-use Rattle.wh_messages.specs.Responses.{Page, page_in}
+use Rattle.wh_commands.specs.declared.names.WorkerNames.{WorkerNames}
+use Rattle.wh_requests.specs.Requests.{history}
+use Rattle.wh_responses.specs.Responses.{Page, page_in}
 use Rattle.wh_client.specs.Calls.{Gives}
 use Rattle.wh_client.specs.Pages.{IsPaged, Leads, ReadsOn, all_members}
 

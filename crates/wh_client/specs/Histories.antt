@@ -5,11 +5,11 @@ use Rattle.wh_events.specs.declared.event.Event.{Event}
 use Rattle.wh_events.specs.declared.key.RunKey.{RunKey}
 use Rattle.wh_json.specs.Events.{members_from}
 use Rattle.wh_json.specs.Outcome.{all_of}
-use Rattle.wh_messages.specs.declared.names.WorkerNames.{WorkerNames}
+use Rattle.wh_commands.specs.declared.names.WorkerNames.{WorkerNames}
 use Rattle.wh_client.specs.Calls.{Gives}
 use Rattle.wh_client.specs.Pages.{BeginsWith, ReadsOn}
-use Rattle.wh_messages.specs.CarryingOver.{Carried, carried_in}
-use Rattle.wh_messages.specs.Responses.{Page}
+use Rattle.wh_commands.specs.CarryingOver.{Carried, carried_in}
+use Rattle.wh_responses.specs.Responses.{Page}
 
 -- the members of a history are read as these events
 abbrev pub ReadsEvents : List Data → List Event → Type 0

@@ -1,8 +1,9 @@
 pub mod Calls
 pub mod Codes
+pub mod Requests
+pub mod Heartbeats
 pub mod Histories
 pub mod Pages
 pub mod Polls
 pub mod Refusals
-pub mod Requests
 pub mod Roles

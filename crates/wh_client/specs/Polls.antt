@@ -1,10 +1,12 @@
 -- What polls give.
 use Rattle.std.specs.Prelude.{◌≡◌, Bool, codes}
 use Rattle.serde_json.specs.Data.{Data}
-use Rattle.wh_messages.specs.declared.names.WorkerNames.{WorkerNames}
-use Rattle.wh_messages.specs.declared.response.ActivityPoll.{ActivityPoll}
-use Rattle.wh_messages.specs.Requests.{poll_workflow, poll_activity}
-use Rattle.wh_messages.specs.Responses.{Poll, workflow_poll, activity_poll}
+use Rattle.serde_json.specs.View.{view}
+use Rattle.wh_commands.specs.declared.names.WorkerNames.{WorkerNames}
+use Rattle.wh_responses.specs.declared.response.ActivityPoll.{ActivityPoll}
+use Rattle.wh_responses.specs.declared.response.QueryPoll.{QueryPoll}
+use Rattle.wh_requests.specs.Requests.{poll_workflow, poll_activity}
+use Rattle.wh_responses.specs.Responses.{Poll, query, workflow_poll, activity_poll}
 use Rattle.wh_client.specs.Calls.{Gives}
 
 -- the server gives a result of this meaning for a poll of a queue
@@ -18,3 +20,8 @@ pub record IsActivityPoll (gives : Gives) (names : WorkerNames) (poll : Activity
   pub result : Data
   pub given : gives (codes "PollActivityTaskQueue") (poll_activity names) result
   pub read : poll ≡ activity_poll result
+
+-- the server gives this query for a poll of a queue
+abbrev pub GivesQuery : Gives → QueryPoll → Type 0
+GivesQuery gives asked =
+    (names : WorkerNames) × (sticky : Bool) × IsWorkflowPoll gives names sticky (query asked.token (view asked.result))

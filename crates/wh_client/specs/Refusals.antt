@@ -3,7 +3,7 @@ use Rattle.std.specs.Prelude.{◌≡◌, string_bytes, ⊤}
 use Rattle.wh_client.specs.declared.asking.AskFault.{AskFault}
 use Rattle.wh_client.specs.declared.asking.AskFault.TheVariants as asked
 use Rattle.wh_client.specs.declared.codes.Status.TheVariants.{Other}
-use Rattle.wh_messages.specs.ServerReads as server
+use Rattle.wh_responses.specs.Refusals as server
 
 -- the call was refused since its request is larger than the server takes
 abbrev pub IsTooLarge : AskFault → Type 0

@@ -4,8 +4,8 @@ use Rattle.serde_json.specs.Data.{Data}
 use Rattle.serde_json.specs.View.{view}
 use Rattle.wh_client.specs.Calls.{Gives}
 use Rattle.wh_client.specs.declared.requests.Request.{Request}
-use Rattle.wh_messages.specs.declared.fault.RequestFault.{RequestFault}
-use Rattle.wh_messages.specs.declared.fault.RequestFault.TheVariants.{OutOfMemory}
+use Rattle.wh_commands.specs.declared.fault.RequestFault.{RequestFault}
+use Rattle.wh_commands.specs.declared.fault.RequestFault.TheVariants.{OutOfMemory}
 
 -- a call of this method with these parameters
 pub record IsRequest (request : Request) (method : List ℕ) (params : Data) : Type 0 where

@@ -12,7 +12,7 @@ use serde_json::Value;
 use std::alloc::AllocError;
 use wh_events::OutOfMemory;
 use wh_json::ReadFault;
-use wh_messages::is_too_large;
+use wh_responses::is_too_large;
 use wh_rpc::{CallFault, Outcome};
 
 /// Why a call gave no result that can be used.

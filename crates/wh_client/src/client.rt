@@ -2,9 +2,9 @@
 
 ghost use Rattle.std.specs.Prelude.{◌≡◌, IfErr, IfOk, Some, map};
 ghost use Rattle.serde_json.specs.View.{view};
-ghost use Rattle.wh_messages.specs.Responses.{poll_seen};
+ghost use Rattle.wh_responses.specs.Responses.{poll_seen};
 ghost use Rattle.wh_client.specs.Histories.{HandsOn, HasAllMembers, IsWhole, ReadsEvents};
-ghost use Rattle.wh_messages.specs.CarryingOver.{carried_in, carried_seen};
+ghost use Rattle.wh_commands.specs.CarryingOver.{carried_in, carried_seen};
 ghost use Rattle.wh_client.specs.Polls.{IsActivityPoll, IsWorkflowPoll};
 ghost use Rattle.wh_client.specs.Refusals.{HasNoMeaning};
 
@@ -15,20 +15,22 @@ use crate::options::LiveOptions;
 use crate::pages::{append_pages, ask_first_page};
 use serde_json::Value;
 use std::alloc::Global;
+use wh_commands::{CarriedOver, carried_over};
 use wh_events::{Event, RunKey, Text};
+use wh_heartbeat::ActivityCell;
 use wh_json::{ReadFault, read_members};
-use wh_messages::{
-    ActivityPoll, CarriedOver, HistoryPage, WorkflowPoll, activity_poll, carried_over,
-    poll_activity, poll_workflow, workflow_poll,
-};
+use wh_requests::{poll_activity, poll_workflow};
+use wh_responses::{ActivityPoll, HistoryPage, WorkflowPoll, activity_poll, workflow_poll};
 
-/// The client of a server's calls, with what all workers of a process share.
+/// The client of a server's calls for a worker, with what all workers of a process share.
 #[derive(Drop)]
 pub struct Client<'a, L> {
     /// What its calls go through.
     pub connection: &'a L,
     /// What it says of the worker.
     pub options: &'a LiveOptions,
+    /// What is known of the activity task that the worker runs, where its handler may beat.
+    pub cell: Option<&'a ActivityCell>,
 }
 
 /// Why a poll failed whose page could not be had. What the page was refused with says nothing of

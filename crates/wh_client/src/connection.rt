@@ -2,7 +2,10 @@
 
 use serde_json::Value;
 use std::alloc::Global;
+use wh_events::Text;
 use wh_ghost_list::GhostList;
+use wh_heartbeat::ActivityCell;
+use wh_responses::QueryPoll;
 use wh_rpc::{CallFault, Outcome};
 
 /// What a live source works through: calls of the server, and reports. Many workers share it. Its
@@ -11,10 +14,12 @@ use wh_rpc::{CallFault, Outcome};
 /// Which results a request may get is what an implementation says of its server: where a bridge lies
 /// between, it can say nothing.
 pub trait Connection {
-    ghost use Rattle.std.specs.Prelude.{◌≡◌, ◌++◌, ◌∷◌, [], ℕ, List, IfOk};
+    ghost use Rattle.std.specs.Prelude.{◌≡◌, ◌++◌, ◌∷◌, [], ℕ, List, IfOk, true};
     ghost use Rattle.serde_json.specs.Data.{Data};
     ghost use Rattle.serde_json.specs.View.{view};
     ghost use Rattle.wh_client.specs.Calls.{OnGiven};
+    ghost use Rattle.wh_client.specs.Heartbeats.{WasCancelled};
+    ghost use Rattle.wh_client.specs.Polls.{GivesQuery};
 
     /// Which results a request may get, by its method and its parameters.
     ghost gives: { List ℕ → Data → Data → Type 0 };
@@ -32,11 +37,24 @@ pub trait Connection {
     fn poll(&self, method: &str, params: Value) -> Result<(u64, Outcome), CallFault>
         ensures { IfOk result (λ response. OnGiven (gives method.now (view params)) response.1) };
 
+    /// Hands a query that a poll gave on to what answers queries beside the workers. It comes back where
+    /// nothing does.
+    fn hand_on(&self, query: QueryPoll) -> Result<(), QueryPoll>
+        requires { GivesQuery gives query };
+
     /// Writes a line on what went wrong.
     fn report(&self, what: &str);
 
     /// Writes a line on a task, with the time.
     fn log(&self, what: &str);
+
+    /// Notes in a worker's cell that the activity task of the token runs now.
+    fn begin_activity(&self, cell: &ActivityCell, token: &Text);
+
+    /// Whether a heartbeat for the activity task of the token, as the worker's cell knows, was told that
+    /// the activity is to be cancelled.
+    fn was_cancelled(&self, cell: &ActivityCell, token: &Text) -> bool
+        ensures { result ≡ true → WasCancelled gives token.now };
 
     /// Waits so many milliseconds, and notes that in the list of pauses that were made.
     fn pause(&self, milliseconds: u64, pauses: &mut GhostList<u64>)

@@ -3,7 +3,7 @@
 ghost use Rattle.std.specs.Prelude.{◌≡◌};
 ghost use Rattle.wh_client.specs.Roles.{polls_sticky};
 
-use wh_messages::WorkerNames;
+use wh_commands::WorkerNames;
 use wh_policies::Policies;
 
 /// What all workers of a process share.

@@ -2,14 +2,16 @@
 
 ghost use Rattle.std.specs.Prelude.{◌≡◌, [], IfOk, OnOk, map};
 ghost use Rattle.serde_json.specs.View.{view};
-ghost use Rattle.wh_messages.specs.Responses.{page_seen};
+ghost use Rattle.wh_responses.specs.Responses.{page_seen};
 ghost use Rattle.wh_client.specs.Pages.{BeginsWith, IsPaged, ReadsOn};
 
 use crate::asking::{AskFault, ask};
 use crate::connection::Connection;
 use serde_json::Value;
+use wh_commands::WorkerNames;
 use wh_events::{RunKey, Text};
-use wh_messages::{HistoryPage, WorkerNames, history, history_page};
+use wh_requests::history;
+use wh_responses::{HistoryPage, history_page};
 
 /// The most pages of a history.
 const MOST_PAGES: u64 = 1_000_000;

@@ -1,19 +1,20 @@
 //! The requests that answer tasks, and their sending.
 
-ghost use Rattle.std.specs.Prelude.{IfOk, OnOk, codes};
-ghost use Rattle.wh_messages.specs.CarryingOver.{carried_seen};
-ghost use Rattle.wh_messages.specs.Requests.{activity_completed, activity_failed};
-ghost use Rattle.wh_messages.specs.Requests.{workflow_completed, workflow_failed};
+ghost use Rattle.std.specs.Prelude.{IfOk, OnOk, [], codes};
+ghost use Rattle.wh_commands.specs.CarryingOver.{carried_seen};
+ghost use Rattle.wh_requests.specs.Requests.{activity_completed};
+ghost use Rattle.wh_requests.specs.Requests.{workflow_completed, workflow_failed};
 ghost use Rattle.wh_client.specs.Requests.{IsAcknowledged, IsRequest, WritesRequest};
 
 use crate::asking::{AskFault, ask};
 use crate::client::Client;
 use crate::connection::Connection;
 use serde_json::Value;
+use wh_commands::{CarriedOver, RequestFault};
 use wh_events::{Event, OutOfMemory, Payload, Text};
-use wh_messages::{
-    CarriedOver, FailedCause, NO_QUERIES, RequestFault, activity_completed, activity_failed,
-    query_failed, shutdown, workflow_completed, workflow_failed,
+use wh_requests::{
+    FailedCause, NO_QUERIES, activity_completed, query_failed, shutdown, workflow_completed,
+    workflow_failed,
 };
 use wh_workflow::Command;
 
@@ -28,19 +29,18 @@ pub struct Request {
 
 impl<L: Connection> Client<'_, L> {
     /// Completes the workflow task of a token with commands, after the events that they were
-    /// replayed from, and refuses the queries that came with it. What is carried over goes with a
-    /// Continue-As-New alone. The fault is that of the first command that can't be written;
-    /// `OutOfMemory` can come in place of each.
+    /// replayed from. What is carried over goes with a Continue-As-New alone. Queries that came with
+    /// the task get no result, so they come again by themselves. The fault is that of the first
+    /// command that can't be written; `OutOfMemory` can come in place of each.
     pub fn completed(
         &self,
         token: &Text,
-        queries: &[Text],
         commands: &[Command],
         events: &[Event],
         carried: &CarriedOver,
     ) -> Result<Request, RequestFault>
         ensures { WritesRequest result (codes "RespondWorkflowTaskCompleted") (workflow_completed
-            self.now.options.now.names token.now commands.now events.now queries.now
+            self.now.options.now.names token.now commands.now events.now []
             self.now.options.now.sticky self.now.options.now.policies (carried_seen carried.now)) }
     {
         let options = self.options;
@@ -50,7 +50,7 @@ impl<L: Connection> Client<'_, L> {
             token.get(),
             commands,
             events,
-            queries,
+            &[],
             options.sticky,
             &options.policies,
             carried,
@@ -93,19 +93,6 @@ impl<L: Connection> Client<'_, L> {
         Ok(Request {
             method: "RespondActivityTaskCompleted",
             params: activity_completed(alloc, names, token.get(), outcome)?,
-        })
-    }
-
-    /// Fails the activity task of a token, with why the activity failed. `OutOfMemory` where there
-    /// was no memory for the request.
-    pub fn activity_failed(&self, token: &Text, reason: &str) -> Result<Request, OutOfMemory>
-        ensures { IfOk result (λ request. IsRequest request (codes "RespondActivityTaskFailed")
-            (activity_failed self.now.options.now.names token.now reason.now)) }
-    {
-        let (alloc, names) = (self.allocator(), &self.options.names);
-        Ok(Request {
-            method: "RespondActivityTaskFailed",
-            params: activity_failed(alloc, names, token.get(), reason)?,
         })
     }
 

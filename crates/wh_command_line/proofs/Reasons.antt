@@ -8,10 +8,8 @@ use Rattle.clap.specs.declared.error.kind.ErrorKind.{ErrorKind}
 use Rattle.clap.specs.declared.error.kind.ErrorKind.TheVariants.{OutOfMemory}
 use Rattle.wh_command_line.specs.Lines.{program}
 use Rattle.wh_command_line.specs.Refusals.{IfBad}
-use Rattle.wh_command_line.specs.Explanations.{GivesExplanation}
-use Rattle.wh_command_line.specs.Plans.{IsHelp, IsRequest, IsMistake, IsRead, kinds_of, AsksText, HasMistake, IsAskedBy, IsGiven}
+use Rattle.wh_command_line.specs.Plans.{IsHelp, IsRequest, IsMistake, IsRead, kinds_of, AsksText, HasMistake, IsAskedBy}
 use Rattle.wh_command_line.specs.declared.command_line.Plan.{Plan}
-use Rattle.wh_command_line.specs.declared.command_line.Plan.TheVariants as plans
 use Rattle.wh_command_line.specs.declared.command_line.Refusal.{Refusal}
 use Rattle.wh_command_line.specs.declared.command_line.Refusal.TheVariants as refusals
 
@@ -64,13 +62,3 @@ mistaken_by words kind (inl none) mistake = absurd (mistake.2 none)
 pub none_found : (found : Option (Text × List Row)) → None ≡ option_map (λ (p : Text × List Row). p.1) found → found ≡ None
 none_found None none = refl
 none_found (Some p) none = absurd cc
-
--- what `explain` is given is given under its name
-pub explained_by : (name : Text) (rows : List Row) (plan : Plan) → name ≡ codes "explain" → GivesExplanation rows plan → IsGiven name rows plan
-explained_by name rows (plans.Replay dir more format require_files) named given = absurd given
-explained_by name rows (plans.Explain file format) named given = (named, given)
-explained_by name rows (plans.View file selection format) named given = (named, given)
-explained_by name rows (plans.Query file query_type input format) named given = absurd given
-explained_by name rows (plans.Serve dir options require_files) named given = absurd given
-explained_by name rows (plans.Work options) named given = absurd given
-explained_by name rows (plans.Help text) named given = absurd given

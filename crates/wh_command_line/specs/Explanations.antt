@@ -1,50 +1,76 @@
 -- What `explain` is given.
 use Rattle.std.specs.Prelude.{◌≡◌, ◌≢◌, ◌⊎◌, ℕ, Bool, true, false, List, codes, Option, Some, None}
 use Rattle.clap.specs.Words.{Row}
+use Rattle.wh_console.specs.declared.format.Format.TheVariants as formats
 use Rattle.wh_command_line.specs.Given.{GivesFile, GivesFlag, GivesFormat, LacksText, MayGiveWithin, value_named}
 use Rattle.wh_command_line.specs.declared.command_line.Plan.{Plan}
-use Rattle.wh_command_line.specs.declared.command_line.Plan.TheVariants.{Explain, View}
+use Rattle.wh_command_line.specs.declared.command_line.Plan.TheVariants.{Explain, View, Page}
+use Rattle.wh_command_line.specs.declared.explain.Choice.{Choice}
+use Rattle.wh_command_line.specs.declared.explain.Choice.TheVariants.{Nothing, Tasks, Twice}
 use Rattle.wh_view_report.specs.declared.text.Selection.{Selection}
 use Rattle.wh_view_report.specs.declared.text.Selection.TheVariants.{All, Last, Around}
 
--- which tasks the number of an event and a number of last tasks select: not both are given
-abbrev pub selected : (around last : Option ℕ) → Option Selection
-selected None None = Some All
-selected None (Some tasks) = Some (Last tasks)
-selected (Some event) None = Some (Around event)
-selected (Some event) (Some tasks) = None
+-- what the flag for all tasks, the number of an event and a number of last tasks select: one of them may be given
+abbrev pub selected : (all : Bool) (around last : Option ℕ) → Choice
+selected false None None = Nothing
+selected true None None = Tasks All
+selected false None (Some tasks) = Tasks (Last tasks)
+selected false (Some event) None = Tasks (Around event)
+selected _ _ _ = Twice
 
--- which tasks the rows select
-abbrev pub selection_of : List Row → Option Selection
-selection_of rows = selected (value_named rows (codes "around")) (value_named rows (codes "last"))
+-- these tasks are selected, if any are
+abbrev pub Selects : Choice → Option Selection → Type 0
+Selects Nothing selection = selection ≡ None
+Selects (Tasks tasks) selection = selection ≡ Some tasks
+Selects Twice selection = ⊥
 
--- the rows give which tasks are shown
-abbrev pub GivesSelection : List Row → Selection → Type 0
-GivesSelection rows selection = selection_of rows ≡ Some selection
+-- what the rows select, where their flag for all tasks is so
+abbrev pub selected_by : List Row → (all : Bool) → Choice
+selected_by rows all = selected all (value_named rows (codes "around")) (value_named rows (codes "last"))
 
--- the rows give what is no number of an event or of tasks within the limits, or both
+-- the rows give which tasks are shown, if they give any
+abbrev pub GivesSelection : List Row → Option Selection → Type 0
+GivesSelection rows selection = (all : Bool) × GivesFlag (codes "all") rows all × Selects (selected_by rows all) selection
+
+-- the rows give what is no number of an event or of tasks within the limits, or more than one selection
 abbrev pub LacksSelection : List Row → Type 0
 LacksSelection rows = ¬ (MayGiveWithin rows (codes "around") 1 9223372036854775807)
-    ⊎ (¬ (MayGiveWithin rows (codes "last") 1 67108864) ⊎ (selection_of rows ≡ None))
+    ⊎ (¬ (MayGiveWithin rows (codes "last") 1 67108864)
+    ⊎ ((all : Bool) × GivesFlag (codes "all") rows all × (selected_by rows all ≡ Twice)))
 
 -- the rows say whether what is recorded is shown, with nothing replayed
 abbrev pub GivesRecorded : List Row → Bool → Type 0
 GivesRecorded rows recorded = GivesFlag (codes "recorded") rows recorded
 
--- the plan is what the rows ask for: what is recorded is shown where they say so, and else the replay is explained, of
--- which no tasks are selected
+-- the rows say whether a page is written
+abbrev pub GivesHtml : List Row → Bool → Type 0
+GivesHtml rows html = GivesFlag (codes "html") rows html
+
+-- the selection, or all tasks where there is none
+abbrev pub otherwise_all : Option Selection → Selection
+otherwise_all None = All
+otherwise_all (Some selection) = selection
+
+-- what is recorded is shown, of the tasks that the rows select, or of all
+abbrev pub GivesView : List Row → Selection → Type 0
+GivesView rows selection = (given : Option Selection) × GivesSelection rows given × (selection ≡ otherwise_all given)
+
+-- the plan is what the rows ask for: a page where they say so; what is recorded where they say so; and else the replay is
+-- explained
 abbrev pub GivesExplanation : List Row → Plan → Type 0
-GivesExplanation rows (Explain file format) =
-    GivesFile rows file × GivesFormat rows format × GivesRecorded rows false × GivesSelection rows All
-GivesExplanation rows (View file selection format) =
-    GivesFile rows file × GivesFormat rows format × GivesRecorded rows true × GivesSelection rows selection
+GivesExplanation rows (Explain file selection format) = GivesFile rows file × GivesFormat rows format
+    × GivesRecorded rows false × GivesHtml rows false × GivesSelection rows selection
+GivesExplanation rows (View file selection format) = GivesFile rows file × GivesFormat rows format
+    × GivesRecorded rows true × GivesHtml rows false × GivesView rows selection
+GivesExplanation rows (Page file only_recorded) = GivesFile rows file × GivesFormat rows formats.Text
+    × GivesRecorded rows only_recorded × GivesHtml rows true × GivesSelection rows None
 GivesExplanation rows _ = ⊥
 
--- the rows select tasks of a replay
-abbrev pub SelectsOfReplay : List Row → Type 0
-SelectsOfReplay rows = GivesRecorded rows false
-    × ((selection : Selection) × GivesSelection rows selection × (selection ≢ All))
+-- the rows ask for a page, and for another form or for some of its tasks
+abbrev pub MixesPage : List Row → Type 0
+MixesPage rows = GivesHtml rows true
+    × (GivesFormat rows formats.Json ⊎ ((given : Option Selection) × GivesSelection rows given × (given ≢ None)))
 
--- the rows lack the file, or tasks are selected by no such number, by two, or of a replay
+-- the rows lack the file, or select tasks by no such number or more than once, or ask for a page and more
 abbrev pub LacksExplanation : List Row → Type 0
-LacksExplanation rows = LacksText (codes "FILE") rows ⊎ (LacksSelection rows ⊎ SelectsOfReplay rows)
+LacksExplanation rows = LacksText (codes "FILE") rows ⊎ (LacksSelection rows ⊎ MixesPage rows)

@@ -6,4 +6,5 @@ pub mod Plans
 pub mod Queries
 pub mod Refusals
 pub mod Sizes
+pub mod Tables
 pub mod Work

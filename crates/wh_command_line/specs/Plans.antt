@@ -9,9 +9,10 @@ use Rattle.wh_command_line.specs.Lines.{program}
 use Rattle.wh_command_line.specs.Options.{GivesFewSlots}
 use Rattle.wh_command_line.specs.Queries.{GivesQuery, LacksQuery}
 use Rattle.wh_command_line.specs.Sizes.{GivesAllWithin, GivesNumbers}
+use Rattle.wh_command_line.specs.Tables.{GivesCheck, GivesTrial, LacksCheck}
 use Rattle.wh_command_line.specs.Work.{GivesFewWorkSlots, GivesWork, LacksWork}
 use Rattle.wh_command_line.specs.declared.command_line.Plan.{Plan}
-use Rattle.wh_command_line.specs.declared.command_line.Plan.TheVariants.{Replay, Explain, View, Query, Serve, Work, Help}
+use Rattle.wh_command_line.specs.declared.command_line.Plan.TheVariants.{Replay, Explain, View, Page, Query, Check, Picture, Try, Serve, Work, Help}
 
 -- the plan is to print a text
 abbrev pub IsHelp : Plan → Type 0
@@ -23,9 +24,14 @@ abbrev pub IsGiven : Text → List Row → Plan → Type 0
 IsGiven name rows (Replay dir more format require_files) = (name ≡ codes "replay")
     × GivesPaths rows dir more.items × GivesFormat rows format
     × GivesFlag (codes "require-files") rows require_files
-IsGiven name rows (Explain file format) = (name ≡ codes "explain") × GivesExplanation rows (Explain file format)
+IsGiven name rows (Explain file selection format) =
+    (name ≡ codes "explain") × GivesExplanation rows (Explain file selection format)
 IsGiven name rows (View file selection format) =
     (name ≡ codes "explain") × GivesExplanation rows (View file selection format)
+IsGiven name rows (Page file only_recorded) = (name ≡ codes "explain") × GivesExplanation rows (Page file only_recorded)
+IsGiven name rows (Check file more format) = (name ≡ codes "check") × GivesCheck rows (Check file more format)
+IsGiven name rows (Picture file) = (name ≡ codes "check") × GivesCheck rows (Picture file)
+IsGiven name rows (Try file scenario) = (name ≡ codes "try") × GivesTrial rows (Try file scenario)
 IsGiven name rows (Query file query_type input format) =
     (name ≡ codes "query") × GivesQuery rows (Query file query_type input format)
 IsGiven name rows (Serve dir options require_files) = (name ≡ codes "serve") × GivesFolder rows dir
@@ -87,17 +93,19 @@ LacksService rows = LacksText (codes "DIR") rows ⊎ ¬ (GivesAllWithin rows)
 -- the subcommand of a name is none of the program's
 abbrev pub IsNoCommand : Text → Type 0
 IsNoCommand name = (name ≢ codes "replay") × (name ≢ codes "explain") × (name ≢ codes "query")
-    × (name ≢ codes "serve") × (name ≢ codes "work")
+    × (name ≢ codes "check") × (name ≢ codes "try") × (name ≢ codes "serve") × (name ≢ codes "work")
 
 -- the subcommand of a name can't do with its rows: it lacks its path or name, or a number within its
--- limits, or selects tasks twice, or of a replay
+-- limits, or selects tasks twice, or asks for a page and more
 abbrev pub IsBadGiven : Text → List Row → Type 0
 IsBadGiven name rows =
     ((name ≡ codes "replay") × LacksText (codes "DIR") rows)
     ⊎ (((name ≡ codes "explain") × LacksExplanation rows)
     ⊎ (((name ≡ codes "query") × LacksQuery rows)
+    ⊎ (((name ≡ codes "check") × LacksCheck rows)
+    ⊎ (((name ≡ codes "try") × LacksText (codes "FILE") rows)
     ⊎ (((name ≡ codes "serve") × LacksService rows)
-    ⊎ (((name ≡ codes "work") × LacksWork rows) ⊎ IsNoCommand name))))
+    ⊎ (((name ≡ codes "work") × LacksWork rows) ⊎ IsNoCommand name))))))
 
 -- the words are none of the program's: clap finds a mistake, or it reads them, and there is no
 -- subcommand, or that can't do with what it is given

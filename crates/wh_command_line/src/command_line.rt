@@ -19,6 +19,7 @@ use crate::explain::{explain, explanation_given};
 use crate::options::{CACHE, CACHE_EVENTS, Helps, NumberOption, SLOTS, WORKERS};
 use crate::query::{query, query_given};
 use crate::serve_options::ServeOptions;
+use crate::tables::{check, check_given, trial, trial_given};
 use crate::work::{WorkOptions, work};
 use clap::error::ErrorKind;
 use clap::{Arg, ArgAction, ArgMatches, Command, Error};
@@ -55,6 +56,8 @@ pub enum Plan {
     /// Explain the replay of the history in a file.
     Explain {
         file: Text,
+        /// Which of its tasks are shown. Where none are named, those that matter.
+        selection: Option<Selection>,
         /// In which form the explanation is written.
         format: Format,
     },
@@ -66,6 +69,12 @@ pub enum Plan {
         /// In which form they are written.
         format: Format,
     },
+    /// Write a page of the run whose history is in a file.
+    Page {
+        file: Text,
+        /// Whether it shows what is recorded, and nothing is replayed.
+        only_recorded: bool,
+    },
     /// Query the workflow after the last task of the history in a file.
     Query {
         file: Text,
@@ -74,6 +83,25 @@ pub enum Plan {
         input: Vec<Text>,
         /// In which form the result is written.
         format: Format,
+    },
+    /// Check workflows that are tables in files.
+    Check {
+        /// The first file.
+        file: Text,
+        /// The other files, in their order.
+        more: Vec<Text>,
+        /// In which form the report is written.
+        format: Format,
+    },
+    /// Write a page of the table in a file.
+    Picture {
+        file: Text,
+    },
+    /// Try the table in a file on a scenario.
+    Try {
+        file: Text,
+        /// The scenario. Where there is none, it is in the file beside that of the table.
+        scenario: Option<Text>,
     },
     /// Serve the tasks of each history in a folder. There are at least as many slots as workers.
     Serve {
@@ -170,16 +198,17 @@ fn with_value_name<'a>(argument: Arg<'a>, name: &'a str) -> Arg<'a>
     argument.value_name(name)
 }
 
-/// The argument that names what is replayed, by one path or more.
-fn paths_argument<'a>(alloc: Global) -> Arg<'a>
+/// The argument that names paths, of which there is one or more, with its help and the name that the
+/// help has for a path.
+pub(crate) fn paths_argument<'a>(alloc: Global, help: &'a str, value_name: &'a str) -> Arg<'a>
     ensures rule { rule_of result ≡ paths }
     ensures local { result.global ≡ false }
 {
     let argument = Arg::new(alloc, "DIR")
         .required(true)
         .action(ArgAction::Append)
-        .help("A folder whose .json files are read, a file, or - for the standard input");
-    with_value_name(argument, "PATH")
+        .help(help);
+    with_value_name(argument, value_name)
 }
 
 /// A flag, with its help.
@@ -292,7 +321,12 @@ fn replay<'a>(alloc: Global) -> Result<Command<'a>, AllocError>
         "replay",
         "Replays each history of folders and files, and prints a line for each",
     );
-    let command = with_argument(Ok(command), paths_argument(alloc));
+    let paths = paths_argument(
+        alloc,
+        "A folder whose .json files are read, a file, or - for the standard input",
+        "PATH",
+    );
+    let command = with_argument(Ok(command), paths);
     let json = flag_argument(alloc, "json", "Prints the report as JSON");
     let command = with_argument(command, json);
     with_argument(command, require_files_argument(alloc))
@@ -357,6 +391,8 @@ fn command<'a>(alloc: Global, name: &str, helps: &'a Helps) -> Result<Command<'a
     let program = with_subcommand(program_alone(alloc, name), replay(alloc));
     let program = with_subcommand(program, explain(alloc));
     let program = with_subcommand(program, query(alloc));
+    let program = with_subcommand(program, check(alloc));
+    let program = with_subcommand(program, trial(alloc));
     let program = with_subcommand(program, serve(alloc, helps));
     with_subcommand(program, work(alloc, helps))
 }
@@ -442,7 +478,10 @@ fn no_path(alloc: Global) -> Refusal
 }
 
 /// The paths that a subcommand is given: the first, and the others in their order.
-fn paths_given(alloc: Global, given: &ArgMatches<'_>) -> Result<(Text, Vec<Text>), Refusal>
+pub(crate) fn paths_given(
+    alloc: Global,
+    given: &ArgMatches<'_>,
+) -> Result<(Text, Vec<Text>), Refusal>
     ensures given { IfOk result (λ paths. GivesPaths (rows_of (found_of given.now)) paths.0 paths.1.items) }
     ensures slots { result ≢ Err Refusal.FewSlots }
     ensures bad { IfErr result (IfBad (LacksText (codes "DIR") (rows_of (found_of given.now)))) }
@@ -503,6 +542,8 @@ fn asked(alloc: Global, name: &str, given: &ArgMatches<'_>) -> Result<Plan, Refu
         }
         "explain" => explanation_given(alloc, given),
         "query" => query_given(alloc, given),
+        "check" => check_given(alloc, given),
+        "try" => trial_given(alloc, given),
         "serve" => {
             let dir = text_given(alloc, given, "DIR")?;
             let options = ServeOptions::given(alloc, given)?;
@@ -520,7 +561,7 @@ fn asked(alloc: Global, name: &str, given: &ArgMatches<'_>) -> Result<Plan, Refu
 /// `BadLine` holds what is wrong with the line, as it is shown. It comes only where `clap` finds a
 /// mistake, where the line names no subcommand, and where what it gives is no number or one that is
 /// not within its limits, or is an empty name of a Task Queue, or where tasks to be shown are selected
-/// twice, or of a replay. `FewSlots` comes only where the line
+/// twice, or a page is asked for and more. `FewSlots` comes only where the line
 /// names numbers within their limits, with fewer slots than workers. `OutOfMemory` comes where there
 /// is no memory to read it.
 pub fn parse<'a>(alloc: Global, name: &str, words: &'a [String]) -> Result<Plan, Refusal>

@@ -1,9 +1,9 @@
 //! The command `explain`: its arguments, and what it is given.
 
-ghost use Rattle.std.specs.Prelude.{◌≡◌, ◌≢◌, ◌≤◌, ◌<◌, ◌^◌, false, Err, IfOk, IfErr, IfSome};
+ghost use Rattle.std.specs.Prelude.{◌≡◌, ◌≢◌, ◌⊎◌, ◌≤◌, ◌<◌, ◌^◌, false, None, true, codes, Err, IfOk, IfErr, IfSome};
 ghost use Rattle.clap.specs.Words.{App, found_of, rows_of, rule_of};
 ghost use Rattle.wh_command_line.specs.Explanations.{GivesExplanation, GivesSelection, LacksExplanation};
-ghost use Rattle.wh_command_line.specs.Explanations.{LacksSelection, selected};
+ghost use Rattle.wh_command_line.specs.Explanations.{LacksSelection, Selects, otherwise_all, selected};
 ghost use Rattle.wh_command_line.specs.Lines.{StandsFor, explain, with_selections};
 ghost use Rattle.wh_command_line.specs.Options.{IsWithinLimits, option};
 ghost use Rattle.wh_command_line.specs.Refusals.{IfBad};
@@ -15,7 +15,8 @@ use crate::command_line::{
 use crate::options::NumberOption;
 use clap::{Arg, ArgMatches, Command};
 use std::alloc::{AllocError, Global};
-use wh_events::EventNo;
+use wh_console::Format;
+use wh_events::{EventNo, Text};
 use wh_view_report::Selection;
 
 /// The event whose task is shown.
@@ -23,7 +24,7 @@ const AROUND: NumberOption = NumberOption {
     name: "around",
     otherwise: "",
     value_name: "EVENT",
-    about: "With --recorded: only the task of this event, two before and two after it",
+    about: "Only the task of this event, two before and two after it",
     least: 1,
     most: EventNo::LAST,
 };
@@ -33,7 +34,7 @@ const LAST: NumberOption = NumberOption {
     name: "last",
     otherwise: "",
     value_name: "N",
-    about: "With --recorded: only the last N tasks",
+    about: "Only the last N tasks",
     least: 1,
     most: 67_108_864,
 };
@@ -54,6 +55,12 @@ fn with_selections<'a>(
     ensures { (app : App) → IfOk command.entry (StandsFor app)
         → IfOk result (StandsFor (with_selections app)) }
 {
+    let all = flag_argument(
+        alloc,
+        "all",
+        "All tasks, also those that are alike or have nothing to do with a fault",
+    );
+    let command = with_argument(command, all);
     let command = with_argument(command, selection_argument(alloc, &AROUND));
     with_argument(command, selection_argument(alloc, &LAST))
 }
@@ -80,45 +87,93 @@ pub(crate) fn explain<'a>(alloc: Global) -> Result<Command<'a>, AllocError>
         "recorded",
         "Prints what is recorded, of any workflow type, and replays nothing",
     );
-    with_selections(alloc, with_argument(command, recorded))
+    let command = with_argument(command, recorded);
+    let html = flag_argument(alloc, "html", "Prints a page of the run as one HTML file");
+    with_selections(alloc, with_argument(command, html))
 }
 
-/// Which tasks the numbers of options select: none of both is given for all, and not both of them.
-fn selected(around: Option<u64>, last: Option<u64>) -> Option<Selection>
+/// What options select.
+#[derive(Clone, Copy)]
+enum Choice {
+    /// Nothing: none of them is given.
+    Nothing,
+    /// These tasks.
+    Tasks(Selection),
+    /// More than one of them is given.
+    Twice,
+}
+
+/// What the flag for all tasks and the numbers of options select.
+fn selected(all: bool, around: Option<u64>, last: Option<u64>) -> Choice
     requires around { IfSome around (λ n. (1 ≤ n) × (n < 2 ^ 63)) }
     requires last { IfSome last (λ n. n ≤ 67108864) }
-    ensures { result ≡ selected around last }
+    ensures { result ≡ selected all around last }
 {
-    match (around, last) {
-        (None, None) => Some(Selection::All),
-        (None, Some(tasks)) => Some(Selection::Last(tasks as usize)),
-        (Some(event), None) => Some(Selection::Around(EventNo::new(event)?)),
-        (Some(_), Some(_)) => None,
+    match (all, around, last) {
+        (false, None, None) => Choice::Nothing,
+        (true, None, None) => Choice::Tasks(Selection::All),
+        (false, None, Some(tasks)) => Choice::Tasks(Selection::Last(tasks as usize)),
+        (false, Some(event), None) => match EventNo::new(event) {
+            Some(event) => Choice::Tasks(Selection::Around(event)),
+            None => Choice::Twice,
+        },
+        _ => Choice::Twice,
     }
 }
 
-/// Which tasks a subcommand is given.
-fn selection_given(alloc: Global, given: &ArgMatches<'_>) -> Result<Selection, Refusal>
+/// Which tasks a subcommand is given, if it is given any.
+fn selection_given(alloc: Global, given: &ArgMatches<'_>) -> Result<Option<Selection>, Refusal>
     ensures given { IfOk result (GivesSelection (rows_of (found_of given.now))) }
     ensures slots { result ≢ Err Refusal.FewSlots }
     ensures bad { IfErr result (IfBad (LacksSelection (rows_of (found_of given.now)))) }
 {
     let around = AROUND.number_if_given(alloc, given)?;
     let last = LAST.number_if_given(alloc, given)?;
-    match selected(around, last) {
-        Some(selection) => Ok(selection),
-        None => Err(bad_line(String::from_str(
+    let all = flag_given(given, "all");
+    match selected(all, around, last) {
+        Choice::Nothing => Ok(None),
+        Choice::Tasks(selection) => Ok(Some(selection)),
+        Choice::Twice => Err(bad_line(String::from_str(
             alloc,
-            "error: --around and --last can't be given together\n",
+            "error: --all, --around and --last can't be given together\n",
         ))),
     }
 }
 
-/// The refusal of a line that selects tasks of a replay.
-fn no_selection(alloc: Global) -> Refusal
-    ensures { result ≢ Refusal.FewSlots }
+/// The plan to write a page, which has a form of its own and all tasks.
+fn page_plan(
+    alloc: Global,
+    file: Text,
+    only_recorded: bool,
+    format: Format,
+    selection: Option<Selection>,
+) -> Result<Plan, Refusal>
+    ensures page { IfOk result (λ plan. plan ≡ Plan.Page file only_recorded) }
+    ensures text { IfOk result (λ _. format ≡ Format.Text) }
+    ensures all { IfOk result (λ _. selection ≡ None) }
+    ensures slots { result ≢ Err Refusal.FewSlots }
+    ensures bad { IfErr result (IfBad ((format ≡ Format.Json) ⊎ (selection ≢ None))) }
 {
-    bad_line(String::from_str(alloc, "error: --around and --last need --recorded\n"))
+    match (format, selection) {
+        (Format::Text, None) => Ok(Plan::Page {
+            file,
+            only_recorded,
+        }),
+        _ => Err(bad_line(String::from_str(
+            alloc,
+            "error: --html can't be given with --json, --all, --around or --last\n",
+        ))),
+    }
+}
+
+/// The selection, or all tasks where there is none.
+fn otherwise_all(selection: Option<Selection>) -> Selection
+    ensures { result ≡ otherwise_all selection }
+{
+    match selection {
+        Some(selection) => selection,
+        None => Selection::All,
+    }
 }
 
 /// The plan of the subcommand `explain`.
@@ -131,15 +186,20 @@ pub(crate) fn explanation_given(alloc: Global, given: &ArgMatches<'_>) -> Result
     let file = text_given(alloc, given, "FILE")?;
     let selection = selection_given(alloc, given)?;
     let format = format_given(given);
-    if flag_given(given, "recorded") {
+    let recorded = flag_given(given, "recorded");
+    if flag_given(given, "html") {
+        return page_plan(alloc, file, recorded, format, selection);
+    }
+    if recorded {
         return Ok(Plan::View {
             file,
-            selection,
+            selection: otherwise_all(selection),
             format,
         });
     }
-    match selection {
-        Selection::All => Ok(Plan::Explain { file, format }),
-        _ => Err(no_selection(alloc)),
-    }
+    Ok(Plan::Explain {
+        file,
+        selection,
+        format,
+    })
 }

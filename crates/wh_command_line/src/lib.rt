@@ -7,6 +7,7 @@ mod explain;
 mod options;
 mod query;
 mod serve_options;
+mod tables;
 mod work;
 
 pub use command_line::{Plan, Refusal, parse};

@@ -10,7 +10,7 @@ use Rattle.wh_host.specs.declared.config.Config.{Config}
 use Rattle.wh_ledger.specs.Shares.{no_shares}
 use Rattle.wh_ledger.specs.declared.Shares.{Shares}
 use Rattle.wh_live.specs.Deliveries.{ComesFrom, LiveView, fresh}
-use Rattle.wh_messages.specs.declared.names.WorkerNames.{WorkerNames}
+use Rattle.wh_commands.specs.declared.names.WorkerNames.{WorkerNames}
 use Rattle.wh_poll.specs.Ends.{IsEndOf}
 use Rattle.wh_poll.specs.Turns.{Hears}
 use Rattle.wh_poll.specs.declared.setup.WorkerEnd.{WorkerEnd}

@@ -4,7 +4,7 @@ use Rattle.std.proofs.lemmas.Grind.{replicate_next}
 use Rattle.std.proofs.lemmas.List.{length-append, map-append}
 use Rattle.wh_crew.specs.Crews.{role_at, roles_of, sources_of}
 use Rattle.wh_live.specs.Deliveries.{fresh}
-use Rattle.wh_messages.specs.declared.names.WorkerNames.{WorkerNames}
+use Rattle.wh_commands.specs.declared.names.WorkerNames.{WorkerNames}
 
 -- what is shown of the setups, with one setup more
 pub shown_more : {X Y : Type 0} (show : X → Y) (setups new : List X) (setup : X) (before : List Y) → new ≡ setups ++ setup ∷ [] → map show setups ≡ before → map show new ≡ before ++ show setup ∷ []

@@ -4,7 +4,7 @@ use Rattle.std.specs.Prelude.{◌≡◌, ◌<◌, ◌≤◌, ℕ, zero, suc, ◌
 use Rattle.wh_client.specs.declared.options.Role.{Role}
 use Rattle.wh_client.specs.declared.options.Role.TheVariants.{Normal, Sticky, Activities}
 use Rattle.wh_live.specs.Deliveries.{LiveView, fresh}
-use Rattle.wh_messages.specs.declared.names.WorkerNames.{WorkerNames}
+use Rattle.wh_commands.specs.declared.names.WorkerNames.{WorkerNames}
 
 -- how many workflow workers poll the queue of all workers: with a cache one in five, and at least one, else all
 abbrev pub normal_workers : ℕ → Bool → ℕ

@@ -6,7 +6,11 @@ use std::sync::Wait;
 use std::thread;
 use std::time::{Clock, Duration};
 use wh_client::Connection;
+use wh_events::Text;
 use wh_ghost_list::GhostList;
+use wh_heartbeat::ActivityCell;
+use wh_query_desk::QueryQueue;
+use wh_responses::QueryPoll;
 use wh_rpc::{CallFault, Caller, Outcome};
 use wh_tester::Shown;
 
@@ -18,6 +22,8 @@ pub(crate) struct BridgeConnection<'a, R, C> {
     pub(crate) calls: &'a C,
     /// What the program is called, which stands before each report.
     pub(crate) name: &'a str,
+    /// Where queries are handed on.
+    pub(crate) queries: QueryQueue,
 }
 
 /// The time in whole seconds since 1970, 0 where there is no clock.
@@ -43,6 +49,10 @@ impl<R: Wait + Clock + Eprint, C: Caller> Connection for BridgeConnection<'_, R,
         self.calls.poll(self.rt, method, params)
     }
 
+    fn hand_on(&self, query: QueryPoll) -> Result<(), QueryPoll> {
+        self.queries.hand_on(self.rt, query)
+    }
+
     fn report(&self, what: &str) {
         let name = Shown(self.name);
         let _ = eprintln!(self.rt; "{name}: {what}");
@@ -51,6 +61,14 @@ impl<R: Wait + Clock + Eprint, C: Caller> Connection for BridgeConnection<'_, R,
     fn log(&self, what: &str) {
         let seconds = seconds(self.rt);
         let _ = eprintln!(self.rt; "{seconds} {what}");
+    }
+
+    fn begin_activity(&self, cell: &ActivityCell, token: &Text) {
+        cell.begin(self.rt, token);
+    }
+
+    fn was_cancelled(&self, cell: &ActivityCell, token: &Text) -> bool {
+        cell.was_cancelled(self.rt, token)
     }
 
     fn pause(&self, milliseconds: u64, pauses: &mut GhostList<u64>) {

@@ -5,8 +5,10 @@ ghost use Rattle.wh_crew.specs.Counts.{tallies_of};
 ghost use Rattle.wh_crew.specs.Crews.{normal_workers, role_at, sources_of};
 
 use std::alloc::Global;
+use std::sync::Arc;
 use wh_client::{Connection, LiveOptions, Role};
 use wh_events::OutOfMemory;
+use wh_heartbeat::ActivityCell;
 use wh_live::{LiveSource, Tally};
 use wh_poll::{WorkerEnd, WorkerSetup};
 
@@ -39,14 +41,23 @@ fn role_at(normal: usize, workers: usize, place: usize) -> Role
     }
 }
 
-/// A setup for each worker, with turns without end. Each polls what is for its place.
-/// `OutOfMemory` where there was no memory.
+/// The cell of a place, if it has one.
+fn cell_at(cells: &[Arc<ActivityCell>], place: usize) -> Option<&ActivityCell> {
+    match cells.get(place) {
+        Some(cell) => Some(&**cell),
+        None => None,
+    }
+}
+
+/// A setup for each worker, with turns without end. Each polls what is for its place, and has the cell
+/// of its place. `OutOfMemory` where there was no memory.
 pub(crate) fn setups_of<'a, L: Connection, A: Drop, O: Drop>(
     alloc: Global,
     connection: &'a L,
     options: &'a LiveOptions,
     workers: usize,
     crew: Vec<(A, O)>,
+    cells: &'a [Arc<ActivityCell>],
 ) -> Result<Vec<WorkerSetup<LiveSource<'a, L>, A, O>>, OutOfMemory>
     ensures count { IfOk result (λ setups. vec_len setups ≡ vec_len crew) }
     ensures members { IfOk result (λ setups. map (λ setup. (setup.handler, setup.observer)) setups.items ≡ crew.items) }
@@ -59,7 +70,8 @@ pub(crate) fn setups_of<'a, L: Connection, A: Drop, O: Drop>(
     let mut setups = Vec::new(alloc);
     for (handler, observer) in crew {
         let role = role_at(normal, workers, setups.len());
-        let source = LiveSource::new(connection, options, role);
+        let cell = cell_at(cells, setups.len());
+        let source = LiveSource::new(connection, options, role, cell);
         setups.push(WorkerSetup {
             source,
             handler,

@@ -3,7 +3,10 @@
 
 mod bridge_connection;
 mod crews;
+mod heartbeats;
+mod hosting;
 pub mod laws;
 mod serving;
 
+pub use heartbeats::LiveHeartbeat;
 pub use serving::{LiveEnd, read_input, serve_live};

@@ -6,19 +6,22 @@ ghost use Rattle.wh_host.specs.Machine.{IsConfig};
 
 use crate::bridge_connection::BridgeConnection;
 use crate::crews::{gathered, setups_of};
+use crate::hosting::run_host_answering;
 use std::alloc::Global;
 use std::io::BufReader;
-use std::sync::Wait;
+use std::sync::{Arc, Wait};
 use std::thread::Threads;
 use std::time::Clock;
 use wh_client::{Client, LiveOptions};
 use wh_companion::Companion;
+use wh_heartbeat::ActivityCell;
 use wh_host::{Config, OpenFault, Totals};
 use wh_live::{LiveSource, Tally};
-use wh_poll::{ActivityHandler, Observer, OpenGate, run_host_beside};
+use wh_poll::{ActivityHandler, Observer};
+use wh_query_desk::QueryQueue;
+use wh_queryable::Queryable;
 use wh_rpc::{Caller, read_lines};
 use wh_tester::Shown;
-use wh_workflow::Workflow;
 
 /// What is left of a host whose tasks a server gave.
 #[derive(Clone, Copy, Debug)]
@@ -47,6 +50,15 @@ pub fn read_input<R: Wait + Input + Eprint, C: Caller>(
     }
 }
 
+/// The client of a process, which runs no activity itself.
+fn client_of<'x, L>(connection: &'x L, options: &'x LiveOptions) -> Client<'x, L> {
+    Client {
+        connection,
+        options,
+        cell: None,
+    }
+}
+
 /// Opens a host of these sizes, runs a worker in a thread of its own for each member of the crew
 /// over the calls of a server, and closes the host once all have ended: where the calls are closed,
 /// and where no poll will do better.
@@ -57,6 +69,12 @@ pub fn read_input<R: Wait + Input + Eprint, C: Caller>(
 /// without a cache all poll the first. So one worker of workflows alone polls no queue of its
 /// process: with it `options.sticky` is to be `None`, or the tasks of its runs wait there in vain.
 ///
+/// The cells are those of the crew's members, in their order: by them a handler's `LiveHeartbeat` knows
+/// which task it runs. A member without one hears of no cancel.
+///
+/// Queries of runs are answered in one thread more, from a cached run or by replay of the run's history:
+/// they take no slot, and change no count. (Temporal documentation, "Queries".)
+///
 /// The companion, if there is one, looks on beside the workers in one thread more, as `run_host_beside`
 /// of `wh_poll` says. What went wrong is reported on standard error, after the program's name.
 ///
@@ -64,21 +82,23 @@ pub fn read_input<R: Wait + Input + Eprint, C: Caller>(
 /// the crew; `OutOfMemory` where there was no memory. Then the crew is given up. (Temporal
 /// documentation, "Workers": a Worker Process.)
 pub fn serve_live<
-    W: Workflow + Send,
+    'x,
+    W: Queryable + Send,
     R: Threads + Wait + Clock + Eprint + Sync,
     C: Caller + Sync,
     A: ActivityHandler + Send + Drop,
     O: Observer + Send + Drop,
     P: Companion + Sync,
 >(
-    rt: &R,
+    rt: &'x R,
     alloc: Global,
-    name: &str,
+    name: &'x str,
     config: Config,
-    calls: &C,
-    options: &LiveOptions,
+    calls: &'x C,
+    options: &'x LiveOptions,
     workers: usize,
     crew: Vec<(A, O)>,
+    cells: &'x [Arc<ActivityCell>],
     companion: Option<&P>,
 ) -> Result<LiveEnd, OpenFault>
     ensures bad { (result ≡ Err OpenFault.BadConfig) ↔ (¬ (IsConfig config × (config.seats ≡ vec_len crew))) }
@@ -89,15 +109,31 @@ pub fn serve_live<
     if config.seats != crew.len() || !config.is_within() {
         return Err(OpenFault::BadConfig);
     }
-    let connection = &BridgeConnection { rt, calls, name };
-    let setups = setups_of(alloc, connection, options, workers, crew)?;
-    let end = run_host_beside::<W, R, LiveSource<'_, BridgeConnection<R, C>>, A, O, OpenGate, P>(
-        rt, alloc, config, setups, &OpenGate, companion,
-    )?;
-    let client = Client {
-        connection,
-        options,
+    let connection = &BridgeConnection {
+        rt,
+        calls,
+        name,
+        queries: QueryQueue::new(alloc),
     };
+    let client = client_of(connection, options);
+    let setups = setups_of(alloc, connection, options, workers, crew, cells)?;
+    let end = run_host_answering::<
+        W,
+        R,
+        LiveSource<'_, BridgeConnection<R, C>>,
+        A,
+        O,
+        P,
+        BridgeConnection<R, C>,
+    >(
+        rt,
+        alloc,
+        config,
+        setups,
+        companion,
+        &client,
+        &connection.queries,
+    )?;
     client.give_up_queue();
     Ok(LiveEnd {
         totals: end.totals,

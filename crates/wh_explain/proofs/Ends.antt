@@ -39,9 +39,11 @@ pub keeps_more : {A : Type 0} (detail : Detail) (kept whole : List A) (one : Opt
 keeps_more Verdict kept whole one other all here = tt
 keeps_more Steps kept whole one other all here = ap (λ l. l ++ option_to_list one) all ∙ ap (λ o. whole ++ option_to_list o) here
 
-pub keeps_task : (detail : Detail) (at : ℕ) (kept steps : List Step) (ending : Option Ending) (whole : Ending) → Keeps detail kept steps → Keeps detail ending (Some whole) → Keeps detail (option_map (explained_task at kept) ending) (Some (explained_task at steps whole))
-keeps_task Verdict at kept steps ending whole all here = tt
-keeps_task Steps at kept steps ending whole all here = ap (λ l. option_map (explained_task at l) ending) all ∙ ap (option_map (explained_task at steps)) here
+pub keeps_task : (detail : Detail) (at : ℕ) (told given : List ℕ) (kept steps : List Step) (ending : Option Ending) (whole : Ending) → Keeps detail told given → Keeps detail kept steps → Keeps detail ending (Some whole)
+    → Keeps detail (option_map (explained_task at told kept) ending) (Some (explained_task at given steps whole))
+keeps_task Verdict at told given kept steps ending whole known all here = tt
+keeps_task Steps at told given kept steps ending whole known all here =
+    ap (λ n. option_map (explained_task at n kept) ending) known ∙ (ap (λ l. option_map (explained_task at given l) ending) all ∙ ap (option_map (explained_task at given steps)) here)
 
 -- ---- where nothing differs
 

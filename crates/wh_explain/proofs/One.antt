@@ -17,12 +17,13 @@ use Rattle.wh_explain.specs.declared.explanation.ExplainedTask.{ExplainedTask}
 use Rattle.wh_explain.specs.Explaining.{ending_of, stops, IsTask, AreTasks, all, stopped, passed, AreTasksIf, AreTasksPlaced}
 use Rattle.wh_explain.specs.Laws.{OneExplains}
 
-made : ℕ → List Step → Ending → ExplainedTask
-made at steps ending = record { at = at; steps = steps; ending = ending }
+made : ℕ → List ℕ → List Step → Ending → ExplainedTask
+made at given steps ending = record { at = at; given = given; steps = steps; ending = ending }
 
-same_parts : (one other : ExplainedTask) → one.at ≡ other.at → one.steps ≡ other.steps → one.ending ≡ other.ending → one ≡ other
+same_parts : (one other : ExplainedTask) → one.at ≡ other.at → one.given ≡ other.given → one.steps ≡ other.steps → one.ending ≡ other.ending → one ≡ other
 unfolding made
-same_parts one other a b c = ap (λ x. made x one.steps one.ending) a ∙ (ap (λ x. made other.at x one.ending) b ∙ ap (made other.at other.steps) c)
+same_parts one other a g b c =
+    ap (λ x. made x one.given one.steps one.ending) a ∙ (ap (λ x. made other.at x one.steps one.ending) g ∙ (ap (λ x. made other.at other.given x one.ending) b ∙ ap (made other.at other.given other.steps) c))
 
 both_ways : (one other : Bool) → one ≡ true → other ≡ false → one ≡ other → ⊥
 both_ways one other a b e = cc
@@ -32,7 +33,7 @@ module _ {S : Type 0} (program : Program S) (events : List Event) where
   same_task last number state settled task other t o =
       let context = context_after events last number in
       let steps = one_is_longest program context (jobs_at events last number) state settled task.steps other.steps t.steps o.steps in
-      same_parts task other (t.number ∙ sym o.number) steps (t.ending ∙ (ap (ending_of events context settled) steps ∙ sym o.ending))
+      same_parts task other (t.number ∙ sym o.number) (t.given ∙ sym o.given) steps (t.ending ∙ (ap (ending_of events context settled) steps ∙ sym o.ending))
 
   same_tasks : (last : ℕ) (numbers : List ℕ) (state : S) (settled : Settled) (tasks other : List ExplainedTask) → AreTasks program events last numbers state settled tasks → AreTasks program events last numbers state settled other → tasks ≡ other
   same_tasks last numbers state settled tasks other (all at from versions) (all at2 from2 versions2) = refl

@@ -19,6 +19,7 @@ use Rattle.wh_explain.specs.declared.explanation.Ending.{Ending}
 use Rattle.wh_explain.specs.declared.explanation.Ending.TheVariants.{Live, Recorded}
 use Rattle.wh_explain.specs.declared.explanation.ExplainedTask.{ExplainedTask}
 use Rattle.wh_explain.specs.declared.explanation.Pairing.{Pairing}
+use Rattle.wh_explain.specs.Numbers.{numbers_at}
 use Rattle.wh_explain.specs.Pairings.{pairings}
 use Rattle.wh_explain.specs.Private.Stepping.{Leaves}
 use Rattle.wh_explain.specs.Explaining.{sent_ending, unless_refused, stops, IsTaskAt, IsTask, AreTasks, all, stopped, passed}
@@ -53,10 +54,10 @@ same_ending (Some found) events one other recorded is = refl
 
 module _ {S : Type 0} (program : Program S) where
   -- what is explained of a task that is stepped, and what it leaves
-  pub task_stepped : (events : List Event) (context : ActivationContext) (jobs told : List Job) (at : ℕ) (from state left next : S) (known settled versions more : Settled) (issued : List Command) (steps : List Step) (task : ExplainedTask) (fault : Option WorkflowFault) → jobs ≡ told → from ≡ state → known ≡ settled
-      → task.steps ≡ steps → IsLongest program context jobs from known steps → Leaves program context from known steps fault left versions issued → task.at ≡ at → task.ending ≡ unless_refused fault (sent_ending events (reduced context issued) context.recorded) → next ≡ left → more ≡ versions
-      → IsTaskAt program events context told at state settled task × LeavesTask program state settled task next more
-  task_stepped events context jobs told at from state left next known settled versions more issued steps task fault same begins knows whole longest leaves number ending a b =
+  pub task_stepped : (events : List Event) (context : ActivationContext) (jobs told : List Job) (numbers : List ℕ) (at : ℕ) (from state left next : S) (known settled versions more : Settled) (issued : List Command) (steps : List Step) (task : ExplainedTask) (fault : Option WorkflowFault) → jobs ≡ told → from ≡ state → known ≡ settled
+      → task.steps ≡ steps → IsLongest program context jobs from known steps → Leaves program context from known steps fault left versions issued → task.at ≡ at → task.given ≡ numbers → task.ending ≡ unless_refused fault (sent_ending events (reduced context issued) context.recorded) → next ≡ left → more ≡ versions
+      → IsTaskAt program events context told numbers at state settled task × LeavesTask program state settled task next more
+  task_stepped events context jobs told numbers at from state left next known settled versions more issued steps task fault same begins knows whole longest leaves number given ending a b =
       let Q : S → Settled → List Step → Type 0 = λ s v l. IsLongest program context told s v l × Leaves program context s v l fault left versions issued in
       let there : Q state settled task.steps
       = subst (Q state settled) (sym whole) (subst (λ v. Q state v steps) knows (subst (λ s. Q s known steps) begins (subst (λ l. IsLongest program context l from known steps) same longest, leaves))) in
@@ -64,6 +65,7 @@ module _ {S : Type 0} (program : Program S) where
       let sent = reduced context issued in (
         record {
           number = number;
+          given = given;
           steps = there.0;
           ending =
               ending ∙ (same_ending fault events sent (reduced context (issued_in context settled task.steps)) context.recorded (λ none. ap (reduced context) (does.issued_are none))
@@ -74,9 +76,9 @@ module _ {S : Type 0} (program : Program S) where
 
   -- the task of a cut of the code is that at its number
   pub task_here : (events : List Event) (last : ℕ) (cut : Cut) (state : S) (settled : Settled) (task : ExplainedTask) → IsCutAfter events last cut
-      → IsTaskAt program cut.track.now (context_of cut) (jobs_at cut.track.now cut.previous cut.number) cut.number state settled task → IsTask program events last cut.number state settled task
+      → IsTaskAt program cut.track.now (context_of cut) (jobs_at cut.track.now cut.previous cut.number) (numbers_at cut.track.now cut.previous cut.number) cut.number state settled task → IsTask program events last cut.number state settled task
   task_here events last cut state settled task is here =
-      let P : List Event → ℕ → ActivationContext → Type 0 = λ history previous context. IsTaskAt program history context (jobs_at history previous cut.number) cut.number state settled task in
+      let P : List Event → ℕ → ActivationContext → Type 0 = λ history previous context. IsTaskAt program history context (jobs_at history previous cut.number) (numbers_at history previous cut.number) cut.number state settled task in
       subst (P events last) is.context (subst (λ previous. P events previous (context_of cut)) is.previous (subst (λ history. P history cut.previous (context_of cut)) is.history here))
 
 module _ {S : Type 0} (program : Program S) (events : List Event) where

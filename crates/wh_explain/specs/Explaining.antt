@@ -19,6 +19,7 @@ use Rattle.wh_replay.specs.Views.{context_after}
 use Rattle.wh_explain.specs.declared.explanation.Ending.{Ending}
 use Rattle.wh_explain.specs.declared.explanation.Ending.TheVariants.{Refused, Live, Recorded}
 use Rattle.wh_explain.specs.declared.explanation.ExplainedTask.{ExplainedTask}
+use Rattle.wh_explain.specs.Numbers.{numbers_at}
 use Rattle.wh_explain.specs.Pairings.{pairings, differs}
 
 -- how a task ends that sends this: it is not recorded yet, or what is sent stands beside the record
@@ -45,11 +46,12 @@ stops (Live _) = false
 stops (Recorded pairings) = list_any differs pairings
 
 module _ {S : Type 0} where
-  -- what is explained of a task that is given these jobs: its number, the activation's script, from a state and settled
-  -- versions, and how that ends
-  pub record IsTaskAt (program : Program S) (events : List Event) (context : ActivationContext) (jobs : List Job) (at : ℕ)
-      (state : S) (settled : Settled) (task : ExplainedTask) : Type 0 where
+  -- what is explained of a task that is given these jobs, by events of these numbers: its number, these, the
+  -- activation's script, from a state and settled versions, and how that ends
+  pub record IsTaskAt (program : Program S) (events : List Event) (context : ActivationContext) (jobs : List Job)
+      (numbers : List ℕ) (at : ℕ) (state : S) (settled : Settled) (task : ExplainedTask) : Type 0 where
     pub number : task.at ≡ at
+    pub given : task.given ≡ numbers
     pub steps : IsLongest program context jobs state settled task.steps
     pub ending : task.ending ≡ ending_of events context settled task.steps
 
@@ -58,7 +60,7 @@ module _ {S : Type 0} where
   abbrev pub IsTask : Program S → List Event → (last number : ℕ) → S → Settled → ExplainedTask → Type 0
   IsTask program events last number state settled task =
       IsTaskAt program events (context_after events last number)
-      (jobs_at events last number) number state settled task
+      (jobs_at events last number) (numbers_at events last number) number state settled task
 
   -- what is explained of the cuts of these numbers after the last one: each of them once, in
   -- order, in what the steps before it leave, up to the first that stops

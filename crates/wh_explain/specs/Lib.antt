@@ -1,5 +1,6 @@
 pub mod Pairings
 pub mod Differences
+pub mod Numbers
 pub mod Explaining
 pub mod Laws
 pub mod Private

@@ -166,6 +166,9 @@ pub enum Ending {
 pub struct ExplainedTask {
     /// The number of its cut.
     pub at: EventNo,
+    /// The numbers of the events that gave its jobs, in the order of the steps, but for those whose
+    /// job answers an ask for a version.
+    pub given: Items<EventNo>,
     /// The steps of its activation.
     pub steps: Items<Step>,
     /// How it ends.

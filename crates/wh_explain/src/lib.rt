@@ -5,10 +5,12 @@
 mod explanation;
 mod findings;
 pub mod laws;
+mod numbers;
 mod pairing;
 mod stepping;
 mod walk;
 
 pub use explanation::{Ending, ExplainedTask, Explanation, Pairing, RecordedEvent, Step};
 pub use findings::{Finding, check_file, explain, unknown_type};
+pub use numbers::{left_after, number_of};
 pub use pairing::differs;

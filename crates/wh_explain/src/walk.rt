@@ -7,12 +7,14 @@ ghost use Rattle.wh_workflow.specs.Scripts.{reduced};
 ghost use Rattle.wh_replay.specs.Views.{IsSpan, context_of, span_events};
 ghost use Rattle.wh_replay.specs.Activating.{IsWithin, IsOf};
 ghost use Rattle.wh_explain.specs.Differences.{if_differs, last_of};
+ghost use Rattle.wh_explain.specs.Numbers.{numbers_at};
 ghost use Rattle.wh_explain.specs.Private.Tasks.{IsEnd, IsTaskFinding, IsWalk, difference_in, explained_task};
 ghost use Rattle.wh_explain.specs.declared.explanation.Ending.TheVariants.{Refused};
 ghost use Rattle.wh_replay.specs.declared.fault.Fault.TheVariants.{Workflow as WorkflowFaulty};
 ghost use Rattle.wh_explain.specs.Private.Tasks.{fault_of, if_some, is_passed, mismatch_at};
 
 use crate::explanation::{Detail, Ending, ExplainedTask, Pairing, Step};
+use crate::numbers::numbers_kept;
 use crate::pairing::{differs, pair_up};
 use crate::stepping::step_all;
 use std::alloc::Global;
@@ -263,12 +265,18 @@ fn end_task<W: Workflow>(
 }
 
 /// What is explained of a task that ends so, where that is kept.
-fn task_with(at: EventNo, steps: Vec<Step>, ending: Option<Ending>) -> Option<ExplainedTask>
-    ensures { result ≡ option_map (explained_task at steps.items) ending }
+fn task_with(
+    at: EventNo,
+    given: Vec<EventNo>,
+    steps: Vec<Step>,
+    ending: Option<Ending>,
+) -> Option<ExplainedTask>
+    ensures { result ≡ option_map (explained_task at given.items steps.items) ending }
 {
     match ending {
         Some(ending) => Some(ExplainedTask {
             at,
+            given: Items::new(given),
             steps: Items::new(steps),
             ending,
         }),
@@ -286,15 +294,17 @@ fn find_task<W: Workflow>(
 ) -> Result<TaskFinding<W::State>, OutOfMemory>
     requires within { IsWithin cut.now }
     ensures { let told = jobs_at cut.now.track.now cut.now.previous cut.now.number in
-        IfOk result (λ found. IsTaskFinding detail W.program cut.now.track.now (context_of cut.now) told cut.now.number
+        let numbers = numbers_at cut.now.track.now cut.now.previous cut.now.number in
+        IfOk result (λ found. IsTaskFinding detail W.program cut.now.track.now (context_of cut.now) told numbers cut.now.number
         before.state before.versions found.task found.stop found.left.state found.left.versions) }
 {
+    let given = numbers_kept(alloc, detail, cut)?;
     let jobs = jobs(alloc, cut.track, cut.previous, cut.number)?;
     let mut activation = Activation::<W>::new(alloc, cut, before);
     let (steps, fault) = step_all(alloc, detail, cut, &mut activation, jobs)?;
     let (end, left) = end_task::<W>(alloc, detail, cut, activation, fault)?;
     let TaskEnd { ending, stop } = end;
-    let task = task_with(cut.number, steps, ending);
+    let task = task_with(cut.number, given, steps, ending);
     Ok(TaskFinding { task, stop, left })
 }
 

@@ -25,6 +25,9 @@ use Rattle.wh_explain.specs.declared.explanation.Ending.TheVariants.{Refused, Li
 use Rattle.wh_explain.specs.declared.explanation.ExplainedTask.{ExplainedTask}
 use Rattle.wh_explain.specs.declared.explanation.Explanation.{Explanation}
 use Rattle.wh_explain.specs.Differences.{last_difference}
+use Rattle.wh_explain.specs.Numbers.{left_after, number_of}
+use Rattle.wh_view_report.specs.declared.text.Selection.{Selection}
+use Rattle.wh_explain_report.specs.Selections.{selected_or_all}
 use Rattle.wh_explain.specs.Pairings.{differs}
 use Rattle.wh_explain_report.specs.Phrases.{event_phrase}
 use Rattle.wh_explain_report.specs.Texts.{last_command}
@@ -125,10 +128,24 @@ event_json event = phrase_json (kind_keys event.kind) (event_phrase event)
 abbrev pub gives_object : Command → List ℕ
 gives_object command = codes "{\"gives\":" ++ (command_json command ++ codes "}\n")
 
--- `{"told":JOB}`, and a line for each command that was given at it
-abbrev pub step_objects : Step → List ℕ
-step_objects step =
-    (codes "{\"told\":" ++ (job_json step.job ++ codes "}\n")) ++ flat_map gives_object step.commands
+-- the number of the event that gave a job, if one did, as a member after others
+abbrev pub number_member : Option ℕ → List ℕ
+number_member None = []
+number_member (Some number) = codes ",\"event\":" ++ decimal number
+
+-- `{"told":JOB,"event":NUMBER}`
+abbrev pub told_object : Option ℕ → Job → List ℕ
+told_object number job = codes "{\"told\":" ++ (job_json job ++ (number_member number ++ codes "}\n"))
+
+-- this, and an object for each command that was given at the job
+abbrev pub step_objects : Option ℕ → Step → List ℕ
+step_objects number step = told_object number step.job ++ flat_map gives_object step.commands
+
+-- the steps, where these are the numbers of the events that gave their jobs
+unfoldable pub steps_objects : List ℕ → List Step → List ℕ
+steps_objects left [] = []
+steps_objects left (step ∷ steps) =
+    step_objects (number_of step.job left) step ++ steps_objects (left_after step.job left) steps
 
 -- `{"refuses":COMMAND}`
 abbrev pub refuses_object : Option Command → List ℕ
@@ -176,7 +193,7 @@ ending_objects steps (Recorded pairings) = flat_map pairing_object pairings
 abbrev pub task_objects : ExplainedTask → List ℕ
 task_objects task =
     (codes "{\"task\":" ++ (decimal task.at ++ codes "}\n"))
-    ++ (flat_map step_objects task.steps ++ ending_objects task.steps task.ending)
+    ++ (steps_objects task.given task.steps ++ ending_objects task.steps task.ending)
 
 -- `{"unknownWorkflow":"NAME"}`, where there is no code for the workflow type
 abbrev pub unknown_object : Option (List ℕ) → List ℕ
@@ -198,8 +215,9 @@ abbrev pub last_object : Explanation → List ℕ
 last_object explanation =
     json_line_with explanation.line (difference_members (last_difference explanation.tasks))
 
--- the whole: the workflow type, where there is no code for it, the tasks in their order, and the
--- object of the file
-unfoldable pub json_explanation : Explanation → List ℕ
-json_explanation explanation =
-    unknown_object explanation.unknown ++ (flat_map task_objects explanation.tasks ++ last_object explanation)
+-- the whole: the workflow type, where there is no code for it, the tasks that are selected, or all, in their order, and
+-- the object of the file
+unfoldable pub json_explanation : Option Selection → Explanation → List ℕ
+json_explanation selection explanation =
+    unknown_object explanation.unknown
+    ++ (flat_map task_objects (selected_or_all selection explanation.tasks) ++ last_object explanation)

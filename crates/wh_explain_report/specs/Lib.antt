@@ -1,6 +1,11 @@
 pub mod Times
 pub mod Phrases
 pub mod Texts
+pub mod Sharing
+pub mod Alike
+pub mod Selections
+pub mod TaskTexts
+pub mod Explanations
 pub mod Json
 pub mod Laws
 pub mod Private

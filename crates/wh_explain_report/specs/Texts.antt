@@ -2,17 +2,18 @@
 use Rattle.std.specs.Prelude.{ℕ, List, [], ◌∷◌, ◌++◌, ◌-◌, length, codes, decimal, Option, Some, None, if◌then◌else◌, slice_get}
 use Rattle.std.specs.List.{flat_map}
 use Rattle.wh_workflow.specs.declared.command.Command.{Command}
+use Rattle.wh_workflow.specs.declared.job.Job.{Job}
 use Rattle.wh_workflow.specs.ActivationScripts.{Step}
 use Rattle.wh_workflow.specs.Jobs.{job_phrase}
 use Rattle.wh_workflow.specs.Names.{command_phrase}
-use Rattle.wh_tester.specs.Report.{shown, line_text}
+use Rattle.wh_tester.specs.Report.{shown}
 use Rattle.wh_explain.specs.declared.explanation.RecordedEvent.{RecordedEvent}
 use Rattle.wh_explain.specs.declared.explanation.Pairing.{Pairing}
 use Rattle.wh_explain.specs.declared.explanation.Pairing.TheVariants.{Alike, Different, CommandMissing, CommandExtra}
 use Rattle.wh_explain.specs.declared.explanation.Ending.{Ending}
 use Rattle.wh_explain.specs.declared.explanation.Ending.TheVariants.{Refused, Live, Recorded}
 use Rattle.wh_explain.specs.declared.explanation.ExplainedTask.{ExplainedTask}
-use Rattle.wh_explain.specs.declared.explanation.Explanation.{Explanation}
+use Rattle.wh_explain.specs.Numbers.{left_after, number_of}
 use Rattle.wh_explain.specs.Pairings.{differs}
 use Rattle.wh_explain_report.specs.Phrases.{phrase_text, event_phrase}
 
@@ -20,10 +21,24 @@ use Rattle.wh_explain_report.specs.Phrases.{phrase_text, event_phrase}
 abbrev pub gives_line : Command → List ℕ
 gives_line command = codes "    gives " ++ (phrase_text (command_phrase command) ++ 10 ∷ [])
 
--- `told JOB`, and a line for each command that was given at it
-abbrev pub step_text : Step → List ℕ
-step_text step =
-    (codes "  told " ++ (phrase_text (job_phrase step.job) ++ 10 ∷ [])) ++ flat_map gives_line step.commands
+-- the number of the event that gave a job, if one did
+abbrev pub number_text : Option ℕ → List ℕ
+number_text None = []
+number_text (Some number) = codes " (event " ++ (decimal number ++ codes ")")
+
+-- `told JOB (event NUMBER)`
+abbrev pub told_line : Option ℕ → Job → List ℕ
+told_line number job = codes "  told " ++ (phrase_text (job_phrase job) ++ (number_text number ++ 10 ∷ []))
+
+-- this, and a line for each command that was given at the job
+abbrev pub step_text : Option ℕ → Step → List ℕ
+step_text number step = told_line number step.job ++ flat_map gives_line step.commands
+
+-- the steps, where these are the numbers of the events that gave their jobs
+unfoldable pub steps_text : List ℕ → List Step → List ℕ
+steps_text left [] = []
+steps_text left (step ∷ steps) =
+    step_text (number_of step.job left) step ++ steps_text (left_after step.job left) steps
 
 -- `refuses COMMAND`
 abbrev pub refuses_line : Option Command → List ℕ
@@ -80,15 +95,9 @@ ending_text steps (Recorded pairings) = flat_map pairing_line pairings
 abbrev pub task_text : ExplainedTask → List ℕ
 task_text task =
     (codes "task at " ++ (decimal task.at ++ 10 ∷ []))
-    ++ (flat_map step_text task.steps ++ ending_text task.steps task.ending)
+    ++ (steps_text task.given task.steps ++ ending_text task.steps task.ending)
 
 -- `no code for the workflow type NAME`, where there is none, shown as names in reports are
 abbrev pub unknown_line : Option (List ℕ) → List ℕ
 unknown_line None = []
 unknown_line (Some kind) = codes "no code for the workflow type " ++ (shown kind ++ 10 ∷ [])
-
--- the whole text: the workflow type, where there is no code for it, the tasks in their order, and
--- the line of the file as in the report of replay
-unfoldable pub explanation_text : Explanation → List ℕ
-explanation_text explanation =
-    unknown_line explanation.unknown ++ (flat_map task_text explanation.tasks ++ line_text explanation.line)

@@ -8,7 +8,8 @@ ghost use Rattle.wh_events.specs.Phrases.{phrase_seen};
 ghost use Rattle.wh_explain_report.specs.Texts.{last_command};
 ghost use Rattle.wh_explain_report.specs.Json.{word_member, detail_members, phrase_json, job_json, command_json};
 ghost use Rattle.wh_explain_report.specs.Private.Json.{keys_seen};
-ghost use Rattle.wh_explain_report.specs.Json.{event_json, gives_object, step_objects, refuses_object, recorded_member};
+ghost use Rattle.wh_explain_report.specs.Json.{event_json, gives_object, refuses_object, recorded_member};
+ghost use Rattle.wh_explain_report.specs.Json.{number_member, step_objects, steps_objects, told_object};
 ghost use Rattle.wh_explain_report.specs.Json.{both_members, sends_member, sends_object, pairing_members, pairing_object, ending_objects, task_objects};
 ghost use Rattle.wh_explain_report.specs.Json.{difference_members, json_explanation, last_object, unknown_object};
 ghost use Rattle.wh_explain.specs.Differences.{difference_at, if_differs, last_difference, last_of};
@@ -16,12 +17,17 @@ ghost use Rattle.wh_tester.specs.Json.{following};
 
 use crate::keys::{Keys, command_keys, job_keys, kind_keys};
 use crate::phrase::event_phrase;
+use crate::selection::selected_or_all;
 use crate::times::TimeText;
 use std::io::Write;
 use std::{fmt, io};
-use wh_events::{Detail, Phrase, Text};
-use wh_explain::{Ending, ExplainedTask, Explanation, Pairing, RecordedEvent, Step, differs};
+use wh_events::{Detail, EventNo, Phrase, Text};
+use wh_explain::{
+    Ending, ExplainedTask, Explanation, Pairing, RecordedEvent, Step, differs, left_after,
+    number_of,
+};
 use wh_tester::{EscapedName, write_open_json_line};
+use wh_view_report::Selection;
 use wh_workflow::{Command, Job};
 
 /// A word as a member after another one, where there is a word.
@@ -204,21 +210,49 @@ fn write_commands<O: Write>(commands: &[Command], writer: &mut O) -> io::Result<
     Ok(())
 }
 
-/// Writes the objects of a step.
-fn write_step<O: Write>(step: &Step, writer: &mut O) -> io::Result<()>
-    ensures { OnOk result (Appends (O.contents writer.old) (O.contents writer.new) (step_objects step.now)) }
+/// The number of the event that gave a job, if one did, as a member after others.
+#[derive(Clone, Copy)]
+struct NumberMember(Option<EventNo>);
+
+impl fmt::Display for NumberMember {
+    ghost output = { λ n. Some (number_member n.0) };
+
+    fn fmt<W: fmt::Write>(&self, f: &mut fmt::Formatter<W>) -> fmt::Result {
+        match self.0 {
+            Some(number) => {
+                let number = number.get();
+                write!(f, ",\"event\":{number}")
+            }
+            None => Ok(()),
+        }
+    }
+}
+
+/// Writes the object of a job, which the event of the number gave.
+fn write_told<O: Write>(number: Option<EventNo>, job: &Job, writer: &mut O) -> io::Result<()>
+    ensures { OnOk result (Appends (O.contents writer.old) (O.contents writer.new) (told_object number job.now)) }
 {
-    let job = PhraseJson(job_keys(step.job()), step.job().phrase());
-    write!(writer, "{{\"told\":{job}}}\n")?;
+    let phrase = PhraseJson(job_keys(job), job.phrase());
+    let number = NumberMember(number);
+    write!(writer, "{{\"told\":{phrase}{number}}}\n")
+}
+
+/// Writes the objects of a step, whose job the event of the number gave.
+fn write_step<O: Write>(number: Option<EventNo>, step: &Step, writer: &mut O) -> io::Result<()>
+    ensures { OnOk result (Appends (O.contents writer.old) (O.contents writer.new) (step_objects number step.now)) }
+{
+    write_told(number, step.job(), writer)?;
     write_commands(step.commands(), writer)
 }
 
-/// Writes the objects of steps.
-fn write_steps<O: Write>(steps: &[Step], writer: &mut O) -> io::Result<()>
-    ensures { OnOk result (Appends (O.contents writer.old) (O.contents writer.new) (flat_map step_objects steps.now)) }
+/// Writes the objects of steps, whose jobs the events of these numbers gave.
+fn write_steps<O: Write>(given: &[EventNo], steps: &[Step], writer: &mut O) -> io::Result<()>
+    ensures { OnOk result (Appends (O.contents writer.old) (O.contents writer.new) (steps_objects given.now steps.now)) }
 {
+    let mut left = given;
     for step in steps {
-        write_step(step, writer)?;
+        write_step(number_of(step.job(), left), step, writer)?;
+        left = left_after(step.job(), left);
     }
     Ok(())
 }
@@ -290,7 +324,7 @@ fn write_task<O: Write>(task: &ExplainedTask, writer: &mut O) -> io::Result<()>
 {
     let at = task.at.get();
     write!(writer, "{{\"task\":{at}}}\n")?;
-    write_steps(task.steps.get(), writer)?;
+    write_steps(task.given.get(), task.steps.get(), writer)?;
     write_ending(task.steps.get(), &task.ending, writer)
 }
 
@@ -346,13 +380,15 @@ fn write_last<O: Write>(explanation: &Explanation, writer: &mut O) -> io::Result
 }
 
 /// Writes an explanation as lines of JSON (RFC 8259): an object for each line of the text, with its
-/// parts. Each object stands on a line of its own, with no spaces between its parts, and each line
-/// ends with one line feed. Words are shown as names in the report of replay are.
+/// parts; of the tasks that are selected, or of all where nothing is. Each object stands on a line of
+/// its own, with no spaces between its parts, and each line ends with one line feed. Words are shown
+/// as names in the report of replay are.
 ///
 /// The objects, in the order of the text's lines:
 /// - `{"unknownWorkflow":"NAME"}`, where there is no code for the workflow type;
-/// - `{"task":N}` of each task, then for each step `{"told":JOB}` and `{"gives":COMMAND}` for each
-///   command given at it;
+/// - `{"task":N}` of each task, then for each step `{"told":JOB,"event":N}`, with the number of the
+///   event that gave the job, unless it answers an ask, and `{"gives":COMMAND}` for each command given
+///   at it;
 /// - `{"refuses":COMMAND}`, where the last command can't stand;
 /// - `{"sends":COMMAND,"recorded":{"event":N,"type":EVENT},"differs":false}` of a command and the
 ///   event in its place, with `null` for the one that is missing;
@@ -364,11 +400,15 @@ fn write_last<O: Write>(explanation: &Explanation, writer: &mut O) -> io::Result
 /// `"activityId"`, `"activityType"`, `"timerId"`, `"time"` and `"seconds"`. After an error some of
 /// the lines may have been written.
 #[tactic(auto, unfolding(crate::specs::Json::json_explanation))]
-pub fn write_json_explanation<O: Write>(explanation: &Explanation, writer: &mut O) -> io::Result<()>
+pub fn write_json_explanation<O: Write>(
+    explanation: &Explanation,
+    selection: Option<Selection>,
+    writer: &mut O,
+) -> io::Result<()>
     ensures { OnOk result
-        (Appends (O.contents writer.old) (O.contents writer.new) (json_explanation explanation.now)) }
+        (Appends (O.contents writer.old) (O.contents writer.new) (json_explanation selection explanation.now)) }
 {
     write_unknown(&explanation.unknown, writer)?;
-    write_tasks(explanation.tasks.get(), writer)?;
+    write_tasks(selected_or_all(selection, explanation.tasks.get()), writer)?;
     write_last(explanation, writer)
 }

@@ -11,7 +11,7 @@ use wh_explain::RecordedEvent;
 use wh_tester::Shown;
 
 /// What is shown of a recorded event.
-pub(crate) fn event_phrase(event: &RecordedEvent) -> Phrase<'_>
+pub fn event_phrase(event: &RecordedEvent) -> Phrase<'_>
     ensures { phrase_seen result ≡ event_phrase event.now }
 {
     event.kind.phrase(event.id.get())
@@ -56,9 +56,10 @@ impl fmt::Display for DetailText {
     }
 }
 
-/// The text of a phrase.
+/// The text of a phrase: what is shown of a job, a command or an event, with names as reports show
+/// them.
 #[derive(Clone, Copy)]
-pub(crate) struct PhraseText<'a>(pub(crate) Phrase<'a>);
+pub struct PhraseText<'a>(pub Phrase<'a>);
 
 impl fmt::Display for PhraseText<'_> {
     ghost output = { λ p. Some (phrase_text (phrase_seen p.0)) };

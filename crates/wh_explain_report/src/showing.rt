@@ -6,16 +6,22 @@ ghost use Rattle.std.specs.List.{flat_map};
 ghost use Rattle.std.specs.Io.KnownBytes.{Appends};
 ghost use Rattle.wh_explain_report.specs.Texts.{both_text, differs_text, event_text, gives_line, last_command};
 ghost use Rattle.wh_explain_report.specs.Texts.{pairing_line, refuses_line, sends_line, sends_text, sides_text};
-ghost use Rattle.wh_explain_report.specs.Texts.{ending_text, step_text, task_text};
-ghost use Rattle.wh_explain_report.specs.Texts.{unknown_line, explanation_text};
+ghost use Rattle.wh_explain_report.specs.Texts.{ending_text, number_text, step_text, steps_text, task_text, told_line};
+ghost use Rattle.wh_explain_report.specs.Explanations.{explanation_text};
+ghost use Rattle.wh_explain_report.specs.Texts.{unknown_line};
 
 use crate::phrase::{PhraseText, event_phrase};
+use crate::tasks::write_chosen;
 use std::io::Write;
 use std::{fmt, io};
-use wh_events::Text;
-use wh_explain::{Ending, ExplainedTask, Explanation, Pairing, RecordedEvent, Step, differs};
-use wh_tester::{Shown, write_line};
-use wh_workflow::Command;
+use wh_events::{EventNo, Text};
+use wh_explain::{
+    Ending, ExplainedTask, Explanation, Pairing, RecordedEvent, Step, differs, left_after,
+    number_of,
+};
+use wh_tester::{Shown, is_good, write_line};
+use wh_view_report::Selection;
+use wh_workflow::{Command, Job};
 
 /// The number and the phrase of a recorded event.
 #[derive(Drop)]
@@ -129,21 +135,49 @@ fn write_commands<O: Write>(commands: &[Command], writer: &mut O) -> io::Result<
     Ok(())
 }
 
-/// Writes the lines of a step.
-fn write_step<O: Write>(step: &Step, writer: &mut O) -> io::Result<()>
-    ensures { OnOk result (Appends (O.contents writer.old) (O.contents writer.new) (step_text step.now)) }
+/// The number of the event that gave a job, if one did.
+#[derive(Clone, Copy)]
+struct NumberText(Option<EventNo>);
+
+impl fmt::Display for NumberText {
+    ghost output = { λ n. Some (number_text n.0) };
+
+    fn fmt<W: fmt::Write>(&self, f: &mut fmt::Formatter<W>) -> fmt::Result {
+        match self.0 {
+            Some(number) => {
+                let number = number.get();
+                write!(f, " (event {number})")
+            }
+            None => Ok(()),
+        }
+    }
+}
+
+/// Writes the line of a job, which the event of the number gave.
+fn write_told<O: Write>(number: Option<EventNo>, job: &Job, writer: &mut O) -> io::Result<()>
+    ensures { OnOk result (Appends (O.contents writer.old) (O.contents writer.new) (told_line number job.now)) }
 {
-    let phrase = PhraseText(step.job().phrase());
-    write!(writer, "  told {phrase}\n")?;
+    let phrase = PhraseText(job.phrase());
+    let number = NumberText(number);
+    write!(writer, "  told {phrase}{number}\n")
+}
+
+/// Writes the lines of a step, whose job the event of the number gave.
+fn write_step<O: Write>(number: Option<EventNo>, step: &Step, writer: &mut O) -> io::Result<()>
+    ensures { OnOk result (Appends (O.contents writer.old) (O.contents writer.new) (step_text number step.now)) }
+{
+    write_told(number, step.job(), writer)?;
     write_commands(step.commands(), writer)
 }
 
-/// Writes the lines of steps.
-fn write_steps<O: Write>(steps: &[Step], writer: &mut O) -> io::Result<()>
-    ensures { OnOk result (Appends (O.contents writer.old) (O.contents writer.new) (flat_map step_text steps.now)) }
+/// Writes the lines of steps, whose jobs the events of these numbers gave.
+fn write_steps<O: Write>(given: &[EventNo], steps: &[Step], writer: &mut O) -> io::Result<()>
+    ensures { OnOk result (Appends (O.contents writer.old) (O.contents writer.new) (steps_text given.now steps.now)) }
 {
+    let mut left = given;
     for step in steps {
-        write_step(step, writer)?;
+        write_step(number_of(step.job(), left), step, writer)?;
+        left = left_after(step.job(), left);
     }
     Ok(())
 }
@@ -211,17 +245,17 @@ fn write_ending<O: Write>(steps: &[Step], ending: &Ending, writer: &mut O) -> io
 }
 
 /// Writes the lines of a task.
-fn write_task<O: Write>(task: &ExplainedTask, writer: &mut O) -> io::Result<()>
+pub(crate) fn write_task<O: Write>(task: &ExplainedTask, writer: &mut O) -> io::Result<()>
     ensures { OnOk result (Appends (O.contents writer.old) (O.contents writer.new) (task_text task.now)) }
 {
     let at = task.at.get();
     write!(writer, "task at {at}\n")?;
-    write_steps(task.steps.get(), writer)?;
+    write_steps(task.given.get(), task.steps.get(), writer)?;
     write_ending(task.steps.get(), &task.ending, writer)
 }
 
 /// Writes the lines of tasks.
-fn write_tasks<O: Write>(tasks: &[ExplainedTask], writer: &mut O) -> io::Result<()>
+pub(crate) fn write_tasks<O: Write>(tasks: &[ExplainedTask], writer: &mut O) -> io::Result<()>
     ensures { OnOk result (Appends (O.contents writer.old) (O.contents writer.new) (flat_map task_text tasks.now)) }
 {
     for task in tasks {
@@ -232,14 +266,27 @@ fn write_tasks<O: Write>(tasks: &[ExplainedTask], writer: &mut O) -> io::Result<
 
 /// Writes an explanation: the workflow type, where there is no code for it, the lines of its tasks
 /// in their order, and then the line of the file as in the report of replay. Each line ends with
-/// one line feed, and each name is shown as in that report. After an error some of the text may
-/// have been written.
-#[tactic(auto, unfolding(crate::specs::Texts::explanation_text))]
-pub fn write_explanation<O: Write>(explanation: &Explanation, writer: &mut O) -> io::Result<()>
+/// one line feed, and each name is shown as in that report.
+///
+/// Of the tasks those are written that are selected. Where nothing is selected, they are all written
+/// where none has a fault, but of tasks that follow one another and are alike but for numbers and
+/// times only the first; and else the last, which has the fault, and before it the last four that
+/// are about the same activities, timers, children and changes. A line says how many are left out or
+/// alike. The tasks round an event are the first that is started at it or after it, the two before
+/// and the two after.
+///
+/// After an error some of the text may have been written.
+#[tactic(auto, unfolding(crate::specs::Explanations::explanation_text))]
+pub fn write_explanation<O: Write>(
+    explanation: &Explanation,
+    selection: Option<Selection>,
+    writer: &mut O,
+) -> io::Result<()>
     ensures { OnOk result
-        (Appends (O.contents writer.old) (O.contents writer.new) (explanation_text explanation.now)) }
+        (Appends (O.contents writer.old) (O.contents writer.new) (explanation_text selection explanation.now)) }
 {
     write_unknown(&explanation.unknown, writer)?;
-    write_tasks(explanation.tasks.get(), writer)?;
+    let good = is_good(&explanation.line.verdict);
+    write_chosen(selection, good, explanation.tasks.get(), writer)?;
     write_line(&explanation.line, writer)
 }

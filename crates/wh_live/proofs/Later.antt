@@ -11,7 +11,7 @@ use Rattle.wh_live.specs.declared.tasks.Brought.TheVariants as brought
 use Rattle.wh_live.specs.declared.tasks.OpenTask.{OpenTask}
 use Rattle.wh_live.specs.Deliveries.{AreLater, FromQueue, HasKept, later_in}
 use Rattle.wh_live.specs.Private.Opening.{HasLater, IsOpened, KeepsLater, OnTask, later_events}
-use Rattle.wh_messages.specs.declared.names.WorkerNames.{WorkerNames}
+use Rattle.wh_commands.specs.declared.names.WorkerNames.{WorkerNames}
 use Rattle.wh_replay.specs.Runs.{follows}
 use Rattle.wh_tasks.specs.declared.source.Polled.{Polled}
 use Rattle.wh_tasks.specs.declared.source.Polled.TheVariants as polled

@@ -12,10 +12,10 @@ use Rattle.wh_events.specs.declared.key.RunKey.{RunKey}
 use Rattle.wh_events.specs.Keys.{same_key}
 use Rattle.wh_live.specs.declared.tallies.Tally.{Tally}
 use Rattle.wh_live.specs.Tallies.{no_counts}
-use Rattle.wh_messages.specs.declared.names.WorkerNames.{WorkerNames}
-use Rattle.wh_messages.specs.declared.response.ActivityPoll.TheVariants.{Task}
-use Rattle.wh_messages.specs.declared.response.PolledActivity.{PolledActivity}
-use Rattle.wh_messages.specs.Responses as read
+use Rattle.wh_commands.specs.declared.names.WorkerNames.{WorkerNames}
+use Rattle.wh_responses.specs.declared.response.ActivityPoll.TheVariants.{Task}
+use Rattle.wh_responses.specs.declared.response.PolledActivity.{PolledActivity}
+use Rattle.wh_responses.specs.Responses as read
 use Rattle.wh_tasks.specs.declared.source.WorkflowTask.{WorkflowTask}
 use Rattle.wh_tasks.specs.declared.source.ActivityTask.{ActivityTask}
 use Rattle.wh_tasks.specs.Numbers.{last_number}

@@ -4,3 +4,4 @@ pub mod Counting
 pub mod Opening
 pub mod Polls
 pub mod Troubles
+pub mod Activities

@@ -5,29 +5,30 @@ ghost use Rattle.std.specs.Prelude.{IfOk, IsOkAnd, OnOk, OnErr};
 ghost use Rattle.wh_client.specs.Codes.{is_taken};
 ghost use Rattle.wh_client.specs.Requests.{IsAcknowledged};
 ghost use Rattle.wh_client.specs.declared.codes.Receipt.TheVariants.{Acknowledged, Withheld};
-ghost use Rattle.wh_messages.specs.CarryingOver.{carried_seen};
-ghost use Rattle.wh_tasks.specs.declared.source.Sent.TheVariants.{Workflow as OfWorkflow, Activity as OfActivity};
+ghost use Rattle.wh_commands.specs.CarryingOver.{carried_seen};
+ghost use Rattle.wh_tasks.specs.declared.source.Sent.TheVariants.{Workflow as OfWorkflow};
 ghost use Rattle.wh_tasks.specs.Source.{FailsOnly};
 ghost use Rattle.wh_live.specs.Answers.{cause_of, receipt_of};
 ghost use Rattle.wh_live.specs.Private.Answering.{AnswersOpen, CompletesTask, CompletesWith, FailsTask, HasAnswer};
-ghost use Rattle.wh_live.specs.Private.Answering.{IsActivityRequest, IsKeptBack, IsReplaced, counts_fault};
+ghost use Rattle.wh_live.specs.Private.Answering.{IsKeptBack, IsReplaced, counts_fault};
 ghost use Rattle.wh_live.specs.Private.Answering.{is_reported};
 ghost use Rattle.wh_live.specs.Private.Answering.{receipt_of_sent, reports_refusal, run_use};
 ghost use Rattle.wh_live.specs.Private.Counting.{settled};
 
 use crate::journals::Journal;
-use crate::task_log::{log_activity, log_workflow};
+use crate::task_log::log_workflow;
 use crate::tasks::OpenTask;
 use crate::texts::{fault_text, history_text, replay_text, request_text};
 use std::alloc::AllocError;
 use wh_client::{AskFault, Client, Connection, Receipt, Request, Status, refused_answer};
+use wh_commands::{CarriedOver, RequestFault, continues_as_new};
 use wh_events::{Event, OutOfMemory};
 use wh_ghost_list::GhostList;
 use wh_json::ReadFault;
-use wh_messages::{CarriedOver, FailedCause, RequestFault, continues_as_new};
 use wh_replay::{Answer, Fault};
+use wh_requests::FailedCause;
 use wh_slots::TaskName;
-use wh_tasks::{Acceptance, ActivityAnswer, RunUse, Sent, SourceFault};
+use wh_tasks::{Acceptance, RunUse, Sent, SourceFault};
 use wh_workflow::Command;
 
 /// Whether a failure is sent in this attempt of a task. A server gives a failed task again at once.
@@ -140,7 +141,7 @@ fn receive<L: Connection>(
 }
 
 /// Sends an answer to a task, if there was memory for it.
-fn send_written<L: Connection>(
+pub(crate) fn send_written<L: Connection>(
     client: &Client<'_, L>,
     task: &OpenTask,
     request: Result<Request, OutOfMemory>,
@@ -249,13 +250,7 @@ fn complete_with<L: Connection>(
     ensures acknowledged { result ≡ Acknowledged →
         CompletesWith L.gives client.now.options.now task.now commands.now events.now (carried_seen carried.now) }
 {
-    match client.completed(
-        &task.token,
-        task.queries.as_slice(),
-        commands,
-        events,
-        carried,
-    ) {
+    match client.completed(&task.token, commands, events, carried) {
         Ok(request) => send_completed(client, task, request),
         Err(RequestFault::OutOfMemory) => Receipt::NoMemory,
         Err(fault) => {
@@ -356,38 +351,6 @@ fn answer_open<L: Connection>(
     }
 }
 
-/// The request that answers an activity task.
-fn activity_request<L: Connection>(
-    client: &Client<'_, L>,
-    task: &OpenTask,
-    answer: &ActivityAnswer,
-) -> Result<Request, OutOfMemory>
-    ensures { IfOk result (IsActivityRequest client.now.options.now.names task.now.token answer.now) }
-{
-    match answer {
-        ActivityAnswer::Completed(outcome) => client.activity_completed(&task.token, outcome.get()),
-        ActivityAnswer::Failed(reason) => client.activity_failed(&task.token, reason.get()),
-    }
-}
-
-/// Answers the open activity task, if it has this name, and logs how it ended.
-fn answer_open_activity<L: Connection>(
-    client: &Client<'_, L>,
-    current: &Option<OpenTask>,
-    name: TaskName,
-    answer: &ActivityAnswer,
-) -> Receipt {
-    match current {
-        Some(task) if task.name == name => {
-            let request = activity_request(client, task, answer);
-            let receipt = send_written(client, task, request);
-            log_activity(client, task, answer, receipt);
-            receipt
-        }
-        _ => Receipt::Lost,
-    }
-}
-
 /// Answers the workflow task of a name, and notes the answer where it was taken. Its run may be
 /// cached where the server acknowledged the answer.
 pub(crate) fn answer_workflow<L: Connection>(
@@ -420,28 +383,8 @@ pub(crate) fn answer_workflow<L: Connection>(
     }
 }
 
-/// Answers the activity task of a name, and notes the answer where it was taken.
-pub(crate) fn answer_activity<L: Connection>(
-    client: &Client<'_, L>,
-    journal: &mut Journal,
-    taken: &mut GhostList<(TaskName, Sent)>,
-    current: Option<OpenTask>,
-    name: TaskName,
-    answer: &ActivityAnswer,
-) -> Result<(), SourceFault>
-    ensures sent { OnOk result (taken.new.items ≡ taken.old.items ++ (name, OfActivity answer.now) ∷ []) }
-    ensures unsent { OnErr result (taken.new.items ≡ taken.old.items) }
-    ensures failures { FailsOnly result journal.old.tally.failures journal.new.tally.failures }
-{
-    let Ok(copy) = answer.try_copy() else {
-        return Err(SourceFault::OutOfMemory);
-    };
-    let receipt = answer_open_activity(client, &current, name, answer);
-    settle(journal, taken, receipt, (name, Sent::Activity(copy)))
-}
-
 /// Counts what became of an answer, and notes it where it was taken.
-fn settle(
+pub(crate) fn settle(
     journal: &mut Journal,
     taken: &mut GhostList<(TaskName, Sent)>,
     receipt: Receipt,

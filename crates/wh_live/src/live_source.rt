@@ -4,7 +4,8 @@ ghost use Rattle.std.specs.Prelude.{◌≡◌, None, Some};
 ghost use Rattle.wh_live.specs.Deliveries.{ComesFrom, Delivers, Fetches, fresh};
 ghost use Rattle.wh_tasks.specs.declared.source.RunUse.{RunUse};
 
-use crate::answering::{answer_activity, answer_workflow};
+use crate::activities::answer_activity;
+use crate::answering::answer_workflow;
 use crate::fetching::whole;
 use crate::journals::Journal;
 use crate::polling::{poll_activity, poll_workflow};
@@ -14,6 +15,7 @@ use std::marker::Model;
 use wh_client::{Client, Connection, LiveOptions, Role};
 use wh_events::{Event, RunKey};
 use wh_ghost_list::GhostList;
+use wh_heartbeat::ActivityCell;
 use wh_replay::Answer;
 use wh_slots::TaskName;
 use wh_tasks::{
@@ -42,7 +44,8 @@ fn acknowledged(run: RunUse, name: TaskName) -> Option<TaskName>
 /// the server acknowledged the answer.
 ///
 /// It has one task at a time: a task that is not answered before the next poll is left to time out.
-/// A query that comes by itself is refused within the poll.
+/// A query that comes by itself is handed on within the poll, to what answers queries beside the workers;
+/// one that comes with a task gets no result, so it comes by itself later.
 #[derive(Drop)]
 pub struct LiveSource<'a, L: Connection> {
     client: Client<'a, L>,
@@ -74,14 +77,21 @@ impl<'a, L: Connection> Model for LiveSource<'a, L> {
 }
 
 impl<'a, L: Connection> LiveSource<'a, L> {
-    /// A source of a role that has polled nothing.
-    pub fn new(connection: &'a L, options: &'a LiveOptions, role: Role) -> LiveSource<'a, L>
+    /// A source of a role that has polled nothing. In the cell it notes which activity task runs, for
+    /// a handler that beats.
+    pub fn new(
+        connection: &'a L,
+        options: &'a LiveOptions,
+        role: Role,
+        cell: Option<&'a ActivityCell>,
+    ) -> LiveSource<'a, L>
         ensures { result ≡ fresh role options.entry.now.names }
     {
         LiveSource {
             client: Client {
                 connection,
                 options,
+                cell,
             },
             role,
             current: None,

@@ -4,7 +4,7 @@ ghost use Rattle.std.specs.Prelude.{◌≡◌, [], IfOk, Some, map};
 ghost use Rattle.serde_json.specs.View.{view};
 ghost use Rattle.wh_client.specs.Histories.{ReadsEvents};
 ghost use Rattle.wh_client.specs.Roles.{polls_sticky};
-ghost use Rattle.wh_messages.specs.Responses.{task_seen};
+ghost use Rattle.wh_responses.specs.Responses.{task_seen};
 ghost use Rattle.wh_tasks.specs.Source.{FailsOnly, IfTask};
 ghost use Rattle.wh_live.specs.Deliveries.{AreLater, FromActivities, FromQueue, IsActivityOf, IsActivityTask};
 ghost use Rattle.wh_live.specs.Deliveries.{IsTaskOf, IsWorkflowTask};
@@ -16,12 +16,13 @@ ghost use Rattle.wh_replay.specs.Runs.{follows};
 use crate::answering::fail_unreadable;
 use crate::fetching::append_copies;
 use crate::journals::Journal;
+use crate::queries::hand_query_on;
 use crate::tasks::{Brought, OpenTask};
 use serde_json::Value;
 use std::alloc::Global;
 use wh_client::{AskFault, Client, Connection, Role, read_history};
 use wh_events::{Event, Items, OutOfMemory, RunKey};
-use wh_messages::{ActivityPoll, PolledActivity, PolledTask, WorkflowPoll};
+use wh_responses::{ActivityPoll, PolledActivity, PolledTask, WorkflowPoll};
 use wh_tasks::{ActivityTask, Polled, SourceFault, WorkflowTask};
 
 /// Notes the task that is given as the one to be answered.
@@ -126,12 +127,11 @@ fn open_task<L: Connection>(
         attempt,
         members,
         next_page,
-        queries,
+        ..
     } = polled;
     let key = run.try_copy()?;
     let mut opened = OpenTask::new(client.allocator(), id, token, key);
     opened.attempt = attempt;
-    opened.queries = queries;
     let members = client.with_pages(&run, next_page, members)?;
     read_task(client, opened, run, members.as_slice())
 }
@@ -152,8 +152,8 @@ fn take_workflow<L: Connection>(
     match poll {
         WorkflowPoll::Task(polled) => open_task(client, id, polled),
         WorkflowPoll::Nothing => Ok(Brought::Empty),
-        WorkflowPoll::Query { token } => {
-            client.refuse_query(&token);
+        WorkflowPoll::Query(query) => {
+            hand_query_on(client, query);
             Ok(Brought::Settled)
         }
         WorkflowPoll::Unreadable => Err(AskFault::Unreadable),
@@ -181,6 +181,7 @@ fn open_activity<L: Connection>(
     let what = activity.try_copy()?;
     let mut opened = OpenTask::new(client.allocator(), id, token, key);
     opened.what = what;
+    client.begin_activity(&opened.token);
     let task = ActivityTask {
         name: opened.name,
         run,

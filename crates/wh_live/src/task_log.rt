@@ -7,11 +7,11 @@ use wh_replay::Answer;
 use wh_tasks::ActivityAnswer;
 use wh_tester::Shown;
 
-/// How a task ended, in words.
-fn outcome_words(is_completed: bool, receipt: Receipt) -> &'static str {
+/// How a task ended that has this answer, in words.
+fn outcome_words(answered: &'static str, receipt: Receipt) -> &'static str {
     match receipt {
-        Receipt::Acknowledged if is_completed => "completed",
-        Receipt::Acknowledged | Receipt::Replaced => "failed",
+        Receipt::Acknowledged => answered,
+        Receipt::Replaced => "failed",
         Receipt::Withheld => "failed again, not sent",
         Receipt::NotFound => "over before its answer",
         Receipt::Invalid => "refused",
@@ -52,10 +52,13 @@ pub(crate) fn log_workflow<L: Connection>(
         return;
     }
     let found = if open.from_first { "miss" } else { "hit" };
-    let is_completed = matches!(answer, Answer::Complete(_));
+    let answered = match answer {
+        Answer::Complete(_) => "completed",
+        Answer::Fail(_) => "failed",
+    };
     let what = Shown(type_of(open, held));
     let (events, commands) = (open.events, count_commands(answer));
-    let outcome = outcome_words(is_completed, receipt);
+    let outcome = outcome_words(answered, receipt);
     if let Ok(text) = format!(in client.allocator();
         "workflow {what}: {events} events, {found}, {steps} steps, {commands} commands, {outcome}"
     ) {
@@ -63,19 +66,25 @@ pub(crate) fn log_workflow<L: Connection>(
     }
 }
 
-/// Logs how an activity task ended, where tasks are logged: its run and type.
+/// Logs how an activity task ended that was to be cancelled or not, where tasks are logged: its run
+/// and type.
 pub(crate) fn log_activity<L: Connection>(
     client: &Client<'_, L>,
     open: &OpenTask,
     answer: &ActivityAnswer,
+    was_cancelled: bool,
     receipt: Receipt,
 ) {
     if !client.options.verbose {
         return;
     }
-    let is_completed = matches!(answer, ActivityAnswer::Completed(_));
+    let answered = match answer {
+        ActivityAnswer::Completed(_) => "completed",
+        ActivityAnswer::Failed(_) if was_cancelled => "cancelled",
+        ActivityAnswer::Failed(_) => "failed",
+    };
     let what = Shown(open.what.get());
-    let outcome = outcome_words(is_completed, receipt);
+    let outcome = outcome_words(answered, receipt);
     if let Ok(text) = format!(in client.allocator(); "activity {what}: {outcome}") {
         log_of(client, open, text.as_str());
     }

@@ -18,8 +18,6 @@ pub(crate) struct OpenTask {
     pub(crate) run: RunKey,
     /// Which attempt of the task this is.
     pub(crate) attempt: u64,
-    /// The queries that came with it.
-    pub(crate) queries: Vec<Text>,
     /// The type of its workflow or activity; empty where it is not known.
     pub(crate) what: Text,
     /// How many events it came with.
@@ -39,7 +37,7 @@ pub(crate) fn workflow_type(events: &[Event]) -> Option<&Text> {
 }
 
 impl OpenTask {
-    /// A task of an id that a poll gave, in its first attempt and without queries.
+    /// A task of an id that a poll gave, in its first attempt.
     pub(crate) fn new(alloc: Global, id: u64, token: Text, run: RunKey) -> OpenTask
         ensures name { result.name.0 ≡ id }
         ensures token { result.token ≡ token }
@@ -51,7 +49,6 @@ impl OpenTask {
             token,
             run,
             attempt: 1,
-            queries: Vec::new(alloc),
             what: Text::new(String::new(alloc)),
             events: 0,
             from_first: false,

@@ -2,8 +2,8 @@
 
 use std::alloc::{AllocError, Global};
 use wh_client::AskFault;
+use wh_commands::RequestFault;
 use wh_json::ReadFault;
-use wh_messages::RequestFault;
 use wh_replay::Fault;
 use wh_tester::{FaultText, ReplayFaultText, Shown};
 

@@ -48,13 +48,17 @@ answers_text labels metrics =
     ++ single_text (codes "wfhost_answers_refused_total") (codes "counter")
     (codes "Answers that the server refused as invalid.") labels metrics.refused
 
+abbrev pub cached_text : (labels : List ℕ) → Held → List ℕ
+cached_text labels held =
+    single_text (codes "wfhost_sticky_cache_size") (codes "gauge")
+    (codes "Runs in the sticky cache.") labels held.cached
+    ++ single_text (codes "wfhost_sticky_cache_events") (codes "gauge")
+    (codes "Events that the cached runs hold together.") labels held.cached_events
+
 abbrev pub cache_text : (labels : List ℕ) → Held → List ℕ
 cache_text labels held =
     single_text (codes "wfhost_tasks_in_hand") (codes "gauge") (codes "Tasks in hand.") labels held.in_hand
-    ++ (single_text (codes "wfhost_sticky_cache_size") (codes "gauge")
-    (codes "Runs in the sticky cache.") labels held.cached
-    ++ single_text (codes "wfhost_sticky_cache_events") (codes "gauge")
-    (codes "Events that the cached runs hold together.") labels held.cached_events)
+    ++ cached_text labels held
 
 abbrev pub slots_text : (labels : List ℕ) → Held → List ℕ
 slots_text labels held =

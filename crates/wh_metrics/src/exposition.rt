@@ -1,8 +1,8 @@
 //! Counts in the form that Prometheus reads.
 
-ghost use Rattle.std.specs.Prelude.{Some};
+ghost use Rattle.std.specs.Prelude.{◌≡◌, Some, codes};
 ghost use Rattle.wh_metrics.specs.Labels.{labels_text};
-ghost use Rattle.wh_metrics.specs.Exposition.{answers_text, cache_text, head_text, hits_text, holdings_text};
+ghost use Rattle.wh_metrics.specs.Exposition.{answers_text, cache_text, cached_text, head_text, hits_text, holdings_text};
 ghost use Rattle.wh_metrics.specs.Exposition.{metrics_text, pair_text, polls_text, sample_text, single_text};
 ghost use Rattle.wh_metrics.specs.Exposition.{slots_text, tasks_text};
 
@@ -48,6 +48,36 @@ impl fmt::Display for Sample<'_> {
             value,
         } = *self;
         write!(f, "{name}{{{labels}{more}}} {value}\n")
+    }
+}
+
+/// A metric of one sample that only rises.
+fn counter<'a>(labels: WorkerLabels<'a>, name: &'a str, help: &'a str, value: u64) -> Single<'a>
+    ensures { single_text result.head.name.now result.head.kind.now result.head.help.now
+        (labels_text result.labels.namespace.now result.labels.task_queue.now result.labels.identity.now) result.value
+        ≡ single_text name.now (codes "counter") help.now
+        (labels_text labels.entry.namespace.now labels.entry.task_queue.now labels.entry.identity.now) value }
+{
+    let kind = "counter";
+    Single {
+        head: Head { name, kind, help },
+        labels,
+        value,
+    }
+}
+
+/// A metric of one sample that rises and falls.
+fn gauge<'a>(labels: WorkerLabels<'a>, name: &'a str, help: &'a str, value: u64) -> Single<'a>
+    ensures { single_text result.head.name.now result.head.kind.now result.head.help.now
+        (labels_text result.labels.namespace.now result.labels.task_queue.now result.labels.identity.now) result.value
+        ≡ single_text name.now (codes "gauge") help.now
+        (labels_text labels.entry.namespace.now labels.entry.task_queue.now labels.entry.identity.now) value }
+{
+    let kind = "gauge";
+    Single {
+        head: Head { name, kind, help },
+        labels,
+        value,
     }
 }
 
@@ -149,24 +179,18 @@ impl fmt::Display for Hits<'_> {
         (labels_text t.labels.namespace.now t.labels.task_queue.now t.labels.identity.now) t.metrics) };
 
     fn fmt<W: fmt::Write>(&self, f: &mut fmt::Formatter<W>) -> fmt::Result {
-        let hits = Single {
-            head: Head {
-                name: "wfhost_sticky_cache_hit_total",
-                kind: "counter",
-                help: "Workflow tasks that were answered from a cached run.",
-            },
-            labels: self.labels,
-            value: self.metrics.hits,
-        };
-        let misses = Single {
-            head: Head {
-                name: "wfhost_sticky_cache_miss_total",
-                kind: "counter",
-                help: "Workflow tasks that were answered without a cached run.",
-            },
-            labels: self.labels,
-            value: self.metrics.misses,
-        };
+        let hits = counter(
+            self.labels,
+            "wfhost_sticky_cache_hit_total",
+            "Workflow tasks that were answered from a cached run.",
+            self.metrics.hits,
+        );
+        let misses = counter(
+            self.labels,
+            "wfhost_sticky_cache_miss_total",
+            "Workflow tasks that were answered without a cached run.",
+            self.metrics.misses,
+        );
         write!(f, "{hits}{misses}")
     }
 }
@@ -183,24 +207,18 @@ impl fmt::Display for Polls<'_> {
         (labels_text t.labels.namespace.now t.labels.task_queue.now t.labels.identity.now) t.metrics) };
 
     fn fmt<W: fmt::Write>(&self, f: &mut fmt::Formatter<W>) -> fmt::Result {
-        let polls = Single {
-            head: Head {
-                name: "wfhost_polls_total",
-                kind: "counter",
-                help: "Polls that got a result or an error.",
-            },
-            labels: self.labels,
-            value: self.metrics.polls,
-        };
-        let empty = Single {
-            head: Head {
-                name: "wfhost_polls_empty_total",
-                kind: "counter",
-                help: "Polls that gave no task.",
-            },
-            labels: self.labels,
-            value: self.metrics.empty_polls,
-        };
+        let polls = counter(
+            self.labels,
+            "wfhost_polls_total",
+            "Polls that got a result or an error.",
+            self.metrics.polls,
+        );
+        let empty = counter(
+            self.labels,
+            "wfhost_polls_empty_total",
+            "Polls that gave no task.",
+            self.metrics.empty_polls,
+        );
         write!(f, "{polls}{empty}")
     }
 }
@@ -217,25 +235,47 @@ impl fmt::Display for Answers<'_> {
         (labels_text t.labels.namespace.now t.labels.task_queue.now t.labels.identity.now) t.metrics) };
 
     fn fmt<W: fmt::Write>(&self, f: &mut fmt::Formatter<W>) -> fmt::Result {
-        let not_found = Single {
-            head: Head {
-                name: "wfhost_answers_not_found_total",
-                kind: "counter",
-                help: "Answers whose task was over.",
-            },
-            labels: self.labels,
-            value: self.metrics.not_found,
-        };
-        let refused = Single {
-            head: Head {
-                name: "wfhost_answers_refused_total",
-                kind: "counter",
-                help: "Answers that the server refused as invalid.",
-            },
-            labels: self.labels,
-            value: self.metrics.refused,
-        };
+        let not_found = counter(
+            self.labels,
+            "wfhost_answers_not_found_total",
+            "Answers whose task was over.",
+            self.metrics.not_found,
+        );
+        let refused = counter(
+            self.labels,
+            "wfhost_answers_refused_total",
+            "Answers that the server refused as invalid.",
+            self.metrics.refused,
+        );
         write!(f, "{not_found}{refused}")
+    }
+}
+
+/// What the cache holds.
+#[derive(Clone, Copy)]
+struct Cached<'a> {
+    labels: WorkerLabels<'a>,
+    held: Held,
+}
+
+impl fmt::Display for Cached<'_> {
+    ghost output = { λ t. Some (cached_text
+        (labels_text t.labels.namespace.now t.labels.task_queue.now t.labels.identity.now) t.held) };
+
+    fn fmt<W: fmt::Write>(&self, f: &mut fmt::Formatter<W>) -> fmt::Result {
+        let runs = gauge(
+            self.labels,
+            "wfhost_sticky_cache_size",
+            "Runs in the sticky cache.",
+            self.held.cached,
+        );
+        let events = gauge(
+            self.labels,
+            "wfhost_sticky_cache_events",
+            "Events that the cached runs hold together.",
+            self.held.cached_events,
+        );
+        write!(f, "{runs}{events}")
     }
 }
 
@@ -251,34 +291,15 @@ impl fmt::Display for Cache<'_> {
         (labels_text t.labels.namespace.now t.labels.task_queue.now t.labels.identity.now) t.held) };
 
     fn fmt<W: fmt::Write>(&self, f: &mut fmt::Formatter<W>) -> fmt::Result {
-        let in_hand = Single {
-            head: Head {
-                name: "wfhost_tasks_in_hand",
-                kind: "gauge",
-                help: "Tasks in hand.",
-            },
-            labels: self.labels,
-            value: self.held.in_hand,
-        };
-        let runs = Single {
-            head: Head {
-                name: "wfhost_sticky_cache_size",
-                kind: "gauge",
-                help: "Runs in the sticky cache.",
-            },
-            labels: self.labels,
-            value: self.held.cached,
-        };
-        let events = Single {
-            head: Head {
-                name: "wfhost_sticky_cache_events",
-                kind: "gauge",
-                help: "Events that the cached runs hold together.",
-            },
-            labels: self.labels,
-            value: self.held.cached_events,
-        };
-        write!(f, "{in_hand}{runs}{events}")
+        let Cache { labels, held } = *self;
+        let in_hand = gauge(
+            labels,
+            "wfhost_tasks_in_hand",
+            "Tasks in hand.",
+            held.in_hand,
+        );
+        let cached = Cached { labels, held };
+        write!(f, "{in_hand}{cached}")
     }
 }
 

@@ -1,9 +1,9 @@
 -- The tags of a page are those of the page without its texts.
-use Rattle.std.proofs.Common.{◌≡◌, ◌+◌, ◌-◌, ◌/◌, ℕ, Bool, true, false, cond, Option, Some, None, List, [], ◌∷◌, ◌++◌, ◌∙◌, map, take, drop, length, refl, ap, append-nil, sym}
+use Rattle.std.proofs.Common.{◌≡◌, ◌+◌, ◌-◌, ◌/◌, ℕ, Bool, true, false, cond, Option, Some, None, List, [], ◌∷◌, ◌++◌, ◌∙◌, map, take, drop, length, refl, ap, subst, append-nil, sym}
 use Rattle.std.proofs.lemmas.List.{length-map, take-map, drop-map}
-use Rattle.std.specs.Prelude.{◌==◌, nat_le, nat_lt, min, count_by, codes, decimal}
+use Rattle.std.specs.Prelude.{◌==◌, nat_le, nat_lt, min, not, count_by, codes, decimal}
 use Rattle.std.specs.Option.{option_map}
-use Rattle.std.specs.List.{list_all}
+use Rattle.std.specs.List.{list_all, position_or_len}
 use Rattle.wh_html.specs.Html.{Html, nothing, markup, plain, hole, ◌⊕◌, bytes, number, stamp, span, each}
 use Rattle.wh_html.specs.Tags.{tags}
 use Rattle.wh_html.proofs.Alike.{Alike, is_inner, last, words, texts, both, none, mark, word, text, num, each-alike, each-same, decimal-inner}
@@ -27,13 +27,14 @@ use Rattle.wh_timeline.proofs.WordsInner.{kind-inner, outcome-inner, side-inner,
 use Rattle.wh_timeline.proofs.Drawn.{IsClosed, choose, classes-alike, picture-alike, lanes-shown, tasks-shown}
 use Rattle.wh_page.specs.Frames.{head_html, verdict_class, verdict_html, fact_html, at_html, sides_html, difference_html, frame_html}
 use Rattle.wh_page.specs.Tables.{count_html, moment_html, took_html, type_html, attempts_html, row_head_html, row_html, table_html}
-use Rattle.wh_page.specs.TaskTexts.{number_html, line_html, left_html, open_words, task_html, tasks_html, note_html, notes_html}
+use Rattle.wh_page.specs.TaskTexts.{number_html, line_html, left_html, is_fault, left_before, shown_lines, left_after, lines_html, open_words, task_html, tasks_html, note_html, notes_html}
 use Rattle.wh_page.specs.Pages.{page_html}
 use Rattle.wh_page.specs.Laws.{TextsAreNoTags}
 
-pub verdict-inner : (good : Bool) → list_all is_inner (verdict_class good) ≡ true
-verdict-inner true = refl
-verdict-inner false = refl
+pub verdict-inner : (good : Option Bool) → list_all is_inner (verdict_class good) ≡ true
+verdict-inner (Some true) = refl
+verdict-inner (Some false) = refl
+verdict-inner None = refl
 
 pub open-inner : (faulty : Bool) → list_all is_inner (open_words faulty) ≡ true
 open-inner true = refl
@@ -106,15 +107,47 @@ line-alike line =
     mark _ (word _ (side-inner line.side) (mark _ (word _ (side-inner line.side) (mark _ (both (number-alike line.event)
     (mark _ (text _ _ _ (last _))))))))
 
-left-alike : (left : ℕ) → IsClosed (left_html left)
-left-alike left = choose (left == 0) _ _ none (mark _ (num _ (last _)))
+left-alike : (where-of : List ℕ) (left : ℕ) → list_all is_inner where-of ≡ true → IsClosed (left_html where-of left)
+left-alike w left e = choose (left == 0) _ _ none (mark _ (num _ (word _ e (last _))))
+
+-- the lines that are shown
+before-fault : (lines : List Line) → position_or_len (λ line. is_fault line.side) (map without_line lines) ≡ position_or_len (λ line. is_fault line.side) lines
+before-fault [] = refl
+before-fault (line ∷ lines) = ap (λ n. cond (not (is_fault line.side)) (1 + n) 0) (before-fault lines)
+
+left-same : (lines : List Line) → left_before (map without_line lines) ≡ left_before lines
+left-same lines = rw (before-fault lines, length-map lines without_line) refl
+
+after-same : (lines : List Line) → left_after (map without_line lines) ≡ left_after lines
+after-same lines = rw (before-fault lines, length-map lines without_line) refl
+
+lines-shown : (lines : List Line) → shown_lines (map without_line lines) ≡ map without_line (shown_lines lines)
+lines-shown lines = rw (left-same lines, drop-map without_line (left_before lines) lines, take-map without_line 40 (drop (left_before lines) lines)) refl
+
+before-alike : (lines : List Line) → Alike false false (left_html (codes " before") (left_before lines)) (left_html (codes " before") (left_before (map without_line lines)))
+before-alike lines =
+    subst (λ n. Alike false false (left_html (codes " before") (left_before lines)) (left_html (codes " before") n)) (sym (left-same lines))
+    (left-alike _ (left_before lines) refl)
+
+after-alike : (lines : List Line) → Alike false false (left_html (codes " more") (left_after lines)) (left_html (codes " more") (left_after (map without_line lines)))
+after-alike lines =
+    subst (λ n. Alike false false (left_html (codes " more") (left_after lines)) (left_html (codes " more") n)) (sym (after-same lines))
+    (left-alike _ (left_after lines) refl)
+
+rows-alike : (lines : List Line) → Alike false false (each line_html (shown_lines lines)) (each line_html (shown_lines (map without_line lines)))
+rows-alike lines =
+    subst (λ ls. Alike false false (each line_html (shown_lines lines)) (each line_html ls)) (sym (lines-shown lines))
+    (each-alike line_html without_line line-alike (shown_lines lines))
+
+lines-alike : (lines : List Line) → Alike false false (lines_html lines) (lines_html (map without_line lines))
+unfolding lines_html
+lines-alike lines = both (before-alike lines) (both (rows-alike lines) (after-alike lines))
 
 task-alike : (task : Task) → Alike false false (task_html task) (task_html (without_task task))
 unfolding task_html
 task-alike task =
-    rw (length-map task.lines without_line, take-map without_line 40 task.lines)
-    (mark _ (word _ (open-inner task.faulty) (mark _ (text _ _ _ (mark _ (num _ (mark _ (time _ (mark _
-    (both (each-alike line_html without_line line-alike (take 40 task.lines)) (both (left-alike (length task.lines - 40)) (last _))))))))))))
+    mark _ (word _ (open-inner task.faulty) (mark _ (text _ _ _ (mark _ (num _ (mark _ (time _ (mark _
+    (both (lines-alike task.lines) (last _))))))))))
 
 pub tasks-alike : (tasks : List Task) (total : ℕ) → Alike false false (tasks_html tasks total) (tasks_html (map without_task tasks) total)
 unfolding tasks_html
@@ -147,9 +180,8 @@ page-alike : (stops : List Stop) (page : Page) → Alike false false (page_html 
 unfolding page_html without_texts
 page-alike stops page =
     rw (lanes-shown page, tasks-shown page, length-map page.lanes without_lane, length-map page.tasks without_task)
-    (both (frame-alike page) (both (picture-alike page.fault stops (shown_lanes page) (shown_tasks page))
-    (both (table-alike page.fault (shown_lanes page) (length page.lanes)) (both (tasks-alike (shown_tasks page) (length page.tasks))
-    (both (notes-alike page.notes) (last _))))))
+    (both (frame-alike page) (both (notes-alike page.notes) (both (picture-alike page.fault stops (shown_lanes page) (length page.lanes) (shown_tasks page))
+    (both (table-alike page.fault (shown_lanes page) (length page.lanes)) (both (tasks-alike (shown_tasks page) (length page.tasks)) (last _))))))
 
 pub texts_are_no_tags : TextsAreNoTags
 texts_are_no_tags stops page =

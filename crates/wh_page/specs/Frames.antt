@@ -1,5 +1,5 @@
 -- What stands above the picture: the verdict, what the run is, and where it differs.
-use Rattle.std.specs.Prelude.{ℕ, Bool, if◌then◌else◌, Option, Some, None, List, codes}
+use Rattle.std.specs.Prelude.{ℕ, Bool, true, false, Option, Some, None, List, codes}
 use Rattle.wh_timeline.specs.declared.page.Fact.{Fact}
 use Rattle.wh_timeline.specs.declared.page.Difference.{Difference}
 use Rattle.wh_timeline.specs.declared.page.Page.{Page}
@@ -12,7 +12,7 @@ head_html page =
     markup (codes "<!doctype html>\n<html lang=\"en\">\n<head>\n<meta charset=\"utf-8\">\n<meta name=\"viewport\" content=\"width=device-width, initial-scale=1\">\n<meta name=\"color-scheme\" content=\"light dark\">\n<meta http-equiv=\"Content-Security-Policy\" content=\"default-src 'none'; style-src 'unsafe-inline'\">\n<title>")
     ⊕ hole 300 page.title
     ⊕ markup (codes ": ")
-    ⊕ hole 300 page.verdict
+    ⊕ hole 400 page.verdict
     ⊕ markup (codes "</title>\n<style>\n")
     ⊕ markup STYLE_OF_TEXT.now
     ⊕ markup STYLE_OF_PARTS.now
@@ -20,8 +20,10 @@ head_html page =
     ⊕ markup (codes "</style>\n</head>\n<body>\n")
 
 -- whether a verdict is good, as a class of the style sheet
-abbrev pub verdict_class : Bool → List ℕ
-verdict_class good = if good then codes "ok" else codes "bad"
+abbrev pub verdict_class : Option Bool → List ℕ
+verdict_class (Some true) = codes "ok"
+verdict_class (Some false) = codes "bad"
+verdict_class None = codes "unjudged"
 
 -- the verdict
 unfoldable pub verdict_html : Page → Html
@@ -31,7 +33,7 @@ verdict_html page =
     ⊕ markup (codes "</h1>\n<p class=\"verdict ")
     ⊕ plain (verdict_class page.good)
     ⊕ markup (codes "\">")
-    ⊕ hole 300 page.verdict
+    ⊕ hole 400 page.verdict
     ⊕ markup (codes "</p>\n")
 
 -- a fact

@@ -1,13 +1,40 @@
 -- What holds of every page.
-use Rattle.std.specs.Prelude.{◌≡◌, List}
-use Rattle.wh_html.specs.Html.{bytes}
+use Rattle.std.specs.Prelude.{◌≡◌, ◌≤◌, ℕ, true, List, ◌++◌, length, All}
+use Rattle.std.specs.List.{list_any}
+use Rattle.wh_html.specs.Html.{Html, bytes}
 use Rattle.wh_html.specs.Tags.{tags}
+use Rattle.wh_timeline.specs.declared.page.Line.{Line}
 use Rattle.wh_timeline.specs.declared.page.Page.{Page}
 use Rattle.wh_timeline.specs.declared.axis.Stop.{Stop}
 use Rattle.wh_timeline.specs.Without.{without_texts}
+use Rattle.wh_timeline.specs.Views.{shown_lanes, shown_tasks}
+use Rattle.wh_page.specs.Frames.{verdict_html}
+use Rattle.wh_page.specs.Tables.{row_html}
+use Rattle.wh_page.specs.TaskTexts.{is_fault, shown_lines, task_html}
 use Rattle.wh_page.specs.Pages.{page_html}
 
 -- the tags of a page are those of the page without its texts: no text has a part in them
 abbrev pub TextsAreNoTags : Type 0
 TextsAreNoTags =
     (stops : List Stop) (page : Page) → tags (bytes (page_html stops page)) ≡ tags (bytes (page_html stops (without_texts page)))
+
+-- a task shows 40 lines at most, and that of the fault where there is one
+abbrev pub FaultHasALine : Type 0
+FaultHasALine =
+    (lines : List Line) → (length (shown_lines lines) ≤ 40)
+    × (list_any (λ line. is_fault line.side) lines ≡ true → list_any (λ line. is_fault line.side) (shown_lines lines) ≡ true)
+
+-- a part stands in a whole, in one piece
+pub record StandsIn (whole part : List ℕ) : Type 0 where
+  pub before : List ℕ
+  pub after : List ℕ
+  pub joined : whole ≡ before ++ (part ++ after)
+
+-- a page has these parts
+pub record HasParts (page : Page) (html : List ℕ) : Type 0 where
+  pub verdict : StandsIn html (bytes (verdict_html page))
+  pub things : All (λ lane. StandsIn html (bytes (row_html page.fault lane))) (shown_lanes page)
+  pub tasks : All (λ task. StandsIn html (bytes (task_html task))) (shown_tasks page)
+
+abbrev pub ShowsItsParts : Type 0
+ShowsItsParts = (stops : List Stop) (page : Page) → HasParts page (bytes (page_html stops page))

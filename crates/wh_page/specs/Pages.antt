@@ -13,8 +13,8 @@ use Rattle.wh_timeline.specs.Views.{shown_lanes, shown_tasks}
 unfoldable pub page_html : List Stop → Page → Html
 page_html stops page =
     frame_html page
-    ⊕ picture_html page.fault stops (shown_lanes page) (shown_tasks page)
+    ⊕ notes_html page.notes
+    ⊕ picture_html page.fault stops (shown_lanes page) (length page.lanes) (shown_tasks page)
     ⊕ table_html page.fault (shown_lanes page) (length page.lanes)
     ⊕ tasks_html (shown_tasks page) (length page.tasks)
-    ⊕ notes_html page.notes
     ⊕ markup (codes "</main>\n<footer class=\"soft\"><p>Times are in UTC.</p></footer>\n</body>\n</html>\n")

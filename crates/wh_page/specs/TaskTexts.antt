@@ -1,6 +1,8 @@
 -- The tasks of a run, and the notes.
-use Rattle.std.specs.Prelude.{ℕ, ◌-◌, ◌==◌, Bool, min, if◌then◌else◌, Option, Some, None, List, [], ◌∷◌, take, codes, length}
+use Rattle.std.specs.Prelude.{ℕ, ◌-◌, ◌==◌, Bool, true, false, min, if◌then◌else◌, Option, Some, None, unwrap_or, position, List, [], ◌∷◌, take, drop, codes, length}
 use Rattle.wh_timeline.specs.declared.page.Line.{Line}
+use Rattle.wh_timeline.specs.declared.page.Side.{Side}
+use Rattle.wh_timeline.specs.declared.page.Side.TheVariants.{Told, Gives, Recorded, Fault, Note}
 use Rattle.wh_timeline.specs.declared.page.Task.{Task}
 use Rattle.wh_html.specs.Html.{Html, nothing, markup, plain, hole, ◌⊕◌, number, stamp, each}
 use Rattle.wh_timeline.specs.Words.{side_word}
@@ -24,17 +26,45 @@ line_html line =
     ⊕ hole 300 line.text
     ⊕ markup (codes "</code></li>\n")
 
--- how many lines of a task are left out, if some are
-abbrev pub left_html : ℕ → Html
-left_html left =
+-- how many lines of a task are left out before or after those that are shown, if some are
+abbrev pub left_html : (words : List ℕ) → ℕ → Html
+left_html words left =
     if left == 0 then nothing
-    else (markup (codes "<li class=\"note\"><span class=\"side-word\">") ⊕ number left ⊕ markup (codes " more</span></li>\n"))
+    else (markup (codes "<li class=\"note\"><span class=\"side-word\">") ⊕ number left ⊕ plain words ⊕ markup (codes "</span></li>\n"))
+
+-- the line is that of the fault
+abbrev pub is_fault : Side → Bool
+is_fault Told = false
+is_fault Gives = false
+is_fault Recorded = false
+is_fault Fault = true
+is_fault Note = false
+
+-- how many lines are left out before the 40 that are shown: 20 of these stand before the first that has the fault, where
+-- there are as many, and they are the first ones where no line has it
+abbrev pub left_before : List Line → ℕ
+left_before lines = min (unwrap_or (position (λ line. is_fault line.side) lines) 0 - 20) (length lines - 40)
+
+-- the lines that are shown
+abbrev pub shown_lines : List Line → List Line
+shown_lines lines = take 40 (drop (left_before lines) lines)
+
+-- how many are left out after them
+abbrev pub left_after : List Line → ℕ
+left_after lines = length lines - 40 - left_before lines
+
+-- the lines that are shown, and how many are left out before and after them
+unfoldable pub lines_html : List Line → Html
+lines_html lines =
+    left_html (codes " before") (left_before lines)
+    ⊕ each line_html (shown_lines lines)
+    ⊕ left_html (codes " more") (left_after lines)
 
 -- a task with the fault is open, and marked
 abbrev pub open_words : Bool → List ℕ
 open_words faulty = if faulty then codes " class=\"hit\" open" else []
 
--- a task, by its first 40 lines
+-- a task, by 40 of its lines
 unfoldable pub task_html : Task → Html
 task_html task =
     markup (codes "<details")
@@ -46,8 +76,7 @@ task_html task =
     ⊕ markup (codes ", ")
     ⊕ stamp task.started.millis
     ⊕ markup (codes "</span></summary>\n<ol>\n")
-    ⊕ each line_html (take 40 task.lines)
-    ⊕ left_html (length task.lines - 40)
+    ⊕ lines_html task.lines
     ⊕ markup (codes "</ol>\n</details>\n")
 
 -- the tasks that are shown, of so many in all

@@ -10,8 +10,11 @@ use std::fmt;
 use wh_html::Escaped;
 use wh_timeline::{Difference, Fact, Page};
 
-/// The most characters of a name, a fact or a verdict that a page shows.
+/// The most characters of a name or a fact that a page shows.
 pub(crate) const NAME: usize = 300;
+
+/// The most characters of a verdict: more than any verdict on a file has.
+const VERDICT: usize = 400;
 
 /// The most characters of a side of a difference.
 const SIDE: usize = 2_000;
@@ -31,7 +34,7 @@ impl fmt::Display for Head<'_> {
         };
         let verdict = Escaped {
             text: &self.0.verdict,
-            most: NAME,
+            most: VERDICT,
         };
         write!(
             f,
@@ -41,10 +44,14 @@ impl fmt::Display for Head<'_> {
 }
 
 /// Whether a verdict is good, as a class of the style sheet.
-fn verdict_class(good: bool) -> &'static str
+fn verdict_class(good: Option<bool>) -> &'static str
     ensures { result.now ≡ verdict_class good }
 {
-    if good { "ok" } else { "bad" }
+    match good {
+        Some(true) => "ok",
+        Some(false) => "bad",
+        None => "unjudged",
+    }
 }
 
 /// The verdict.
@@ -62,7 +69,7 @@ impl fmt::Display for Verdict<'_> {
         };
         let verdict = Escaped {
             text: &self.0.verdict,
-            most: NAME,
+            most: VERDICT,
         };
         let class = verdict_class(self.0.good);
         write!(

@@ -20,6 +20,7 @@ pub const STYLE_OF_PARTS: &str =
     ".verdict{display:inline-block;margin:.6rem 0 0;padding:.2rem .8rem;border-radius:1rem;font-weight:600;overflow-wrap:anywhere}
 .ok{color:var(--ok);background:var(--okbg)}
 .bad{color:var(--bad);background:var(--badbg)}
+.unjudged{color:var(--soft);background:var(--panel);border:1px solid var(--line)}
 .facts{display:grid;grid-template-columns:repeat(auto-fill,minmax(11rem,1fr));gap:.5rem 1.5rem;margin:1.2rem 0 0}
 .facts div{border-top:1px solid var(--line);padding-top:.3rem}
 dt{color:var(--soft);font-size:13px}
@@ -37,7 +38,7 @@ td{overflow-wrap:break-word}
 .words{min-width:8.5rem;max-width:20rem}
 .time{white-space:nowrap;font-variant-numeric:tabular-nums}
 .event{display:block;color:var(--soft);font-size:12px}
-.failed .words,.differs,.differs .event{color:var(--bad)}
+.failed .words,li.fault,li.fault .event{color:var(--bad)}
 .kind{white-space:nowrap}
 .kind::before,.key span::before{content:'';display:inline-block;width:.7em;height:.7em;margin-right:.45em;border-radius:3px;background:var(--marker)}
 .activity .kind::before,.key .activity::before{background:var(--activity)}
@@ -57,7 +58,7 @@ details li>*{min-width:0}
 li .side-word,li .event{color:var(--soft);font-size:13px;font-variant-numeric:tabular-nums;display:inline}
 li code{white-space:pre-wrap;overflow-wrap:anywhere;unicode-bidi:isolate}
 li.gives code{font-weight:600}
-li.differs .side-word{color:var(--bad);font-weight:600}
+li.fault .side-word{color:var(--bad);font-weight:600}
 @media (max-width:40rem){.sides{grid-template-columns:1fr}details li{grid-template-columns:4.5rem 1fr;gap:0 .6rem;padding:.1rem 0 .4rem}li code{grid-column:1/-1}summary .time{float:none;display:block;margin:0}}
 ";
 

@@ -1,18 +1,21 @@
 //! The tasks of a run, and the notes.
 
-ghost use Rattle.std.specs.Prelude.{◌≡◌, Some};
+ghost use Rattle.std.specs.Prelude.{◌≡◌, Some, position};
 ghost use Rattle.wh_html.specs.Html.{bytes, each};
-ghost use Rattle.wh_page.specs.TaskTexts.{number_html, line_html, left_html, open_words, task_html, tasks_html, note_html, notes_html};
+ghost use Rattle.wh_page.specs.TaskTexts.{number_html, line_html, left_html, is_fault, left_before, shown_lines, left_after, lines_html, open_words, task_html, tasks_html, note_html, notes_html};
 
 use crate::frame::NAME;
 use crate::table::Count;
 use std::fmt;
 use wh_events::Text;
 use wh_html::{Escaped, Stamp};
-use wh_timeline::{Line, Task, first_items};
+use wh_timeline::{Line, Side, Task, first_items};
 
 /// The most lines of a task that are shown.
 const LINES: usize = 40;
+
+/// How many of them stand before the line of the fault, where there are as many.
+const BEFORE: usize = 20;
 
 /// The event of a line, if it has one.
 #[derive(Clone, Copy)]
@@ -67,23 +70,58 @@ impl fmt::Display for LineRows<'_> {
     }
 }
 
-/// How many lines of a task are left out, if some are.
+/// How many lines of a task are left out before or after those that are shown, if some are.
 #[derive(Clone, Copy)]
-struct Left(usize);
+struct Left {
+    words: &'static str,
+    left: usize,
+}
 
 impl fmt::Display for Left {
-    ghost output = { λ l. Some (bytes (left_html l.0)) };
+    ghost output = { λ l. Some (bytes (left_html l.words.now l.left)) };
 
     fn fmt<W: fmt::Write>(&self, f: &mut fmt::Formatter<W>) -> fmt::Result {
-        if self.0 == 0 {
+        if self.left == 0 {
             return Ok(());
         }
-        let left = self.0;
+        let left = self.left;
+        let words = self.words;
         write!(
             f,
-            "<li class=\"note\"><span class=\"side-word\">{left} more</span></li>\n"
+            "<li class=\"note\"><span class=\"side-word\">{left}{words}</span></li>\n"
         )
     }
+}
+
+/// Whether a line is that of the fault.
+fn is_fault(side: Side) -> bool
+    ensures { result ≡ is_fault side }
+{
+    matches!(side, Side::Fault)
+}
+
+/// The place of the first line that is that of the fault.
+fn fault_line(lines: &[Line]) -> Option<usize>
+    ensures { result ≡ position (λ line. is_fault line.side) lines.now }
+{
+    lines.iter().position(|line| is_fault(line.side))
+}
+
+/// How many lines are left out before those that are shown.
+fn left_before(lines: &[Line]) -> usize
+    ensures { result ≡ left_before lines.now }
+{
+    let fault = fault_line(lines).unwrap_or(0);
+    fault
+        .saturating_sub(BEFORE)
+        .min(lines.len().saturating_sub(LINES))
+}
+
+/// The lines that are shown.
+fn shown_lines(lines: &[Line]) -> &[Line]
+    ensures { result.now ≡ shown_lines lines.now }
+{
+    first_items(&lines[left_before(lines)..], LINES)
 }
 
 /// What opens the lines of a task with the fault, and marks it.
@@ -93,7 +131,39 @@ fn open_words(faulty: bool) -> &'static str
     if faulty { " class=\"hit\" open" } else { "" }
 }
 
-/// A task, by its first lines.
+/// How many lines are left out after them.
+fn left_after(lines: &[Line]) -> usize
+    ensures { result ≡ left_after lines.now }
+{
+    lines
+        .len()
+        .saturating_sub(LINES)
+        .saturating_sub(left_before(lines))
+}
+
+/// The lines of a task that are shown, and how many are left out before and after them.
+#[derive(Drop)]
+struct TaskLines<'a>(&'a [Line]);
+
+impl fmt::Display for TaskLines<'_> {
+    ghost output = { λ l. Some (bytes (lines_html l.0.now)) };
+
+    #[tactic(auto, unfolding(crate::specs::TaskTexts::lines_html))]
+    fn fmt<W: fmt::Write>(&self, f: &mut fmt::Formatter<W>) -> fmt::Result {
+        let before = Left {
+            words: " before",
+            left: left_before(self.0),
+        };
+        let rows = LineRows(shown_lines(self.0));
+        let after = Left {
+            words: " more",
+            left: left_after(self.0),
+        };
+        write!(f, "{before}{rows}{after}")
+    }
+}
+
+/// A task, by some of its lines.
 #[derive(Drop)]
 struct TaskPart<'a>(&'a Task);
 
@@ -109,12 +179,10 @@ impl fmt::Display for TaskPart<'_> {
         };
         let event = self.0.started.event;
         let time = Stamp(self.0.started.millis);
-        let lines = self.0.lines.get();
-        let rows = LineRows(first_items(lines, LINES));
-        let left = Left(lines.len().saturating_sub(LINES));
+        let lines = TaskLines(self.0.lines.get());
         write!(
             f,
-            "<details{open}><summary>{heading} <span class=\"time\">event {event}, {time}</span></summary>\n<ol>\n{rows}{left}</ol>\n</details>\n"
+            "<details{open}><summary>{heading} <span class=\"time\">event {event}, {time}</span></summary>\n<ol>\n{lines}</ol>\n</details>\n"
         )
     }
 }

@@ -20,25 +20,27 @@ fn write_parts<W: Write>(page: &Page, axis: &Axis, writer: &mut W) -> io::Result
         OnOk result (Appends (W.contents writer.old) (W.contents writer.new) (bytes html)) }
 {
     let frame = Frame(page);
+    let notes = Notes(page.notes.get());
+    let things = page.lanes.get().len();
     let picture = Picture {
         fault: page.fault,
         stops: axis.stops.get(),
         lanes: shown_lanes(page),
+        total: things,
         tasks: shown_tasks(page),
     };
     let table = Table {
         fault: page.fault,
         lanes: shown_lanes(page),
-        total: page.lanes.get().len(),
+        total: things,
     };
     let tasks = Tasks {
         tasks: shown_tasks(page),
         total: page.tasks.get().len(),
     };
-    let notes = Notes(page.notes.get());
     write!(
         writer,
-        "{frame}{picture}{table}{tasks}{notes}</main>\n<footer class=\"soft\"><p>Times are in UTC.</p></footer>\n</body>\n</html>\n"
+        "{frame}{notes}{picture}{table}{tasks}</main>\n<footer class=\"soft\"><p>Times are in UTC.</p></footer>\n</body>\n</html>\n"
     )
 }
 

@@ -191,7 +191,7 @@ fn run_with<
     let (spare, ended) = run_beside(rt, alloc, &host, seats, spare, setups, gate, companion);
     let (mut seats, workers) = ended?;
     put_spare(&mut seats, spare);
-    let totals = close(host, seats);
+    let totals = close_host(host, seats);
     Ok(HostEnd {
         config,
         workers,
@@ -199,9 +199,9 @@ fn run_with<
     })
 }
 
-/// Runs the workers of an open host, and the companion in a thread beside them, if there is one. The
-/// seat that is there for it comes back as it was.
-fn run_beside<
+/// The same as `run_on_host`, with the companion in one thread more, if there is one. The seat that is
+/// there for it comes back as it was.
+pub fn run_beside<
     R: Threads + Wait + Sync,
     W: Workflow + Send,
     T: Ledger + Send,
@@ -261,8 +261,8 @@ fn run_beside<
     )
 }
 
-/// Closes a host with all of its seats.
-fn close<W: Workflow, T: Ledger, C: Ledger, F: Ledger>(
+/// Closes a host with all of its seats, and gives what they counted.
+pub fn close_host<W: Workflow, T: Ledger, C: Ledger, F: Ledger>(
     host: Host<W, T, C, F>,
     seats: Vec<Seat<T, C, F>>,
 ) -> Totals

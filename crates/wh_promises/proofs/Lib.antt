@@ -4,3 +4,4 @@ pub mod Cuts
 pub mod Turns
 pub mod Meant
 pub mod Sound
+pub mod Spent

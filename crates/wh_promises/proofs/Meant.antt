@@ -8,7 +8,7 @@ use Rattle.wh_promises.specs.Promises.{Promise, at_most, only_after, never_after
 use Rattle.wh_promises.proofs.Turns.{grows}
 
 -- a turn, if there is one
-abbrev taken : Bool → Turn → Option Turn → Option Turn
+abbrev pub taken : Bool → Turn → Option Turn → Option Turn
 taken t turn later = elim t [ true ↦ Some turn | false ↦ later ]
 
 -- a watch that once spends is past a budget of nothing
@@ -20,11 +20,11 @@ spends turns at spent entries few =
     omega (arith, more, few)
 
 module _ (what : Happening) where
-  abbrev counter : Turn
+  abbrev pub counter : Turn
   counter = record { from = 1; what = what; to = 1; cost = 1 }
 
   -- a watch that counts
-  counted : (spent : ℕ) (entries : List Entry)
+  pub counted : (spent : ℕ) (entries : List Entry)
       → (watched (counter ∷ []) (record { at = 1; spent = spent }) entries).spent ≡ spent + times what entries
   counted spent [] = omega arith
   counted spent (entry ∷ rest) = by (is_at what entry) (λ spent. counted spent rest)
@@ -37,13 +37,13 @@ module _ (what : Happening) where
       by false later = let sum : spent + times what rest ≡ spent + (0 + times what rest) = omega arith in later spent ∙ sum
 
 module _ (first what : Happening) where
-  abbrev early : Turn
+  abbrev pub early : Turn
   early = record { from = 1; what = what; to = 1; cost = 1 }
 
-  abbrev arms : Turn
+  abbrev pub arms : Turn
   arms = record { from = 1; what = first; to = 2; cost = 0 }
 
-  abbrev late : Turn
+  abbrev pub late : Turn
   late = record { from = 2; what = what; to = 2; cost = 1 }
 
   -- the second does not happen before the first has
@@ -107,16 +107,16 @@ module _ (first what : Happening) where
       by false few first_is armed next_one = next_one few first_is
 
 module _ (first last what : Happening) where
-  abbrev opens : Turn
+  abbrev pub opens : Turn
   opens = record { from = 1; what = first; to = 2; cost = 0 }
 
-  abbrev misses : Turn
+  abbrev pub misses : Turn
   misses = record { from = 2; what = last; to = 2; cost = 1 }
 
-  abbrev answers : Turn
+  abbrev pub answers : Turn
   answers = record { from = 2; what = what; to = 3; cost = 0 }
 
-  abbrev pair : List Turn
+  abbrev pub pair : List Turn
   pair = opens ∷ misses ∷ answers ∷ []
 
   -- where it waits, the third happens before the last

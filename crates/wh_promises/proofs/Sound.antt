@@ -177,20 +177,18 @@ module _ (table : Definition) (tops : Counts) (turns : List Turn) (fine : Cuts t
   seen_stands state (jobs.Start _ _) now = refl
   seen_stands state _ now = refl
 
-  module _ (budget : ℕ) (all : Tree)
-      (fit : all_within (length table.rows) tops (lines table.rows table.rows) ≡ true)
-      (closed : is_closed tops (record { turns = turns; budget = budget }) (lines table.rows table.rows) all all ≡ true) where
+  -- a configuration keeps to the budget, and leads to known ones
+  abbrev pub IsGood : ℕ → (Config → Bool) → Config → Type 0
+  IsGood budget known one =
+      (leb one.watch.spent budget ≡ true) × (each known (steps tops turns (lines table.rows table.rows) one) ≡ true)
+
+  module _ (budget : ℕ) (all : Tree) where
     -- what is seen of a tree
     abbrev closed_tree : Tree → Bool
     closed_tree tree = is_closed tops (record { turns = turns; budget = budget }) (lines table.rows table.rows) all tree
 
-    -- a configuration keeps to the budget, and leads to known ones
-    abbrev IsGood : Config → Type 0
-    IsGood one =
-        (leb one.watch.spent budget ≡ true) × (each (has all) (steps tops turns (lines table.rows table.rows) one) ≡ true)
-
     node_parts : (one : Config) (less more : Tree) → (key : ℕ) → closed_tree (Node key one less more) ≡ true
-        → IsGood one × (closed_tree less ≡ true) × (closed_tree more ≡ true)
+        → IsGood budget (has all) one × (closed_tree less ≡ true) × (closed_tree more ≡ true)
     node_parts one less more key good =
         by (leb one.watch.spent budget) (each (has all) (steps tops turns (lines table.rows table.rows) one)) (closed_tree less) good
       where
@@ -210,61 +208,64 @@ module _ (table : Definition) (tops : Counts) (turns : List Turn) (fine : Cuts t
 
     -- what covers a configuration under a key is good
     under_key : (key : ℕ) (one : Config) (tree : Tree) → has_under key one tree ≡ true → closed_tree tree ≡ true
-        → (other : Config) × (covered one other ≡ true) × IsGood other
+        → (other : Config) × (covered one other ≡ true) × IsGood budget (has all) other
     under_key key one Leaf there good = cc
     under_key key one (Node other it less more) there good =
-        let parts : IsGood it × (closed_tree less ≡ true) × (closed_tree more ≡ true) = node_parts it less more other good in
+        let parts : IsGood budget (has all) it × (closed_tree less ≡ true) × (closed_tree more ≡ true) = node_parts it less more other good in
         by parts.0 (λ is. under_key key one less is parts.1) (λ is. under_key key one more is parts.2) (nat_eq key other) (ltb key other) there
       where
-        by : IsGood it
-            → (has_under key one less ≡ true → (other : Config) × (covered one other ≡ true) × IsGood other)
-            → (has_under key one more ≡ true → (other : Config) × (covered one other ≡ true) × IsGood other)
+        by : IsGood budget (has all) it
+            → (has_under key one less ≡ true → (other : Config) × (covered one other ≡ true) × IsGood budget (has all) other)
+            → (has_under key one more ≡ true → (other : Config) × (covered one other ≡ true) × IsGood budget (has all) other)
             → (same below : Bool)
             → ◌≡◌ {A = Bool} (elim same [ true ↦ covered one it | false ↦ elim below [ true ↦ has_under key one less | false ↦ has_under key one more ] ]) true
-            → (other : Config) × (covered one other ≡ true) × IsGood other
+            → (other : Config) × (covered one other ≡ true) × IsGood budget (has all) other
         by good first second true below there = (it, there, good)
         by good first second false true there = first there
         by good first second false false there = second there
 
-    counts_same : (one other : Counts) → same_counts one other ≡ true → other ≡ one
-    counts_same one other same =
-        let halves : ((nat_eq one.a other.a && nat_eq one.b other.b) ≡ true) × ((nat_eq one.c other.c && nat_eq one.d other.d) ≡ true) =
-        and_parts (nat_eq one.a other.a && nat_eq one.b other.b) (nat_eq one.c other.c && nat_eq one.d other.d) same in
-        let first : (nat_eq one.a other.a ≡ true) × (nat_eq one.b other.b ≡ true) = and_parts (nat_eq one.a other.a) (nat_eq one.b other.b) halves.0 in
-        let second : (nat_eq one.c other.c ≡ true) × (nat_eq one.d other.d ≡ true) = and_parts (nat_eq one.c other.c) (nat_eq one.d other.d) halves.1 in
-        rw (sym (eqb-true one.a other.a first.0), sym (eqb-true one.b other.b first.1), sym (eqb-true one.c other.c second.0), sym (eqb-true one.d other.d second.1)) refl
+  counts_same : (one other : Counts) → same_counts one other ≡ true → other ≡ one
+  counts_same one other same =
+      let halves : ((nat_eq one.a other.a && nat_eq one.b other.b) ≡ true) × ((nat_eq one.c other.c && nat_eq one.d other.d) ≡ true) =
+      and_parts (nat_eq one.a other.a && nat_eq one.b other.b) (nat_eq one.c other.c && nat_eq one.d other.d) same in
+      let first : (nat_eq one.a other.a ≡ true) × (nat_eq one.b other.b ≡ true) = and_parts (nat_eq one.a other.a) (nat_eq one.b other.b) halves.0 in
+      let second : (nat_eq one.c other.c ≡ true) × (nat_eq one.d other.d ≡ true) = and_parts (nat_eq one.c other.c) (nat_eq one.d other.d) halves.1 in
+      rw (sym (eqb-true one.a other.a first.0), sym (eqb-true one.b other.b first.1), sym (eqb-true one.c other.c second.0), sym (eqb-true one.d other.d second.1)) refl
 
-    closed_same : (one other : Bool) → cond one other (not other) ≡ true → other ≡ one
-    closed_same true other same = same
-    closed_same false other same = not-true other same
+  closed_same : (one other : Bool) → cond one other (not other) ≡ true → other ≡ one
+  closed_same true other same = same
+  closed_same false other same = not-true other same
 
-    -- what covers a configuration has only spent more
-    covering : (one other : Config) → covered one other ≡ true
-        → (more : ℕ) × (other ≡ record { state = one.state; closed = one.closed; counts = one.counts; watch = ahead more one.watch })
-    covering one other it =
-        let outer : ((nat_eq one.state other.state && cond one.closed other.closed (not other.closed)) ≡ true)
-        × ((same_counts one.counts other.counts && (nat_eq one.watch.at other.watch.at && leb one.watch.spent other.watch.spent)) ≡ true) =
-        and_parts (nat_eq one.state other.state && cond one.closed other.closed (not other.closed))
-        (same_counts one.counts other.counts && (nat_eq one.watch.at other.watch.at && leb one.watch.spent other.watch.spent)) it in
-        let places : (nat_eq one.state other.state ≡ true) × (cond one.closed other.closed (not other.closed) ≡ true) =
-        and_parts (nat_eq one.state other.state) (cond one.closed other.closed (not other.closed)) outer.0 in
-        let rest : (same_counts one.counts other.counts ≡ true) × ((nat_eq one.watch.at other.watch.at && leb one.watch.spent other.watch.spent) ≡ true) =
-        and_parts (same_counts one.counts other.counts) (nat_eq one.watch.at other.watch.at && leb one.watch.spent other.watch.spent) outer.1 in
-        let watches : (nat_eq one.watch.at other.watch.at ≡ true) × (leb one.watch.spent other.watch.spent ≡ true) =
-        and_parts (nat_eq one.watch.at other.watch.at) (leb one.watch.spent other.watch.spent) rest.1 in
-        let p : one.state ≡ other.state = eqb-true one.state other.state places.0 in
-        let q : other.closed ≡ one.closed = closed_same one.closed other.closed places.1 in
-        let c : other.counts ≡ one.counts = counts_same one.counts other.counts rest.0 in
-        let w : one.watch.at ≡ other.watch.at = eqb-true one.watch.at other.watch.at watches.0 in
-        let few : one.watch.spent ≤ other.watch.spent = leb-true one.watch.spent other.watch.spent watches.1 in
-        let sum : other.watch.spent ≡ one.watch.spent + (other.watch.spent - one.watch.spent) = omega (arith, few) in (
-          other.watch.spent - one.watch.spent,
-          config_same other one.state one.closed one.counts one.watch.at (one.watch.spent + (other.watch.spent - one.watch.spent)) (sym p) q c (sym w) sum,
-        )
+  -- what covers a configuration has only spent more
+  covering : (one other : Config) → covered one other ≡ true
+      → (more : ℕ) × (other ≡ record { state = one.state; closed = one.closed; counts = one.counts; watch = ahead more one.watch })
+  covering one other it =
+      let outer : ((nat_eq one.state other.state && cond one.closed other.closed (not other.closed)) ≡ true)
+      × ((same_counts one.counts other.counts && (nat_eq one.watch.at other.watch.at && leb one.watch.spent other.watch.spent)) ≡ true) =
+      and_parts (nat_eq one.state other.state && cond one.closed other.closed (not other.closed))
+      (same_counts one.counts other.counts && (nat_eq one.watch.at other.watch.at && leb one.watch.spent other.watch.spent)) it in
+      let places : (nat_eq one.state other.state ≡ true) × (cond one.closed other.closed (not other.closed) ≡ true) =
+      and_parts (nat_eq one.state other.state) (cond one.closed other.closed (not other.closed)) outer.0 in
+      let rest : (same_counts one.counts other.counts ≡ true) × ((nat_eq one.watch.at other.watch.at && leb one.watch.spent other.watch.spent) ≡ true) =
+      and_parts (same_counts one.counts other.counts) (nat_eq one.watch.at other.watch.at && leb one.watch.spent other.watch.spent) outer.1 in
+      let watches : (nat_eq one.watch.at other.watch.at ≡ true) × (leb one.watch.spent other.watch.spent ≡ true) =
+      and_parts (nat_eq one.watch.at other.watch.at) (leb one.watch.spent other.watch.spent) rest.1 in
+      let p : one.state ≡ other.state = eqb-true one.state other.state places.0 in
+      let q : other.closed ≡ one.closed = closed_same one.closed other.closed places.1 in
+      let c : other.counts ≡ one.counts = counts_same one.counts other.counts rest.0 in
+      let w : one.watch.at ≡ other.watch.at = eqb-true one.watch.at other.watch.at watches.0 in
+      let few : one.watch.spent ≤ other.watch.spent = leb-true one.watch.spent other.watch.spent watches.1 in
+      let sum : other.watch.spent ≡ one.watch.spent + (other.watch.spent - one.watch.spent) = omega (arith, few) in (
+        other.watch.spent - one.watch.spent,
+        config_same other one.state one.closed one.counts one.watch.at (one.watch.spent + (other.watch.spent - one.watch.spent)) (sym p) q c (sym w) sum,
+      )
 
+  module _ (budget : ℕ) (known : Config → Bool)
+      (under : (one : Config) → known one ≡ true → (other : Config) × (covered one other ≡ true) × IsGood budget known other)
+      (fit : all_within (length table.rows) tops (lines table.rows table.rows) ≡ true) where
     -- a run stands at a configuration that is known, or has spent less
     abbrev Holds : RowsState → Standing → Type 0
-    Holds state now = (more : ℕ) × (has all (stand_at state (ahead more now)) ≡ true)
+    Holds state now = (more : ℕ) × (known (stand_at state (ahead more now)) ≡ true)
 
     ahead_twice : (first second : ℕ) (now : Standing) → ahead second (ahead first now) ≡ ahead (first + second) now
     ahead_twice first second now =
@@ -272,12 +273,12 @@ module _ (table : Definition) (tops : Counts) (turns : List Turn) (fine : Cuts t
         ap (λ (n : ℕ). let there : Standing = record { at = now.at; spent = n } in there) sum
 
     -- so at a good one
-    good_at : (state : RowsState) (now : Standing) → Holds state now → (more : ℕ) × IsGood (stand_at state (ahead more now))
+    good_at : (state : RowsState) (now : Standing) → Holds state now → (more : ℕ) × IsGood budget known (stand_at state (ahead more now))
     good_at state now holds =
         let here : Config = stand_at state (ahead holds.0 now) in
-        let found : (other : Config) × (covered here other ≡ true) × IsGood other = under_key (key_of here) here all holds.1 closed in
+        let found : (other : Config) × (covered here other ≡ true) × IsGood budget known other = under here holds.1 in
         let more : (more : ℕ) × (found.0 ≡ stand_at state (ahead more (ahead holds.0 now))) = covering here found.0 found.1 in
-        (holds.0 + more.0, subst IsGood (more.1 ∙ ap (stand_at state) (ahead_twice holds.0 more.0 now)) found.2)
+        (holds.0 + more.0, subst (IsGood budget known) (more.1 ∙ ap (stand_at state) (ahead_twice holds.0 more.0 now)) found.2)
 
     -- where the watch stands after a job and its commands
     abbrev through : RowsState → Job → Standing → Standing
@@ -290,17 +291,17 @@ module _ (table : Definition) (tops : Counts) (turns : List Turn) (fine : Cuts t
     goes : (state : RowsState) (now : Standing) (job : Job) → is_start job ≡ false → Holds state now
         → Holds (after table state job) (through state job now)
     goes state now job other holds =
-        let good : (more : ℕ) × IsGood (stand_at state (ahead more now)) = good_at state now holds in
-        let led_to : each (has all) (steps tops turns (lines table.rows table.rows) (stand_at (seen_by table state job) (ahead good.0 now))) ≡ true =
-        subst (λ one. each (has all) (steps tops turns (lines table.rows table.rows) one) ≡ true) (seen_stands state job (ahead good.0 now)) good.1.1 in
-        let there : has all (stand_at (after table state job) (through state job (ahead good.0 now))) ≡ true =
-        leads_sound (has all) table.rows (patterns.Start ∷ []) (seen_by table state job) job (ahead good.0 now) fit
+        let good : (more : ℕ) × IsGood budget known (stand_at state (ahead more now)) = good_at state now holds in
+        let led_to : each (known) (steps tops turns (lines table.rows table.rows) (stand_at (seen_by table state job) (ahead good.0 now))) ≡ true =
+        subst (λ one. each (known) (steps tops turns (lines table.rows table.rows) one) ≡ true) (seen_stands state job (ahead good.0 now)) good.1.1 in
+        let there : known (stand_at (after table state job) (through state job (ahead good.0 now))) ≡ true =
+        leads_sound (known) table.rows (patterns.Start ∷ []) (seen_by table state job) job (ahead good.0 now) fit
         (and_from (not (is_start job)) true (not_from_false (is_start job) other) refl) led_to in
-        (good.0, subst (λ standing. has all (stand_at (after table state job) standing) ≡ true) (through_ahead state job good.0 now) there)
+        (good.0, subst (λ standing. known (stand_at (after table state job) standing) ≡ true) (through_ahead state job good.0 now) there)
 
     keeps_here : (state : RowsState) (now : Standing) → Holds state now → now.spent ≤ budget
     keeps_here state now holds =
-        let good : (more : ℕ) × IsGood (stand_at state (ahead more now)) = good_at state now holds in
+        let good : (more : ℕ) × IsGood budget known (stand_at state (ahead more now)) = good_at state now holds in
         let few : now.spent + good.0 ≤ budget = leb-true (now.spent + good.0) budget good.1.0 in
         omega (arith, few)
 
@@ -321,18 +322,18 @@ module _ (table : Definition) (tops : Counts) (turns : List Turn) (fine : Cuts t
 
     -- also after the start
     begin : (state : RowsState) (now : Standing) (workflow : List ℕ) (input : List Payload) (later : List Job) → goes_on later ≡ true
-        → each (has all) (starts tops turns (lines table.rows table.rows) (stand_at state now)) ≡ true
+        → each (known) (starts tops turns (lines table.rows table.rows) (stand_at state now)) ≡ true
         → (watched turns now (course table state (jobs.Start workflow input ∷ later))).spent ≤ budget
     begin state now workflow input later start first =
         let job : Job = jobs.Start workflow input in
-        let there : has all (stand_at (after table state job) (through state job now)) ≡ true =
-        starts_sound (has all) table.rows (seen_by table state job) workflow input now fit first in
+        let there : known (stand_at (after table state job) (through state job now)) ≡ true =
+        starts_sound (known) table.rows (seen_by table state job) workflow input now fit first in
         let none : through state job now ≡ ahead 0 (through state job now) =
         let sum : (through state job now).spent ≡ (through state job now).spent + 0 = omega arith in
         ap (λ (n : ℕ). let standing : Standing = record { at = (through state job now).at; spent = n } in standing) sum in
         subst (λ (standing : Standing). standing.spent ≤ budget) (sym (course_splits state now job later))
         (on_and_on (after table state job) (through state job now) later start
-        (0, subst (λ standing. has all (stand_at (after table state job) standing) ≡ true) none there))
+        (0, subst (λ standing. known (stand_at (after table state job) standing) ≡ true) none there))
 
 time_is_none : (one : JobPattern) (state : RowsState) (time : ℤ) → is_for_job one state (jobs.Time time) ≡ false
 time_is_none patterns.Start state time = refl
@@ -417,22 +418,20 @@ cut_nothing : (table : Definition) (tops : Counts) → begun (place table.first 
 }
 cut_nothing table tops = sym (rw (zero_cut tops.a, zero_cut tops.b, zero_cut tops.c, zero_cut tops.d) refl)
 
-module _ (table : Definition) (watch : Watch) (tops : Counts) (all : Tree) (good : shows (case_of table) tops watch all ≡ true) where
+module _ (table : Definition) (watch : Watch) (tops : Counts) (fine : Cuts table.bounds tops) (known : Config → Bool)
+    (under : (one : Config) → known one ≡ true
+    → (other : Config) × (covered one other ≡ true) × IsGood table tops watch.turns fine watch.budget known other)
+    (fit : all_within (length table.rows) tops (lines table.rows table.rows) ≡ true)
+    (first : each known (starts tops watch.turns (lines table.rows table.rows) (begun (place table.first table.rows))) ≡ true) where
   from_start : (workflow : List ℕ) (input : List Payload) (later : List Job) → goes_on later ≡ true
       → (watched watch.turns new_standing (course table (initial table) (jobs.Start workflow input ∷ later))).spent ≤ watch.budget
   from_start workflow input later start =
-      let halves : ((are_cuts table.bounds tops && all_within (length table.rows) tops (lines table.rows table.rows)) ≡ true)
-      × ((each (has all) (starts tops watch.turns (lines table.rows table.rows) (begun (place table.first table.rows)))
-      && is_closed tops watch (lines table.rows table.rows) all all) ≡ true) = and_parts _ _ good in
-      let cuts : (are_cuts table.bounds tops ≡ true) × (all_within (length table.rows) tops (lines table.rows table.rows) ≡ true) =
-      and_parts _ _ halves.0 in
-      let trees : (each (has all) (starts tops watch.turns (lines table.rows table.rows) (begun (place table.first table.rows))) ≡ true)
-      × (is_closed tops watch (lines table.rows table.rows) all all ≡ true) = and_parts _ _ halves.1 in
-      begin table tops watch.turns (cuts_from table.bounds tops cuts.0) watch.budget all cuts.1 trees.1
+      begin table tops watch.turns fine watch.budget known under fit
       (initial table) new_standing workflow input later start
-      (subst (λ one. each (has all) (starts tops watch.turns (lines table.rows table.rows) one) ≡ true) (cut_nothing table tops) trees.0)
+      (subst (λ one. each known (starts tops watch.turns (lines table.rows table.rows) one) ≡ true) (cut_nothing table tops) first)
 
-  keeps_all : (list : List Job) → begins list ≡ true
+  -- known configurations, each of which leads to known ones, show that a watch keeps to its budget
+  pub keeps_all : (list : List Job) → begins list ≡ true
       → (watched watch.turns new_standing (course table (initial table) list)).spent ≤ watch.budget
   keeps_all [] start = omega arith
   keeps_all (jobs.Start workflow input ∷ later) start = from_start workflow input later start
@@ -441,6 +440,21 @@ module _ (table : Definition) (watch : Watch) (tops : Counts) (all : Tree) (good
       (sym (time_stays table watch.turns (initial table) new_standing time later)) (keeps_all later start)
   keeps_all _ start = cc
 
+-- a tree that shows it shows it
+keeps_shown : (table : Definition) (watch : Watch) (tops : Counts) (all : Tree) → shows (case_of table) tops watch all ≡ true
+    → Keeps table watch
+keeps_shown table watch tops all good =
+    let halves : ((are_cuts table.bounds tops && all_within (length table.rows) tops (lines table.rows table.rows)) ≡ true)
+    × ((each (has all) (starts tops watch.turns (lines table.rows table.rows) (begun (place table.first table.rows)))
+    && is_closed tops watch (lines table.rows table.rows) all all) ≡ true) = and_parts _ _ good in
+    let cuts : (are_cuts table.bounds tops ≡ true) × (all_within (length table.rows) tops (lines table.rows table.rows) ≡ true) =
+    and_parts _ _ halves.0 in
+    let trees : (each (has all) (starts tops watch.turns (lines table.rows table.rows) (begun (place table.first table.rows))) ≡ true)
+    × (is_closed tops watch (lines table.rows table.rows) all all ≡ true) = and_parts _ _ halves.1 in
+    let fine : Cuts table.bounds tops = cuts_from table.bounds tops cuts.0 in
+    keeps_all table watch tops fine (has all)
+    (λ one there. under_key table tops watch.turns fine watch.budget all (key_of one) one all there trees.1) cuts.1 trees.0
+
 -- a watch without a fault keeps to its budget
 keeps_one : (table : Definition) (number : ℕ) (watch : Watch) (tops : Counts)
     → fault_at number (case_of table) tops watch ≡ None → Keeps table watch
@@ -448,7 +462,7 @@ keeps_one table number watch tops none list start =
     let shown : Shown table watch =
     by_found table watch number tops
     (reached tops watch (lines table.rows table.rows) (starts tops watch.turns (lines table.rows table.rows) (begun (place table.first table.rows)))) none in
-    keeps_all table watch shown.tops shown.all shown.shown list start
+    keeps_shown table watch shown.tops shown.all shown.shown list start
 
 keeps_these : (table : Definition) (number : ℕ) (promises : List Promise) (tops : Counts)
     → first_fault number (case_of table) tops promises ≡ None → PromisesAll table promises

@@ -1,3 +1,4 @@
 mod Stepped
 mod Started
 mod Kept
+mod Runs

@@ -9,6 +9,7 @@ use Rattle.wh_workflow.specs.Law.{Program, is_marker}
 use Rattle.wh_workflow.specs.Jobs.{jobs_of}
 use Rattle.wh_workflow.specs.Activations.{Progress, activate}
 use Rattle.wh_workflow.specs.ActivationScripts.{is_version}
+use Rattle.wh_replay.specs.Runs.{HistoryView, IsReplayed}
 use Rattle.wh_replay.specs.Replays.{ReplayResult, Replayed, context_at, begin_at, task, start, workflow_of, replay}
 use Rattle.wh_rows.specs.declared.row.RowsState.{RowsState}
 use Rattle.wh_rows.specs.Tables.{Definition}
@@ -92,3 +93,10 @@ abbrev pub HistoriesKeep : Definition → List Promise → Type 0
 HistoriesKeep table promises =
     (events : List Event) (left : Replayed RowsState) → replay (program table) events 0 ≡ Ok left
     → (list : List Job) → Told [] [] events list → KeptAllIn promises (course table (initial table) list)
+
+-- where a history shows what replay of its events gives, as that of each run which a host holds, each promise is kept in
+-- what happens in a run at the jobs of its tasks
+abbrev pub RunsKeep : Definition → List Promise → Type 0
+RunsKeep table promises =
+    (history : HistoryView) → IsReplayed (program table) history
+    → (list : List Job) → Told [] [] history.events list → KeptAllIn promises (course table (initial table) list)

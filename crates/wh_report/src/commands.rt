@@ -17,6 +17,7 @@ use std::thread::Threads;
 use wh_console::Format;
 use wh_file_faults::CommandFault;
 use wh_files::InputFault;
+use wh_view_report::Selection;
 use wh_workflow::Workflow;
 
 /// Replays files, given by name and bytes, and writes their report. The status is 0 where each file is
@@ -47,19 +48,20 @@ pub fn replay_command<W: Workflow + Send, R: Threads + Sync, O: Write>(
     report(records.as_slice(), format, writer)
 }
 
-/// Writes the explanation of a history file, whose last line is that of the file in the report of
-/// replay, and gives the status of that report. Nothing is written where the answer is `OutOfMemory`.
+/// Writes the explanation of a history file, as `explain_file` does, and gives the status of the report
+/// of replay. Nothing is written where the answer is `OutOfMemory`.
 pub fn explain_command<W: Workflow, O: Write>(
     alloc: Global,
     name: String,
     bytes: &[u8],
+    selection: Option<Selection>,
     format: Format,
     writer: &mut O,
 ) -> Result<u8, CommandFault>
-    ensures explained { IfOk result
-        (IsExplained W.program (string_bytes name) bytes.now format (O.contents writer.old) (O.contents writer.new)) }
+    ensures explained { IfOk result (IsExplained W.program (string_bytes name) bytes.now selection format
+        (O.contents writer.old) (O.contents writer.new)) }
     ensures unwritten { result ≡ Err CommandFault.OutOfMemory → writer.new ≡ writer.old }
 {
-    let line = explain_file::<W, O>(alloc, name, bytes, format, writer)?;
+    let line = explain_file::<W, O>(alloc, name, bytes, selection, format, writer)?;
     Ok(line_status(&line))
 }

@@ -8,7 +8,7 @@ mod records;
 mod reports;
 
 pub use commands::{explain_command, replay_command};
-pub use explained::explain_file;
+pub use explained::{explain_file, write_view_as};
 pub use records::{Record, check_all, record_of};
 pub use reports::{line_status, report, status_of, write_json_record, write_report};
 pub use wh_console::Format;

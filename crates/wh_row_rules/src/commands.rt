@@ -22,7 +22,7 @@ fn asks(template: &CommandTemplate<Text>) -> bool
 }
 
 /// Whether the command closes the run.
-fn closes(template: &CommandTemplate<Text>) -> bool
+pub fn closes(template: &CommandTemplate<Text>) -> bool
     ensures { result ≡ closes template.now }
 {
     match template {
@@ -35,7 +35,7 @@ fn closes(template: &CommandTemplate<Text>) -> bool
 }
 
 /// Whether one of the commands closes the run.
-pub(crate) fn some_closes(templates: &[CommandTemplate<Text>]) -> bool
+pub fn some_closes(templates: &[CommandTemplate<Text>]) -> bool
     ensures { result ≡ some_closes templates.now }
 {
     for template in templates {

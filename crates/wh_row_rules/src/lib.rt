@@ -12,7 +12,9 @@ mod rules;
 mod states;
 mod versions;
 
-pub use commands::{ends_well, text_eq};
+pub use commands::{closes, ends_well, some_closes, text_eq};
 pub use fault::{BrokenRule, RowsFault};
 pub use owned::{OwnedRow, OwnedTable};
+pub use patterns::covers;
 pub use rules::{row_rule, table_fault};
+pub use states::{has_state, state_after};

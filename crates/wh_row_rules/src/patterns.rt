@@ -40,7 +40,7 @@ fn covers_canceled(pattern: &JobPattern<Text>, id: &Text) -> bool
 }
 
 /// Whether each job that the other pattern is for is one that this is for.
-pub(crate) fn covers(pattern: &JobPattern<Text>, other: &JobPattern<Text>) -> bool
+pub fn covers(pattern: &JobPattern<Text>, other: &JobPattern<Text>) -> bool
     ensures { result ≡ covers pattern.now other.now }
 {
     match other {

@@ -8,7 +8,7 @@ use crate::owned::OwnedRow;
 use wh_events::Text;
 
 /// Whether a row is for the state.
-pub(crate) fn has_state(name: &Text, rows: &[OwnedRow]) -> bool
+pub fn has_state(name: &Text, rows: &[OwnedRow]) -> bool
     ensures { result ≡ has_state name.now rows.now }
 {
     for row in rows {
@@ -54,7 +54,7 @@ pub(crate) fn is_reached(first: &Text, name: &Text, rows: &[OwnedRow]) -> bool
 }
 
 /// The state after the row.
-pub(crate) fn state_after(row: &OwnedRow) -> &Text
+pub fn state_after(row: &OwnedRow) -> &Text
     ensures { result.now ≡ state_after row.now }
 {
     if row.next.get() == "same" {

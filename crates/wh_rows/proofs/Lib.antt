@@ -5,3 +5,4 @@ pub mod AtMost
 pub mod Followed
 pub mod Hiding
 pub mod Hearing
+pub mod Telling

@@ -7,3 +7,4 @@ pub mod Lawful
 pub mod Laws
 pub mod Properties
 pub mod Followed
+pub mod Queries

@@ -25,8 +25,8 @@ fn is_text<T: RowText>(text: &Text, wanted: &T, state: &RowsState) -> bool
     text.get() == named(wanted.text(), state)
 }
 
-/// Whether a row with the pattern is for the job.
-fn is_for_job<T: RowText>(pattern: &JobPattern<T>, state: &RowsState, job: &Job) -> bool
+/// Whether a row with the pattern is for the job, in a run that is in this state.
+pub fn is_for_job<T: RowText>(pattern: &JobPattern<T>, state: &RowsState, job: &Job) -> bool
     ensures { result ≡ is_for_job (pattern_by T.bytes pattern.now) state.now job.now }
 {
     match pattern {
@@ -95,7 +95,7 @@ fn is_for_job<T: RowText>(pattern: &JobPattern<T>, state: &RowsState, job: &Job)
 }
 
 /// The number of a counter.
-pub(crate) fn count_of(counter: Counter, counts: Counts) -> u64
+pub fn count_of(counter: Counter, counts: Counts) -> u64
     ensures { result ≡ count_of counter counts }
 {
     match counter {
@@ -116,8 +116,8 @@ fn holds(condition: Condition, counts: Counts) -> bool
     }
 }
 
-/// Whether each condition holds.
-fn all_hold(conditions: &[Condition], counts: Counts) -> bool
+/// Whether each condition holds of counters.
+pub fn all_hold(conditions: &[Condition], counts: Counts) -> bool
     ensures { result ≡ all_hold conditions.now counts }
 {
     for condition in conditions {

@@ -15,14 +15,14 @@ use wh_events::OutOfMemory;
 use wh_workflow::{Command, Job};
 
 /// One more than the count, no further than its bound.
-fn raised(count: u64, bound: u64) -> u64
+pub fn raised(count: u64, bound: u64) -> u64
     ensures { result ≡ raised count bound }
 {
     if count < bound { count + 1 } else { bound }
 }
 
 /// The counts with another number for one counter.
-fn with_count(counter: Counter, counts: Counts, value: u64) -> Counts
+pub fn with_count(counter: Counter, counts: Counts, value: u64) -> Counts
     ensures { result ≡ with_count counter counts value }
 {
     match counter {

@@ -1,6 +1,7 @@
 //! What holds of all tables, each law as the contract of a function that does nothing.
 ghost use Rattle.wh_rows.specs.Laws.{FirstRowCounts, NoRowChangesNothing, ClosesForGood, LastCommandCloses};
 ghost use Rattle.wh_rows.specs.Laws.{StateChangesByRow, WithinBounds, HiddenIsNeverTaken, AnswersAreHeard};
+ghost use Rattle.wh_rows.specs.Queries.{TellsItsState};
 
 use crate::table::Table;
 
@@ -37,4 +38,10 @@ pub fn hidden_row_is_never_taken()
 /// a row fits each version that may come.
 pub fn answers_are_heard<T: Table>()
     ensures { AnswersAreHeard T.table }
+{}
+
+/// The query `state` is answered in each state, by one payload: a JSON text that reads as the name of
+/// the run's state, whatever that name holds.
+pub fn tells_its_state()
+    ensures { TellsItsState }
 {}

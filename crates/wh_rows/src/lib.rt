@@ -3,7 +3,8 @@
 //! A row reads `State | Job | If | Gives | Then`, and the macro `rows!` writes it so:
 //!
 //! ```text
-//! charging: NotDone("charge"), if [Below(TRIES, 2)] => [StartTimer("again", 86_400)], do [Up(TRIES)] => retrying;
+//! charging: NotDone("charge"), if [Below(TRIES, 2)]
+//!     => [StartTimer("again", 86_400)], do [Up(TRIES)] => retrying;
 //! ```
 //!
 //! The first row that fits counts. What a list of rows can't be is refused where its table is
@@ -18,13 +19,16 @@ pub mod laws;
 mod macros;
 mod naming;
 mod parts;
+mod queries;
 mod row;
 mod state_name;
 mod table;
 pub mod words;
 
-pub use follow::{answer, take_start};
+pub use choose::{all_hold, count_of, is_for_job};
+pub use follow::{answer, raised, take_start, with_count};
 pub use parts::{RowList, RowText};
+pub use queries::row_query;
 pub use row::{
     CommandTemplate, Condition, Counter, Counts, Definition, DefinitionOf, Effect, JobPattern,
     Naming, Row, RowOf, RowsState, Source, UNCOUNTED,

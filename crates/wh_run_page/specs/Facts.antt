@@ -1,5 +1,5 @@
 -- What a page says of a run above its picture, and below.
-use Rattle.std.specs.Prelude.{ℕ, Bool, ◌-◌, ◌==◌, not, count_by, get_or, length, slice_get, if◌then◌else◌, List, [], ◌∷◌, ◌++◌, codes, decimal}
+use Rattle.std.specs.Prelude.{Option, Some, None, ℕ, Bool, ◌-◌, ◌==◌, not, count_by, get_or, length, slice_get, if◌then◌else◌, List, [], ◌∷◌, ◌++◌, codes, decimal}
 use Rattle.wh_html.specs.Times.{stamp_text, span_text}
 use Rattle.wh_timeline.specs.declared.page.Fact.{Fact}
 use Rattle.wh_view.specs.declared.view.View.{View}
@@ -40,13 +40,17 @@ is_empty text = length text == 0
 abbrev pub marked_count : View → ℕ
 marked_count view = count_by (λ event. not (is_empty (mark_words view event))) view.events
 
--- that some events are not as they should be
-abbrev pub marked_note : ℕ → List ℕ
-marked_note count = decimal count ++ codes " events are not as a worker expects them; the lines of their tasks say why."
+-- that so many events are not as they should be, if some are
+abbrev pub marked_note : ℕ → Option (List ℕ)
+marked_note count =
+    if count == 0 then None
+    else Some (codes "Events that are not as a worker expects them: " ++ (decimal count ++ codes ". The lines of their tasks say why."))
 
--- what else a reader has to know
-abbrev pub notes_by : ℕ → List (List ℕ)
-notes_by count = if count == 0 then [] else marked_note count ∷ []
+-- a note, if there is one
+abbrev pub note_items : Option (List ℕ) → List (List ℕ)
+note_items None = []
+note_items (Some note) = note ∷ []
 
-abbrev pub notes_of : View → List (List ℕ)
-notes_of view = notes_by (marked_count view)
+-- what else a reader has to know, after a note on the verdict
+abbrev pub notes_of : View → Option (List ℕ) → List (List ℕ)
+notes_of view note = note_items note ++ note_items (marked_note (marked_count view))

@@ -5,3 +5,4 @@ pub mod Headings
 pub mod Tasks
 pub mod Facts
 pub mod Pages
+pub mod Laws

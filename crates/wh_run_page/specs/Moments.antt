@@ -1,6 +1,8 @@
 -- When the events of a history happened.
-use Rattle.std.specs.Prelude.{ℕ, ◌+◌, ◌-◌, ◌/◌, min, get_or, ℤ, pos, int_lt, unsigned_abs, if◌then◌else◌, Option, Some, None, List, [], ◌∷◌, slice_get}
+use Rattle.std.specs.Prelude.{ℕ, ◌+◌, ◌-◌, ◌/◌, min, get_or, ℤ, pos, int_lt, unsigned_abs, Bool, true, false, if◌then◌else◌, Option, Some, None, List, [], ◌∷◌, slice_get}
 use Rattle.wh_html.specs.Times.{last_time}
+use Rattle.wh_json.specs.declared.fault.ReadFault.{ReadFault}
+use Rattle.wh_json.specs.declared.fault.ReadFault.TheVariants.{OutOfOrder}
 use Rattle.wh_timeline.specs.declared.page.Moment.{Moment}
 use Rattle.wh_view.specs.declared.view.ViewedEvent.{ViewedEvent}
 use Rattle.wh_view.specs.Lookups.{index_of}
@@ -35,8 +37,16 @@ abbrev pub number_or : ℕ → Option ℕ → ℕ
 number_or place None = place
 number_or place (Some number) = number
 
+-- the number of an event does not follow that of the event before
+abbrev pub is_out_of_order : Option ReadFault → Bool
+is_out_of_order None = false
+is_out_of_order (Some (OutOfOrder at)) = true
+is_out_of_order (Some _) = false
+
+-- what an event is called by: its number, or its place where that does not follow the number before
 abbrev pub number_of : ViewedEvent → ℕ
-number_of event = number_or event.place event.read.number
+number_of event =
+    if is_out_of_order event.read.fault then event.place else number_or event.place event.read.number
 
 -- an event, and when it happened
 abbrev pub moment_of : List ℕ → ViewedEvent → Moment

@@ -21,7 +21,7 @@ timed_page view times said =
       fault = option_map (moment_of times) (event_at view.events (index_at said.place));
       lanes = lanes_of view times;
       tasks = tasks_of view times said.place;
-      notes = notes_of view;
+      notes = notes_of view said.note;
     }
 
 -- the page of a run

@@ -29,9 +29,9 @@ side_of words.Gives = sides.Gives
 side_of words.Completes = sides.Recorded
 side_of words.Other = sides.Recorded
 
--- the event of the fault is where the history differs
+-- that of the event of the fault says so
 abbrev pub side_at : Option ℕ → ViewedEvent → Side
-side_at fault event = if is_at fault event.place then sides.Differs else side_of (word_of event)
+side_at fault event = if is_at fault event.place then sides.Fault else side_of (word_of event)
 
 -- the line of an event
 abbrev pub line_of : View → Option ℕ → ViewedEvent → Line

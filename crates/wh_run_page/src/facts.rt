@@ -104,18 +104,40 @@ fn marked_count(view: &View) -> usize
         .count()
 }
 
-/// What else a reader has to know.
-pub(crate) fn notes_of(alloc: Global, view: &View) -> Result<Vec<Text>, OutOfMemory>
-    ensures { IfOk result (λ notes. notes.items ≡ facts.notes_of view.now) }
+/// That many events are not as they should be, if some are.
+fn marked_note(alloc: Global, count: usize) -> Result<Option<Text>, OutOfMemory>
+    ensures { IfOk result (λ note. note ≡ facts.marked_note count) }
 {
-    let mut notes = Vec::new(alloc);
-    let count = marked_count(view);
     if count == 0 {
-        return Ok(notes);
+        return Ok(None);
     }
     let note = format!(in alloc;
-        "{count} events are not as a worker expects them; the lines of their tasks say why."
+        "Events that are not as a worker expects them: {count}. The lines of their tasks say why."
     )?;
-    notes.push(Text::new(note))?;
+    Ok(Some(Text::new(note)))
+}
+
+/// Adds a note, if there is one.
+fn push_note(notes: &mut Vec<Text>, note: Option<Text>) -> Result<(), OutOfMemory>
+    ensures { OnOk result (notes.new.items ≡ notes.old.items ++ facts.note_items note) }
+{
+    match note {
+        Some(note) => Ok(notes.push(note)?),
+        None => Ok(()),
+    }
+}
+
+/// What else a reader has to know: a note on the verdict, if there is one, and how many events are
+/// not as they should be.
+pub(crate) fn notes_of(
+    alloc: Global,
+    view: &View,
+    note: Option<Text>,
+) -> Result<Vec<Text>, OutOfMemory>
+    ensures { IfOk result (λ notes. notes.items ≡ facts.notes_of view.now note) }
+{
+    let mut notes = Vec::new(alloc);
+    push_note(&mut notes, note)?;
+    push_note(&mut notes, marked_note(alloc, marked_count(view))?)?;
     Ok(notes)
 }

@@ -6,6 +6,7 @@
 mod facts;
 mod headings;
 mod lanes;
+pub mod laws;
 mod moments;
 mod page;
 mod said;

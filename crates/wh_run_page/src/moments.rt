@@ -6,6 +6,7 @@ ghost use Rattle.wh_run_page.specs.Moments as moments;
 use std::alloc::Global;
 use wh_events::{EventNo, OutOfMemory};
 use wh_html::LAST_TIME;
+use wh_json::ReadFault;
 use wh_timeline::Moment;
 use wh_view::ViewedEvent;
 
@@ -73,11 +74,23 @@ fn number_or(place: u64, number: Option<EventNo>) -> u64
     }
 }
 
-/// The number of an event; its place, where it has no number.
+/// Whether the number of an event does not follow that of the event before.
+fn is_out_of_order(fault: &Option<ReadFault>) -> bool
+    ensures { result ≡ moments.is_out_of_order fault.now }
+{
+    matches!(fault, Some(ReadFault::OutOfOrder { .. }))
+}
+
+/// The number of an event; its place, where it has no number or one that does not follow that of the
+/// event before, as the fault of such an event names it.
 pub(crate) fn number_of(event: &ViewedEvent) -> u64
     ensures { result ≡ moments.number_of event.now }
 {
-    number_or(event.place, event.read.number)
+    if is_out_of_order(&event.read.fault) {
+        event.place
+    } else {
+        number_or(event.place, event.read.number)
+    }
 }
 
 /// The time at an index; 0 where there is none.

@@ -21,7 +21,7 @@ fn timed_page(alloc: Global, view: &View, times: &[u64], said: Said) -> Result<P
     let facts = Items::new(facts_of(alloc, view, times)?);
     let lanes = Items::new(lanes_of(alloc, view, times)?);
     let tasks = Items::new(tasks_of(alloc, view, times, said.place)?);
-    let notes = Items::new(notes_of(alloc, view)?);
+    let notes = Items::new(notes_of(alloc, view, said.note)?);
     let fault = moment_if(times, event_at(view.events.get(), index_at(said.place)));
     Ok(Page {
         title: said.title,
@@ -38,14 +38,15 @@ fn timed_page(alloc: Global, view: &View, times: &[u64], said: Said) -> Result<P
 
 /// The page of a run, made of the view of its history and of what is said of it.
 ///
-/// Its title, verdict and difference are those that are said, and its fault is the event of the place
-/// that is said. Each thing of the view has a lane, in their order: with the id and the type of the
-/// event that opened it, the moments of the events that opened, started and ended it, how it stands by
-/// the event that ended it, and the attempt of that which started it. Events in a row that stand in one
-/// task are one task of the page, with a line for each event, but for workflow tasks that are scheduled
-/// or started; a line says what the workflow was told, what it gave, and what else is recorded, and the
-/// event of the fault has `Side::Differs`. An event has its number, or its place where it has none; one
-/// without a time has that of the event before. The work grows with the number of events.
+/// Its title, verdict, difference and first note are those that are said, and its fault is the event of
+/// the place that is said. Each thing of the view has a lane, in their order: with the id and the type
+/// of the event that opened it, the moments of the events that opened, started and ended it, how it
+/// stands by the event that ended it, and the attempt of that which started it. Events in a row that
+/// stand in one task are one task of the page, with a line for each event, but for workflow tasks that
+/// are scheduled or started; a line says what the workflow was told, what it gave, and what else is
+/// recorded, and the event of the fault has `Side::Fault`. An event has its number, or its place where
+/// it has none or one that does not follow the number before; one without a time has that of the event
+/// before. The work grows with the number of events.
 ///
 /// `OutOfMemory` where there was no memory for it.
 pub fn page_of(alloc: Global, view: &View, said: Said) -> Result<Page, OutOfMemory>

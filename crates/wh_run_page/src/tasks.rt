@@ -45,12 +45,12 @@ fn side_of(word: Word) -> Side
     }
 }
 
-/// Who says the line of an event; that of the fault is where the history differs.
+/// Who says the line of an event, or that the fault is there.
 fn side_at(fault: Option<u64>, event: &ViewedEvent) -> Side
     ensures { result ≡ tasks.side_at fault event.now }
 {
     if is_at(fault, event.place) {
-        Side::Differs
+        Side::Fault
     } else {
         side_of(event.word())
     }

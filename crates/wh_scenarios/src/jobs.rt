@@ -170,8 +170,9 @@ fn job_with_id(alloc: Global, word: &str, rest: &str) -> Result<Option<Job>, Out
     Ok(None)
 }
 
-/// The job of these words, of a run of the workflow type `kind`. `None` where they are no job.
-pub(crate) fn job_of(alloc: Global, kind: &str, words: &str) -> Result<Option<Job>, OutOfMemory>
+/// The job of these words, of a run of the workflow type `kind`. `None` where they are no job, and
+/// `OutOfMemory` where there was no memory for it.
+pub fn job_of(alloc: Global, kind: &str, words: &str) -> Result<Option<Job>, OutOfMemory>
     ensures { IfOk result (λ job. job ≡ job_of kind.now words.now) }
 {
     let word = head_word(words);

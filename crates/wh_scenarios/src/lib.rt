@@ -36,4 +36,7 @@ mod texts;
 mod words;
 
 pub use fault::ScenarioFault;
+pub use jobs::job_of;
 pub use running::follows;
+pub use texts::commands_text;
+pub use words::{at_arrow, lines_of, parts_at};

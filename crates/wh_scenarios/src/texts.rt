@@ -106,8 +106,9 @@ fn add_later(alloc: Global, text: &mut String, commands: &[Command]) -> Result<(
     Ok(())
 }
 
-/// Commands, with a semicolon between each and the next.
-pub(crate) fn commands_text(alloc: Global, commands: &[Command]) -> Result<String, AllocError>
+/// Commands as a scenario writes them, with a semicolon between each and the next. `AllocError` where
+/// there was no memory for the text.
+pub fn commands_text(alloc: Global, commands: &[Command]) -> Result<String, AllocError>
     ensures { IfOk result (λ text. string_bytes text ≡ commands_text commands.now) }
 {
     match commands.split_first() {

@@ -34,8 +34,8 @@ pub(crate) fn words_after(words: &str) -> &str
     after_space(words).trim()
 }
 
-/// The parts of a text between separators.
-pub(crate) fn parts_at(alloc: Global, text: &str, separator: char) -> Result<Vec<&str>, AllocError>
+/// The parts of a text between separators. `AllocError` where there was no memory for the list.
+pub fn parts_at(alloc: Global, text: &str, separator: char) -> Result<Vec<&str>, AllocError>
     requires { separator < 128 }
     ensures { IfOk result
         (λ parts. map (λ part. part.now) parts.items ≡ slice_split (λ byte. nat_eq byte separator) text.now) }
@@ -43,15 +43,15 @@ pub(crate) fn parts_at(alloc: Global, text: &str, separator: char) -> Result<Vec
     text.split(separator).collect(alloc)
 }
 
-/// The lines of a text.
-pub(crate) fn lines_of(alloc: Global, text: &str) -> Result<Vec<&str>, AllocError>
+/// The lines of a text. `AllocError` where there was no memory for the list.
+pub fn lines_of(alloc: Global, text: &str) -> Result<Vec<&str>, AllocError>
     ensures { IfOk result (λ all. map (λ line. line.now) all.items ≡ lines text.now) }
 {
     text.lines().collect(alloc)
 }
 
 /// What stands before the first arrow of a line, and what behind it. `None` where there is none.
-pub(crate) fn at_arrow(line: &str) -> Option<(&str, &str)>
+pub fn at_arrow(line: &str) -> Option<(&str, &str)>
     ensures { option_map (λ sides. (sides.0.now, sides.1.now)) result ≡ at_arrow line.now }
 {
     line.split_once("=>")

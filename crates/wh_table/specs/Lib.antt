@@ -1,3 +1,4 @@
 pub mod Carrying
 pub mod Program
 pub mod Laws
+pub mod Queries

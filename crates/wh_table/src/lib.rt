@@ -4,6 +4,7 @@
 mod carrying;
 mod following;
 pub mod laws;
+mod queries;
 mod starting;
 mod state;
 mod workflow;

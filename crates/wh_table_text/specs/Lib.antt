@@ -6,3 +6,5 @@ pub mod Counters
 pub mod Phrases
 pub mod Reading
 pub mod Texts
+pub mod Numbered
+pub mod Faults

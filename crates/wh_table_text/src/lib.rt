@@ -37,6 +37,8 @@
 mod copies;
 mod counters;
 mod fault;
+pub mod laws;
+mod listing;
 mod lists;
 mod numbers;
 mod phrases;
@@ -46,4 +48,9 @@ mod verbs;
 mod words;
 
 pub use fault::{RowFault, TableFault, fault_text};
+pub use listing::list_faults;
+pub use lists::phrases_at;
+pub use numbers::number_in;
 pub use reading::read_table;
+pub use rows::own_job_at;
+pub use words::{rest, word};

@@ -72,7 +72,7 @@ fn texts_of(alloc: Global, fault: TableFault, value: &Value) -> Result<Vec<Text>
 }
 
 /// The phrases of a member: a text, or a list of texts. There are none where it is left out.
-pub(crate) fn phrases_at(
+pub fn phrases_at(
     alloc: Global,
     fault: TableFault,
     value: Option<&Value>,

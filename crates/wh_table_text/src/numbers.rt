@@ -19,7 +19,7 @@ fn is_digits(text: &str) -> bool
 
 /// The number that one to nineteen digits write.
 #[tactic(auto, unfolding(wh_json::specs::Fields::number_in))]
-pub(crate) fn number_in(text: &str) -> Option<u64>
+pub fn number_in(text: &str) -> Option<u64>
     ensures { result ≡ number_in text.now }
 {
     if text.is_empty() || 19 < text.len() || !is_digits(text) {

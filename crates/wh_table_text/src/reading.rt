@@ -20,13 +20,13 @@ use wh_row_rules::{OwnedRow, OwnedTable, table_fault};
 use wh_rows::Naming;
 
 /// The most rows that a table may have.
-const MOST_ROWS: usize = 200;
+pub(crate) const MOST_ROWS: usize = 200;
 
 /// The most counters that a table may name.
 const MOST_COUNTERS: usize = 4;
 
 /// The value of a JSON text.
-fn document(alloc: Global, bytes: &[u8]) -> Result<Value, TableFault>
+pub(crate) fn document(alloc: Global, bytes: &[u8]) -> Result<Value, TableFault>
     ensures { Gives view result (or_not_json (document_within bytes.now)) }
 {
     match read_document(alloc, bytes) {
@@ -37,7 +37,7 @@ fn document(alloc: Global, bytes: &[u8]) -> Result<Value, TableFault>
 }
 
 /// Whether a version is the number 1.
-fn is_known(value: Option<&Value>) -> bool
+pub(crate) fn is_known(value: Option<&Value>) -> bool
     ensures { result ≡ is_known (option_map (λ v. view v.now) value.entry) }
 {
     let Some(value) = value else {
@@ -51,7 +51,10 @@ fn is_known(value: Option<&Value>) -> bool
 
 /// The counters of a table.
 #[tactic(auto, unfolding(crate::specs::Reading::counters_at))]
-fn counters_at(alloc: Global, value: Option<&Value>) -> Result<Vec<NamedCounter>, TableFault>
+pub(crate) fn counters_at(
+    alloc: Global,
+    value: Option<&Value>,
+) -> Result<Vec<NamedCounter>, TableFault>
     ensures { Gives (λ names. names.items) result (counters_at (option_map (λ v. view v.now) value.entry)) }
 {
     let texts = phrases_at(alloc, TableFault::BadCounters, value)?;
@@ -63,7 +66,7 @@ fn counters_at(alloc: Global, value: Option<&Value>) -> Result<Vec<NamedCounter>
 
 /// How the runs of a table are named.
 #[tactic(auto, unfolding(crate::specs::Reading::naming_at))]
-fn naming_at(alloc: Global, value: Option<&Value>) -> Result<Naming<Text>, TableFault>
+pub(crate) fn naming_at(alloc: Global, value: Option<&Value>) -> Result<Naming<Text>, TableFault>
     ensures { Gives (λ naming. naming) result (naming_at (option_map (λ v. view v.now) value.entry)) }
 {
     let Some(value) = value else {
@@ -79,7 +82,7 @@ fn naming_at(alloc: Global, value: Option<&Value>) -> Result<Naming<Text>, Table
 }
 
 /// The list `rows` of an object.
-fn rows_in(value: &Value) -> Option<&[Value]>
+pub(crate) fn rows_in(value: &Value) -> Option<&[Value]>
     ensures { option_map (λ values. map view values.now) result ≡ rows_in (view value.now) }
 {
     list_in(field(Some(value), "rows")?)
@@ -97,7 +100,7 @@ fn first_state(alloc: Global, rows: &[OwnedRow]) -> Result<Text, TableFault>
 
 /// The table of a JSON value, whose rows may still break a rule.
 #[tactic(auto, unfolding(crate::specs::Reading::shape_of))]
-fn shape_of(alloc: Global, value: &Value) -> Result<OwnedTable, TableFault>
+pub(crate) fn shape_of(alloc: Global, value: &Value) -> Result<OwnedTable, TableFault>
     ensures { Gives (λ table. table) result (shape_of (view value.now)) }
 {
     if !is_known(field(Some(value), "version")) {

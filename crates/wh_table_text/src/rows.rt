@@ -52,8 +52,9 @@ fn job_at(row: u64, text: &str) -> Result<JobPattern<&str>, TableFault>
     }
 }
 
-/// The jobs that a text names, with texts of their own.
-fn own_job_at(alloc: Global, row: u64, text: &str) -> Result<JobPattern<Text>, TableFault>
+/// The jobs that a text names, in a row of that number: the fault is `UnknownJob` of the row where it
+/// names none, or `OutOfMemory`.
+pub fn own_job_at(alloc: Global, row: u64, text: &str) -> Result<JobPattern<Text>, TableFault>
     ensures { Gives (λ pattern. pattern) result (job_at row text.now) }
 {
     let pattern = job_at(row, text)?;
@@ -126,7 +127,7 @@ fn or_same(text: &str) -> &str
 
 /// A row of a table.
 #[tactic(auto, unfolding(crate::specs::Reading::row_at))]
-fn row_at(
+pub(crate) fn row_at(
     alloc: Global,
     row: u64,
     names: &[NamedCounter],

@@ -17,9 +17,9 @@ pub(crate) struct Phrase<'a> {
     pub third: &'a str,
 }
 
-/// The first word of a text.
+/// The first word of a text: what stands before its first space.
 #[tactic(auto, unfolding(crate::specs::Words::word))]
-fn word(text: &str) -> &str
+pub fn word(text: &str) -> &str
     ensures { result.now ≡ word text.now }
 {
     match text.split_once(' ') {
@@ -28,9 +28,9 @@ fn word(text: &str) -> &str
     }
 }
 
-/// What follows the first word of a text.
+/// What follows the first word of a text, behind its space; nothing where it has one word.
 #[tactic(auto, unfolding(crate::specs::Words::rest))]
-fn rest(text: &str) -> &str
+pub fn rest(text: &str) -> &str
     ensures { result.now ≡ rest text.now }
 {
     match text.split_once(' ') {

@@ -2,8 +2,8 @@
 use Rattle.std.proofs.Common.{◌≡◌, ◌+◌, ◌-◌, ℕ, Bool, true, false, cond, Option, Some, None, List, [], ◌∷◌, map, drop, length, refl, ap, min}
 use Rattle.std.proofs.lemmas.List.{length-map, take-map, drop-map}
 use Rattle.std.proofs.lemmas.List.Folds.{fold-map}
-use Rattle.std.specs.Prelude.{nat_le, nat_lt, count_by}
-use Rattle.std.specs.List.{list_all}
+use Rattle.std.specs.Prelude.{nat_le, nat_lt, ◌==◌, not, count_by}
+use Rattle.std.specs.List.{list_all, position_or_len}
 use Rattle.wh_html.specs.Html.{Html}
 use Rattle.wh_html.proofs.Alike.{Alike, is_inner, last, words, both, none, mark, word, text, num, each-alike, each-same}
 use Rattle.wh_html.proofs.Inner.{time, lapse, last-time, last-lapse}
@@ -13,10 +13,10 @@ use Rattle.wh_timeline.specs.declared.page.Lane.{Lane}
 use Rattle.wh_timeline.specs.declared.page.Moment.{Moment}
 use Rattle.wh_timeline.specs.declared.page.Page.{Page}
 use Rattle.wh_timeline.specs.declared.page.Task.{Task}
-use Rattle.wh_timeline.specs.Views.{left_out, shown, hit_from, before_hit, middle, shown_lanes, shown_tasks}
+use Rattle.wh_timeline.specs.Views.{left_out, shown, middle, lanes_at, shown_lanes, shown_tasks}
 use Rattle.wh_timeline.specs.Without.{without_lane, without_task, without_texts}
 use Rattle.wh_timeline.specs.Lanes.{is_hit, event_html, after_html, title_html, bar_html, bars_html, is_at_once, sign_html, below, classes_html, said_html, lane_html, lanes_html}
-use Rattle.wh_timeline.specs.Pictures.{bottom_of, opening_html, gap_word_html, mark_at_html, before_html, stop_html, first_time, tick_html, fault_html, picture_html}
+use Rattle.wh_timeline.specs.Pictures.{bottom_of, undrawn_html, opening_html, gap_word_html, mark_at_html, before_html, stop_html, first_time, tick_html, fault_html, picture_html}
 use Rattle.wh_timeline.proofs.WordsInner.{kind-inner, outcome-inner, hit-inner}
 
 -- a template that is alike itself
@@ -96,15 +96,18 @@ fault-alike stops bottom None = none
 fault-alike stops bottom (Some fault) =
     mark _ (num _ (mark _ (num _ (mark _ (num _ (mark _ (num _ (mark _ (num _ (last _))))))))))
 
-opening-alike : (lanes : ℕ) → IsClosed (opening_html lanes)
-opening-alike lanes = mark _ (num _ (mark _ (num _ (last _))))
+undrawn-alike : (lanes total : ℕ) → IsClosed (undrawn_html lanes total)
+undrawn-alike lanes total = choose (lanes == total) _ _ none (mark _ (num _ (mark _ (num _ (last _)))))
+
+opening-alike : (lanes total : ℕ) → IsClosed (opening_html lanes total)
+opening-alike lanes total = mark _ (both (undrawn-alike lanes total) (mark _ (num _ (mark _ (num _ (last _))))))
 
 -- the picture
-pub picture-alike : (fault : Option Moment) (stops : List Stop) (lanes : List Lane) (tasks : List Task) → Alike false false (picture_html fault stops lanes tasks) (picture_html fault stops (map without_lane lanes) (map without_task tasks))
+pub picture-alike : (fault : Option Moment) (stops : List Stop) (lanes : List Lane) (total : ℕ) (tasks : List Task) → Alike false false (picture_html fault stops lanes total tasks) (picture_html fault stops (map without_lane lanes) total (map without_task tasks))
 unfolding picture_html
-picture-alike fault stops lanes tasks =
+picture-alike fault stops lanes total tasks =
     let bottom = bottom_of (length lanes) in
-    rw (length-map lanes without_lane) (both (opening-alike (length lanes)) (both (each-same (stop_html bottom (first_time stops)) (stop-alike bottom (first_time stops)) stops)
+    rw (length-map lanes without_lane) (both (opening-alike (length lanes) total) (both (each-same (stop_html bottom (first_time stops)) (stop-alike bottom (first_time stops)) stops)
     (mark _ (both (each-alike (tick_html stops) without_task (tick-alike stops) tasks) (both (lanes-alike fault stops 70 lanes)
     (both (fault-alike stops bottom fault) (last _)))))))
 
@@ -120,20 +123,19 @@ hit-alike : (lane : Lane) (fault : Option Moment) → is_hit (without_lane lane)
 hit-alike lane None = refl
 hit-alike lane (Some fault) = refl
 
-hit-map : (count : ℕ) (fault : Option Moment) (lanes : List Lane) → hit_from count fault (map without_lane lanes) ≡ hit_from count fault lanes
-hit-map count fault [] = refl
-hit-map count fault (lane ∷ lanes) =
-    rw (hit-alike lane fault) (ap (λ rest. cond (is_hit lane fault) count rest) (hit-map (count + 1) fault lanes))
+before-hit : (fault : Option Moment) (lanes : List Lane) → position_or_len (λ lane. is_hit lane fault) (map without_lane lanes) ≡ position_or_len (λ lane. is_hit lane fault) lanes
+before-hit fault [] = refl
+before-hit fault (lane ∷ lanes) =
+    rw (hit-alike lane fault) (ap (λ n. cond (not (is_hit lane fault)) (1 + n) 0) (before-hit fault lanes))
 
-before-map : (fault : Option Moment) (lanes : List Lane) → before_hit fault (map without_lane lanes) ≡ before_hit fault lanes
-unfolding before_hit
-before-map fault lanes = hit-map 0 fault lanes
+at-alike : (fault : Option Moment) (lanes : List Lane) → lanes_at fault (map without_lane lanes) ≡ lanes_at fault lanes
+at-alike fault lanes =
+    rw (before-hit fault lanes, length-map lanes without_lane, count-map (λ lane. nat_lt lane.opened.event (middle fault)) without_lane lanes) refl
 
 pub lanes-shown : (page : Page) → shown_lanes (without_texts page) ≡ map without_lane (shown_lanes page)
 unfolding shown_lanes without_texts
 lanes-shown page =
-    rw (count-map (λ lane. nat_lt lane.opened.event (middle page.fault)) without_lane page.lanes, length-map page.lanes without_lane, before-map page.fault page.lanes)
-    (shown-map without_lane _ page.lanes)
+    rw (at-alike page.fault page.lanes, length-map page.lanes without_lane) (shown-map without_lane _ page.lanes)
 
 pub tasks-shown : (page : Page) → shown_tasks (without_texts page) ≡ map without_task (shown_tasks page)
 unfolding shown_tasks without_texts

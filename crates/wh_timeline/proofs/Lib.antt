@@ -3,3 +3,4 @@ pub mod LaneBytes
 pub mod Rising
 pub mod WordsInner
 pub mod Drawn
+pub mod Shown

@@ -1,8 +1,8 @@
 -- Stops that go to the right, one after another.
-use Rattle.std.proofs.Common.{◌≡◌, ◌≤◌, ℕ, ◌<◌, ◌+◌, ◌-◌, nat_le, ◌∙◌, List, [], ◌∷◌, ◌++◌, map, take, get_or, length, sym, refl, ap, arith}
+use Rattle.std.proofs.Common.{◌≡◌, ◌≤◌, ℕ, ◌<◌, ◌+◌, ◌-◌, nat_le, ◌∙◌, List, [], ◌∷◌, ◌++◌, map, take, get_or, length, sym, refl, ap, subst, arith}
 use Rattle.std.proofs.lemmas.List.{take_more, map-append}
 use Rattle.wh_timeline.specs.declared.axis.Stop.{Stop}
-use Rattle.wh_timeline.specs.Axes.{left, right, GoesRight, BeginsLeft, last_place, gap_of, Gaps, next_free, Marks}
+use Rattle.wh_timeline.specs.Axes.{left, right, GoesRight, BeginsLeft, last_place, gap_of, Gaps, next_free, Marks, next_place, steps_to, length_to, Places}
 
 -- the stops go to the right from one place on, and no further than another
 abbrev pub GoesTo : (x : ℕ) → List Stop → (y : ℕ) → Type 0
@@ -59,6 +59,44 @@ pub Gaps_from : (longest x m : ℕ) (stops : List Stop) (y n : ℕ) → GapsTo l
 Gaps_from longest x m [] y n h = tt
 Gaps_from longest x m (s ∷ stops) y n h = (h.0, Gaps_from longest s.x s.millis stops y n h.1)
 
+-- the places of stops after which so many steps, so long together, have led to a time and its place
+pub record Way : Type 0 where
+  pub steps : ℕ
+  pub far : ℕ
+  pub millis : ℕ
+  pub x : ℕ
+
+-- where one more stop leads
+abbrev pub way_after : (longest : ℕ) → Way → Stop → Way
+way_after longest way stop =
+    record {
+      steps = steps_to way.steps (stop.millis - way.millis);
+      far = length_to longest way.far (stop.millis - way.millis);
+      millis = stop.millis;
+      x = stop.x;
+    }
+
+abbrev pub PlacesTo : (all whole longest last : ℕ) → Way → List Stop → Way → Type 0
+PlacesTo all whole longest last way [] end = way ≡ end
+PlacesTo all whole longest last way (stop ∷ stops) end =
+    (stop.x ≡ next_place all whole longest last way.steps way.far way.millis way.x stop.millis)
+    × PlacesTo all whole longest last (way_after longest way stop) stops end
+
+pub PlacesTo-more : (all whole longest last : ℕ) (way : Way) (stops : List Stop) (end : Way) (stop : Stop) → PlacesTo all whole longest last way stops end
+    → stop.x ≡ next_place all whole longest last end.steps end.far end.millis end.x stop.millis
+    → PlacesTo all whole longest last way (stops ++ stop ∷ []) (way_after longest end stop)
+PlacesTo-more all whole longest last way [] end stop h e =
+    subst (λ w. PlacesTo all whole longest last w (stop ∷ []) (way_after longest end stop)) (sym h) (e, refl)
+PlacesTo-more all whole longest last way (s ∷ stops) end stop h e =
+    (h.0, PlacesTo-more all whole longest last (way_after longest way s) stops end stop h.1 e)
+
+pub Places_from : (all whole longest last : ℕ) (way : Way) (stops : List Stop) (end : Way) → PlacesTo all whole longest last way stops end
+    → Places all whole longest last way.steps way.far way.millis way.x stops
+unfolding Places
+Places_from all whole longest last way [] end h = tt
+Places_from all whole longest last way (s ∷ stops) end h =
+    (h.0, Places_from all whole longest last (way_after longest way s) stops end h.1)
+
 -- the marks of stops after which the next may stand at a place
 abbrev pub MarksTo : (free : ℕ) → List Stop → (last : ℕ) → Type 0
 MarksTo free [] last = free ≡ last
@@ -71,3 +109,14 @@ MarksTo-more free (s ∷ stops) last stop h e = (h.0, MarksTo-more (next_free fr
 pub Marks_from : (free : ℕ) (stops : List Stop) (last : ℕ) → MarksTo free stops last → Marks free stops
 Marks_from free [] last h = tt
 Marks_from free (s ∷ stops) last h = (h.0, Marks_from (next_free free s.x) stops last h.1)
+
+-- one more stop at the end of one more step
+pub places_on : (all whole longest last : ℕ) (way : Way) (stops new : List Stop) (steps far millis x : ℕ) (stop : Stop)
+    (next_steps next_far next_millis next_x : ℕ)
+    → PlacesTo all whole longest last way stops (record { steps = steps; far = far; millis = millis; x = x })
+    → stop.x ≡ next_place all whole longest last steps far millis x stop.millis
+    → next_steps ≡ steps_to steps (stop.millis - millis) → next_far ≡ length_to longest far (stop.millis - millis)
+    → next_millis ≡ stop.millis → next_x ≡ stop.x → new ≡ stops ++ stop ∷ []
+    → PlacesTo all whole longest last way new (record { steps = next_steps; far = next_far; millis = next_millis; x = next_x })
+places_on all whole longest last way stops new steps far millis x stop ns nf nm nx h e a b m p g =
+    rw (g, a, b, m, p) (PlacesTo-more all whole longest last way stops (record { steps = steps; far = far; millis = millis; x = x }) stop h e)

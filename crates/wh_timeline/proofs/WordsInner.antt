@@ -7,7 +7,7 @@ use Rattle.wh_timeline.specs.declared.page.Kind.TheVariants.{Activity, Timer, Ch
 use Rattle.wh_timeline.specs.declared.page.Outcome.{Outcome}
 use Rattle.wh_timeline.specs.declared.page.Outcome.TheVariants.{Open, Done, Failed, Cancelled}
 use Rattle.wh_timeline.specs.declared.page.Side.{Side}
-use Rattle.wh_timeline.specs.declared.page.Side.TheVariants.{Told, Gives, Recorded, Differs, Note}
+use Rattle.wh_timeline.specs.declared.page.Side.TheVariants.{Told, Gives, Recorded, Fault, Note}
 use Rattle.wh_timeline.specs.Words.{kind_word, outcome_class, side_word}
 use Rattle.wh_timeline.specs.Lanes.{hit_class}
 
@@ -29,7 +29,7 @@ pub side-inner : (side : Side) → list_all is_inner (side_word side) ≡ true
 side-inner Told = refl
 side-inner Gives = refl
 side-inner Recorded = refl
-side-inner Differs = refl
+side-inner Fault = refl
 side-inner Note = refl
 
 pub hit-inner : (hit : Bool) → list_all is_inner (hit_class hit) ≡ true

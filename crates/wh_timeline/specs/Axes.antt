@@ -1,6 +1,6 @@
 -- Where times stand in the picture.
 use Rattle.std.specs.Ordering.{nat_cmp}
-use Rattle.std.specs.Prelude.{IsPermutation, IsSorted, ◌≡◌, ◌≤◌, ◌<◌, ℕ, suc, zero, ◌+◌, ◌-◌, ◌/◌, ◌==◌, min, nat_le, nat_lt, get_or, length, if◌then◌else◌, Option, Some, None, List, [], ◌∷◌, ◌++◌, map}
+use Rattle.std.specs.Prelude.{IsPermutation, IsSorted, ◌≡◌, ◌≤◌, ◌<◌, ℕ, suc, zero, ◌+◌, ◌-◌, ◌*◌, ◌/◌, ◌==◌, min, max, nat_le, nat_lt, get_or, length, if◌then◌else◌, Option, Some, None, List, [], ◌∷◌, ◌++◌, map}
 use Rattle.std.specs.List.{flat_map}
 use Rattle.wh_timeline.specs.declared.page.Lane.{Lane}
 use Rattle.wh_timeline.specs.declared.page.Task.{Task}
@@ -110,6 +110,45 @@ abbrev pub EndsRight : List Stop → Type 0
 EndsRight stops =
     let times = map (λ stop. stop.millis) stops in first_of times < last_of times → last_place left stops ≡ right
 
+-- the part of so much room that a part of the whole has, and all of it at most
+abbrev pub share : (room part whole : ℕ) → ℕ
+share room part whole = if whole == 0 then 0 else min (min (room * part) 18446744073709551615 / whole) room
+
+-- how many steps there are with one more of this length, and how long they are together, each by no more than the longest
+abbrev pub steps_to : (steps step : ℕ) → ℕ
+steps_to steps step = min (steps + min step 1) 18446744073709551615
+
+abbrev pub length_to : (longest before step : ℕ) → ℕ
+length_to longest before step = min (before + min step longest) 18446744073709551615
+
+-- where a time stands to which so many steps lead of all, so long together of the whole: each step has the same room to
+-- begin with, and then more by its length; the last time stands at the right end
+abbrev pub place_after : (all whole last steps far millis : ℕ) → ℕ
+place_after all whole last steps far millis =
+    if millis == last then right else left + share 250 steps all + share 380 far whole
+
+-- where the next time stands, and no further left than the one before; the same time has the same place
+abbrev pub next_place : (all whole longest last steps far before x millis : ℕ) → ℕ
+next_place all whole longest last steps far before x millis =
+    let step = millis - before in
+    if millis == before then x
+    else max (place_after all whole last (steps_to steps step) (length_to longest far step) millis) x
+
+-- each stop stands where the steps up to it lead, after so many that led to a time and its place
+unfoldable pub Places : (all whole longest last steps far millis x : ℕ) → List Stop → Type 0
+Places all whole longest last steps far millis x [] = Unit {0}
+Places all whole longest last steps far millis x (stop ∷ stops) =
+    let step = stop.millis - millis in
+    (stop.x ≡ next_place all whole longest last steps far millis x stop.millis)
+    × Places all whole longest last (steps_to steps step) (length_to longest far step) stop.millis stop.x stops
+
+-- each stop stands where the steps up to it lead, by their times
+abbrev pub ArePlaced : List Stop → Type 0
+ArePlaced stops =
+    let times = map (λ stop. stop.millis) stops in
+    let longest = longest_of times in
+    Places (steps_of times) (whole_of times longest) longest (last_of times) 0 0 (first_of times) left stops
+
 -- where the next mark may stand: 84 units to the right of the one before
 abbrev pub next_free : (free x : ℕ) → ℕ
 next_free free x = if nat_le free x then x + 84 else free
@@ -131,6 +170,8 @@ pub record AreStopsOf (lanes : List Lane) (tasks : List Task) (fault : Option Mo
   pub begins : BeginsLeft stops
   -- the last stands at the right end, where it is later than the first
   pub ends : EndsRight stops
+  -- each stands where the steps up to it lead: each has some room, and more by its length
+  pub stand : ArePlaced stops
   -- each step that is longer than the longest that is drawn to scale has a gap
   pub gaps : AreGaps stops
   -- a stop has a mark where there is room for it

@@ -1,5 +1,5 @@
 -- The picture: time across, a lane for each thing.
-use Rattle.std.specs.Prelude.{ℕ, ◌+◌, ◌-◌, ◌*◌, ◌/◌, nat_le, min, if◌then◌else◌, Option, Some, None, List, [], ◌∷◌, length, codes}
+use Rattle.std.specs.Prelude.{ℕ, ◌+◌, ◌-◌, ◌*◌, ◌/◌, ◌==◌, nat_le, min, if◌then◌else◌, Option, Some, None, List, [], ◌∷◌, length, codes}
 use Rattle.wh_timeline.specs.declared.axis.Gap.{Gap}
 use Rattle.wh_timeline.specs.declared.axis.Stop.{Stop}
 use Rattle.wh_timeline.specs.declared.page.Moment.{Moment}
@@ -13,10 +13,19 @@ use Rattle.wh_timeline.specs.Lanes.{hit_class, lanes_html}
 abbrev pub bottom_of : (lanes : ℕ) → ℕ
 bottom_of lanes = 70 + 22 * min lanes 300
 
+-- how many things are drawn of so many, if not all are
+abbrev pub undrawn_html : (lanes total : ℕ) → Html
+undrawn_html lanes total =
+    if lanes == total then nothing
+    else (markup (codes "<p class=\"soft\">") ⊕ number lanes ⊕ markup (codes " of ") ⊕ number total
+    ⊕ markup (codes " things are drawn: those round the fault, or else the first.</p>\n"))
+
 -- the beginning of the picture
-abbrev pub opening_html : (lanes : ℕ) → Html
-opening_html lanes =
-    markup (codes "<section>\n<h2 id=\"picture\">Timeline</h2>\n<div class=\"scroll picture\" tabindex=\"0\" role=\"region\" aria-labelledby=\"picture\">\n<svg viewBox=\"0 0 1000 ")
+abbrev pub opening_html : (lanes total : ℕ) → Html
+opening_html lanes total =
+    markup (codes "<section>\n<h2 id=\"picture\">Timeline</h2>\n")
+    ⊕ undrawn_html lanes total
+    ⊕ markup (codes "<div class=\"scroll picture\" tabindex=\"0\" role=\"region\" aria-labelledby=\"picture\">\n<svg viewBox=\"0 0 1000 ")
     ⊕ number (bottom_of lanes + 10)
     ⊕ markup (codes "\" role=\"img\" aria-labelledby=\"picture\" aria-describedby=\"picture-words\">\n<desc id=\"picture-words\">")
     ⊕ number lanes
@@ -114,10 +123,10 @@ abbrev pub closing_html : Html
 closing_html =
     markup (codes "</svg>\n</div>\n<p class=\"soft key\"><span class=\"activity\">activity</span><span class=\"timer\">timer</span><span class=\"child\">child</span><span class=\"signal\">signal</span><span class=\"request\">request</span><span class=\"marker\">marker</span><span class=\"none\">pale: not started yet, still open, or cancelled</span><span class=\"none\">red edge: failed</span><span class=\"none\">Time runs to the right, with some room for each step; hatched: longer than it is drawn.</span></p>\n</section>\n")
 
--- the picture of lanes and tasks
-unfoldable pub picture_html : Option Moment → List Stop → List Lane → List Task → Html
-picture_html fault stops lanes tasks =
-    opening_html (length lanes)
+-- the picture of lanes, of so many in all, and of tasks
+unfoldable pub picture_html : Option Moment → List Stop → List Lane → (total : ℕ) → List Task → Html
+picture_html fault stops lanes total tasks =
+    opening_html (length lanes) total
     ⊕ each (stop_html (bottom_of (length lanes)) (first_time stops)) stops
     ⊕ markup (codes "<text x=\"12\" y=\"58\">workflow tasks</text>\n")
     ⊕ each (tick_html stops) tasks

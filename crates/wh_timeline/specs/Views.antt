@@ -1,5 +1,5 @@
 -- Which things and tasks of a run its page shows.
-use Rattle.std.specs.Prelude.{ℕ, ◌+◌, ◌-◌, nat_lt, min, if◌then◌else◌, Option, Some, None, List, [], ◌∷◌, take, drop, length, count_by}
+use Rattle.std.specs.Prelude.{ℕ, ◌-◌, nat_lt, min, Option, Some, None, List, [], ◌∷◌, take, drop, length, count_by, unwrap_or, position}
 use Rattle.wh_timeline.specs.declared.page.Lane.{Lane}
 use Rattle.wh_timeline.specs.declared.page.Task.{Task}
 use Rattle.wh_timeline.specs.declared.page.Moment.{Moment}
@@ -17,25 +17,23 @@ left_out total at = min (at - 200) (total - 300)
 abbrev pub shown : {A : Type 0} → (left : ℕ) → List A → List A
 shown left items = take 300 (drop left items)
 
--- how many things stand before the first that the event of the fault opened, started or ended, after so many; all of
--- them where there is none
-abbrev pub hit_from : (count : ℕ) → Option Moment → List Lane → ℕ
-hit_from count fault [] = count
-hit_from count fault (lane ∷ lanes) = if is_hit lane fault then count else hit_from (count + 1) fault lanes
-
-unfoldable pub before_hit : Option Moment → List Lane → ℕ
-before_hit fault lanes = hit_from 0 fault lanes
-
 -- the number of the event round which things are shown
 abbrev pub middle : Option Moment → ℕ
 middle None = 0
 middle (Some fault) = fault.event
 
+-- how many of the things were opened before an event
+abbrev pub lanes_before : (event : ℕ) → List Lane → ℕ
+lanes_before event lanes = count_by (λ lane. nat_lt lane.opened.event event) lanes
+
+-- how many of the things stand before the fault: before the first that its event opened, started or ended, or else those
+-- that were opened before it
+abbrev pub lanes_at : Option Moment → List Lane → ℕ
+lanes_at fault lanes = unwrap_or (position (λ lane. is_hit lane fault) lanes) (lanes_before (middle fault) lanes)
+
 -- the things that a page shows
 unfoldable pub shown_lanes : Page → List Lane
-shown_lanes page =
-    let at = count_by (λ lane. nat_lt lane.opened.event (middle page.fault)) page.lanes in
-    shown (min (left_out (length page.lanes) at) (before_hit page.fault page.lanes)) page.lanes
+shown_lanes page = shown (left_out (length page.lanes) (lanes_at page.fault page.lanes)) page.lanes
 
 -- the tasks that a page shows
 unfoldable pub shown_tasks : Page → List Task

@@ -5,7 +5,7 @@ use Rattle.wh_timeline.specs.declared.page.Kind.TheVariants.{Activity, Timer, Ch
 use Rattle.wh_timeline.specs.declared.page.Outcome.{Outcome}
 use Rattle.wh_timeline.specs.declared.page.Outcome.TheVariants.{Open, Done, Failed, Cancelled}
 use Rattle.wh_timeline.specs.declared.page.Side.{Side}
-use Rattle.wh_timeline.specs.declared.page.Side.TheVariants.{Told, Gives, Recorded, Differs, Note}
+use Rattle.wh_timeline.specs.declared.page.Side.TheVariants.{Told, Gives, Recorded, Fault, Note}
 
 -- what a lane is of, in words
 abbrev pub kind_word : Kind → List ℕ
@@ -28,5 +28,5 @@ abbrev pub side_word : Side → List ℕ
 side_word Told = codes "told"
 side_word Gives = codes "gives"
 side_word Recorded = codes "recorded"
-side_word Differs = codes "differs"
+side_word Fault = codes "fault"
 side_word Note = codes "note"

@@ -2,7 +2,7 @@
 
 ghost use Rattle.std.specs.Prelude.{◌≡◌, ◌≤◌, ◌<◌, ◌-◌, nat_le, get_or, ◌++◌, map, IfOk, OnOk, IsPermutation, IsSorted};
 ghost use Rattle.std.specs.Ordering.{nat_cmp};
-ghost use Rattle.wh_timeline.specs.Axes.{left, right, place_of, moment_times, lane_times, times_shown, GoesRight, BeginsLeft, first_of, last_of, last_place, steps_of, whole_of, shorter, longest_of, gap_of, Gaps, shortened, next_free, Marks};
+ghost use Rattle.wh_timeline.specs.Axes.{left, right, place_of, moment_times, lane_times, times_shown, GoesRight, BeginsLeft, first_of, last_of, last_place, steps_of, whole_of, shorter, longest_of, gap_of, Gaps, shortened, next_free, Marks, share, steps_to, length_to, place_after, next_place, Places};
 ghost use Rattle.wh_timeline.specs.Views.{IsAxisOf};
 ghost use Rattle.std.specs.List.{flat_map};
 
@@ -216,6 +216,8 @@ fn longest_of(times: &[u64]) -> u64
 /// The scale of the times.
 fn scale_of(times: &[u64]) -> Scale
     ensures longest { result.longest ≡ longest_of times.now }
+    ensures steps { result.steps ≡ steps_of times.now }
+    ensures whole { result.whole ≡ whole_of times.now (longest_of times.now) }
     ensures last { result.last ≡ last_of times.now }
 {
     let longest = longest_of(times);
@@ -227,9 +229,9 @@ fn scale_of(times: &[u64]) -> Scale
     }
 }
 
-/// A part of so much room.
+/// The part of so much room that a part of the whole has, and all of it at most.
 fn share(room: u64, part: u64, whole: u64) -> u64
-    ensures { result ≤ room }
+    ensures { result ≡ share room part whole }
 {
     if whole == 0 {
         return 0;
@@ -266,8 +268,7 @@ struct Way {
 /// Where a time stands to which so many steps lead: each step has the same room to begin with, and
 /// then more by its length. The last time stands at the right end.
 fn place_after(steps: u64, length: u64, millis: u64, scale: Scale) -> u64
-    ensures right { result ≤ right }
-    ensures last { millis ≡ scale.last → result ≡ right }
+    ensures { result ≡ place_after scale.steps scale.whole scale.last steps length millis }
 {
     if millis == scale.last {
         return RIGHT;
@@ -287,6 +288,10 @@ fn next_free(free: u64, x: u64) -> u64
 fn way_to(way: Way, millis: u64, scale: Scale) -> Way
     requires { way.x ≤ right }
     ensures time { result.millis ≡ millis }
+    ensures steps { result.steps ≡ steps_to way.steps (millis - way.millis) }
+    ensures length { result.length ≡ length_to scale.longest way.length (millis - way.millis) }
+    ensures place { result.x ≡ next_place scale.steps scale.whole scale.longest scale.last way.steps way.length way.millis
+        way.x millis }
     ensures right { (way.x ≤ result.x) × (result.x ≤ right) }
     ensures free { result.free ≡ next_free way.free result.x }
     ensures still { millis ≡ way.millis → result.x ≡ way.x }
@@ -334,6 +339,8 @@ fn stops_of(alloc: Global, times: &[u64], scale: Scale) -> Result<Vec<Stop>, Out
     ensures begins { IfOk result (λ stops. BeginsLeft stops.items) }
     ensures ends { first_of times.now < last_of times.now → IfOk result (λ stops. last_place left stops.items ≡ right) }
     ensures gaps { IfOk result (λ stops. Gaps scale.longest left (first_of times.now) stops.items) }
+    ensures stand { IfOk result (λ stops.
+        Places scale.steps scale.whole scale.longest scale.last 0 0 (first_of times.now) left stops.items) }
     ensures marks { IfOk result (λ stops. Marks left stops.items) }
 {
     let mut stops = Vec::new(alloc);

@@ -78,8 +78,8 @@ pub enum Side {
     Gives,
     /// The history has it.
     Recorded,
-    /// It is where what the workflow gave and what the history has differ.
-    Differs,
+    /// The fault is there.
+    Fault,
     /// It is about the task.
     Note,
 }
@@ -135,8 +135,8 @@ pub struct Page {
     pub title: Text,
     /// The verdict, in words.
     pub verdict: Text,
-    /// Whether the verdict is good.
-    pub good: bool,
+    /// Whether the verdict is good; `None` where nothing was replayed.
+    pub good: Option<bool>,
     /// The workflow type, ids, counts and the like.
     pub facts: Items<Fact>,
     /// The first difference, if there is one.
@@ -190,7 +190,7 @@ impl Side {
             Side::Told => "told",
             Side::Gives => "gives",
             Side::Recorded => "recorded",
-            Side::Differs => "differs",
+            Side::Fault => "fault",
             Side::Note => "note",
         }
     }

@@ -2,7 +2,7 @@
 
 ghost use Rattle.std.specs.Prelude.{◌≡◌, Some};
 ghost use Rattle.wh_html.specs.Html.{bytes, each};
-ghost use Rattle.wh_timeline.specs.Pictures.{bottom_of, opening_html, gap_word_html, mark_at_html, before_html, stop_html, first_time, tick_html, fault_html, picture_html};
+ghost use Rattle.wh_timeline.specs.Pictures.{bottom_of, undrawn_html, opening_html, gap_word_html, mark_at_html, before_html, stop_html, first_time, tick_html, fault_html, picture_html};
 
 use crate::axis::{Gap, Stop, place_of};
 use crate::lanes::{HEIGHT, LaneRows, hit_class};
@@ -23,19 +23,49 @@ fn bottom_of(lanes: usize) -> u64
     TOP + HEIGHT * (lanes.min(300) as u64)
 }
 
-/// The beginning of the picture of so many lanes.
+/// How many things are drawn of so many, if not all are.
 #[derive(Clone, Copy)]
-struct Opening(usize);
+struct Undrawn {
+    lanes: usize,
+    total: usize,
+}
 
-impl fmt::Display for Opening {
-    ghost output = { λ o. Some (bytes (opening_html o.0)) };
+impl fmt::Display for Undrawn {
+    ghost output = { λ u. Some (bytes (undrawn_html u.lanes u.total)) };
 
     fn fmt<W: fmt::Write>(&self, f: &mut fmt::Formatter<W>) -> fmt::Result {
-        let lanes = self.0;
+        let lanes = self.lanes;
+        let total = self.total;
+        if lanes == total {
+            return Ok(());
+        }
+        write!(
+            f,
+            "<p class=\"soft\">{lanes} of {total} things are drawn: those round the fault, or else the first.</p>\n"
+        )
+    }
+}
+
+/// The beginning of the picture of so many lanes, of so many things.
+#[derive(Clone, Copy)]
+struct Opening {
+    lanes: usize,
+    total: usize,
+}
+
+impl fmt::Display for Opening {
+    ghost output = { λ o. Some (bytes (opening_html o.lanes o.total)) };
+
+    fn fmt<W: fmt::Write>(&self, f: &mut fmt::Formatter<W>) -> fmt::Result {
+        let lanes = self.lanes;
+        let undrawn = Undrawn {
+            lanes,
+            total: self.total,
+        };
         let height = bottom_of(lanes) + 10;
         write!(
             f,
-            "<section>\n<h2 id=\"picture\">Timeline</h2>\n<div class=\"scroll picture\" tabindex=\"0\" role=\"region\" aria-labelledby=\"picture\">\n<svg viewBox=\"0 0 1000 {height}\" role=\"img\" aria-labelledby=\"picture\" aria-describedby=\"picture-words\">\n<desc id=\"picture-words\">{lanes} things from opening to end. The table below has the same times.</desc>\n<defs><pattern id=\"gap\" width=\"6\" height=\"6\" patternUnits=\"userSpaceOnUse\" patternTransform=\"rotate(45)\"><line class=\"hatch\" y2=\"6\"/></pattern></defs>\n"
+            "<section>\n<h2 id=\"picture\">Timeline</h2>\n{undrawn}<div class=\"scroll picture\" tabindex=\"0\" role=\"region\" aria-labelledby=\"picture\">\n<svg viewBox=\"0 0 1000 {height}\" role=\"img\" aria-labelledby=\"picture\" aria-describedby=\"picture-words\">\n<desc id=\"picture-words\">{lanes} things from opening to end. The table below has the same times.</desc>\n<defs><pattern id=\"gap\" width=\"6\" height=\"6\" patternUnits=\"userSpaceOnUse\" patternTransform=\"rotate(45)\"><line class=\"hatch\" y2=\"6\"/></pattern></defs>\n"
         )
     }
 }
@@ -233,19 +263,28 @@ const CLOSING: &str =
 /// The picture of things and tasks.
 #[derive(Drop)]
 pub struct Picture<'a> {
+    /// The event of the fault, if there is one.
     pub fault: Option<Moment>,
+    /// Where times stand.
     pub stops: &'a [Stop],
+    /// The things that are drawn.
     pub lanes: &'a [Lane],
+    /// How many things there are.
+    pub total: usize,
+    /// The tasks that have a tick.
     pub tasks: &'a [Task],
 }
 
 impl fmt::Display for Picture<'_> {
-    ghost output = { λ p. Some (bytes (picture_html p.fault p.stops.now p.lanes.now p.tasks.now)) };
+    ghost output = { λ p. Some (bytes (picture_html p.fault p.stops.now p.lanes.now p.total p.tasks.now)) };
 
     #[tactic(auto, unfolding(crate::specs::Pictures::picture_html))]
     fn fmt<W: fmt::Write>(&self, f: &mut fmt::Formatter<W>) -> fmt::Result {
         let bottom = bottom_of(self.lanes.len());
-        let opening = Opening(self.lanes.len());
+        let opening = Opening {
+            lanes: self.lanes.len(),
+            total: self.total,
+        };
         let scale = Scale {
             bottom,
             first: first_time(self.stops),

@@ -1,7 +1,8 @@
 //! Which things and tasks of a run its page shows.
 
-ghost use Rattle.std.specs.Prelude.{◌≡◌, ◌≤◌, length, nat_lt, count_by, take};
-ghost use Rattle.wh_timeline.specs.Views.{left_out, shown, before_hit, middle, shown_lanes, shown_tasks};
+ghost use Rattle.std.specs.Prelude.{◌≡◌, ◌≤◌, length, nat_lt, count_by, position, take};
+ghost use Rattle.wh_timeline.specs.Lanes.{is_hit};
+ghost use Rattle.wh_timeline.specs.Views.{left_out, shown, middle, lanes_before, lanes_at, shown_lanes, shown_tasks};
 
 use crate::lanes::is_hit;
 use crate::page::{Lane, Moment, Page, Task};
@@ -39,30 +40,30 @@ fn shown<T>(items: &[T], left: usize) -> &[T]
     first_items(&items[left..], MOST)
 }
 
-/// How many things stand before the first that the event of the fault opened, started or ended; all
-/// of them where there is none.
-#[tactic(auto, unfolding(crate::specs::Views::before_hit))]
-fn before_hit(lanes: &[Lane], fault: Option<Moment>) -> usize
-    ensures { result ≡ before_hit fault lanes.now }
-{
-    let mut count: usize = 0;
-    for lane in lanes {
-        if is_hit(lane, fault) {
-            return count;
-        }
-        count += 1;
-    }
-    count
-}
-
 /// How many of the things were opened before an event.
 fn lanes_before(lanes: &[Lane], event: u64) -> usize
-    ensures { result ≡ count_by (λ lane. nat_lt lane.opened.event event) lanes.now }
+    ensures { result ≡ lanes_before event lanes.now }
 {
     lanes
         .iter()
         .filter(|lane| lane.opened.event < event)
         .count()
+}
+
+/// The place of the first thing that the event of the fault opened, started or ended.
+fn first_hit(lanes: &[Lane], fault: Option<Moment>) -> Option<usize>
+    ensures { result ≡ position (λ lane. is_hit lane fault) lanes.now }
+{
+    lanes.iter().position(|lane| is_hit(lane, fault))
+}
+
+/// How many of the things stand before the fault: before the first that its event opened, started or
+/// ended, or else those that were opened before it.
+fn lanes_at(lanes: &[Lane], fault: Option<Moment>) -> usize
+    ensures { result ≡ lanes_at fault lanes.now }
+{
+    let before = lanes_before(lanes, middle(fault));
+    first_hit(lanes, fault).unwrap_or(before)
 }
 
 /// How many of the tasks were started before an event.
@@ -85,19 +86,16 @@ fn middle(fault: Option<Moment>) -> u64
     }
 }
 
-/// The things that a page shows: the 300 round the event of the fault, of which 200 stand before it
-/// where there are as many, or else the first. Where the thing that this event opened, started or
-/// ended stands before them, they are the 300 from that thing on.
+/// The things that a page shows: the 300 round the first that the event of the fault opened, started
+/// or ended, of which 200 stand before it where there are as many; where there is none, those round
+/// the event, or else the first.
 #[tactic(auto, unfolding(crate::specs::Views::shown_lanes))]
 pub fn shown_lanes(page: &Page) -> &[Lane]
     ensures { result.now ≡ shown_lanes page.now }
 {
     let lanes = page.lanes.get();
-    let at = lanes_before(lanes, middle(page.fault));
-    shown(
-        lanes,
-        left_out(lanes.len(), at).min(before_hit(lanes, page.fault)),
-    )
+    let at = lanes_at(lanes, page.fault);
+    shown(lanes, left_out(lanes.len(), at))
 }
 
 /// The tasks that a page shows: the 300 round the event of the fault, of which 200 start before it

@@ -3,3 +3,4 @@ mod Following
 mod Whole
 mod Gathered
 mod Indices
+mod Listed

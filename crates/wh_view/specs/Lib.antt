@@ -2,6 +2,7 @@ pub mod Each
 pub mod Details
 pub mod Parts
 pub mod Things
+pub mod Unsupported
 pub mod Views
 pub mod Lookups
 pub mod Laws

@@ -14,6 +14,7 @@ use Rattle.wh_view.specs.Details.{attempt_of, failure_of, duration_of, values_of
 use Rattle.wh_view.specs.Each.{Each}
 use Rattle.wh_view.specs.Parts.{completes_task, is_commanded}
 use Rattle.wh_view.specs.Things.{gathered}
+use Rattle.wh_view.specs.Unsupported.{unsupported_kinds}
 
 -- what is read of the members from a place on, each after the number of the member before
 unfoldable pub reads_from : ℕ → Option ℕ → List Data → List PartialEvent
@@ -59,6 +60,7 @@ pub record IsViewOf (members : List Data) (view : View) : Type 0 where
   pub things : view.things ≡ (gathered view.events).things
   pub links : view.links ≡ (gathered view.events).links
   pub tasks : view.tasks ≡ tasks_from 0 view.events
+  pub unsupported : view.unsupported ≡ unsupported_kinds view.events
 
 -- the members of the history that the bytes write, or why there are none
 abbrev pub members_of : List ℕ → Result (List Data) ReadFault

@@ -8,8 +8,9 @@ pub mod laws;
 mod lookups;
 mod parts;
 mod reading;
+mod unsupported;
 mod view;
 
 pub use parts::{Part, Word};
 pub use reading::view_of;
-pub use view::{ThingKind, View, ViewedEvent, ViewedThing};
+pub use view::{ThingKind, UnsupportedKind, View, ViewedEvent, ViewedThing};

@@ -7,6 +7,7 @@ ghost use Rattle.wh_view.specs.Views as views;
 
 use crate::details::{attempt_of, duration_of, failure_of, json_of, payload_texts};
 use crate::gathering::gathered;
+use crate::unsupported::unsupported_kinds;
 use crate::view::{View, ViewedEvent};
 use serde_json::Value;
 use std::alloc::Global;
@@ -104,12 +105,14 @@ fn view_members(alloc: Global, members: &[Value]) -> Result<View, OutOfMemory>
 {
     let events = events_of(alloc, members)?;
     let tasks = tasks(alloc, events.as_slice())?;
+    let unsupported = unsupported_kinds(alloc, events.as_slice())?;
     let (things, links) = gathered(alloc, events.as_slice())?.into_parts();
     Ok(View {
         events: Items::new(events),
         things,
         links,
         tasks: Items::new(tasks),
+        unsupported: Items::new(unsupported),
     })
 }
 

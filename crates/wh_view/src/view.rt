@@ -65,6 +65,16 @@ pub struct ViewedThing {
     pub ended: Option<usize>,
 }
 
+/// A type of events, or a name of markers, that the reader of histories does not support, and for
+/// which it refuses them.
+#[derive(Clone, Copy, Debug)]
+pub struct UnsupportedKind {
+    /// The index of the first such event.
+    pub first: usize,
+    /// How many events it refuses for that.
+    pub count: usize,
+}
+
 /// What a history holds.
 #[derive(Drop)]
 pub struct View {
@@ -79,4 +89,7 @@ pub struct View {
     /// gave stands in the last task that was completed before it (in 0, where none was), and any
     /// other in the next one that is completed.
     pub tasks: Items<usize>,
+    /// What the reader of histories does not support of it: each type and each name of markers once,
+    /// in the order in which they come.
+    pub unsupported: Items<UnsupportedKind>,
 }

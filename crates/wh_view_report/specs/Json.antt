@@ -8,11 +8,14 @@ use Rattle.wh_view.specs.declared.view.ThingKind.TheVariants as kinds
 use Rattle.wh_view.specs.declared.view.View.{View}
 use Rattle.wh_view.specs.declared.view.ViewedEvent.{ViewedEvent}
 use Rattle.wh_view.specs.declared.view.ViewedThing.{ViewedThing}
+use Rattle.wh_view.specs.declared.view.UnsupportedKind.{UnsupportedKind}
 use Rattle.wh_view.specs.Parts.{word_of}
 use Rattle.wh_view.specs.declared.parts.Word.{Word}
 use Rattle.wh_view.specs.declared.parts.Word.TheVariants as words
 use Rattle.wh_view_report.specs.Texts.{completed_count, is_within, span_of}
-use Rattle.wh_view.specs.Lookups.{thing_of, task_of}
+use Rattle.wh_view.specs.Lookups.{event_id, thing_of, task_of}
+use Rattle.wh_tester.specs.Json.{escaped}
+use Rattle.wh_tester.specs.Report.{shown}
 use Rattle.wh_view_report.specs.Words.{mark_words}
 
 -- the number of an event, if it has one, as a member after another one
@@ -94,9 +97,32 @@ counts_object events tasks things =
 abbrev pub head_object : View → List ℕ
 head_object view = counts_object (length view.events) (completed_count view.events) (length view.things)
 
+-- the name of a marker, if there is one, as a member after another one
+abbrev pub marker_member : List ℕ → List ℕ
+marker_member [] = []
+marker_member (c ∷ cs) = codes ",\"marker\":\"" ++ (escaped (shown (c ∷ cs)) ++ codes "\"")
+
+-- the object of a kind that is not supported, by its first event
+unfoldable pub kind_object : View → (count : ℕ) → ViewedEvent → List ℕ
+kind_object view count event =
+    codes "{\"mark\":\"" ++ (mark_words view event ++ (codes "\",\"type\":\"" ++ (escaped (shown event.read.name)
+    ++ (codes "\"" ++ (marker_member (event_id event) ++ (codes ",\"events\":" ++ (decimal count
+    ++ (codes ",\"place\":" ++ (decimal event.place ++ codes "}\n")))))))))
+
+abbrev pub kind_object_at : View → (count : ℕ) → Option ViewedEvent → List ℕ
+kind_object_at view count None = []
+kind_object_at view count (Some event) = kind_object view count event
+
+abbrev pub unsupported_object : View → UnsupportedKind → List ℕ
+unsupported_object view kind = kind_object_at view kind.count (slice_get view.events kind.first)
+
+-- the first objects: counts, and an object for each kind that is not supported
+abbrev pub top_objects : View → List ℕ
+top_objects view = head_object view ++ flat_map (unsupported_object view) view.unsupported
+
 -- the objects of some tasks
 unfoldable pub span_objects : View → Span → List ℕ
-span_objects view span = head_object view ++ flat_map (within_object view span) view.events
+span_objects view span = top_objects view ++ flat_map (within_object view span) view.events
 
 -- the whole
 abbrev pub view_objects : View → Selection → List ℕ

@@ -8,6 +8,7 @@ use Rattle.wh_view_report.specs.declared.text.Selection.{Selection}
 use Rattle.wh_view_report.specs.declared.text.Selection.TheVariants.{All, Last, Around}
 use Rattle.wh_view.specs.declared.view.View.{View}
 use Rattle.wh_view.specs.declared.view.ViewedEvent.{ViewedEvent}
+use Rattle.wh_view.specs.declared.view.UnsupportedKind.{UnsupportedKind}
 use Rattle.wh_view_report.specs.Cut.{cut, label_text}
 use Rattle.wh_view.specs.Parts.{completes_task}
 use Rattle.wh_view.specs.Things.{is_number}
@@ -111,6 +112,27 @@ head_line view =
     counts_line (workflow_type (slice_get view.events 0)) (length view.events) (completed_count view.events)
     (length view.things)
 
+-- the type of an event, and the name of a marker after it
+abbrev pub kind_name : ViewedEvent → List ℕ
+kind_name event = cut event.read.name ++ label_text (codes " ") (event_id event)
+
+-- the line of a kind that is not supported, by its first event
+unfoldable pub kind_line : View → (count : ℕ) → ViewedEvent → List ℕ
+kind_line view count event =
+    mark_words view event ++ (codes ": " ++ (kind_name event ++ (codes ", " ++ (decimal count
+    ++ (codes " events, first " ++ (number_text event ++ 10 ∷ []))))))
+
+abbrev pub kind_line_at : View → (count : ℕ) → Option ViewedEvent → List ℕ
+kind_line_at view count None = []
+kind_line_at view count (Some event) = kind_line view count event
+
+abbrev pub unsupported_line : View → UnsupportedKind → List ℕ
+unsupported_line view kind = kind_line_at view kind.count (slice_get view.events kind.first)
+
+-- the first lines: counts, and a line for each kind that is not supported
+abbrev pub top_text : View → List ℕ
+top_text view = head_line view ++ flat_map (unsupported_line view) view.unsupported
+
 -- the last line, if something is left out
 abbrev pub left_line : ℕ → List ℕ
 left_line left = if left == 0 then [] else decimal left ++ codes " events of other tasks are left out\n"
@@ -118,7 +140,7 @@ left_line left = if left == 0 then [] else decimal left ++ codes " events of oth
 -- the text of some tasks
 unfoldable pub span_text : View → Span → List ℕ
 span_text view span =
-    head_line view ++ (flat_map (shown_text view span) view.events ++ left_line (left_out view span))
+    top_text view ++ (flat_map (shown_text view span) view.events ++ left_line (left_out view span))
 
 -- the whole text
 abbrev pub view_text : View → Selection → List ℕ

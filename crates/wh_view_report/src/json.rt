@@ -10,7 +10,8 @@ use crate::words::mark_of;
 use std::io::Write;
 use std::{fmt, io};
 use wh_events::EventNo;
-use wh_view::{ThingKind, View, ViewedEvent, Word};
+use wh_tester::EscapedName;
+use wh_view::{ThingKind, UnsupportedKind, View, ViewedEvent, Word};
 
 /// The number of an event, as a member after another one.
 #[derive(Clone, Copy)]
@@ -210,20 +211,90 @@ fn write_head<O: Write>(view: &View, writer: &mut O) -> io::Result<()>
     )
 }
 
+/// The name of a marker, as a member after another one.
+#[derive(Drop)]
+struct MarkerMember<'a>(&'a str);
+
+impl fmt::Display for MarkerMember<'_> {
+    ghost output = { λ m. Some (json.marker_member m.0.now) };
+
+    fn fmt<W: fmt::Write>(&self, f: &mut fmt::Formatter<W>) -> fmt::Result {
+        if self.0.is_empty() {
+            return Ok(());
+        }
+        let name = EscapedName(self.0);
+        write!(f, ",\"marker\":\"{name}\"")
+    }
+}
+
+/// Writes the object of a kind that is not supported, by its first event.
+#[tactic(auto, unfolding(crate::specs::Json::kind_object))]
+fn write_kind_of<O: Write>(
+    view: &View,
+    count: usize,
+    event: &ViewedEvent,
+    writer: &mut O,
+) -> io::Result<()>
+    ensures { OnOk result
+        (Appends (O.contents writer.old) (O.contents writer.new) (json.kind_object view.now count event.now)) }
+{
+    let mark = mark_of(view, event);
+    let name = EscapedName(event.read.name.get());
+    let marker = MarkerMember(event.id());
+    let place = event.place;
+    write!(
+        writer,
+        "{{\"mark\":\"{mark}\",\"type\":\"{name}\"{marker},\"events\":{count},\"place\":{place}}}\n"
+    )
+}
+
+/// Writes the object of a kind that is not supported.
+fn write_kind<O: Write>(view: &View, kind: UnsupportedKind, writer: &mut O) -> io::Result<()>
+    ensures { OnOk result
+        (Appends (O.contents writer.old) (O.contents writer.new) (json.unsupported_object view.now kind)) }
+{
+    match view.events.get().get(kind.first) {
+        Some(event) => write_kind_of(view, kind.count, event, writer),
+        None => Ok(()),
+    }
+}
+
+/// Writes an object for each kind that is not supported.
+fn write_kinds<O: Write>(view: &View, writer: &mut O) -> io::Result<()>
+    ensures { OnOk result (Appends (O.contents writer.old) (O.contents writer.new)
+        (flat_map (json.unsupported_object view.now) view.now.unsupported)) }
+{
+    for kind in view.unsupported.get() {
+        write_kind(view, *kind, writer)?;
+    }
+    Ok(())
+}
+
+/// Writes the first objects: what is counted, and what is not supported.
+fn write_top<O: Write>(view: &View, writer: &mut O) -> io::Result<()>
+    ensures { OnOk result (Appends (O.contents writer.old) (O.contents writer.new) (json.top_objects view.now)) }
+{
+    write_head(view, writer)?;
+    write_kinds(view, writer)
+}
+
 /// Writes the objects of some tasks.
 #[tactic(auto, unfolding(crate::specs::Json::span_objects))]
 fn write_span<O: Write>(view: &View, span: Span, writer: &mut O) -> io::Result<()>
     ensures { OnOk result
         (Appends (O.contents writer.old) (O.contents writer.new) (json.span_objects view.now span)) }
 {
-    write_head(view, writer)?;
+    write_top(view, writer)?;
     write_events(view, span, writer)
 }
 
 /// Writes a view as lines of JSON (RFC 8259): an object on each line, with no spaces between its
 /// parts, and one line feed after it. First are the counts of the whole history,
-/// `{"events":N,"tasks":N,"things":N}`, where `tasks` are those that were completed. Then each event
-/// of the tasks that are selected has an object, in the order of the history, with these members:
+/// `{"events":N,"tasks":N,"things":N}`, where `tasks` are those that were completed. Then each type
+/// that the reader of histories does not support has an object,
+/// `{"mark":"not supported","type":"NAME","events":N,"place":P}`, with how many events are of it and the
+/// place of the first; a name of markers has `marker not supported`, and `marker` after the type. Then
+/// each event of the tasks that are selected has an object, in the order of the history, with these members:
 /// - `place`, counted from 1, and `event`, its number, if it has one;
 /// - `task`, that in which it stands, and `is`: `told`, `completes`, `gives` or `other`;
 /// - `mark`, what is not as it should be;

@@ -1,16 +1,16 @@
 //! The text of a view, a line an event.
 
-ghost use Rattle.std.specs.Prelude.{◌≡◌, OnOk, option_map, slice_get};
+ghost use Rattle.std.specs.Prelude.{◌≡◌, OnOk, Some, option_map, slice_get};
 ghost use Rattle.std.specs.List.{flat_map};
 ghost use Rattle.std.specs.Io.KnownBytes.{Appends};
 ghost use Rattle.wh_view_report.specs.Texts as texts;
 
 use crate::cut::{Cut, Label};
 use crate::words::{Attempt, Link, Number, Start, mark_of};
-use std::io;
 use std::io::Write;
+use std::{fmt, io};
 use wh_events::{EventKind, EventNo, Text};
-use wh_view::{View, ViewedEvent};
+use wh_view::{UnsupportedKind, View, ViewedEvent};
 
 /// Which tasks of a view are written.
 #[derive(Clone, Copy, Debug)]
@@ -241,6 +241,67 @@ fn write_head<O: Write>(view: &View, writer: &mut O) -> io::Result<()>
     )
 }
 
+/// The type of an event, and the name of a marker after it.
+#[derive(Drop)]
+struct KindName<'a>(&'a ViewedEvent);
+
+impl fmt::Display for KindName<'_> {
+    ghost output = { λ k. Some (texts.kind_name k.0.now) };
+
+    fn fmt<W: fmt::Write>(&self, f: &mut fmt::Formatter<W>) -> fmt::Result {
+        let name = Cut(self.0.read.name.get());
+        let id = Label(" ", self.0.id());
+        write!(f, "{name}{id}")
+    }
+}
+
+/// Writes the line of a kind that is not supported, by its first event.
+#[tactic(auto, unfolding(crate::specs::Texts::kind_line))]
+fn write_kind_of<O: Write>(
+    view: &View,
+    count: usize,
+    event: &ViewedEvent,
+    writer: &mut O,
+) -> io::Result<()>
+    ensures { OnOk result
+        (Appends (O.contents writer.old) (O.contents writer.new) (texts.kind_line view.now count event.now)) }
+{
+    let mark = mark_of(view, event);
+    let name = KindName(event);
+    let number = Number(event);
+    write!(writer, "{mark}: {name}, {count} events, first {number}\n")
+}
+
+/// Writes the line of a kind that is not supported.
+fn write_kind<O: Write>(view: &View, kind: UnsupportedKind, writer: &mut O) -> io::Result<()>
+    ensures { OnOk result
+        (Appends (O.contents writer.old) (O.contents writer.new) (texts.unsupported_line view.now kind)) }
+{
+    match view.events.get().get(kind.first) {
+        Some(event) => write_kind_of(view, kind.count, event, writer),
+        None => Ok(()),
+    }
+}
+
+/// Writes a line for each kind that is not supported.
+fn write_kinds<O: Write>(view: &View, writer: &mut O) -> io::Result<()>
+    ensures { OnOk result (Appends (O.contents writer.old) (O.contents writer.new)
+        (flat_map (texts.unsupported_line view.now) view.now.unsupported)) }
+{
+    for kind in view.unsupported.get() {
+        write_kind(view, *kind, writer)?;
+    }
+    Ok(())
+}
+
+/// Writes the first lines: what is counted, and what is not supported.
+fn write_top<O: Write>(view: &View, writer: &mut O) -> io::Result<()>
+    ensures { OnOk result (Appends (O.contents writer.old) (O.contents writer.new) (texts.top_text view.now)) }
+{
+    write_head(view, writer)?;
+    write_kinds(view, writer)
+}
+
 /// Writes that so many events are left out, if there are some.
 fn write_left<O: Write>(left: usize, writer: &mut O) -> io::Result<()>
     ensures { OnOk result (Appends (O.contents writer.old) (O.contents writer.new) (texts.left_line left)) }
@@ -251,18 +312,20 @@ fn write_left<O: Write>(left: usize, writer: &mut O) -> io::Result<()>
     write!(writer, "{left} events of other tasks are left out\n")
 }
 
-/// Writes the first line, the lines of the events of some tasks, and how many are left out.
+/// Writes the first lines, the lines of the events of some tasks, and how many are left out.
 #[tactic(auto, unfolding(crate::specs::Texts::span_text))]
 fn write_span<O: Write>(view: &View, span: Span, writer: &mut O) -> io::Result<()>
     ensures { OnOk result
         (Appends (O.contents writer.old) (O.contents writer.new) (texts.span_text view.now span)) }
 {
-    write_head(view, writer)?;
+    write_top(view, writer)?;
     write_events(view, span, writer)?;
     write_left(left_out(view, span), writer)
 }
 
 /// Writes a view as text. The first line has the workflow type and counts. Then there is a line for
+/// each type, or name of markers, that the reader of histories does not support, with how many events
+/// are of it and the number of the first, whichever tasks are selected. Then there is a line for
 /// each event of the tasks that are selected, in the order of the history, but for workflow tasks
 /// that are scheduled or started:
 /// - `  told TYPE ..` of what the workflow is given in the next task,

@@ -1,13 +1,9 @@
 -- The policies that options ask for.
-use Rattle.std.specs.Prelude.{◌≡◌, ℕ, Option, Some, None, List, ◌++◌, codes, decimal}
+use Rattle.std.specs.Prelude.{◌≡◌, ℕ, Option, Some, None, List}
 use Rattle.wh_command_line.specs.declared.work.WorkOptions.{WorkOptions}
 use Rattle.wh_policies.specs.Defaults as plain
 use Rattle.wh_policies.specs.declared.policies.Policies.{Policies}
 use Rattle.wh_policy_file.specs.Policies.{IsRead, IsRefused}
-use Rattle.wh_policy_file.specs.declared.fault.PolicyFault.{PolicyFault}
-use Rattle.wh_policy_file.specs.declared.fault.PolicyFault.TheVariants.{TooLong, NoText, NoToml, UnknownKey, BadValue, OutOfMemory}
-use Rattle.wh_tester.specs.Report.{shown}
-use Rattle.wh_work.specs.declared.policies.BadPolicies.{BadPolicies}
 use Rattle.wh_work.specs.declared.policies.PlanFault.{PlanFault}
 use Rattle.wh_work.specs.declared.policies.PlanFault.TheVariants as plan
 
@@ -28,16 +24,3 @@ ArePolicies options policies = AreGiven options.activity_timeout options.activit
 abbrev pub IsPlanFault : PlanFault → Type 0
 IsPlanFault (plan.BadPolicies bad) = (text : List ℕ) × IsRefused text bad.fault
 IsPlanFault _ = Unit {0}
-
--- what is wrong with a file, in words
-abbrev pub fault_words : PolicyFault → List ℕ
-fault_words TooLong = codes "file too long"
-fault_words NoText = codes "not UTF-8 text"
-fault_words (NoToml line reason) = codes "not TOML at line " ++ (decimal line ++ (codes ": " ++ shown reason))
-fault_words (UnknownKey key line) = codes "unknown key " ++ (shown key ++ (codes " at line " ++ decimal line))
-fault_words (BadValue key line) = codes "bad value of " ++ (shown key ++ (codes " at line " ++ decimal line))
-fault_words OutOfMemory = codes "out of memory"
-
--- `<file>: <what is wrong>`
-abbrev pub bad_policies_text : BadPolicies → List ℕ
-bad_policies_text bad = shown bad.path ++ (codes ": " ++ fault_words bad.fault)

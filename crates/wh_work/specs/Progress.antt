@@ -1,5 +1,5 @@
 -- What is counted of the turns and the calls of workers, and what is told of it.
-use Rattle.std.specs.Prelude.{ℕ, ◌==◌, length, ◌*◌, ◌/◌, ◌-◌, ◌^◌, min, max, Bool, true, false, nat_eq, Option, Some, None, Result, Ok, Err, List, ◌++◌, codes}
+use Rattle.std.specs.Prelude.{ℕ, ◌==◌, length, ◌*◌, ◌/◌, ◌-◌, ◌^◌, min, max, Bool, true, false, ◌&&◌, not, nat_eq, bytes_eq, Option, Some, None, Result, Ok, Err, List, ◌++◌, codes}
 use Rattle.std.specs.List.{starts_with}
 use Rattle.serde_json.specs.Data.{Data}
 use Rattle.wh_client.specs.Codes.{refused_answer}
@@ -72,9 +72,10 @@ with_receipt _ metrics = metrics
 abbrev pub with_refusal : Status → Metrics → Metrics
 with_refusal status metrics = with_receipt (refused_answer status) metrics
 
--- the method answers a task
+-- the method answers a task; that which answers a query does not
 abbrev pub is_answer : List ℕ → Bool
-is_answer method = starts_with nat_eq method (codes "Respond")
+is_answer method =
+    starts_with nat_eq method (codes "Respond") && not (bytes_eq method (codes "RespondQueryTaskCompleted"))
 
 -- slots by their use: a poll has those that are reserved
 abbrev pub slots_of : SlotCount → Slots

@@ -7,6 +7,7 @@ use Rattle.wh_host.specs.declared.reply.Totals.{Totals}
 use Rattle.wh_crew.specs.declared.serving.LiveEnd.{LiveEnd}
 use Rattle.wh_live.specs.declared.tallies.Tally.{Tally}
 use Rattle.wh_metrics.specs.Lines.{member, next}
+use Rattle.wh_work.specs.declared.report.LiveReport.{LiveReport}
 
 -- `polls <polls>, empty polls <empty>, answers not found <not found>, answers refused <refused>`
 abbrev pub calls_text : Tally → List ℕ
@@ -43,6 +44,10 @@ json_live_text end = json_totals_text end.totals ++ json_calls_text end.tally
 abbrev pub live_as : Format → LiveEnd → List ℕ
 live_as formats.Text end = live_text end
 live_as formats.Json end = json_live_text end
+
+-- the report, which is the same under every name of the program
+abbrev pub report_text : LiveReport → (name : List ℕ) → List ℕ
+report_text report name = live_as report.format report.end
 
 -- 0 where no call of a source failed while its connection was open, and else 1
 abbrev pub live_status : LiveEnd → ℕ

@@ -1,6 +1,7 @@
 //! What is counted of the turns and the calls of workers.
 
-ghost use Rattle.std.specs.Prelude.{◌≡◌, ◌≤◌, ◌-◌, max};
+ghost use Rattle.std.specs.List.{starts_with};
+ghost use Rattle.std.specs.Prelude.{◌≡◌, ◌≤◌, ◌-◌, bytes_eq, codes, max, nat_eq};
 ghost use Rattle.wh_work.specs.Progress.{answered, ended, found, held_of, is_answer, metrics_now, nothing};
 ghost use Rattle.wh_work.specs.Progress.{rate_of, slots_of, with_poll, with_refusal, with_turn};
 
@@ -83,11 +84,25 @@ pub(crate) fn add_refusal(metrics: &mut Metrics, status: Status)
     }
 }
 
-/// Whether a call of this method is the answer to a task.
+/// Whether a call of this method answers a task or a query.
+fn responds(method: &str) -> bool
+    ensures { result ≡ starts_with nat_eq method.now (codes "Respond") }
+{
+    method.starts_with("Respond")
+}
+
+/// Whether a call of this method answers a query.
+fn answers_query(method: &str) -> bool
+    ensures { result ≡ bytes_eq method.now (codes "RespondQueryTaskCompleted") }
+{
+    method == "RespondQueryTaskCompleted"
+}
+
+/// Whether a call of this method is the answer to a task. That to a query is none.
 pub(crate) fn is_answer(method: &str) -> bool
     ensures { result ≡ is_answer method.now }
 {
-    method.starts_with("Respond")
+    responds(method) && !answers_query(method)
 }
 
 /// The slots of a kind.

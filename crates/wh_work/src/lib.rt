@@ -18,5 +18,5 @@ pub use calls::calls_over;
 pub use metrics_file::FileReplacer;
 pub use plan::{LivePlan, live_plan};
 pub use policies::{BadPolicies, PlanFault};
-pub use report::{live_status, write_live_end};
+pub use report::{LiveReport, live_status};
 pub use workers::serve_calls;

@@ -7,9 +7,9 @@ ghost use Rattle.wh_work.specs.Progress.{end_metrics};
 
 use std::alloc::{AllocError, Global};
 use std::rt::Files;
+use wh_commands::WorkerNames;
 use wh_crew::LiveEnd;
 use wh_files::{FolderFault, Reason, replace_file};
-use wh_messages::WorkerNames;
 use wh_metrics::{Exposition, Metrics, WorkerLabels};
 
 /// The file in which counts are kept, as Prometheus reads them.

@@ -11,10 +11,10 @@ use std::alloc::Global;
 use std::rt::Files;
 use wh_client::LiveOptions;
 use wh_command_line::WorkOptions;
+use wh_commands::WorkerNames;
 use wh_console::Format;
 use wh_events::{OutOfMemory, Text};
 use wh_host::Config;
-use wh_messages::WorkerNames;
 use wh_policies::Policies;
 
 /// How live tasks are served.

@@ -1,67 +1,25 @@
 //! The policies that options ask for.
 
-ghost use Rattle.std.specs.Prelude.{IfErr, IfOk, Some};
+ghost use Rattle.std.specs.Prelude.{IfErr, IfOk};
 ghost use Rattle.wh_command_line.specs.Options.{IsWithinWorkLimits};
 ghost use Rattle.wh_policy_file.specs.Policies.{IsRefused};
-ghost use Rattle.wh_work.specs.Policies.{AreOfFile, ArePolicies, IsPlanFault, bad_policies_text, fault_words};
+ghost use Rattle.wh_work.specs.Policies.{AreOfFile, ArePolicies, IsPlanFault};
 
 use std::alloc::{AllocError, Global};
-use std::fmt;
 use std::rt::Files;
 use wh_command_line::WorkOptions;
 use wh_events::Text;
 use wh_files::{InputFault, Origin, read_input};
 use wh_policies::Policies;
 use wh_policy_file::{PolicyFault, read_policies};
-use wh_tester::Shown;
 
-/// A file that gives no policies, and why not. As a text: the file, what is wrong with it, and the key
-/// and the line of that. Of each name the first 255 characters are shown, with `?` for each that is
-/// not printable.
+/// A file that gives no policies, and why not.
 #[derive(Debug, Drop)]
 pub struct BadPolicies {
     /// The path of the file.
     pub path: Text,
     /// Why it gives none.
     pub fault: PolicyFault,
-}
-
-/// What is wrong with a file, in words.
-#[derive(Drop)]
-struct FaultWords<'a>(&'a PolicyFault);
-
-impl fmt::Display for FaultWords<'_> {
-    ghost output = { λ words. Some (fault_words words.0.now) };
-
-    fn fmt<W: fmt::Write>(&self, f: &mut fmt::Formatter<W>) -> fmt::Result {
-        match self.0 {
-            PolicyFault::TooLong => write!(f, "file too long"),
-            PolicyFault::NoText => write!(f, "not UTF-8 text"),
-            PolicyFault::NoToml { line, reason } => {
-                let reason = Shown(reason.get());
-                write!(f, "not TOML at line {line}: {reason}")
-            }
-            PolicyFault::UnknownKey { key, line } => {
-                let key = Shown(key.get());
-                write!(f, "unknown key {key} at line {line}")
-            }
-            PolicyFault::BadValue { key, line } => {
-                let key = Shown(key.get());
-                write!(f, "bad value of {key} at line {line}")
-            }
-            PolicyFault::OutOfMemory => write!(f, "out of memory"),
-        }
-    }
-}
-
-impl fmt::Display for BadPolicies {
-    ghost output = { λ bad. Some (bad_policies_text bad) };
-
-    fn fmt<W: fmt::Write>(&self, f: &mut fmt::Formatter<W>) -> fmt::Result {
-        let path = Shown(self.path.get());
-        let words = FaultWords(&self.fault);
-        write!(f, "{path}: {words}")
-    }
 }
 
 /// Why there is no plan to serve live tasks.

@@ -3,11 +3,11 @@
 ghost use Rattle.std.specs.Prelude.{◌≡◌, OnOk};
 ghost use Rattle.std.specs.Io.KnownBytes.{Appends};
 ghost use Rattle.wh_work.specs.Reports.{calls_text, json_calls_text, json_live_text, json_totals_text};
-ghost use Rattle.wh_work.specs.Reports.{live_as, live_status, live_text};
+ghost use Rattle.wh_work.specs.Reports.{live_status, live_text};
 
 use std::io;
 use std::io::Write;
-use wh_console::Format;
+use wh_console::{Format, Message};
 use wh_crew::LiveEnd;
 use wh_host::Totals;
 use wh_live::Tally;
@@ -20,80 +20,73 @@ pub fn live_status(end: &LiveEnd) -> u8
 }
 
 /// Writes what the sources of live tasks counted.
-fn write_calls<E: Write>(tally: Tally, writer: &mut E) -> io::Result<()>
-    ensures { OnOk result (Appends (E.contents writer.old) (E.contents writer.new) (calls_text tally)) }
+fn write_calls<E: Write>(tally: &Tally, writer: &mut E) -> io::Result<()>
+    ensures { OnOk result (Appends (E.contents writer.old) (E.contents writer.new) (calls_text tally.now)) }
 {
-    let Tally {
-        polls,
-        empty,
-        not_found,
-        refused,
-        ..
-    } = tally;
-    write!(
+    writeln!(
         writer,
-        "polls {polls}, empty polls {empty}, answers not found {not_found}, answers refused {refused}\n"
+        "polls {}, empty polls {}, answers not found {}, answers refused {}",
+        tally.polls, tally.empty, tally.not_found, tally.refused
     )
 }
 
 /// Writes how live tasks ended: the totals, and what the sources counted, a line each.
-fn write_text_end<E: Write>(end: LiveEnd, writer: &mut E) -> io::Result<()>
-    ensures { OnOk result (Appends (E.contents writer.old) (E.contents writer.new) (live_text end)) }
+fn write_text_end<E: Write>(end: &LiveEnd, writer: &mut E) -> io::Result<()>
+    ensures { OnOk result (Appends (E.contents writer.old) (E.contents writer.new) (live_text end.now)) }
 {
-    let LiveEnd { totals, tally } = end;
+    let totals = end.totals;
     writeln!(writer, "{totals}")?;
-    write_calls(tally, writer)
+    write_calls(&end.tally, writer)
 }
 
 /// Writes the totals as the first members of an object of JSON.
-fn write_json_totals<E: Write>(totals: Totals, writer: &mut E) -> io::Result<()>
-    ensures { OnOk result (Appends (E.contents writer.old) (E.contents writer.new) (json_totals_text totals)) }
+fn write_json_totals<E: Write>(totals: &Totals, writer: &mut E) -> io::Result<()>
+    ensures { OnOk result (Appends (E.contents writer.old) (E.contents writer.new) (json_totals_text totals.now)) }
 {
-    let Totals {
-        taken,
-        completed,
-        failed,
-        in_hand,
-    } = totals;
     write!(
         writer,
-        "{{\"taken\":{taken},\"completed\":{completed},\"failed\":{failed},\"inHand\":{in_hand}"
+        "{{\"taken\":{},\"completed\":{},\"failed\":{},\"inHand\":{}",
+        totals.taken, totals.completed, totals.failed, totals.in_hand
     )
 }
 
 /// Writes what the sources counted as the last members of an object of JSON.
-fn write_json_calls<E: Write>(tally: Tally, writer: &mut E) -> io::Result<()>
-    ensures { OnOk result (Appends (E.contents writer.old) (E.contents writer.new) (json_calls_text tally)) }
+fn write_json_calls<E: Write>(tally: &Tally, writer: &mut E) -> io::Result<()>
+    ensures { OnOk result (Appends (E.contents writer.old) (E.contents writer.new) (json_calls_text tally.now)) }
 {
-    let Tally {
-        polls,
-        empty,
-        not_found,
-        refused,
-        ..
-    } = tally;
-    write!(
+    writeln!(
         writer,
-        ",\"polls\":{polls},\"emptyPolls\":{empty},\"answersNotFound\":{not_found},\"answersRefused\":{refused}}}\n"
+        ",\"polls\":{},\"emptyPolls\":{},\"answersNotFound\":{},\"answersRefused\":{}}}",
+        tally.polls, tally.empty, tally.not_found, tally.refused
     )
 }
 
 /// Writes how live tasks ended as an object of JSON.
-fn write_json_end<E: Write>(end: LiveEnd, writer: &mut E) -> io::Result<()>
-    ensures { OnOk result (Appends (E.contents writer.old) (E.contents writer.new) (json_live_text end)) }
+fn write_json_end<E: Write>(end: &LiveEnd, writer: &mut E) -> io::Result<()>
+    ensures { OnOk result (Appends (E.contents writer.old) (E.contents writer.new) (json_live_text end.now)) }
 {
-    let LiveEnd { totals, tally } = end;
-    write_json_totals(totals, writer)?;
-    write_json_calls(tally, writer)
+    write_json_totals(&end.totals, writer)?;
+    write_json_calls(&end.tally, writer)
 }
 
-/// Writes how live tasks ended, in a form: the totals, and what the sources counted. After an error
-/// some of it may have been written.
-pub fn write_live_end<E: Write>(end: LiveEnd, format: Format, writer: &mut E) -> io::Result<()>
-    ensures { OnOk result (Appends (E.contents writer.old) (E.contents writer.new) (live_as format end)) }
-{
-    match format {
-        Format::Text => write_text_end(end, writer),
-        Format::Json => write_json_end(end, writer),
+/// How live tasks ended, as `work` reports it.
+#[derive(Clone, Copy)]
+pub struct LiveReport {
+    /// The totals, and what the sources counted.
+    pub end: LiveEnd,
+    /// In which form they are written.
+    pub format: Format,
+}
+
+impl Message for LiveReport {
+    ghost use Rattle.wh_work.specs.Reports.{report_text};
+
+    ghost text = { report_text };
+
+    fn write<E: Write>(self, _name: &str, writer: &mut E) -> io::Result<()> {
+        match self.format {
+            Format::Text => write_text_end(&self.end, writer),
+            Format::Json => write_json_end(&self.end, writer),
+        }
     }
 }

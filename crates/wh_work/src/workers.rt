@@ -13,14 +13,14 @@ use std::alloc::Global;
 use std::sync::Wait;
 use std::thread::Threads;
 use std::time::Clock;
+use wh_commands::WorkerNames;
 use wh_console::Format;
 use wh_crew::{LiveEnd, serve_live};
 use wh_events::{OutOfMemory, Text};
 use wh_host::OpenFault;
-use wh_messages::WorkerNames;
 use wh_poll::ActivityHandler;
+use wh_queryable::Queryable;
 use wh_rpc::Caller;
-use wh_workflow::Workflow;
 
 /// A handler and a watch for each worker.
 fn crew_of<'a, R, A: Drop, M: Fn() -> A>(
@@ -68,7 +68,7 @@ fn progress_of<'a, R: Wait + Clock>(
 ///
 /// `OutOfMemory` where there was no memory to begin with, or `listen` could not; no call is made then.
 pub fn serve_calls<
-    W: Workflow + Send,
+    W: Queryable + Send,
     R: Threads + Wait + Clock + Eprint + FileReplacer + AllocGlobal + Sync,
     C: Caller + Sync,
     L: FnOnce() -> bool,
@@ -119,6 +119,7 @@ where
         &options,
         workers as usize,
         crew,
+        &[],
         progress,
     );
     match end {

@@ -3,7 +3,8 @@
 use std::alloc::Global;
 use std::process::Abort;
 use test_support::{push, row, same, shown};
-use wh_cli::{Format, Plan, Refusal, ServeOptions, WorkOptions, parse};
+use wh_command_line::{Plan, Refusal, Selection, ServeOptions, WorkOptions, parse};
+use wh_console::Format;
 use wh_events::Text;
 
 /// What a line after the program's name asks for.
@@ -31,8 +32,19 @@ explain --recorded --around 9223372036854775808 x => bad line
 explain --recorded --around 0 x => bad line
 explain --recorded --around two x => bad line
 explain --recorded --around 2 --last 2 x => bad line
-explain --around 2 x => bad line
-explain --last 2 x => bad line
+explain --last 2 x => explain Last(2) of x
+explain --all x => explain All of x
+explain --all --json - => explain All of - as JSON
+explain --recorded --all x => view All of x
+explain --all --last 2 x => bad line
+explain --all --around 2 x => bad line
+explain --last 2 --around 2 --recorded x => bad line
+explain --html x => page of x
+explain --html --recorded - => page of -, recorded alone
+explain --html --json x => bad line
+explain --html --all x => bad line
+explain --html --last 2 x => bad line
+explain --html => bad line
 explain --recorded => bad line
 query x status => query x status
 query - status 1 [2] => query - status 1 [2]
@@ -43,6 +55,19 @@ query x => bad line
 query => bad line
 query --json x => bad line
 query x status --json --json => bad line
+check a.json => check a.json
+check a.json - b.json --json => check a.json - b.json as JSON
+check --html a.json => picture of a.json
+check --html a.json b.json => bad line
+check --html --json a.json => bad line
+check --html => bad line
+check => bad line
+check --json --json a.json => bad line
+try a.json => try a.json
+try a.json start => try a.json start
+try a.json start b => bad line
+try => bad line
+try --json a.json => bad line
 serve d => serve d, workers 1, cache 100, cache events 0, slots 100
 serve d --workers 64 --cache 0 --cache-events 512000000 --slots 1000 => serve d, workers 64, cache 0, cache events 512000000, slots 1000
 serve d --workers 1 --cache 10000 --slots 1 => serve d, workers 1, cache 10000, cache events 0, slots 1
@@ -239,6 +264,23 @@ fn work_text(rt: &impl Abort, alloc: Global, options: &WorkOptions) -> String {
     joined(rt, alloc, "work ", text.as_str())
 }
 
+/// A command on tasks of a file, in words.
+fn selected_text(
+    rt: &impl Abort,
+    alloc: Global,
+    name: &str,
+    selection: Option<Selection>,
+    file: &Text,
+) -> String {
+    let Some(selection) = selection else {
+        return joined(rt, alloc, name, file.get());
+    };
+    let selection = shown(alloc, &selection).expect(rt, "memory");
+    let view = joined(rt, alloc, name, selection.as_str());
+    let view = joined(rt, alloc, view.as_str(), " of ");
+    joined(rt, alloc, view.as_str(), file.get())
+}
+
 /// A plan in words.
 fn plan_text(rt: &impl Abort, alloc: Global, plan: &Plan) -> String {
     match plan {
@@ -252,8 +294,12 @@ fn plan_text(rt: &impl Abort, alloc: Global, plan: &Plan) -> String {
             add_flags(rt, &mut text, *format == Format::Json, *require_files);
             text
         }
-        Plan::Explain { file, format } => {
-            let mut text = joined(rt, alloc, "explain ", file.get());
+        Plan::Explain {
+            file,
+            selection,
+            format,
+        } => {
+            let mut text = selected_text(rt, alloc, "explain ", *selection, file);
             add_flags(rt, &mut text, *format == Format::Json, false);
             text
         }
@@ -262,13 +308,29 @@ fn plan_text(rt: &impl Abort, alloc: Global, plan: &Plan) -> String {
             selection,
             format,
         } => {
-            let selection = shown(alloc, selection).expect(rt, "memory");
-            let view = joined(rt, alloc, "view ", selection.as_str());
-            let view = joined(rt, alloc, view.as_str(), " of ");
-            let mut text = joined(rt, alloc, view.as_str(), file.get());
+            let mut text = selected_text(rt, alloc, "view ", Some(*selection), file);
             add_flags(rt, &mut text, *format == Format::Json, false);
             text
         }
+        Plan::Page {
+            file,
+            only_recorded,
+        } => {
+            let text = joined(rt, alloc, "page of ", file.get());
+            let how = if *only_recorded {
+                ", recorded alone"
+            } else {
+                ""
+            };
+            joined(rt, alloc, text.as_str(), how)
+        }
+        Plan::Check { file, more, format } => {
+            let mut text = command_text(rt, alloc, "check ", file, more);
+            add_flags(rt, &mut text, *format == Format::Json, false);
+            text
+        }
+        Plan::Picture { file } => joined(rt, alloc, "picture of ", file.get()),
+        Plan::Try { file, scenario } => command_text(rt, alloc, "try ", file, scenario.as_slice()),
         Plan::Query {
             file,
             query_type,

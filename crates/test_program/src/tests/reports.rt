@@ -4,7 +4,7 @@ use std::alloc::Global;
 use std::process::Abort;
 use std::thread::Threads;
 use test_support::{bytes_of, push, repeated, row, same, with_status};
-use wh_cli::{CommandFault, Format, replay_command};
+use wh_report::{CommandFault, Format, replay_command};
 use wh_sample_workflows::All;
 
 /// Files, each by its name and its history, with the lines of their report and the status.

@@ -7,8 +7,10 @@ use std::process::Abort;
 use std::sync::Wait;
 use std::thread::Threads;
 use test_support::{next_number, same, with_status};
-use wh_cli::{CommandFault, ServiceEnd, serve_command, serve_with_failures};
+use wh_file_faults::CommandFault;
 use wh_sample_workflows::All;
+use wh_service::ServiceEnd;
+use wh_service_command::{serve_command, serve_with_failures};
 
 /// Files of all samples, each by its name and its history.
 const SAMPLES: &str =

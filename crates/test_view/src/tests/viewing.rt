@@ -38,6 +38,8 @@ task 1: WorkflowTaskCompleted (event 4) 2024-05-01T10:00:04Z
 
 start:X S T C unknown timer_fired:9 marker:LocalActivity child:kid:Nap cancel_child:kid external:other:go
 X: 10 events, 1 tasks completed, 4 things
+not supported: EVENT_TYPE_SOMETHING_NEW, 1 events, first (event 5)
+marker not supported: MarkerRecorded LocalActivity, 1 events, first (event 7)
   told WorkflowExecutionStarted X (event 1) 2024-05-01T10:00:01Z
 task 1: WorkflowTaskCompleted (event 4) 2024-05-01T10:00:04Z
   has EVENT_TYPE_SOMETHING_NEW (event 5) 2024-05-01T10:00:05Z, not supported
@@ -45,7 +47,32 @@ task 1: WorkflowTaskCompleted (event 4) 2024-05-01T10:00:04Z
   gives MarkerRecorded LocalActivity (event 7) 2024-05-01T10:00:07Z, marker not supported
   gives StartChildWorkflowExecutionInitiated kid Nap (event 8) 2024-05-01T10:00:08Z, not ended
   gives RequestCancelExternalWorkflowExecutionInitiated kid (event 9) 2024-05-01T10:00:09Z, not ended
-  gives SignalExternalWorkflowExecutionInitiated other go (event 10) 2024-05-01T10:00:10Z, not ended";
+  gives SignalExternalWorkflowExecutionInitiated other go (event 10) 2024-05-01T10:00:10Z, not ended
+
+start:X S T C unknown marker:LocalActivity unknown marker:SideEffect marker:LocalActivity ignored unknown
+X: 11 events, 1 tasks completed, 3 things
+not supported: EVENT_TYPE_SOMETHING_NEW, 3 events, first (event 5)
+marker not supported: MarkerRecorded LocalActivity, 2 events, first (event 6)
+marker not supported: MarkerRecorded SideEffect, 1 events, first (event 8)
+  told WorkflowExecutionStarted X (event 1) 2024-05-01T10:00:01Z
+task 1: WorkflowTaskCompleted (event 4) 2024-05-01T10:00:04Z
+  has EVENT_TYPE_SOMETHING_NEW (event 5) 2024-05-01T10:00:05Z, not supported
+  gives MarkerRecorded LocalActivity (event 6) 2024-05-01T10:00:06Z, marker not supported
+  has EVENT_TYPE_SOMETHING_NEW (event 7) 2024-05-01T10:00:07Z, not supported
+  gives MarkerRecorded SideEffect (event 8) 2024-05-01T10:00:08Z, marker not supported
+  gives MarkerRecorded LocalActivity (event 9) 2024-05-01T10:00:09Z, marker not supported
+  has EVENT_TYPE_SOMETHING_NEW (event 10) 2024-05-01T10:00:10Z
+  has EVENT_TYPE_SOMETHING_NEW (event 11) 2024-05-01T10:00:11Z, not supported";
+
+/// A history in which kinds of events are not supported.
+const UNSUPPORTED: &str = "start:X S T C unknown marker:Side\\\\Effect unknown marker:Local";
+
+/// Its first objects, whichever tasks are selected.
+const UNSUPPORTED_JSON: &str = r#"{"events":8,"tasks":1,"things":2}
+{"mark":"not supported","type":"EVENT_TYPE_SOMETHING_NEW","events":2,"place":5}
+{"mark":"marker not supported","type":"MarkerRecorded","marker":"Side\\Effect","events":1,"place":6}
+{"mark":"marker not supported","type":"MarkerRecorded","marker":"Local","events":1,"place":8}
+"#;
 
 /// The last task of `racer`.
 const LAST: &str = "\
@@ -182,6 +209,16 @@ fn views_as_json(rt: HostRuntime) {
     let (wanted_counts, wanted) = LATE_JSON.split_once("\n").expect(&rt, "lines");
     assert!(rt; counts == wanted_counts, "{counts}");
     assert!(rt; objects.ends_with(wanted), "{objects}");
+}
+
+/// What is not supported is listed before the tasks that are selected.
+#[test]
+fn views_what_is_not_supported_as_json(rt: HostRuntime) {
+    let view = view(&rt, rt.alloc(), UNSUPPORTED);
+    let mut out = Vec::new(rt.alloc());
+    write_json_view(&view, Selection::Last(1), &mut out).expect(&rt, "written");
+    let text = String::from_utf8(out).ok().expect(&rt, "a text");
+    assert!(rt; text.as_str().starts_with(UNSUPPORTED_JSON), "{text}");
 }
 
 /// A signal with a name of 70,000 letters.

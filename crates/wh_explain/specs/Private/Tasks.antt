@@ -63,8 +63,8 @@ is_passed Verdict difference = is_none difference
 is_passed Steps difference = false
 
 -- what is explained of a task
-abbrev pub explained_task : ℕ → List Step → Ending → ExplainedTask
-explained_task at steps ending = record { at = at; steps = steps; ending = ending }
+abbrev pub explained_task : ℕ → List ℕ → List Step → Ending → ExplainedTask
+explained_task at given steps ending = record { at = at; given = given; steps = steps; ending = ending }
 
 -- how a task ends at the cut of a number that sends this, and has the fault, if there is one: that is kept as is asked
 -- for, and it is said why no task follows
@@ -84,10 +84,10 @@ module _ {S : Type 0} where
   -- what is found of a task: what is explained of it is kept as is asked for, and it is said why no task follows, and
   -- what it leaves
   pub record IsTaskFinding (detail : Detail) (program : Program S) (events : List Event) (context : ActivationContext)
-      (told : List Job) (at : ℕ) (state : S) (settled : Settled) (kept : Option ExplainedTask) (stop : Option Stop)
-      (left : S) (versions : Settled) : Type 0 where
+      (told : List Job) (numbers : List ℕ) (at : ℕ) (state : S) (settled : Settled) (kept : Option ExplainedTask)
+      (stop : Option Stop) (left : S) (versions : Settled) : Type 0 where
     pub task : ExplainedTask
-    pub explained : IsTaskAt program events context told at state settled task
+    pub explained : IsTaskAt program events context told numbers at state settled task
     pub keeps : Keeps detail kept (Some task)
     pub stops_by : fault_of stop ≡ task_fault events context settled at task.steps
     pub differs_in : difference_in stop ≡ difference_at task.ending

@@ -1,5 +1,5 @@
 -- What is sent for a task, and what becomes of it.
-use Rattle.std.specs.Prelude.{◌≡◌, ◌⊎◌, ◌<◌, ℕ, List, codes, not, Bool, true, false, Option, Some, None, Result, Ok, Err, string_bytes, if◌then◌else◌}
+use Rattle.std.specs.Prelude.{◌≡◌, ◌⊎◌, ◌<◌, ℕ, List, [], codes, not, Bool, true, false, Option, Some, None, Result, Ok, Err, string_bytes, if◌then◌else◌}
 use Rattle.std.specs.List.{list_any}
 use Rattle.std.specs.Str.{bytes_eq}
 use Rattle.serde_json.specs.Data.{Data}
@@ -7,7 +7,6 @@ use Rattle.wh_client.specs.Calls.{Gives}
 use Rattle.wh_client.specs.Codes.{keeps_run}
 use Rattle.wh_live.specs.Answers.{cause_of, receipt_of}
 use Rattle.wh_client.specs.Histories.{HandsOn}
-use Rattle.wh_client.specs.Requests.{IsRequest}
 use Rattle.wh_client.specs.declared.asking.AskFault.{AskFault}
 use Rattle.wh_client.specs.declared.asking.AskFault.TheVariants as asked
 use Rattle.wh_client.specs.declared.codes.Receipt.{Receipt}
@@ -15,18 +14,15 @@ use Rattle.wh_client.specs.declared.codes.Receipt.TheVariants.{Acknowledged, NoM
 use Rattle.wh_client.specs.declared.codes.Status.{Status}
 use Rattle.wh_client.specs.declared.codes.Status.TheVariants as status
 use Rattle.wh_client.specs.declared.options.LiveOptions.{LiveOptions}
-use Rattle.wh_client.specs.declared.requests.Request.{Request}
 use Rattle.wh_events.specs.declared.event.Event.{Event}
 use Rattle.wh_events.specs.declared.key.RunKey.{RunKey}
-use Rattle.wh_messages.specs.CarryingOver.{Carried, continues, nothing_carried}
-use Rattle.wh_messages.specs.declared.names.WorkerNames.{WorkerNames}
-use Rattle.wh_messages.specs.declared.request.FailedCause.{FailedCause}
-use Rattle.wh_messages.specs.Requests.{activity_completed, activity_failed, workflow_completed, workflow_failed}
+use Rattle.wh_commands.specs.CarryingOver.{Carried, continues, nothing_carried}
+use Rattle.wh_commands.specs.declared.names.WorkerNames.{WorkerNames}
+use Rattle.wh_requests.specs.declared.request.FailedCause.{FailedCause}
+use Rattle.wh_requests.specs.Requests.{workflow_completed, workflow_failed}
 use Rattle.wh_replay.specs.declared.run.Answer.{Answer}
 use Rattle.wh_replay.specs.declared.run.Answer.TheVariants.{Complete, Fail}
 use Rattle.wh_slots.specs.declared.TaskName.{TaskName}
-use Rattle.wh_tasks.specs.declared.source.ActivityAnswer.{ActivityAnswer}
-use Rattle.wh_tasks.specs.declared.source.ActivityAnswer.TheVariants.{Completed, Failed}
 use Rattle.wh_tasks.specs.declared.source.RunUse.{RunUse}
 use Rattle.wh_tasks.specs.declared.source.RunUse.TheVariants.{Cache, Discard}
 use Rattle.wh_workflow.specs.declared.command.Command.{Command}
@@ -39,7 +35,7 @@ pub record CompletesWith (gives : Gives) (options : LiveOptions) (task : OpenTas
     (events : List Event) (carried : Carried) : Type 0 where
   pub params : Data
   pub written :
-      workflow_completed options.names task.token commands events task.queries.items options.sticky options.policies carried
+      workflow_completed options.names task.token commands events [] options.sticky options.policies carried
       ≡ Ok params
   pub result : Data
   pub given : gives (codes "RespondWorkflowTaskCompleted") params result
@@ -78,13 +74,6 @@ pub record AnswersOpen (gives : Gives) (options : LiveOptions) (open_task : Opti
   pub is : open_task ≡ Some task
   pub named : task.name ≡ name
   pub answered : HasAnswer gives options task answer events
-
--- an activity's result is sent as such, and why it failed as a failure
-abbrev pub IsActivityRequest : WorkerNames → List ℕ → ActivityAnswer → Request → Type 0
-IsActivityRequest names token (Completed outcome) request =
-    IsRequest request (codes "RespondActivityTaskCompleted") (activity_completed names token outcome)
-IsActivityRequest names token (Failed reason) request =
-    IsRequest request (codes "RespondActivityTaskFailed") (activity_failed names token reason)
 
 -- ---- What becomes of it
 

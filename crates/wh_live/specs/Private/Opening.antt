@@ -8,11 +8,11 @@ use Rattle.wh_live.specs.Deliveries.{HasKept, IsActivityOf, IsTaskOf, later_in}
 use Rattle.wh_live.specs.declared.tasks.Brought.{Brought}
 use Rattle.wh_live.specs.declared.tasks.Brought.TheVariants as brought
 use Rattle.wh_live.specs.declared.tasks.OpenTask.{OpenTask}
-use Rattle.wh_messages.specs.declared.response.PolledActivity.{PolledActivity}
-use Rattle.wh_messages.specs.declared.names.WorkerNames.{WorkerNames}
-use Rattle.wh_messages.specs.declared.response.ActivityPoll.TheVariants as ActivityPoll
-use Rattle.wh_messages.specs.Responses.{Task}
-use Rattle.wh_messages.specs.Responses as read
+use Rattle.wh_responses.specs.declared.response.PolledActivity.{PolledActivity}
+use Rattle.wh_commands.specs.declared.names.WorkerNames.{WorkerNames}
+use Rattle.wh_responses.specs.declared.response.ActivityPoll.TheVariants as ActivityPoll
+use Rattle.wh_responses.specs.Responses.{Task}
+use Rattle.wh_responses.specs.Responses as read
 use Rattle.wh_replay.specs.Runs.{follows}
 use Rattle.wh_slots.specs.declared.TaskName.{TaskName}
 use Rattle.wh_tasks.specs.declared.source.Polled.{Polled}
@@ -28,15 +28,14 @@ OnTask p (brought.Task task) = p task
 OnTask p brought.Empty = Unit {0}
 OnTask p brought.Settled = Unit {0}
 
--- a task of a poll is answered under the token that it came under, in its attempt and with its queries, and under the
--- name that it is given under, which is the id of the poll
+-- a task of a poll is answered under the token that it came under, in its attempt, and under the name that it is given
+-- under, which is the id of the poll
 pub record Opens (id : ℕ) (polled : Task) (opened : OpenTask) (given : TaskName) : Type 0 where
   pub numbered : given.0 ≡ id
   pub name : opened.name ≡ given
   pub token : opened.token ≡ polled.token
   pub run : opened.run ≡ polled.run
   pub attempt : opened.attempt ≡ polled.attempt
-  pub queries : opened.queries.items ≡ polled.queries
 
 -- an activity task likewise
 pub record OpensActivity (id : ℕ) (polled : PolledActivity) (opened : OpenTask) (given : TaskName) : Type 0 where
@@ -83,7 +82,6 @@ pub record StaysOpen (old new : OpenTask) (given : TaskName) : Type 0 where
   pub token : new.token ≡ old.token
   pub run : new.run ≡ old.run
   pub attempt : new.attempt ≡ old.attempt
-  pub queries : new.queries.items ≡ old.queries.items
 
 -- where a task was brought it is given, and what it is to be answered by is open; else what was open stays so
 abbrev pub IsOpened : {A : Type 0} → Result (Polled (OpenTask × A)) SourceFault → Option OpenTask → Result (Polled A) SourceFault → Option OpenTask → Type 0

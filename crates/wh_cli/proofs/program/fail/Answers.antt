@@ -1,13 +1,13 @@
 use Rattle.std.proofs.Common.{refl, rules}
-use Rattle.wh_cli.proofs.Endings.{nothing_told, why_told}
+use Rattle.wh_cli.proofs.Endings.{nothing_said, why_said}
 use Rattle.wh_cli.proofs.program.fail.Goals as goal
 
--- nothing is told where nobody reads on
+-- nothing is reported where nobody reads on
 pub returns-then-is_unread : goal.returns-then-is_unread
 returns-then-is_unread g c = record {
   failure = c.args.failure;
   between = c.args.console.now;
-  told = nothing_told c.args.console.now c.args.failure c.args.console.now.closed (search rules);
+  reported = nothing_said c.args.console.now c.args.failure c.args.console.now.closed (search rules);
   ends = refl;
 }
 
@@ -16,6 +16,6 @@ pub returns-else-is_unread : goal.returns-else-is_unread
 returns-else-is_unread g c = record {
   failure = c.args.failure;
   between = c.args.console.now;
-  told = why_told c.args.console.now c.report.new.self c.args.failure c.report.new.self.closed (search rules) c.report.ensures;
+  reported = why_said c.args.console.now c.report.new.self c.args.failure c.report.new.self.closed (search rules) c.report.ensures;
   ends = refl;
 }

@@ -2,7 +2,7 @@ use Rattle.std.proofs.Common.{◌≡◌, ◌≢◌, ◌∙◌, ◌++◌, [], ◌
 use Rattle.serde_json.specs.Data.{Data}
 use Rattle.std.specs.Prelude.{List, ◌==◌}
 use Rattle.serde_json.specs.View.{view}
-use Rattle.wh_messages.specs.Responses.{page_seen}
+use Rattle.wh_responses.specs.Responses.{page_seen}
 use Rattle.wh_client.specs.Pages.{ReadsOn, all_members}
 use Rattle.wh_client.proofs.Paging.{leads_on, reads_all, all_members-append, map-appended, none_left}
 use Rattle.wh_client.proofs.pages.append_pages.Goals as goal

@@ -1,7 +1,7 @@
 use Rattle.std.proofs.Common.{◌≡◌, ◌≢◌, ◌++◌, [], ◌∷◌, ap, length, rules, map}
 use Rattle.std.specs.Prelude.{◌==◌, true}
 use Rattle.serde_json.specs.View.{view}
-use Rattle.wh_messages.specs.Responses.{page_seen}
+use Rattle.wh_responses.specs.Responses.{page_seen}
 use Rattle.wh_client.proofs.Paging.{leads_on, none_left, none_more}
 use Rattle.wh_client.proofs.pages.ask_first_page.Goals as goal
 

@@ -1,4 +1,4 @@
-use Rattle.wh_command_line.specs.Lines.{program, replay, explain, query, serve, work}
+use Rattle.wh_command_line.specs.Lines.{program, replay, explain, query, check, trial, serve, work}
 use Rattle.wh_command_line.proofs.command_line.command.Goals as goal
 
 pub returns : goal.returns
@@ -7,5 +7,7 @@ returns c =
     let first = c.with_subcommand-program.ensures _ replay c.program_alone.ensures c.replay.ensures in
     let second = c.with_subcommand-program-2.ensures _ explain first c.explain.ensures in
     let third = c.with_subcommand-program-3.ensures _ query second c.query.ensures in
-    let fourth = c.with_subcommand-program-4.ensures _ serve third c.serve.ensures in
-    c.with_subcommand.ensures _ work fourth c.work.ensures
+    let fourth = c.with_subcommand-program-4.ensures _ check third c.check.ensures in
+    let fifth = c.with_subcommand-program-5.ensures _ trial fourth c.trial.ensures in
+    let sixth = c.with_subcommand-program-6.ensures _ serve fifth c.serve.ensures in
+    c.with_subcommand.ensures _ work sixth c.work.ensures

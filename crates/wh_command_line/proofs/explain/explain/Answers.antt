@@ -5,5 +5,6 @@ returns c =
     let file = c.with_argument-command.ensures _ _ c.needed_argument-file.ensures.rule c.needed_argument-file.ensures.local
     (c.subcommand-command.ensures.app, c.subcommand-command.ensures.local) in
     let json = c.with_argument-command-2.ensures _ _ c.flag_argument-json.ensures.rule c.flag_argument-json.ensures.local file in
-    let recorded = c.with_argument.ensures _ _ c.flag_argument-recorded.ensures.rule c.flag_argument-recorded.ensures.local json in
-    c.with_selections.ensures _ recorded
+    let recorded = c.with_argument-command-3.ensures _ _ c.flag_argument-recorded.ensures.rule c.flag_argument-recorded.ensures.local json in
+    let html = c.with_argument.ensures _ _ c.flag_argument-html.ensures.rule c.flag_argument-html.ensures.local recorded in
+    c.with_selections.ensures _ html

@@ -1,5 +1,6 @@
 use Rattle.std.proofs.Common.{◌≡◌, ◌∙◌, Some, refl, sym, ap, subst}
 use Rattle.wh_activation.specs.Cutting.{jobs_at}
+use Rattle.wh_explain.specs.Numbers.{numbers_at}
 use Rattle.wh_explain.specs.Private.Stepping.{Keeps}
 use Rattle.wh_workflow.specs.Activations.{Progress}
 use Rattle.wh_workflow.specs.Scripts.{Settled, reduced}
@@ -26,16 +27,17 @@ returns g c =
     let ends = c.in_ok-end.ensures.end in
     let issued = after.script.issued in
     let whole = unless_refused fault (sent_ending cut.track.now (reduced context issued) context.recorded) in
-    let task = explained_task cut.number ran.steps whole in
+    let numbers = numbers_at cut.track.now cut.previous cut.number in
+    let task = explained_task cut.number numbers ran.steps whole in
     let begins = ap (λ (p : Progress _). p.state) (c.new-activation.ensures.progress 0) in
     let knows : began.versions ≡ before.versions = ap (λ (p : Progress _). p.script.settled) (c.new-activation.ensures.progress 0) in
-    let both = task_stepped program cut.track.now context c.in_ok-jobs.jobs.items (jobs_at cut.track.now cut.previous cut.number) cut.number began.state before.state after.state c.in_ok-end.left.state began.versions before.versions after.versions c.in_ok-end.left.versions issued
-    ran.steps task fault c.in_ok-jobs.ensures begins knows refl ran.longest ran.leaves refl refl c.in_ok-end.ensures.state c.in_ok-end.ensures.versions in
+    let both = task_stepped program cut.track.now context c.in_ok-jobs.jobs.items (jobs_at cut.track.now cut.previous cut.number) numbers cut.number began.state before.state after.state c.in_ok-end.left.state began.versions before.versions after.versions c.in_ok-end.left.versions issued
+    ran.steps task fault c.in_ok-jobs.ensures begins knows refl ran.longest ran.leaves refl refl refl c.in_ok-end.ensures.state c.in_ok-end.ensures.versions in
     let P : Settled → Type 0 = λ v. fault_of c.in_ok-end.end.stop ≡ task_fault cut.track.now context v cut.number ran.steps in
     record {
       task = task;
       explained = both.0;
-      keeps = subst (λ o. Keeps c.args.detail o (Some task)) (sym c.task_with-task.ensures) (keeps_task c.args.detail cut.number c.in_ok-steps.steps.items ran.steps c.in_ok-end.end.ending whole ran.keeps ends.keeps);
+      keeps = subst (λ o. Keeps c.args.detail o (Some task)) (sym c.task_with-task.ensures) (keeps_task c.args.detail cut.number c.in_ok-given.given.items numbers c.in_ok-steps.steps.items ran.steps c.in_ok-end.end.ending whole c.in_ok-given.ensures ran.keeps ends.keeps);
       stops_by = subst P knows (ends.stops_by ∙ fault_by program cut.track.now context cut.number began.state after.state began.versions after.versions ran.steps fault issued ran.leaves);
       differs_in = ends.differs_in;
       leaves = both.1;

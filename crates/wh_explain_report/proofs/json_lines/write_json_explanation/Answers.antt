@@ -11,6 +11,6 @@ returns g c =
     let start = at c.args.writer.now in
     let after = at c.write_unknown.new.writer in
     let last = at c.write_tasks.new.writer in
-    let told = rw c.get.ensures at c.in_ok-write_tasks.ensures in
+    let told = rw (c.selected_or_all.ensures, c.get.ensures) at c.in_ok-write_tasks.ensures in
     on_ok_weaker c.write_last.result (λ line.
     Appends-trans start after _ _ _ c.in_ok-write_unknown.ensures (Appends-trans after last _ _ _ told line)) c.write_last.ensures

@@ -30,6 +30,6 @@ returns-clause-end g c =
       sizes = search rules;
       count = search rules;
       ends = of_fresh R no_shares (length seats.items) setups.items ends.items long (subst are (first_part no_shares seats.items spare c.args.config.seats parts) led);
-      gathered = c.close-totals.ensures.gathered ∙ ap (λ sums. totals_of sums) same;
+      gathered = c.close_host-totals.ensures.gathered ∙ ap (λ sums. totals_of sums) same;
       balanced = search rules;
     }

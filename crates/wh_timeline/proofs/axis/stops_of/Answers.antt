@@ -1,6 +1,6 @@
-use Rattle.std.proofs.Common.{◌∙◌, sym, rules}
-use Rattle.wh_timeline.specs.Axes.{left, first_of}
-use Rattle.wh_timeline.proofs.Ways.{GoesTo-more, GoesRight_from, times_more, Begun-more, last_place-more, GapsTo-more, Gaps_from, MarksTo-more, Marks_from}
+use Rattle.std.proofs.Common.{◌∙◌, ◌-◌, ap, sym, rules}
+use Rattle.wh_timeline.specs.Axes.{left, first_of, next_place, steps_to, length_to}
+use Rattle.wh_timeline.proofs.Ways.{GoesTo-more, GoesRight_from, times_more, Begun-more, last_place-more, GapsTo-more, Gaps_from, MarksTo-more, Marks_from, places_on, Places_from}
 use Rattle.wh_timeline.proofs.axis.stops_of.Goals as goal
 
 pub loop-time-preserved : goal.loop-time-preserved
@@ -22,6 +22,13 @@ loop-time-preserved c =
       (λ d e. next.last (sym next.time ∙ e) (so_far.6 d)),
       (rw pushed (rw (← place) (rw (← time) (GapsTo-more c.args.scale.longest left (first_of c.args.times.now) stops way.x way.millis stop so_far.7 (rw time c.stop_at.ensures.gap))))),
       (rw (pushed, next.free) (rw (← place) (MarksTo-more left stops way.free stop so_far.8 (rw place c.stop_at.ensures.mark)))),
+      places_on c.args.scale.steps c.args.scale.whole c.args.scale.longest c.args.scale.last
+          (record { steps = 0; far = 0; millis = first_of c.args.times.now; x = left }) stops _ way.steps way.length way.millis way.x
+          stop _ _ _ _ so_far.9
+          (place ∙ next.place ∙ sym (ap (next_place c.args.scale.steps c.args.scale.whole c.args.scale.longest c.args.scale.last way.steps way.length way.millis way.x) (time ∙ next.time)))
+          (next.steps ∙ sym (ap (λ m. steps_to way.steps (m - way.millis)) (time ∙ next.time)))
+          (next.length ∙ sym (ap (λ m. length_to c.args.scale.longest way.length (m - way.millis)) (time ∙ next.time)))
+          (sym time) (sym place) pushed,
     )
 
 pub returns-clause-places : goal.returns-clause-places
@@ -32,3 +39,8 @@ returns-clause-gaps c = Gaps_from c.args.scale.longest left (first_of c.args.tim
 
 pub returns-clause-marks : goal.returns-clause-marks
 returns-clause-marks c = Marks_from left c.loop-time.stops.items c.loop-time.way.free c.loop-time.invariant.8
+
+pub returns-clause-stand : goal.returns-clause-stand
+returns-clause-stand c =
+    Places_from c.args.scale.steps c.args.scale.whole c.args.scale.longest c.args.scale.last
+    (record { steps = 0; far = 0; millis = first_of c.args.times.now; x = left }) c.loop-time.stops.items _ c.loop-time.invariant.9

@@ -1,6 +1,6 @@
 use Rattle.std.proofs.Common.{◌≡◌, ◌≤◌, ◌<◌, ◌-◌, take, map, get_or}
 use Rattle.wh_timeline.specs.Axes.{left, right, first_of, last_place}
-use Rattle.wh_timeline.proofs.Ways.{GoesTo, Begun, GapsTo, MarksTo}
+use Rattle.wh_timeline.proofs.Ways.{GoesTo, Begun, GapsTo, MarksTo, PlacesTo}
 use Rattle.wh_timeline.proofs.axis.stops_of.Given as goal
 
 -- the stops so far are at the times so far, and go to the right up to where the way has come
@@ -15,3 +15,6 @@ invariant-loop-time l =
     × (first_of l.times < l.scale.last → l.way.millis ≡ l.scale.last → l.way.x ≡ right)
     × GapsTo l.scale.longest left (first_of l.times) l.stops.items l.way.x l.way.millis
     × MarksTo left l.stops.items l.way.free
+    × PlacesTo l.scale.steps l.scale.whole l.scale.longest l.scale.last
+    (record { steps = 0; far = 0; millis = first_of l.times; x = left }) l.stops.items
+    (record { steps = l.way.steps; far = l.way.length; millis = l.way.millis; x = l.way.x })

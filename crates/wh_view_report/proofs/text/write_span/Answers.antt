@@ -9,8 +9,8 @@ unfolding span_text
 returns g c =
     let at = g.O.Write.contents in
     let start = at c.args.writer.now in
-    let after = at c.write_head.new.writer in
+    let after = at c.write_top.new.writer in
     let last = at c.write_events.new.writer in
     let told = rw c.left_out.ensures at c.write_left.ensures in
     on_ok_weaker c.write_left.result (λ line.
-    Appends-trans start after _ _ _ c.in_ok-write_head.ensures (Appends-trans after last _ _ _ c.in_ok-write_events.ensures line)) told
+    Appends-trans start after _ _ _ c.in_ok-write_top.ensures (Appends-trans after last _ _ _ c.in_ok-write_events.ensures line)) told

@@ -3,4 +3,4 @@ use Rattle.wh_page.proofs.tasks.TaskPartDisplay.fmt.Goals as goal
 
 pub returns-clause-writes : goal.returns-clause-writes
 unfolding task_html
-returns-clause-writes g c = λ plain ok. rw (c.open_words-open.ensures, c.saturating_sub.ensures, c.first_items.ensures, c.get-lines.ensures) at (c.write.ensures.writes plain ok)
+returns-clause-writes g c = λ plain ok. rw (c.open_words-open.ensures, c.get.ensures) at (c.write.ensures.writes plain ok)

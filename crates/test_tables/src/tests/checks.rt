@@ -1,0 +1,187 @@
+//! What is found of tables, as text and as JSON, and what they give to scenarios.
+
+use std::alloc::Global;
+use std::test::Fail;
+use test_support::{Unlike, same, with_status};
+use wh_console::Format;
+use wh_events::{Items, Text};
+use wh_table_check::{NoMore, TableFile, check_command, status_of};
+use wh_table_picture::picture_command;
+use wh_table_trial::{status_of as trial_status, try_command};
+
+/// The text was written, and behind it stands the status.
+fn is_written(alloc: Global, text: Vec<u8>, status: u8, wanted: &str) -> Result<(), Fail> {
+    let text = with_status(text, status).ok_or(Unlike::OutOfMemory)?;
+    same(alloc, text.as_str(), wanted)?;
+    Ok(())
+}
+
+/// Rows, whether the table is good, and what is written of it.
+const TEXTS: [(&str, &str); 12] = [
+    (
+        r#"["a","start","","activity b C"],["a","done b","","complete brought"]"#,
+        "t.json: ok, 2 rows\n1 files, 1 ok\nstatus 0",
+    ),
+    (
+        r#"["a","start","","timer t 5"]"#,
+        "t.json: ok, 1 rows\nt.json: warning, row 1: no row leads on from the state a\nt.json: warning, row 1: no row waits for the timer t\n1 files, 1 ok\nstatus 0",
+    ),
+    (
+        r#"["a","start","",["activity b C","child c D"],"e"],["e","failed b","","fail"],["any","child-started c"]"#,
+        "t.json: ok, 3 rows\n1 files, 1 ok\nstatus 0",
+    ),
+    (
+        r#"["a","start","",["activity b C","child c D","timer b 1"],"e"],["e","done c"],["any","cancel","","cancel"]"#,
+        "t.json: ok, 3 rows\nt.json: warning, row 1: no row waits for the activity b\nt.json: warning, row 1: no row waits for the child c\nt.json: warning, row 1: no row waits for the timer b\n1 files, 1 ok\nstatus 0",
+    ),
+    (
+        r#"["a","start","","","e"],["e","signal go","","","e"],["e","signal on"]"#,
+        "t.json: ok, 3 rows\nt.json: warning, row 2: no row leads on from the state e\n1 files, 1 ok\nstatus 0",
+    ),
+    (
+        r#"["a","begin"],["a","start","","go"],["a","start"],7"#,
+        "t.json: row 1: no job is written so\nt.json: row 2: no command begins with this word\nt.json: row 4: a row is a list of at most six members\n1 files, 0 ok\nstatus 1",
+    ),
+    (
+        r#"["a","start","",["complete","timer b 1"]],["a","start","","","z"],["a","cancel"]"#,
+        "t.json: row 1: a command follows one that asks or closes the run\nt.json: row 2: no row is for the state that it leads to\n1 files, 0 ok\nstatus 1",
+    ),
+    (
+        r#"["a","start"],["a","start"],["b","start"]"#,
+        "t.json: row 2: it never counts, since row 1 fits wherever it does\nt.json: row 3: no row of another state leads to its state\n1 files, 0 ok\nstatus 1",
+    ),
+    (
+        r#"],"counters":7,"name":7,"x":["#,
+        "t.json: counters are at most four texts, each a name and a bound\nt.json: the name is not written so: payload NUMBER PREFIX OTHER\n1 files, 0 ok\nstatus 1",
+    ),
+    (
+        r#"],"counters":7,"rows":[["a","begin"]"#,
+        "t.json: counters are at most four texts, each a name and a bound\n1 files, 0 ok\nstatus 1",
+    ),
+    (
+        r#"],"version":2,"rows":7,"x":["#,
+        "t.json: the version of the table is not 1\n1 files, 0 ok\nstatus 1",
+    ),
+    ("", "t.json: the table has no row\n1 files, 0 ok\nstatus 1"),
+];
+
+/// A file with a table of these rows.
+fn file_of(alloc: Global, rows: &str) -> Result<TableFile, Fail> {
+    let text = format!(in alloc; "{{\"version\":1,\"rows\":[{rows}]}}")?;
+    Ok(TableFile {
+        name: Text::new(String::from_str(alloc, "t.json")?),
+        bytes: Items::new(text.into_bytes()),
+    })
+}
+
+#[test]
+fn all_faults_and_warnings_are_written(rt: HostRuntime) -> Result<(), Fail> {
+    let alloc = rt.alloc();
+    for (rows, wanted) in TEXTS {
+        let mut files = Vec::new(alloc);
+        files.push(file_of(alloc, rows)?)?;
+        let mut text = Vec::new(alloc);
+        let found = check_command::<NoMore, _>(alloc, files.as_slice(), Format::Text, &mut text)?;
+        is_written(alloc, text, status_of(found.as_slice()), wanted)?;
+    }
+    Ok(())
+}
+
+/// What is written of a good table with a warning, of one that breaks rules, and of no JSON.
+const JSON: &str =
+    r#"{"file":"t.json","verdict":"ok","rows":1,"faults":[],"warnings":[{"row":1,"text":"row 1: no row leads on from the state \"a?"}]}
+{"file":"t.json","verdict":"fault","rows":0,"faults":[{"row":1,"text":"row 1: no job is written so"},{"row":2,"text":"row 2: no job is written so"}],"warnings":[]}
+{"file":"t.json","verdict":"fault","rows":0,"faults":[{"text":"the table is no JSON"}],"warnings":[]}
+{"files":3,"ok":1}
+status 1"#;
+
+#[test]
+fn files_are_objects(rt: HostRuntime) -> Result<(), Fail> {
+    let alloc = rt.alloc();
+    let mut files = Vec::new(alloc);
+    files.push(file_of(alloc, r#"["\"a\u000a","start"]"#)?)?;
+    files.push(file_of(alloc, r#"["a","begin"],["a","end"]"#)?)?;
+    files.push(file_of(alloc, "]")?)?;
+    let mut text = Vec::new(alloc);
+    let found = check_command::<NoMore, _>(alloc, files.as_slice(), Format::Json, &mut text)?;
+    is_written(alloc, text, status_of(found.as_slice()), JSON)
+}
+
+/// The rows that are tried.
+const CHARGE: &str =
+    r#"["a","start","","activity b C input"],["a","done b","","complete brought"],["a","failed b","","again input"]"#;
+
+/// Scenarios, the status, and what is written.
+const TRIALS: [(&str, &str); 8] = [
+    (
+        "start 1; done b \"x\"",
+        "start 1 => StartActivity b C 1\ndone b \"x\" => Complete \"x\"\nt.json: ok, 2 jobs\nstatus 0",
+    ),
+    (
+        "\n start  =>  StartActivity b C \n\nstart 2=>StartActivity b C 2\nfailed b =>ContinueAsNew Table TABLE 2",
+        "start => StartActivity b C\nstart 2 => StartActivity b C 2\nfailed b => ContinueAsNew Table TABLE 2\nt.json: ok, 3 jobs\nstatus 0",
+    ),
+    (
+        "start; cancel =>StartActivity b C\ndone b =>",
+        "start => StartActivity b C\ncancel =>\ndone b => Complete\nt.json: line 2 differs\n  expected \n  gives    Complete\nstatus 1",
+    ),
+    (
+        "start => Complete\nstart",
+        "start => StartActivity b C\nt.json: line 1 differs\n  expected Complete\n  gives    StartActivity b C\nstatus 1",
+    ),
+    (
+        "start; go on; cancel",
+        "start => StartActivity b C\nt.json: line 1: no job is written `go on`\nstatus 1",
+    ),
+    ("failed b", "failed b =>\nt.json: ok, 1 jobs\nstatus 0"),
+    ("", "t.json: ok, 0 jobs\nstatus 0"),
+    (
+        "start;",
+        "start => StartActivity b C\nt.json: line 1: no job is written ``\nstatus 1",
+    ),
+];
+
+#[test]
+fn scenarios_are_tried(rt: HostRuntime) -> Result<(), Fail> {
+    let alloc = rt.alloc();
+    let file = file_of(alloc, CHARGE)?;
+    for (scenario, wanted) in TRIALS {
+        let mut text = Vec::new(alloc);
+        let own = try_command(alloc, "t.json", file.bytes.get(), scenario, &mut text)?;
+        is_written(alloc, text, trial_status(&own), wanted)?;
+    }
+    Ok(())
+}
+
+#[test]
+fn what_is_no_table_is_not_tried(rt: HostRuntime) -> Result<(), Fail> {
+    let alloc = rt.alloc();
+    let file = file_of(alloc, r#"["a","begin"]"#)?;
+    let mut text = Vec::new(alloc);
+    let own = try_command(alloc, "t.json", file.bytes.get(), "start", &mut text)?;
+    let wanted = "t.json: row 1: no job is written so\nstatus 1";
+    is_written(alloc, text, trial_status(&own), wanted)
+}
+
+#[test]
+fn a_page_shows_what_a_table_holds_as_text(rt: HostRuntime) -> Result<(), Fail> {
+    let alloc = rt.alloc();
+    let file = file_of(
+        alloc,
+        r#"["<b>","start","","complete"]],"title":"<i> & \"so\"","x":[0"#,
+    )?;
+    let mut page = Vec::new(alloc);
+    let drawing = picture_command::<NoMore, _>(alloc, &file, &mut page)?;
+    drop(drawing);
+    let page = with_status(page, 0).ok_or(Unlike::OutOfMemory)?;
+    let found = format!(in alloc;
+        "{} {} {} {}",
+        page.as_str().contains("<b>"),
+        page.as_str().contains("<i>"),
+        page.as_str().contains(">&lt;b&gt;<"),
+        page.as_str()
+            .contains("<p>&lt;i&gt; &amp; &quot;so&quot;</p>")
+    )?;
+    same(alloc, found.as_str(), "false false true true")?;
+    Ok(())
+}

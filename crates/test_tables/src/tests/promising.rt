@@ -1,0 +1,121 @@
+//! Tables and their promises.
+
+use crate::tests::words::run_follows;
+use std::alloc::{AllocError, Global};
+use std::test::Fail;
+use wh_events::Text;
+use wh_promise_check::{
+    Outcome, PromiseFinding, PromiseFindings, are_kept, check_promises, findings_json,
+    findings_text,
+};
+use wh_scenarios::ScenarioFault;
+use wh_table_promises::{Verdict, WayStep};
+use wh_table_text::read_table;
+
+/// Both texts, which were to be the same.
+fn differs(alloc: Global, given: &str, wanted: &str) -> Result<ScenarioFault, AllocError> {
+    Ok(ScenarioFault::Differs {
+        line: 1,
+        given: Text::new(String::from_str(alloc, given)?),
+        wanted: Text::new(String::from_str(alloc, wanted)?),
+    })
+}
+
+/// The given text is the wanted one.
+fn is_same(alloc: Global, given: &str, wanted: &str) -> Result<(), Fail> {
+    if given == wanted {
+        return Ok(());
+    }
+    let fault = differs(alloc, given, wanted)?;
+    Err(fault)?
+}
+
+/// What is found of the promises of a table.
+fn found_of(alloc: Global, table: &str) -> Result<PromiseFindings, Fail> {
+    let own = read_table(alloc, table.as_bytes())?;
+    let found = check_promises(alloc, table.as_bytes(), &own)?;
+    Ok(found)
+}
+
+/// What is said of the promises of a table is this text, and this JSON.
+pub(super) fn promises_say(alloc: Global, table: &str, text: &str, json: &str) -> Result<(), Fail> {
+    let found = found_of(alloc, table)?;
+    let said = findings_text(alloc, &found)?;
+    is_same(alloc, said.as_str(), text)?;
+    let said = findings_json(alloc, &found)?;
+    is_same(alloc, said.as_str(), json)
+}
+
+/// What is said of the promises of a table has this line.
+pub(super) fn promise_says(alloc: Global, table: &str, line: &str) -> Result<(), Fail> {
+    let found = found_of(alloc, table)?;
+    let said = findings_text(alloc, &found)?;
+    if said.as_str().contains(line) {
+        return Ok(());
+    }
+    is_same(alloc, said.as_str(), line)
+}
+
+/// The table keeps each promise.
+pub(super) fn keeps_promises(alloc: Global, table: &str) -> Result<(), Fail> {
+    let found = found_of(alloc, table)?;
+    if are_kept(&found) {
+        return Ok(());
+    }
+    let said = findings_text(alloc, &found)?;
+    is_same(alloc, said.as_str(), "each is kept")
+}
+
+/// The way of a finding, if it has one.
+fn way_in(finding: &PromiseFinding) -> &[WayStep] {
+    match &finding.outcome {
+        Outcome::Decided(Verdict::Broken(way)) => way.as_slice(),
+        _ => &[],
+    }
+}
+
+/// The way of the promise of that index, if it has one.
+fn way_at(found: &PromiseFindings, index: usize) -> &[WayStep] {
+    match found {
+        PromiseFindings::Each(list) => match list.get().get(index) {
+            Some(finding) => way_in(finding),
+            None => &[],
+        },
+        _ => &[],
+    }
+}
+
+/// A way as a scenario, whose `TABLE` stands for the table.
+fn scenario_of(alloc: Global, way: &[WayStep]) -> Result<String, AllocError> {
+    let mut text = String::new(alloc);
+    for step in way {
+        let job = step.job.get();
+        let job = if job == "start" { "start TABLE" } else { job };
+        let gives = step.gives.get();
+        let line = format!(in alloc; "{job} => {gives}\n")?;
+        text.push_str(line.as_str())?;
+    }
+    Ok(text)
+}
+
+/// The promise of that index is broken in a way of so many jobs, which runs follow, and this is said of
+/// it.
+pub(super) fn promise_breaks(
+    alloc: Global,
+    table: &str,
+    index: usize,
+    line: &str,
+    many: usize,
+) -> Result<(), Fail> {
+    let found = found_of(alloc, table)?;
+    let said = findings_text(alloc, &found)?;
+    if !said.as_str().contains(line) {
+        is_same(alloc, said.as_str(), line)?;
+    }
+    let way = way_at(&found, index);
+    if way.len() != many {
+        is_same(alloc, said.as_str(), "a way of as many jobs")?;
+    }
+    let scenario = scenario_of(alloc, way)?;
+    run_follows(alloc, table, scenario.as_str())
+}

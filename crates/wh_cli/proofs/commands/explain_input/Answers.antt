@@ -1,8 +1,0 @@
-use Rattle.wh_cli.proofs.Steps.{explained_input}
-use Rattle.wh_cli.proofs.commands.explain_input.Goals as goal
-
--- the file that is explained is the one that the input was read as
-pub returns : goal.returns
-returns g c =
-    explained_input g.R.InputReader.gives g.W.Workflow.program c.args.input (c.in_ok-name.name, c.in_ok-name.bytes) c.as_slice.result.now c.args.format
-    c.args.console.now c.explain.new.console c.explain.result c.in_ok-name.ensures c.as_slice.ensures.value c.explain.ensures

@@ -1,9 +1,0 @@
-use Rattle.wh_cli.proofs.Steps.{explained_path}
-use Rattle.wh_cli.proofs.commands.explain_path.Goals as goal
-
--- the input is that of the path
-pub returns : goal.returns
-returns g c =
-    let input = c.in_ok-input in
-    explained_path g.W.Workflow.program c.args.path input.input c.args.format c.args.console.now c.explain_input.new.console
-    c.explain_input.result input.ensures.called input.ensures.from input.ensures.single c.explain_input.ensures

@@ -1,8 +1,0 @@
-use Rattle.wh_cli.proofs.Steps.{text_printed}
-use Rattle.wh_cli.proofs.commands.print.Goals as goal
-
--- the text was printed, and it is out
-pub returns : goal.returns
-returns g c =
-    text_printed c.args.text.now c.args.console.now c.print_text-answer.new.console c.flushed.new.console c.print_text-answer.result c.flushed.result
-    c.print_text-answer.ensures.printed c.print_text-answer.ensures.ends c.flushed.ensures.quiet c.flushed.ensures.kept c.flushed.ensures.status

@@ -1,0 +1,74 @@
+//! Heartbeats of activities, and answers for activities that failed or were cancelled.
+
+ghost use Rattle.std.specs.Prelude.{◌≡◌, true, IfOk};
+ghost use Rattle.wh_client.specs.Heartbeats.{IsFailedActivity, IsHeartbeat, WasCancelled};
+
+use crate::asking::{AskFault, ask};
+use crate::client::Client;
+use crate::connection::Connection;
+use crate::requests::Request;
+use wh_commands::WorkerNames;
+use wh_events::{OutOfMemory, Payload, Text};
+use wh_requests::{activity_cancelled, activity_failed, activity_heartbeat};
+use wh_responses::is_cancel_requested;
+
+/// Tells the server that the activity of a task goes on, with details, and says whether it is to be
+/// cancelled (Temporal documentation, "Activity Heartbeat"). The fault says why that is not known:
+/// where it is `Refused` as `NotFound` the server has no such task more.
+pub fn record_heartbeat<L: Connection>(
+    connection: &L,
+    names: &WorkerNames,
+    token: &Text,
+    details: &[Payload],
+) -> Result<bool, AskFault>
+    ensures { IfOk result (IsHeartbeat L.gives names.now token.now details.now) }
+{
+    let alloc = connection.allocator();
+    let params = activity_heartbeat(alloc, names, token.get(), details)?;
+    let (_id, value) = ask(connection, "RecordActivityTaskHeartbeat", params)?;
+    Ok(is_cancel_requested(&value))
+}
+
+impl<L: Connection> Client<'_, L> {
+    /// Notes that the activity task of the token runs now, where the worker's handler may beat.
+    pub fn begin_activity(&self, token: &Text) {
+        if let Some(cell) = self.cell {
+            self.connection.begin_activity(cell, token);
+        }
+    }
+
+    /// Whether a heartbeat for the activity task of the token was told that the activity is to be
+    /// cancelled.
+    pub fn was_cancelled(&self, token: &Text) -> bool
+        ensures { result ≡ true → WasCancelled L.gives token.now }
+    {
+        match self.cell {
+            Some(cell) => self.connection.was_cancelled(cell, token),
+            None => false,
+        }
+    }
+
+    /// Answers for the activity task of a token whose activity failed, with the reason: as cancelled
+    /// where the handler had heard that it is to be, and has given up; else as failed. `OutOfMemory`
+    /// where there was no memory for the request.
+    pub fn activity_failed(
+        &self,
+        token: &Text,
+        reason: &str,
+        was_cancelled: bool,
+    ) -> Result<Request, OutOfMemory>
+        ensures { IfOk result (IsFailedActivity self.now.options.now.names token.now reason.now was_cancelled) }
+    {
+        let (alloc, names) = (self.allocator(), &self.options.names);
+        if was_cancelled {
+            return Ok(Request {
+                method: "RespondActivityTaskCanceled",
+                params: activity_cancelled(alloc, names, token.get(), reason)?,
+            });
+        }
+        Ok(Request {
+            method: "RespondActivityTaskFailed",
+            params: activity_failed(alloc, names, token.get(), reason)?,
+        })
+    }
+}

@@ -1,0 +1,11 @@
+pub mod Names
+pub mod Objects
+pub mod Options
+pub mod Outcome
+pub mod Payloads
+pub mod Durations
+pub mod CarryingOver
+pub mod Policies
+pub mod Commands
+pub mod ReadBack
+pub mod ServerReads

@@ -1,0 +1,64 @@
+//! Writes payloads, and values in them.
+
+ghost use Rattle.std.specs.Prelude.{◌≡◌, IfOk, codes, false, string_bytes};
+ghost use Rattle.serde_json.specs.View.{view};
+ghost use Rattle.serde_json.specs.Written.{compact_text, has_float};
+ghost use Rattle.wh_commands.specs.Payloads.{encoded, payloads_written, json_payload, json_payloads};
+
+use base64::engine::general_purpose::STANDARD;
+use serde_json::{Value, json};
+use std::alloc::{AllocError, Global};
+use wh_events::Payload;
+
+/// The payload of a content in an encoding.
+fn encoded(alloc: Global, encoding: &[u8], content: &[u8]) -> Result<Value, AllocError>
+    ensures { IfOk result (λ value. view value ≡ encoded encoding.now content.now) }
+{
+    let encoding = STANDARD.encode(alloc, encoding)?;
+    let content = STANDARD.encode(alloc, content)?;
+    json!(in alloc; {"metadata": {"encoding": encoding}, "data": content})
+}
+
+/// How a list of payloads is written.
+pub(crate) fn payloads_value(alloc: Global, payloads: &[Payload]) -> Result<Value, AllocError>
+    ensures { IfOk result (λ value. view value ≡ payloads_written payloads.now) }
+{
+    let mut written = Vec::new(alloc);
+    for payload in payloads {
+        written.push(encoded(alloc, payload.encoding.get(), payload.content.get())?)?;
+    }
+    json!(in alloc; {"payloads": written})
+}
+
+/// The text of a JSON value.
+fn compact(alloc: Global, value: &Value) -> Result<String, AllocError>
+    requires { has_float (view value.now) ≡ false }
+    ensures { IfOk result (λ text. string_bytes text ≡ compact_text (view value.now)) }
+{
+    value.to_string(alloc)
+}
+
+/// The payload of a JSON text.
+fn encoded_json(alloc: Global, text: &str) -> Result<Value, AllocError>
+    ensures { IfOk result (λ payload. view payload ≡ encoded (codes "json/plain") text.now) }
+{
+    encoded(alloc, "json/plain".as_bytes(), text.as_bytes())
+}
+
+/// A JSON value as a payload.
+fn json_payload(alloc: Global, value: &Value) -> Result<Value, AllocError>
+    requires { has_float (view value.now) ≡ false }
+    ensures { IfOk result (λ payload. view payload ≡ json_payload (view value.now)) }
+{
+    let text = compact(alloc, value)?;
+    encoded_json(alloc, text.as_str())
+}
+
+/// A JSON value without a number that has a point or an exponent, as the only payload of a list.
+pub fn json_payloads(alloc: Global, value: &Value) -> Result<Value, AllocError>
+    requires { has_float (view value.now) ≡ false }
+    ensures { IfOk result (λ written. view written ≡ json_payloads (view value.now)) }
+{
+    let payload = json_payload(alloc, value)?;
+    json!(in alloc; {"payloads": [payload]})
+}

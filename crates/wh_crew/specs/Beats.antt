@@ -1,0 +1,23 @@
+-- What the outcome of a heartbeat's call means for the activity.
+use Rattle.std.specs.Prelude.{◌≡◌, Bool, true, false, Result, Ok, Err}
+use Rattle.wh_client.specs.declared.asking.AskFault.{AskFault}
+use Rattle.wh_client.specs.declared.asking.AskFault.TheVariants as asked
+use Rattle.wh_client.specs.declared.codes.Status.TheVariants as status
+use Rattle.wh_events.specs.declared.memory.OutOfMemory.{OutOfMemory}
+use Rattle.wh_heartbeat.specs.declared.heartbeat.Beat.{Beat}
+use Rattle.wh_heartbeat.specs.declared.heartbeat.Beat.TheVariants.{GoOn, CancelRequested, Gone, Unheard}
+
+-- the server says whether it is to be cancelled; where it has no such task, or the connection has closed, no answer will be
+-- taken; after any other fault nothing was heard
+abbrev pub means : Result Bool AskFault → Result Beat AskFault
+means (Ok true) = Ok CancelRequested
+means (Ok false) = Ok GoOn
+means (Err (asked.Refused status.NotFound code message)) = Ok Gone
+means (Err asked.Closed) = Ok Gone
+means (Err asked.OutOfMemory) = Err asked.OutOfMemory
+means (Err _) = Ok Unheard
+
+-- the call brought this to the handler
+abbrev pub Means : Result Bool AskFault → Result Beat OutOfMemory → Type 0
+Means heard (Ok beat) = means heard ≡ Ok beat
+Means heard (Err refused) = means heard ≡ Err asked.OutOfMemory

@@ -1,0 +1,83 @@
+//! Heartbeats over the calls of a bridge.
+
+ghost use Rattle.std.specs.Prelude.{◌≡◌, IfOk};
+ghost use Rattle.wh_crew.specs.Beats.{Means};
+
+use crate::bridge_connection::BridgeConnection;
+use std::sync::{Arc, Wait};
+use std::time::Clock;
+use wh_client::{AskFault, Status, record_heartbeat};
+use wh_commands::WorkerNames;
+use wh_events::{OutOfMemory, Payload};
+use wh_heartbeat::{ActivityCell, Beat, Heartbeat};
+use wh_query_desk::QueryQueue;
+use wh_rpc::Caller;
+
+/// What the outcome of a heartbeat's call means for the activity.
+fn beat_of(heard: Result<bool, AskFault>) -> Result<Beat, OutOfMemory>
+    ensures { Means heard result }
+{
+    match heard {
+        Ok(true) => Ok(Beat::CancelRequested),
+        Ok(false) => Ok(Beat::GoOn),
+        Err(
+            AskFault::Refused {
+                status: Status::NotFound,
+                ..
+            },
+        ) => Ok(Beat::Gone),
+        Err(AskFault::Closed) => Ok(Beat::Gone),
+        Err(AskFault::OutOfMemory) => Err(OutOfMemory),
+        Err(_) => Ok(Beat::Unheard),
+    }
+}
+
+/// By what the handler of a live worker beats: each beat is a call of `RecordActivityTaskHeartbeat` for
+/// the activity task that the worker runs, over the calls of its host. Where no such task is known, as
+/// there was no memory to note it, nothing is told, and the beat is `Unheard`.
+#[derive(Drop)]
+pub struct LiveHeartbeat<'a, R, C> {
+    rt: &'a R,
+    calls: &'a C,
+    names: WorkerNames,
+    cell: Arc<ActivityCell>,
+}
+
+impl<'a, R, C> LiveHeartbeat<'a, R, C> {
+    /// One for the worker of a cell, over these calls and under these names.
+    pub fn new(
+        rt: &'a R,
+        calls: &'a C,
+        names: WorkerNames,
+        cell: Arc<ActivityCell>,
+    ) -> LiveHeartbeat<'a, R, C> {
+        LiveHeartbeat {
+            rt,
+            calls,
+            names,
+            cell,
+        }
+    }
+}
+
+impl<R: Wait + Clock + Eprint, C: Caller> Heartbeat for LiveHeartbeat<'_, R, C> {
+    ghost brings = { λ details beat. Unit {0} };
+
+    fn beat(&mut self, details: &[Payload]) -> Result<Beat, OutOfMemory> {
+        let Some(token) = self.cell.token(self.rt)? else {
+            return Ok(Beat::Unheard);
+        };
+        let connection = BridgeConnection {
+            rt: self.rt,
+            calls: self.calls,
+            name: "",
+            queries: QueryQueue::new(self.calls.allocator()),
+        };
+        let heard = record_heartbeat(&connection, &self.names, &token, details);
+        let beat = beat_of(heard)?;
+        if beat == Beat::CancelRequested {
+            self.cell.note_cancel(self.rt, &token);
+        }
+        Ok(beat)
+    }
+}

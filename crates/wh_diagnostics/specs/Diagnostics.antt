@@ -1,0 +1,122 @@
+-- What is reported on standard error.
+use Rattle.std.specs.Prelude.{ℕ, List, [], ◌∷◌, ◌++◌, codes, Option, Some, None, String, string_bytes}
+use Rattle.std.specs.List.{flat_map}
+use Rattle.std.specs.declared.alloc.Global.{Global}
+use Rattle.wh_files.specs.Reasons.{reason_words}
+use Rattle.wh_files.specs.declared.Reason.{Reason}
+use Rattle.wh_json.specs.declared.fault.ReadFault.{ReadFault}
+use Rattle.wh_tester.specs.Report.{fault_text, shown}
+use Rattle.wh_explain.specs.declared.explanation.Pairing.{Pairing}
+use Rattle.wh_explain_report.specs.Texts.{sides_text}
+use Rattle.wh_report.specs.Reports.{fault_of}
+use Rattle.wh_report.specs.declared.records.Record.{Record}
+use Rattle.wh_diagnostics.specs.declared.diagnostics.Diagnostic.{Diagnostic}
+use Rattle.wh_diagnostics.specs.declared.diagnostics.Diagnostic.TheVariants.{NoFiles, BadNames, BadJson, BadFiles, Queried, Failed}
+use Rattle.wh_diagnostics.specs.declared.failures.Failure.{Failure}
+use Rattle.wh_diagnostics.specs.declared.failures.Failure.TheVariants.{BadLine, BadArguments, FewSlots, BadInput, Unreadable, NotJson, NotViewed, NotText, BadPolicies, Output, OutOfMemory}
+use Rattle.wh_file_faults.specs.declared.file_faults.FileFault.{FileFault}
+use Rattle.wh_diagnostics.specs.Policies.{bad_policies_line}
+use Rattle.wh_fault_details.specs.Texts.{detail_text}
+use Rattle.wh_fault_details.specs.declared.detail.FaultDetail.{FaultDetail}
+use Rattle.wh_file_faults.specs.Texts.{file_fault_text}
+
+-- `<name>: <text>`, under the name that the program is called by
+abbrev pub named_line : (text name : List ℕ) → List ℕ
+named_line text name = shown name ++ (codes ": " ++ (text ++ codes "\n"))
+
+-- the line of a file that is no JSON
+abbrev pub fault_line : FileFault → List ℕ → List ℕ
+fault_line fault name = named_line (file_fault_text fault) name
+
+-- a line for each file that is no JSON
+abbrev pub fault_lines : List FileFault → List ℕ → List ℕ
+fault_lines faults name = flat_map (λ fault. fault_line fault name) faults
+
+-- `<name>: <file>: <what is sent and what is recorded>`
+abbrev pub difference_line : (file : List ℕ) → Pairing → (name : List ℕ) → List ℕ
+difference_line file pairing name =
+    shown name ++ (codes ": " ++ (shown file ++ (codes ": " ++ (sides_text pairing ++ codes "\n"))))
+
+-- that line, where the two differ
+abbrev pub difference_lines : (file : List ℕ) → Option Pairing → (name : List ℕ) → List ℕ
+difference_lines file None name = []
+difference_lines file (Some pairing) name = difference_line file pairing name
+
+-- `<name>: <file>: <what its fault leaves out>`
+abbrev pub detail_line : (file : List ℕ) → FaultDetail → (name : List ℕ) → List ℕ
+detail_line file detail name =
+    shown name ++ (codes ": " ++ (shown file ++ (codes ": " ++ (detail_text detail ++ codes "\n"))))
+
+-- that line, where it leaves something out
+abbrev pub detail_lines : (file : List ℕ) → Option FaultDetail → (name : List ℕ) → List ℕ
+detail_lines file None name = []
+detail_lines file (Some detail) name = detail_line file detail name
+
+-- what stands beside the fault of a file: its difference, or what the fault leaves out
+abbrev pub note_lines : Record → List ℕ → List ℕ
+note_lines own name =
+    difference_lines own.line.name own.difference name ++ detail_lines own.line.name own.detail name
+
+-- the lines of a file: what stands beside its fault, and why it is named
+abbrev pub record_lines : Record → List ℕ → List ℕ
+record_lines own name = note_lines own name ++ fault_lines (fault_of own own.cause) name
+
+-- and of files, in their order
+abbrev pub records_lines : List Record → List ℕ → List ℕ
+records_lines records name = flat_map (λ own. record_lines own name) records
+
+-- `<name>: cannot read <path>: <reason>`
+abbrev pub path_line : (path why name : List ℕ) → List ℕ
+path_line path why name =
+    shown name ++ (codes ": cannot read " ++ (path ++ (codes ": " ++ (why ++ codes "\n"))))
+
+-- `<name>: cannot read <folder>/<entry>: <reason>`
+abbrev pub entry_line : (dir entry why name : List ℕ) → List ℕ
+entry_line dir entry why name =
+    shown name ++ (codes ": cannot read " ++ (dir ++ (codes "/"
+    ++ (shown entry ++ (codes ": " ++ (why ++ codes "\n"))))))
+
+-- `<name>: cannot read <folder>/<entry>: its name is no UTF-8 text`
+abbrev pub bad_name_line : List ℕ → String Global → List ℕ → List ℕ
+bad_name_line dir entry name = entry_line dir (string_bytes entry) (codes "its name is no UTF-8 text") name
+
+-- a line for each entry of a folder whose name is no UTF-8
+abbrev pub bad_name_lines : List ℕ → List (String Global) → List ℕ → List ℕ
+bad_name_lines dir entries name = flat_map (λ entry. bad_name_line dir entry name) entries
+
+-- why a path, or the entry of the folder at it, can't be read
+abbrev pub reason_line : List ℕ → Option (String Global) → Reason → List ℕ → List ℕ
+reason_line path None reason name = path_line path (reason_words reason) name
+reason_line path (Some entry) reason name = entry_line path (string_bytes entry) (reason_words reason) name
+
+-- `<name>: <file>: unreadable, <fault>`
+abbrev pub unviewed_line : List ℕ → ReadFault → List ℕ → List ℕ
+unviewed_line file fault name =
+    shown name ++ (codes ": " ++ (shown file ++ (codes ": unreadable, " ++ (fault_text fault ++ codes "\n"))))
+
+-- `<name>: <file>: not UTF-8 text`
+abbrev pub not_text_line : (file name : List ℕ) → List ℕ
+not_text_line file name = shown name ++ (codes ": " ++ (shown file ++ codes ": not UTF-8 text\n"))
+
+-- why there is no full report: what is wrong with the command line, in its own words, or a line of the program's
+abbrev pub failed_text : Failure → List ℕ → List ℕ
+failed_text (BadLine text) name = text
+failed_text BadArguments name = named_line (codes "arguments must be UTF-8 text") name
+failed_text FewSlots name = named_line (codes "slots must be at least workers") name
+failed_text BadInput name = named_line (codes "the arguments of a query must be JSON") name
+failed_text (Unreadable dir entry reason) name = reason_line dir entry reason name
+failed_text (NotJson fault) name = fault_line fault name
+failed_text (NotViewed file fault) name = unviewed_line file fault name
+failed_text (NotText file) name = not_text_line file name
+failed_text (BadPolicies file fault) name = bad_policies_line file fault name
+failed_text Output name = named_line (codes "cannot write") name
+failed_text OutOfMemory name = named_line (codes "out of memory") name
+
+-- what a diagnostic says under a name
+abbrev pub diagnostic_text : Diagnostic → List ℕ → List ℕ
+diagnostic_text (NoFiles dir) name = named_line (codes "no .json file in " ++ dir) name
+diagnostic_text (BadNames dir names) name = bad_name_lines dir names.items name
+diagnostic_text (BadJson fault) name = fault_line fault name
+diagnostic_text (BadFiles records) name = records_lines records.items name
+diagnostic_text (Queried own) name = record_lines own name
+diagnostic_text (Failed failure) name = failed_text failure name

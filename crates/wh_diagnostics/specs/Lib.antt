@@ -1,0 +1,3 @@
+pub mod Diagnostics
+pub mod Policies
+pub mod Printing

@@ -1,0 +1,358 @@
+//! What is reported on standard error.
+
+ghost use Rattle.std.specs.Prelude.{◌≡◌, ◌++◌, OnOk, codes};
+ghost use Rattle.std.specs.Io.KnownBytes.{Appends};
+ghost use Rattle.wh_diagnostics.specs.Diagnostics.{bad_name_line, bad_name_lines, detail_lines, diagnostic_text};
+ghost use Rattle.wh_diagnostics.specs.Diagnostics.{difference_lines, entry_line, failed_text, fault_line, fault_lines};
+ghost use Rattle.wh_diagnostics.specs.Diagnostics.{named_line, not_text_line, note_lines, path_line, reason_line};
+ghost use Rattle.wh_diagnostics.specs.Diagnostics.{record_lines, records_lines, unviewed_line};
+ghost use Rattle.wh_diagnostics.specs.Policies.{bad_policies_line};
+ghost use Rattle.wh_file_faults.specs.Faults.{told_of};
+ghost use Rattle.wh_report.specs.Reports.{fault_of};
+
+use crate::failures::Failure;
+use crate::policies::PolicyFaultText;
+use std::io;
+use std::io::Write;
+use wh_console::Message;
+use wh_events::Text;
+use wh_explain_report::SidesText;
+use wh_file_faults::FileFault;
+use wh_files::Reason;
+use wh_json::ReadFault;
+use wh_policy_file::PolicyFault;
+use wh_report::Record;
+use wh_tester::{FaultText, Line, Shown};
+
+/// What a command may report on the standard error.
+#[derive(Drop)]
+pub enum Diagnostic {
+    /// A folder has no file that is read.
+    NoFiles {
+        /// Its path.
+        dir: Text,
+    },
+    /// Files of a folder are left out, since their names are no UTF-8.
+    BadNames {
+        /// Its path.
+        dir: Text,
+        /// Their names, with `?` for each byte that is none of a text.
+        names: Vec<String>,
+    },
+    /// A file is no JSON.
+    BadJson {
+        /// The file, and where it is none.
+        fault: FileFault,
+    },
+    /// What is sent and what is recorded of files where they differ, what their faults leave out, and
+    /// which of them are no JSON or lack code.
+    BadFiles {
+        /// The records of the files.
+        records: Vec<Record>,
+    },
+    /// The same of the file that was queried.
+    Queried {
+        /// Its record.
+        own: Record,
+    },
+    /// There is no full report.
+    Failed {
+        /// Why not.
+        failure: Failure,
+    },
+}
+
+/// Writes a line under the program's name. After an error some of it may have been written.
+pub fn write_line<E: Write>(text: &str, name: &str, writer: &mut E) -> io::Result<()>
+    ensures written { OnOk result (Appends (E.contents writer.old) (E.contents writer.new) (named_line text.now name.now)) }
+{
+    let name = Shown(name);
+    writeln!(writer, "{name}: {text}")
+}
+
+/// Writes a text that ends its own line.
+fn write_text<E: Write>(text: &str, writer: &mut E) -> io::Result<()>
+    ensures { OnOk result (Appends (E.contents writer.old) (E.contents writer.new) text.now) }
+{
+    write!(writer, "{text}")
+}
+
+/// Writes that a folder has no file that is read.
+fn write_no_files<E: Write>(dir: &str, name: &str, writer: &mut E) -> io::Result<()>
+    ensures { OnOk result (Appends (E.contents writer.old) (E.contents writer.new)
+        (named_line (codes "no .json file in " ++ dir.now) name.now)) }
+{
+    let name = Shown(name);
+    writeln!(writer, "{name}: no .json file in {dir}")
+}
+
+/// Writes where a file is no JSON.
+fn write_fault<E: Write>(fault: &FileFault, name: &str, writer: &mut E) -> io::Result<()>
+    ensures { OnOk result (Appends (E.contents writer.old) (E.contents writer.new) (fault_line fault.now name.now)) }
+{
+    let name = Shown(name);
+    writeln!(writer, "{name}: {fault}")
+}
+
+/// Writes where files are no JSON, or for which workflow types there is no code, a line for each. After
+/// an error some of it may have been written.
+pub fn write_faults<E: Write>(faults: Vec<FileFault>, name: &str, writer: &mut E) -> io::Result<()>
+    ensures written { OnOk result (Appends (E.contents writer.old) (E.contents writer.new)
+        (fault_lines faults.items name.now)) }
+{
+    for fault in faults {
+        write_fault(&fault, name, writer)?;
+    }
+    Ok(())
+}
+
+/// Why a file is named beside the report, if it is.
+fn fault_of(own: Record) -> Option<FileFault>
+    ensures { told_of result ≡ fault_of own own.cause }
+{
+    let Record {
+        line,
+        cause,
+        detail,
+        difference,
+    } = own;
+    drop(detail);
+    drop(difference);
+    let Line { name, verdict } = line;
+    drop(verdict);
+    match cause {
+        Some(cause) => Some(FileFault { name, cause }),
+        None => None,
+    }
+}
+
+/// Writes why a file is named beside the report, if it is.
+fn write_cause<E: Write>(own: Record, name: &str, writer: &mut E) -> io::Result<()>
+    ensures { OnOk result (Appends (E.contents writer.old) (E.contents writer.new)
+        (fault_lines (fault_of own own.cause) name.now)) }
+{
+    match fault_of(own) {
+        Some(fault) => write_fault(&fault, name, writer),
+        None => Ok(()),
+    }
+}
+
+/// Writes what is sent and what is recorded of a file, where they differ.
+fn write_difference<E: Write>(own: &Record, name: &str, writer: &mut E) -> io::Result<()>
+    ensures { OnOk result (Appends (E.contents writer.old) (E.contents writer.new)
+        (difference_lines own.now.line.name own.now.difference name.now)) }
+{
+    let Some(pairing) = &own.difference else {
+        return Ok(());
+    };
+    let file = Shown(own.line.name.get());
+    let sides = SidesText(pairing);
+    let name = Shown(name);
+    writeln!(writer, "{name}: {file}: {sides}")
+}
+
+/// Writes what the fault of a file leaves out, if something.
+fn write_detail<E: Write>(own: &Record, name: &str, writer: &mut E) -> io::Result<()>
+    ensures { OnOk result (Appends (E.contents writer.old) (E.contents writer.new)
+        (detail_lines own.now.line.name own.now.detail name.now)) }
+{
+    let Some(detail) = &own.detail else {
+        return Ok(());
+    };
+    let file = Shown(own.line.name.get());
+    let name = Shown(name);
+    writeln!(writer, "{name}: {file}: {detail}")
+}
+
+/// Writes what stands beside the fault of a file: its difference, or what the fault leaves out.
+fn write_notes<E: Write>(own: &Record, name: &str, writer: &mut E) -> io::Result<()>
+    ensures { OnOk result (Appends (E.contents writer.old) (E.contents writer.new) (note_lines own.now name.now)) }
+{
+    write_difference(own, name, writer)?;
+    write_detail(own, name, writer)
+}
+
+/// Writes the lines of a file beside the report: what stands beside its fault, and why it is named.
+fn write_record<E: Write>(own: Record, name: &str, writer: &mut E) -> io::Result<()>
+    ensures { OnOk result (Appends (E.contents writer.old) (E.contents writer.new) (record_lines own name.now)) }
+{
+    match write_notes(&own, name, writer) {
+        Ok(()) => write_cause(own, name, writer),
+        Err(error) => {
+            drop(own);
+            Err(error)
+        }
+    }
+}
+
+/// Writes the lines of files beside the report, in their order.
+fn write_records<E: Write>(records: Vec<Record>, name: &str, writer: &mut E) -> io::Result<()>
+    ensures { OnOk result (Appends (E.contents writer.old) (E.contents writer.new)
+        (records_lines records.items name.now)) }
+{
+    for own in records {
+        write_record(own, name, writer)?;
+    }
+    Ok(())
+}
+
+/// Writes that a file is no text.
+fn write_not_text<E: Write>(file: &str, name: &str, writer: &mut E) -> io::Result<()>
+    ensures { OnOk result (Appends (E.contents writer.old) (E.contents writer.new) (not_text_line file.now name.now)) }
+{
+    let file = Shown(file);
+    let name = Shown(name);
+    writeln!(writer, "{name}: {file}: not UTF-8 text")
+}
+
+/// Writes why a file gives no policies.
+fn write_policies<E: Write>(
+    file: &str,
+    fault: &PolicyFault,
+    name: &str,
+    writer: &mut E,
+) -> io::Result<()>
+    ensures { OnOk result (Appends (E.contents writer.old) (E.contents writer.new)
+        (bad_policies_line file.now fault.now name.now)) }
+{
+    let file = Shown(file);
+    let fault = PolicyFaultText(fault);
+    let name = Shown(name);
+    writeln!(writer, "{name}: {file}: {fault}")
+}
+
+/// Writes why there is nothing to read at a path.
+fn write_path<E: Write>(path: &str, why: &str, name: &str, writer: &mut E) -> io::Result<()>
+    ensures { OnOk result (Appends (E.contents writer.old) (E.contents writer.new)
+        (path_line path.now why.now name.now)) }
+{
+    let name = Shown(name);
+    writeln!(writer, "{name}: cannot read {path}: {why}")
+}
+
+/// Writes why an entry of a folder can't be read.
+fn write_entry<E: Write>(
+    dir: &str,
+    entry: &str,
+    why: &str,
+    name: &str,
+    writer: &mut E,
+) -> io::Result<()>
+    ensures { OnOk result (Appends (E.contents writer.old) (E.contents writer.new)
+        (entry_line dir.now entry.now why.now name.now)) }
+{
+    let entry = Shown(entry);
+    let name = Shown(name);
+    writeln!(writer, "{name}: cannot read {dir}/{entry}: {why}")
+}
+
+/// Writes that an entry of a folder can't be read, since its name is no UTF-8.
+fn write_bad_name<E: Write>(dir: &str, entry: &String, name: &str, writer: &mut E) -> io::Result<()>
+    ensures { OnOk result (Appends (E.contents writer.old) (E.contents writer.new)
+        (bad_name_line dir.now entry.now name.now)) }
+{
+    write_entry(
+        dir,
+        entry.as_str(),
+        "its name is no UTF-8 text",
+        name,
+        writer,
+    )
+}
+
+/// Writes which entries of a folder can't be read, since their names are no UTF-8: a line for each.
+fn write_bad_names<E: Write>(
+    dir: &str,
+    entries: Vec<String>,
+    name: &str,
+    writer: &mut E,
+) -> io::Result<()>
+    ensures { OnOk result (Appends (E.contents writer.old) (E.contents writer.new)
+        (bad_name_lines dir.now entries.items name.now)) }
+{
+    for entry in entries {
+        write_bad_name(dir, &entry, name, writer)?;
+    }
+    Ok(())
+}
+
+/// Writes what can't be read, and why not: the folder or the file, or the entry of the folder where
+/// it is one.
+fn write_unreadable<E: Write>(
+    dir: &str,
+    entry: &Option<String>,
+    reason: Reason,
+    name: &str,
+    writer: &mut E,
+) -> io::Result<()>
+    ensures { OnOk result (Appends (E.contents writer.old) (E.contents writer.new)
+        (reason_line dir.now entry.now reason name.now)) }
+{
+    let why = reason.words();
+    match entry {
+        Some(entry) => write_entry(dir, entry.as_str(), why, name, writer),
+        None => write_path(dir, why, name, writer),
+    }
+}
+
+/// Writes why the events in a file can't be shown.
+fn write_not_viewed<E: Write>(
+    file: &str,
+    fault: &ReadFault,
+    name: &str,
+    writer: &mut E,
+) -> io::Result<()>
+    ensures { OnOk result (Appends (E.contents writer.old) (E.contents writer.new)
+        (unviewed_line file.now fault.now name.now)) }
+{
+    let file = Shown(file);
+    let fault = FaultText(fault);
+    let name = Shown(name);
+    writeln!(writer, "{name}: {file}: unreadable, {fault}")
+}
+
+/// Writes why a run has no full report.
+fn write_failed<E: Write>(failure: &Failure, name: &str, writer: &mut E) -> io::Result<()>
+    ensures { OnOk result (Appends (E.contents writer.old) (E.contents writer.new) (failed_text failure.now name.now)) }
+{
+    match failure {
+        Failure::BadLine { text } => write_text(text.get(), writer),
+        Failure::BadArguments => write_line("arguments must be UTF-8 text", name, writer),
+        Failure::FewSlots => write_line("slots must be at least workers", name, writer),
+        Failure::BadInput => write_line("the arguments of a query must be JSON", name, writer),
+        Failure::Unreadable { dir, entry, reason } => {
+            write_unreadable(dir.get(), entry, *reason, name, writer)
+        }
+        Failure::NotJson { fault } => write_fault(fault, name, writer),
+        Failure::NotViewed { file, fault } => write_not_viewed(file.get(), fault, name, writer),
+        Failure::NotText { file } => write_not_text(file.get(), name, writer),
+        Failure::BadPolicies { file, fault } => write_policies(file.get(), fault, name, writer),
+        Failure::Output => write_line("cannot write", name, writer),
+        Failure::OutOfMemory => write_line("out of memory", name, writer),
+    }
+}
+
+/// Writes a diagnostic.
+fn write_diagnostic<E: Write>(diagnostic: Diagnostic, name: &str, writer: &mut E) -> io::Result<()>
+    ensures { OnOk result (Appends (E.contents writer.old) (E.contents writer.new)
+        (diagnostic_text diagnostic name.now)) }
+{
+    match diagnostic {
+        Diagnostic::NoFiles { dir } => write_no_files(dir.get(), name, writer),
+        Diagnostic::BadNames { dir, names } => write_bad_names(dir.get(), names, name, writer),
+        Diagnostic::BadJson { fault } => write_fault(&fault, name, writer),
+        Diagnostic::BadFiles { records } => write_records(records, name, writer),
+        Diagnostic::Queried { own } => write_record(own, name, writer),
+        Diagnostic::Failed { failure } => write_failed(&failure, name, writer),
+    }
+}
+
+impl Message for Diagnostic {
+    ghost use Rattle.wh_diagnostics.specs.Diagnostics.{diagnostic_text};
+
+    ghost text = { diagnostic_text };
+
+    fn write<E: Write>(self, name: &str, writer: &mut E) -> io::Result<()> {
+        write_diagnostic(self, name, writer)
+    }
+}

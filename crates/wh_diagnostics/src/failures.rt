@@ -1,0 +1,119 @@
+//! Why a command ends without a full report.
+
+ghost use Rattle.std.specs.Prelude.{◌≡◌, None};
+ghost use Rattle.wh_files.specs.declared.Reason.{Reason};
+
+use wh_events::Text;
+use wh_file_faults::{CommandFault, FileFault};
+use wh_files::{FolderFault, InputFault, Reason};
+use wh_json::ReadFault;
+use wh_policy_file::PolicyFault;
+
+/// Why a command ends without a full report.
+#[derive(Drop)]
+pub enum Failure {
+    /// A bad command line.
+    BadLine {
+        /// What is wrong with it. It ends its own line.
+        text: Text,
+    },
+    /// A word of the command line is no text.
+    BadArguments,
+    /// There are fewer slots than workers.
+    FewSlots,
+    /// An argument of a query is no JSON.
+    BadInput,
+    /// A folder or a file, or an entry of a folder, can't be read.
+    Unreadable {
+        /// The path of the folder or file.
+        dir: Text,
+        /// The entry, where it is one.
+        entry: Option<String>,
+        /// Why it can't be read.
+        reason: Reason,
+    },
+    /// A file whose events are to be shown is no JSON.
+    NotJson {
+        /// The file, and where it is none.
+        fault: FileFault,
+    },
+    /// A file has no events that can be shown.
+    NotViewed {
+        /// Its name.
+        file: Text,
+        /// Why not.
+        fault: ReadFault,
+    },
+    /// A file is no UTF-8 text.
+    NotText {
+        /// Its name.
+        file: Text,
+    },
+    /// A file gives no policies.
+    BadPolicies {
+        /// Its path.
+        file: Text,
+        /// Why not.
+        fault: PolicyFault,
+    },
+    /// The report can't be written.
+    Output,
+    /// An allocation was refused.
+    OutOfMemory,
+}
+
+impl From<InputFault> for Failure {
+    ghost use Rattle.std.specs.Prelude.{◌≡◌, ◌↔◌};
+    ghost use Rattle.wh_files.specs.declared.InputFault.{InputFault};
+    ghost use Rattle.wh_diagnostics.specs.declared.failures.Failure.{Failure};
+
+    ghost from_gives = { λ fault failure.
+        (failure ≡ Failure.OutOfMemory) ↔ (fault ≡ InputFault.OutOfMemory) };
+
+    fn from(fault: InputFault) -> Failure {
+        match fault {
+            InputFault::Unreadable {
+                path,
+                entry,
+                reason,
+            } => Failure::Unreadable {
+                dir: Text::new(path),
+                entry,
+                reason,
+            },
+            InputFault::OutOfMemory => Failure::OutOfMemory,
+        }
+    }
+}
+
+impl From<CommandFault> for Failure {
+    ghost use Rattle.std.specs.Prelude.{◌≡◌, ◌↔◌};
+    ghost use Rattle.wh_file_faults.specs.declared.command_fault.CommandFault.{CommandFault};
+    ghost use Rattle.wh_diagnostics.specs.declared.failures.Failure.{Failure};
+
+    ghost from_gives = { λ fault failure.
+        (failure ≡ Failure.OutOfMemory) ↔ (fault ≡ CommandFault.OutOfMemory) };
+
+    fn from(fault: CommandFault) -> Failure {
+        match fault {
+            CommandFault::Output => Failure::Output,
+            CommandFault::OutOfMemory => Failure::OutOfMemory,
+        }
+    }
+}
+
+/// Why nothing can be read at a path.
+pub fn unreadable(path: Text, fault: FolderFault) -> Failure
+    ensures unreadable { (reason : Reason) → fault ≡ FolderFault.Unreadable reason
+        → result ≡ Failure.Unreadable path None reason }
+    ensures memory { fault ≡ FolderFault.OutOfMemory → result ≡ Failure.OutOfMemory }
+{
+    match fault {
+        FolderFault::Unreadable { reason } => Failure::Unreadable {
+            dir: path,
+            entry: None,
+            reason,
+        },
+        FolderFault::OutOfMemory => Failure::OutOfMemory,
+    }
+}

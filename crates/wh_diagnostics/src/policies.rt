@@ -1,0 +1,37 @@
+//! Why a file gives no policies, as a text.
+
+ghost use Rattle.std.specs.Prelude.{Some};
+ghost use Rattle.wh_diagnostics.specs.Policies.{policy_fault_text};
+
+use std::fmt;
+use wh_policy_file::PolicyFault;
+use wh_tester::Shown;
+
+/// The fault of a file that gives no policies, as a text: what is wrong with it, and the key and the line
+/// of that. Of each name the first 255 characters are shown, with `?` for each that is not printable.
+#[derive(Drop)]
+pub(crate) struct PolicyFaultText<'a>(pub(crate) &'a PolicyFault);
+
+impl fmt::Display for PolicyFaultText<'_> {
+    ghost output = { λ text. Some (policy_fault_text text.0.now) };
+
+    fn fmt<W: fmt::Write>(&self, f: &mut fmt::Formatter<W>) -> fmt::Result {
+        match self.0 {
+            PolicyFault::TooLong => write!(f, "file too long"),
+            PolicyFault::NoText => write!(f, "not UTF-8 text"),
+            PolicyFault::NoToml { line, reason } => {
+                let reason = Shown(reason.get());
+                write!(f, "not TOML at line {line}: {reason}")
+            }
+            PolicyFault::UnknownKey { key, line } => {
+                let key = Shown(key.get());
+                write!(f, "unknown key {key} at line {line}")
+            }
+            PolicyFault::BadValue { key, line } => {
+                let key = Shown(key.get());
+                write!(f, "bad value of {key} at line {line}")
+            }
+            PolicyFault::OutOfMemory => write!(f, "out of memory"),
+        }
+    }
+}

@@ -1,0 +1,62 @@
+//! What is printed, and the status.
+
+ghost use Rattle.std.specs.Prelude.{◌≡◌, Err, IfOk, Ok, OnOk};
+ghost use Rattle.std.specs.Io.KnownBytes.{Keeps};
+ghost use Rattle.wh_console.specs.Consoles.{IsQuiet, Printed};
+ghost use Rattle.wh_diagnostics.specs.Printing.{HasPrinted, status_with};
+
+use crate::failures::Failure;
+use std::io::Write;
+use wh_console::Console;
+use wh_file_faults::CommandFault;
+
+/// The status of a command, once all that it wrote is out. `Output` where that can't be written.
+pub fn flushed<O: Write, E: Write>(
+    answer: Result<u8, CommandFault>,
+    console: &mut Console<'_, O, E>,
+) -> Result<u8, Failure>
+    ensures status { IfOk result (λ status. answer ≡ Ok status) }
+    ensures memory { answer ≡ Err CommandFault.OutOfMemory → result ≡ Err Failure.OutOfMemory }
+    ensures output { answer ≡ Err CommandFault.Output → result ≡ Err Failure.Output }
+    ensures quiet { IsQuiet console.old console.new }
+    ensures kept { Keeps console.old.output console.new.output }
+{
+    let status = match answer {
+        Ok(status) => status,
+        Err(CommandFault::Output) => return Err(Failure::Output),
+        Err(CommandFault::OutOfMemory) => return Err(Failure::OutOfMemory),
+    };
+    match console.output.flush() {
+        Ok(()) => Ok(status),
+        Err(_) => Err(Failure::Output),
+    }
+}
+
+/// Writes a text.
+fn print_text<O: Write, E: Write>(
+    text: &str,
+    console: &mut Console<'_, O, E>,
+) -> Result<u8, CommandFault>
+    ensures printed { OnOk result (Printed console.old console.new text.now) }
+    ensures ends { IfOk result (λ status. status ≡ 0) }
+{
+    match write!(console.output, "{text}") {
+        Ok(()) => Ok(0),
+        Err(_) => Err(CommandFault::Output),
+    }
+}
+
+/// Prints a text that was asked for. `Output` where it can't be written; then some of it may have been.
+pub fn print<O: Write, E: Write>(text: &str, console: &mut Console<'_, O, E>) -> Result<u8, Failure>
+    ensures printed { IfOk result (HasPrinted text.now console.old console.new) }
+{
+    let answer = print_text(text, console);
+    flushed(answer, console)
+}
+
+/// The status of a command: 1 where files are lacking, and else what it gives.
+pub fn status_with(lacks: bool, status: u8) -> u8
+    ensures status { result ≡ status_with lacks status }
+{
+    if lacks { 1 } else { status }
+}

@@ -1,0 +1,149 @@
+//! The numbers of the events that give the jobs of a task.
+
+ghost use Rattle.std.specs.Prelude.{◌≡◌, ◌++◌, ◌∷◌, [], ℕ, map, if◌then◌else◌, IfOk, OnOk};
+ghost use Rattle.wh_workflow.specs.Jobs.{start_job, signal_job, outside_job};
+ghost use Rattle.wh_explain.specs.Numbers.{numbers_of, numbers_at};
+ghost use Rattle.wh_explain.specs.Numbers.{is_answer, number_of, left_after};
+ghost use Rattle.wh_replay.specs.Activating.{IsWithin};
+ghost use Rattle.wh_explain.specs.Private.Stepping.{Keeps};
+
+use crate::explanation::Detail;
+use std::alloc::Global;
+use wh_events::{Event, EventKind, EventNo, OutOfMemory};
+use wh_replay::Cut;
+use wh_workflow::Job;
+
+/// Whether an event of the kind gives the job that the run starts.
+fn is_start(kind: &EventKind) -> bool
+    ensures { (n : ℕ) → map (λ _. n) (start_job kind.now) ≡ (if result then n ∷ [] else []) }
+{
+    matches!(kind, EventKind::WorkflowExecutionStarted { .. })
+}
+
+/// Whether an event of the kind gives the job of a signal.
+fn is_signal(kind: &EventKind) -> bool
+    ensures { (n : ℕ) → map (λ _. n) (signal_job kind.now) ≡ (if result then n ∷ [] else []) }
+{
+    matches!(kind, EventKind::WorkflowExecutionSignaled { .. })
+}
+
+/// Whether an event of the kind gives another job.
+fn is_outside(kind: &EventKind) -> bool
+    ensures { (n : ℕ) → map (λ _. n) (outside_job [] kind.now) ≡ (if result then n ∷ [] else []) }
+{
+    match kind {
+        EventKind::ActivityTaskCompleted { .. }
+        | EventKind::ActivityTaskFailed { .. }
+        | EventKind::ActivityTaskTimedOut { .. }
+        | EventKind::ActivityTaskCanceled { .. }
+        | EventKind::TimerFired { .. }
+        | EventKind::ChildWorkflowExecutionStarted { .. }
+        | EventKind::ChildWorkflowExecutionCompleted { .. }
+        | EventKind::ChildWorkflowExecutionFailed { .. }
+        | EventKind::ChildWorkflowExecutionCanceled { .. }
+        | EventKind::ChildWorkflowExecutionTimedOut { .. }
+        | EventKind::ChildWorkflowExecutionTerminated { .. }
+        | EventKind::StartChildWorkflowExecutionFailed { .. }
+        | EventKind::ExternalWorkflowExecutionCancelRequested { .. }
+        | EventKind::RequestCancelExternalWorkflowExecutionFailed { .. }
+        | EventKind::ExternalWorkflowExecutionSignaled { .. }
+        | EventKind::SignalExternalWorkflowExecutionFailed { .. }
+        | EventKind::WorkflowExecutionCancelRequested => true,
+        _ => false,
+    }
+}
+
+/// Adds a number, if its event gives a job.
+fn push_if(numbers: &mut Vec<EventNo>, gives: bool, number: EventNo) -> Result<(), OutOfMemory>
+    ensures { OnOk result
+        (numbers.new.items ≡ numbers.old.items ++ (if gives then number ∷ [] else [])) }
+{
+    if gives {
+        numbers.push(number)?;
+    }
+    Ok(())
+}
+
+/// The numbers of the events that give the jobs of a cut, where the events are those since the cut
+/// before.
+fn numbers_of(alloc: Global, between: &[Event], cut: &Event) -> Result<Vec<EventNo>, OutOfMemory>
+    ensures { IfOk result (λ numbers. numbers.items ≡ numbers_of between.now cut.now) }
+{
+    let mut numbers = Vec::new(alloc);
+    numbers.push(cut.number)?;
+    let mut signals = Vec::new(alloc);
+    let mut others = Vec::new(alloc);
+    for event in between {
+        push_if(&mut numbers, is_start(&event.body), event.number)?;
+        push_if(&mut signals, is_signal(&event.body), event.number)?;
+        push_if(&mut others, is_outside(&event.body), event.number)?;
+    }
+    numbers.append(&mut signals)?;
+    numbers.append(&mut others)?;
+    Ok(numbers)
+}
+
+/// The numbers of the events that give the jobs of a cut.
+fn numbers_at(alloc: Global, cut: &Cut) -> Result<Vec<EventNo>, OutOfMemory>
+    requires { IsWithin cut.now }
+    ensures { let numbers = numbers_at cut.now.track.now cut.now.previous cut.now.number in
+        IfOk result (λ found. found.items ≡ numbers) }
+{
+    let Some(event) = cut.track.event(cut.number) else {
+        return Ok(Vec::new(alloc));
+    };
+    numbers_of(
+        alloc,
+        cut.track.between(cut.previous, cut.number.get()),
+        event,
+    )
+}
+
+/// The numbers of the events that give the jobs of a cut, where they are kept.
+pub(crate) fn numbers_kept(
+    alloc: Global,
+    detail: Detail,
+    cut: &Cut,
+) -> Result<Vec<EventNo>, OutOfMemory>
+    requires { IsWithin cut.now }
+    ensures { let numbers = numbers_at cut.now.track.now cut.now.previous cut.now.number in
+        IfOk result (λ kept. Keeps detail kept.items numbers) }
+{
+    match detail {
+        Detail::Verdict => Ok(Vec::new(alloc)),
+        Detail::Steps => numbers_at(alloc, cut),
+    }
+}
+
+/// Whether the job answers an ask for a version, so that no event gave it.
+fn is_answer(job: &Job) -> bool
+    ensures { result ≡ is_answer job.now }
+{
+    matches!(job, Job::Version { .. })
+}
+
+/// The number of the event that gave a job, where `left` are the numbers for it and the jobs after it:
+/// at first those of a task (`ExplainedTask::given`), and then what `left_after` leaves. A version that
+/// answers an ask has none.
+pub fn number_of(job: &Job, left: &[EventNo]) -> Option<EventNo>
+    ensures { result ≡ number_of job.now left.now }
+{
+    if is_answer(job) {
+        None
+    } else {
+        left.first().copied()
+    }
+}
+
+/// The numbers that are left for the jobs after a job.
+#[tactic(auto, using(std::proofs::lemmas::List::drop_min))]
+pub fn left_after<'n>(job: &Job, left: &'n [EventNo]) -> &'n [EventNo]
+    ensures { result.now ≡ left_after job.now left.now }
+{
+    if is_answer(job) {
+        return left;
+    }
+    let one: usize = 1;
+    let first = one.min(left.len());
+    &left[first..]
+}

@@ -1,0 +1,66 @@
+-- Which tasks are alike but for numbers and times.
+use Rattle.std.specs.Prelude.{ℕ, ◌&&◌, List, [], ◌∷◌, Bool, true, false, not, nat_le, bytes_eq, Option, Some, None}
+use Rattle.std.specs.List.{filter}
+use Rattle.std.specs.Cmp.Lexicographic.{pointwise}
+use Rattle.wh_events.specs.Phrases.{Phrase}
+use Rattle.wh_workflow.specs.declared.command.Command.{Command}
+use Rattle.wh_workflow.specs.ActivationScripts.{Step}
+use Rattle.wh_workflow.specs.Jobs.{job_phrase}
+use Rattle.wh_workflow.specs.Names.{command_phrase}
+use Rattle.wh_explain.specs.declared.explanation.Ending.{Ending}
+use Rattle.wh_explain.specs.declared.explanation.Ending.TheVariants.{Recorded}
+use Rattle.wh_explain.specs.declared.explanation.ExplainedTask.{ExplainedTask}
+use Rattle.wh_explain.specs.declared.explanation.RecordedEvent.{RecordedEvent}
+use Rattle.wh_explain.specs.declared.explanation.Pairing.{Pairing}
+use Rattle.wh_explain.specs.declared.explanation.Pairing.TheVariants as pairs
+use Rattle.wh_explain_report.specs.Phrases.{event_phrase}
+
+-- no decimal digit
+abbrev pub is_plain : ℕ → Bool
+is_plain c = not (nat_le 48 c && nat_le c 57)
+
+-- a text without its decimal digits
+abbrev pub plain : List ℕ → List ℕ
+plain text = filter is_plain text
+
+-- two texts are the same but for digits
+unfoldable pub alike_texts : List ℕ → List ℕ → Bool
+alike_texts one other = bytes_eq (plain one) (plain other)
+
+-- the same of words that may not be there
+abbrev pub alike_words : Option (List ℕ) → Option (List ℕ) → Bool
+alike_words None None = true
+alike_words (Some one) (Some other) = alike_texts one other
+alike_words _ _ = false
+
+-- two phrases have the same kind, and ids and types that are the same but for digits; times, seconds and versions are
+-- not compared
+abbrev pub alike_phrases : Phrase → Phrase → Bool
+alike_phrases one other =
+    bytes_eq one.kind other.kind && (alike_words one.id other.id && alike_words one.name other.name)
+
+abbrev pub alike_command : Command → Command → Bool
+alike_command one other = alike_phrases (command_phrase one) (command_phrase other)
+
+abbrev pub alike_event : RecordedEvent → RecordedEvent → Bool
+alike_event one other = alike_phrases (event_phrase one) (event_phrase other)
+
+-- two steps have alike jobs and alike commands
+abbrev pub alike_step : Step → Step → Bool
+alike_step one other =
+    alike_phrases (job_phrase one.job) (job_phrase other.job) && pointwise alike_command one.commands other.commands
+
+-- two pairings are no differences, and have alike commands and events
+abbrev pub alike_pairing : Pairing → Pairing → Bool
+alike_pairing (pairs.Alike command event) (pairs.Alike other second) =
+    alike_command command other && alike_event event second
+alike_pairing _ _ = false
+
+-- two tasks are recorded, with alike pairings
+abbrev pub alike_endings : Ending → Ending → Bool
+alike_endings (Recorded one) (Recorded other) = pointwise alike_pairing one other
+alike_endings _ _ = false
+
+-- two tasks have alike steps and end alike
+unfoldable pub alike_tasks : ExplainedTask → ExplainedTask → Bool
+alike_tasks one other = pointwise alike_step one.steps other.steps && alike_endings one.ending other.ending

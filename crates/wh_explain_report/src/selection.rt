@@ -1,0 +1,81 @@
+//! Selects tasks of an explanation.
+
+ghost use Rattle.std.specs.Prelude.{◌≡◌, ◌≤◌, length};
+ghost use Rattle.wh_explain_report.specs.Selections as selections;
+
+use crate::sharing::shares;
+use wh_events::EventNo;
+use wh_explain::ExplainedTask;
+use wh_view_report::Selection;
+
+/// How many tasks before the one with a fault are shown at most, of those that are about its things.
+const BEFORE: usize = 4;
+
+/// How many tasks are started before the event of a number.
+fn started_before(number: EventNo, tasks: &[ExplainedTask]) -> usize
+    ensures is { result ≡ selections.started_before number tasks.now }
+    ensures within { result ≤ length tasks.now }
+{
+    tasks
+        .iter()
+        .filter(|task| task.at.get() < number.get())
+        .count()
+}
+
+/// The task of an index, with the two before and the two after it.
+#[tactic(auto, using(std::proofs::lemmas::List::take_min))]
+fn around(index: usize, tasks: &[ExplainedTask]) -> &[ExplainedTask]
+    requires { index ≤ length tasks.now }
+    ensures { result.now ≡ selections.around index tasks.now }
+{
+    let end = (index + 3).min(tasks.len());
+    let front = &tasks[..end];
+    &front[index.saturating_sub(2)..]
+}
+
+/// The tasks that are selected.
+pub(crate) fn selected(selection: Selection, tasks: &[ExplainedTask]) -> &[ExplainedTask]
+    ensures { result.now ≡ selections.selected selection tasks.now }
+{
+    match selection {
+        Selection::All => tasks,
+        Selection::Last(count) => &tasks[tasks.len().saturating_sub(count)..],
+        Selection::Around(number) => around(started_before(number, tasks), tasks),
+    }
+}
+
+/// The tasks that are selected; all, where nothing is.
+pub(crate) fn selected_or_all(
+    selection: Option<Selection>,
+    tasks: &[ExplainedTask],
+) -> &[ExplainedTask]
+    ensures { result.now ≡ selections.selected_or_all selection tasks.now }
+{
+    match selection {
+        Some(selection) => selected(selection, tasks),
+        None => tasks,
+    }
+}
+
+/// How many tasks are about the things of one with a fault.
+fn sharing_count(fault: &ExplainedTask, before: &[ExplainedTask]) -> usize
+    ensures is { result ≡ length (selections.sharing fault.now before.now) }
+    ensures within { result ≤ length before.now }
+{
+    before.iter().filter(|task| shares(fault, task)).count()
+}
+
+/// How many of them are left out.
+pub(crate) fn skipped_count(fault: &ExplainedTask, before: &[ExplainedTask]) -> usize
+    ensures { result ≡ selections.skipped fault.now before.now }
+{
+    sharing_count(fault, before).saturating_sub(BEFORE)
+}
+
+/// How many of the tasks before one with a fault are left out.
+pub(crate) fn left_count(fault: &ExplainedTask, before: &[ExplainedTask]) -> usize
+    ensures { result ≡ selections.left_before fault.now before.now }
+{
+    let count = sharing_count(fault, before);
+    before.len() - (count - count.saturating_sub(BEFORE))
+}

@@ -1,0 +1,13 @@
+use Rattle.std.proofs.Common.{refl}
+use Rattle.std.specs.Prelude.{Ok}
+use Rattle.wh_file_commands.proofs.Steps.{query_ended}
+use Rattle.wh_file_commands.proofs.query.query_file.Goals as goal
+
+-- what came of the query is out, and the rest was reported after it
+pub returns : goal.returns
+returns g c =
+    let own = c.in-Ok in
+    query_ended g.W.Workflow.program g.W.Queryable.queries c.args.file c.args.query.now c.args.format
+    c.args.console.now c.print_query.new.console c.flushed-2.new.console c.report.new.self own.queried (Ok c.status_of.result) c.status_of.result c.in_ok-status.status
+    own.ensures.queried own.ensures.printed c.in_ok-status.ensures.quiet c.in_ok-status.ensures.kept
+    c.report.ensures c.status_of.ensures refl c.in_ok-status.ensures.status

@@ -1,0 +1,13 @@
+use Rattle.wh_file_commands.proofs.Steps.{replayed_paths}
+use Rattle.wh_file_commands.proofs.replay.replay_paths.Goals as goal
+
+-- the inputs are those of the paths
+pub returns : goal.returns
+returns g c =
+    let listed = c.in_ok-listed.listed in
+    record {
+      replayed =
+          replayed_paths g.W.Workflow.program c.args.first c.args.more.items c.args.format c.args.require_files listed.left_out c.lacks_files-lacks.result listed.inputs.items
+          c.args.console.now c.all_inputs.new.console c.replay.new.console
+          c.replay.result c.in_ok-listed.ensures.listed c.lacks_files-lacks.ensures.lacks c.replay.ensures;
+    }

@@ -1,0 +1,12 @@
+use Rattle.wh_report.specs.Commands.{view_as}
+use Rattle.wh_diagnostics.proofs.Printed.{text_printed}
+use Rattle.wh_file_commands.proofs.Steps.{view_printed}
+use Rattle.wh_file_commands.proofs.view.view.Goals as goal
+
+-- what was printed is the text of the view, and it is out
+pub returns : goal.returns
+returns g c =
+    let own = c.in-Ok in
+    let printed = text_printed (view_as c.args.selection c.args.format own.view) c.args.console.now c.print_view-answer.new.console c.flushed.new.console c.print_view-answer.result c.flushed.result
+    c.print_view-answer.ensures.printed c.print_view-answer.ensures.ends c.flushed.ensures.quiet c.flushed.ensures.kept c.flushed.ensures.status in
+    view_printed c.args.bytes.now own.view c.args.selection c.args.format c.args.console.now c.flushed.new.console c.flushed.result own.ensures.ok printed

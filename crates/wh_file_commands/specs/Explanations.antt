@@ -1,0 +1,50 @@
+-- What the explanation of a file writes and reports.
+use Rattle.std.specs.Prelude.{◌≡◌, ℕ, List, false, Option, string_bytes}
+use Rattle.wh_console.specs.Consoles.{ConsoleView, IsQuiet, Reported}
+use Rattle.wh_console.specs.declared.format.Format.{Format}
+use Rattle.wh_diagnostics.specs.Diagnostics.{fault_lines}
+use Rattle.wh_file_faults.specs.Faults.{File, IsFaultOf, IsUnreadCause, told_of}
+use Rattle.wh_file_faults.specs.declared.file_faults.FileFault.{FileFault}
+use Rattle.wh_files.specs.Inputs.{IsCalled, IsOf, IsReadFrom, IsSingle}
+use Rattle.wh_files.specs.declared.Input.{Input}
+use Rattle.wh_inputs.specs.Readings.{Gives, IsReadAs}
+use Rattle.wh_report.specs.Commands.{IsExplained}
+use Rattle.wh_tester.specs.Verdicts.{IsVerdict}
+use Rattle.wh_tester.specs.declared.line.Verdict.{Verdict}
+use Rattle.wh_view_report.specs.declared.text.Selection.{Selection}
+use Rattle.wh_workflow.specs.Law.{Program}
+
+-- a line was reported of a file where its verdict is that it is no JSON, and else nothing
+pub record HasReportedFault (name : List ℕ) (verdict : Verdict) (bytes : List ℕ) (old new : ConsoleView) : Type 0 where
+  pub fault : Option FileFault
+  pub own : IsFaultOf (IsUnreadCause verdict) name bytes fault
+  pub reported : Reported old new (fault_lines (told_of fault))
+
+-- a file was explained, and then a line was reported of it where its verdict is that it is no JSON
+pub record HasExplained {S : Type 0} (program : Program S) (name bytes : List ℕ) (selection : Option Selection)
+    (format : Format)
+    (old new : ConsoleView) (status : ℕ) : Type 0 where
+  pub between : ConsoleView
+  pub quiet : IsQuiet old between
+  pub explained : IsExplained program name bytes selection format old.output between.output status
+  pub verdict : Verdict
+  pub judged : IsVerdict program bytes verdict
+  pub reported : HasReportedFault name verdict bytes between new
+
+-- an input was read as a file, and explained
+pub record HasExplainedInput {S : Type 0} (gives : Gives) (program : Program S) (input : Input)
+    (selection : Option Selection) (format : Format)
+    (old new : ConsoleView) (status : ℕ) : Type 0 where
+  pub file : File
+  pub read : IsReadAs gives input file
+  pub explained : HasExplained program (string_bytes file.0) file.1.items selection format old new status
+
+-- what a path names, which is no folder, was explained
+pub record HasExplainedPath {S : Type 0} (program : Program S) (path : List ℕ) (selection : Option Selection)
+    (format : Format)
+    (old new : ConsoleView) (status : ℕ) : Type 0 where
+  pub input : Input
+  pub called : IsCalled false input
+  pub from : IsOf path input.origin
+  pub single : IsSingle input.origin
+  pub explained : HasExplainedInput IsReadFrom program input selection format old new status

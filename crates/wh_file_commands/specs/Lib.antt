@@ -1,0 +1,5 @@
+pub mod Explanations
+pub mod Pages
+pub mod Queries
+pub mod Replays
+pub mod Views

@@ -1,0 +1,105 @@
+//! The command `explain --recorded`.
+
+ghost use Rattle.std.specs.Prelude.{◌≡◌, IfOk, OnOk};
+ghost use Rattle.wh_console.specs.Consoles.{Printed};
+ghost use Rattle.wh_file_commands.specs.Views.{HasViewed, HasViewedInput, HasViewedPath};
+ghost use Rattle.wh_report.specs.Commands.{view_as};
+
+use std::alloc::Global;
+use std::io::Write;
+use std::rt::Runtime;
+use wh_console::{Console, Format};
+use wh_diagnostics::{Failure, flushed};
+use wh_events::{OutOfMemory, Text};
+use wh_file_faults::{CommandFault, json_fault};
+use wh_files::Input;
+use wh_inputs::{InputReader, file_from, input_of};
+use wh_json::ReadFault;
+use wh_report::write_view_as;
+use wh_view::{View, view_of};
+use wh_view_report::Selection;
+
+/// Why the events in a file can't be shown.
+pub(crate) fn unviewed(alloc: Global, file: Text, fault: ReadFault, bytes: &[u8]) -> Failure {
+    let place = match fault {
+        ReadFault::OutOfMemory => return Failure::OutOfMemory,
+        ReadFault::BadJson => json_fault(alloc, file.get(), bytes),
+        _ => Ok(None),
+    };
+    match place {
+        Ok(Some(fault)) => Failure::NotJson { fault },
+        Ok(None) => Failure::NotViewed { file, fault },
+        Err(OutOfMemory) => Failure::OutOfMemory,
+    }
+}
+
+/// Writes a view.
+fn print_view<O: Write, E: Write>(
+    view: &View,
+    selection: Selection,
+    format: Format,
+    console: &mut Console<'_, O, E>,
+) -> Result<u8, CommandFault>
+    ensures printed { OnOk result (Printed console.old console.new (view_as selection format view.now)) }
+    ensures ends { IfOk result (λ status. status ≡ 0) }
+{
+    match write_view_as(view, selection, format, &mut console.output) {
+        Ok(()) => Ok(0),
+        Err(_) => Err(CommandFault::Output),
+    }
+}
+
+/// Shows what is recorded in a file.
+fn view<O: Write, E: Write>(
+    alloc: Global,
+    name: String,
+    bytes: &[u8],
+    selection: Selection,
+    format: Format,
+    console: &mut Console<'_, O, E>,
+) -> Result<u8, Failure>
+    ensures { IfOk result (HasViewed bytes.now selection format console.old console.new) }
+{
+    let view = match view_of(alloc, bytes) {
+        Ok(view) => view,
+        Err(fault) => return Err(unviewed(alloc, Text::new(name), fault, bytes)),
+    };
+    let answer = print_view(&view, selection, format, console);
+    flushed(answer, console)
+}
+
+/// Reads an input, and shows what is recorded in it.
+fn view_input<R: InputReader + AllocGlobal, O: Write, E: Write>(
+    rt: &R,
+    input: Input,
+    selection: Selection,
+    format: Format,
+    console: &mut Console<'_, O, E>,
+) -> Result<u8, Failure>
+    ensures { IfOk result (HasViewedInput R.gives input selection format console.old console.new) }
+{
+    let (name, bytes) = file_from(rt, input)?;
+    view(
+        rt.alloc(),
+        name,
+        bytes.as_slice(),
+        selection,
+        format,
+        console,
+    )
+}
+
+/// Shows what is recorded in the history at a path: the tasks that are selected, with nothing replayed.
+/// The status is 0. `NotJson` or `NotViewed` where it has no list of events.
+pub fn view_path<R: Runtime + AllocGlobal, O: Write, E: Write>(
+    rt: &R,
+    path: Text,
+    selection: Selection,
+    format: Format,
+    console: &mut Console<'_, O, E>,
+) -> Result<u8, Failure>
+    ensures viewed { IfOk result (HasViewedPath path selection format console.old console.new) }
+{
+    let input = input_of(rt, path)?;
+    view_input::<R, O, E>(rt, input, selection, format, console)
+}

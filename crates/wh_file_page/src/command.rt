@@ -1,0 +1,94 @@
+//! The page of a history file is written.
+
+ghost use Rattle.std.specs.Prelude.{◌≡◌, ◌≢◌, Err, IfErr, IfOk};
+ghost use Rattle.wh_file_page.specs.Pages.{IsPageOf, IsPaged};
+ghost use Rattle.wh_json.specs.declared.fault.ReadFault.{ReadFault};
+ghost use Rattle.wh_timeline.specs.Views.{IsAxisOf};
+ghost use Rattle.wh_view.specs.Views.{IsViewIn, members_of};
+
+use crate::fault::PageFault;
+use crate::said::said_as;
+use std::alloc::Global;
+use std::io::Write;
+use wh_json::ReadFault;
+use wh_page::{Axis, Page, axis_of, write_page};
+use wh_run_page::page_of;
+use wh_view::{View, view_of};
+use wh_workflow::Workflow;
+
+/// A page with its axis, and the status of its report.
+#[derive(Drop)]
+struct Prepared {
+    page: Page,
+    axis: Axis,
+    status: u8,
+}
+
+/// The view of bytes.
+fn viewed(alloc: Global, bytes: &[u8]) -> Result<View, PageFault>
+    ensures view { IfOk result (IsViewIn bytes.now) }
+    ensures unviewed { (fault : ReadFault) → result ≡ Err (PageFault.Unviewed fault)
+        → members_of bytes.now ≡ Err fault }
+    ensures output { result ≢ Err PageFault.Output }
+{
+    match view_of(alloc, bytes) {
+        Ok(view) => Ok(view),
+        Err(ReadFault::OutOfMemory) => Err(PageFault::OutOfMemory),
+        Err(fault) => Err(PageFault::Unviewed(fault)),
+    }
+}
+
+/// The page of a file whose view is there.
+fn page_with<W: Workflow>(
+    alloc: Global,
+    name: &str,
+    bytes: &[u8],
+    only_recorded: bool,
+    view: &View,
+) -> Result<Prepared, PageFault>
+    ensures page { IfOk result (λ own.
+        IsPageOf W.program only_recorded name.now bytes.now view.now own.page own.status) }
+    ensures axis { IfOk result (λ own. IsAxisOf own.page own.axis.stops) }
+    ensures memory { IfErr result (λ fault. fault ≡ PageFault.OutOfMemory) }
+{
+    let own = said_as::<W>(alloc, name, bytes, only_recorded)?;
+    let page = page_of(alloc, view, own.said)?;
+    let axis = axis_of(alloc, &page)?;
+    Ok(Prepared {
+        page,
+        axis,
+        status: own.status,
+    })
+}
+
+/// Writes the page of a history file, given by name and bytes: one HTML file, which needs no script
+/// and fetches nothing. Whatever the history holds stands in it as text.
+///
+/// It shows what the bytes hold, as `wh_view::view_of` views it, also where the reader of histories
+/// refuses an event. The file is replayed once with the code of `W`: the page has the verdict in the
+/// words of its line in the report of replay, both sides of a difference, and marks the event that
+/// the verdict is about. The status is that of the report: 0 where the verdict is good, and else 1.
+/// With `only_recorded` nothing is replayed, the page has no verdict, and the status is 0.
+///
+/// `Unviewed` where the bytes have no list of events. Nothing is written then, nor where the answer
+/// is `OutOfMemory`; after `Output` some of the page may have been written.
+pub fn page_command<W: Workflow, O: Write>(
+    alloc: Global,
+    name: &str,
+    bytes: &[u8],
+    only_recorded: bool,
+    writer: &mut O,
+) -> Result<u8, PageFault>
+    ensures paged { IfOk result (IsPaged W.program only_recorded name.now bytes.now
+        (O.contents writer.old) (O.contents writer.new)) }
+    ensures unviewed { (fault : ReadFault) → result ≡ Err (PageFault.Unviewed fault)
+        → members_of bytes.now ≡ Err fault }
+    ensures unwritten { IfErr result (λ fault. fault ≢ PageFault.Output → writer.new ≡ writer.old) }
+{
+    let view = viewed(alloc, bytes)?;
+    let own = page_with::<W>(alloc, name, bytes, only_recorded, &view)?;
+    match write_page(&own.page, &own.axis, writer) {
+        Ok(()) => Ok(own.status),
+        Err(_) => Err(PageFault::Output),
+    }
+}

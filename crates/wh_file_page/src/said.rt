@@ -1,0 +1,113 @@
+//! What is said of a file on its page.
+
+ghost use Rattle.std.specs.Prelude.{◌≡◌, ◌≢◌, IfOk};
+ghost use Rattle.wh_file_page.specs.Pages as pages;
+
+use crate::words::{copied, difference_of, note_of, verdict_place, verdict_words};
+use std::alloc::Global;
+use wh_events::{OutOfMemory, Text};
+use wh_explain::{Finding, check_file};
+use wh_fault_details::{FaultDetail, detail_of};
+use wh_run_page::Said;
+use wh_tester::{Verdict, is_good};
+use wh_workflow::Workflow;
+
+/// What is said of a file, and the status of its report.
+#[derive(Drop)]
+pub(crate) struct Judged {
+    pub(crate) said: Said,
+    pub(crate) status: u8,
+}
+
+/// The status of the report of a file with this verdict.
+fn status_of(verdict: &Verdict) -> u8
+    ensures { result ≡ pages.status_of verdict.now }
+{
+    if is_good(verdict) { 0 } else { 1 }
+}
+
+/// What is said of a file with what its replay found.
+#[tactic(auto, unfolding(crate::specs::Pages::said_of))]
+fn said_of(
+    alloc: Global,
+    name: &str,
+    finding: &Finding,
+    detail: &Option<FaultDetail>,
+) -> Result<Said, OutOfMemory>
+    ensures { IfOk result (λ said. said ≡ pages.said_of name.now finding.now detail.now) }
+{
+    let title = copied(alloc, name)?;
+    let verdict = verdict_words(alloc, &finding.verdict)?;
+    let difference = difference_of(alloc, &finding.difference)?;
+    let note = note_of(alloc, &finding.unknown, detail)?;
+    Ok(Said {
+        title,
+        verdict,
+        good: Some(is_good(&finding.verdict)),
+        place: verdict_place(&finding.verdict),
+        difference,
+        note,
+    })
+}
+
+/// What is said of a file with what its replay found, and the status of its report.
+fn said_by(alloc: Global, name: &str, bytes: &[u8], finding: Finding) -> Result<Judged, OutOfMemory>
+    ensures said { IfOk result (λ own. own.said ≡ pages.said_in name.now bytes.now finding) }
+    ensures ends { IfOk result (λ own. own.status ≡ pages.status_of finding.verdict) }
+    ensures known { IfOk result (λ _. finding.verdict ≢ Verdict.OutOfMemory) }
+{
+    if matches!(&finding.verdict, Verdict::OutOfMemory) {
+        return Err(OutOfMemory);
+    }
+    let detail = detail_of(alloc, &finding.verdict, bytes)?;
+    let said = said_of(alloc, name, &finding, &detail)?;
+    Ok(Judged {
+        said,
+        status: status_of(&finding.verdict),
+    })
+}
+
+/// What is said of a file that is replayed.
+fn replayed<W: Workflow>(alloc: Global, name: &str, bytes: &[u8]) -> Result<Judged, OutOfMemory>
+    ensures { IfOk result (λ own. pages.IsReplayed W.program name.now bytes.now own.said own.status) }
+{
+    let finding = check_file::<W>(alloc, bytes);
+    said_by(alloc, name, bytes, finding)
+}
+
+/// What is said of a file that is not replayed.
+fn recorded(alloc: Global, name: &str) -> Result<Judged, OutOfMemory>
+    ensures said { IfOk result (λ own. own.said ≡ pages.recorded_said name.now) }
+    ensures ends { IfOk result (λ own. own.status ≡ 0) }
+{
+    let title = copied(alloc, name)?;
+    let verdict = copied(alloc, "recorded, and not replayed")?;
+    Ok(Judged {
+        said: Said {
+            title,
+            verdict,
+            good: None,
+            place: None,
+            difference: None,
+            note: None,
+        },
+        status: 0,
+    })
+}
+
+/// What is said of a file, which is replayed unless only what is recorded is asked for.
+pub(crate) fn said_as<W: Workflow>(
+    alloc: Global,
+    name: &str,
+    bytes: &[u8],
+    only_recorded: bool,
+) -> Result<Judged, OutOfMemory>
+    ensures { IfOk result (λ own.
+        pages.IsSaidOf W.program only_recorded name.now bytes.now own.said own.status) }
+{
+    if only_recorded {
+        recorded(alloc, name)
+    } else {
+        replayed::<W>(alloc, name, bytes)
+    }
+}

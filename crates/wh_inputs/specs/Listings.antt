@@ -1,0 +1,47 @@
+-- What paths name, and what is reported of them.
+use Rattle.std.specs.Prelude.{◌≡◌, ◌==◌, ◌||◌, ◌&&◌, ℕ, List, [], ◌∷◌, ◌++◌, length, not, All, Bool, false, String, codes, if◌then◌else◌}
+use Rattle.std.specs.declared.alloc.Global.{Global}
+use Rattle.wh_files.specs.Inputs.{IsCalled, IsOf}
+use Rattle.wh_files.specs.Names.{IsBadName}
+use Rattle.wh_files.specs.declared.Input.{Input}
+use Rattle.wh_console.specs.Consoles.{ConsoleView, Reported}
+use Rattle.wh_diagnostics.specs.Diagnostics.{bad_name_lines, named_line}
+
+-- files are called by their paths where there is more than one path
+abbrev pub is_by_path : List (List ℕ) → Bool
+is_by_path more = not (length more == 0)
+
+-- what is reported of the inputs of a path, and of the bad names there: a line for each of these, or else that there is no
+-- file, if so
+abbrev pub listing_lines : List ℕ → List Input → List (String Global) → List ℕ → List ℕ
+listing_lines path inputs names name =
+    if not (length names == 0) then bad_name_lines path names name
+    else (if length inputs == 0 then named_line (codes "no .json file in " ++ path) name else [])
+
+-- the inputs are those of a path, called as is asked for; files are left out where there are bad names, which were
+-- reported; where there is no file, that was reported
+pub record IsListed (by_path : Bool) (path : List ℕ) (inputs : List Input) (left_out : Bool)
+    (old new : ConsoleView) : Type 0 where
+  pub called : All (IsCalled by_path) inputs
+  pub from : All (λ input. IsOf path input.origin) inputs
+  pub names : List (String Global)
+  pub bad : All IsBadName names
+  pub left : left_out ≡ not (length names == 0)
+  pub reported : Reported old new (listing_lines path inputs names)
+
+-- the inputs are those of paths, in their order, files are left out where those of a path are, and what is reported of
+-- the paths was reported in their order
+abbrev pub AreListed : Bool → List (List ℕ) → List Input → Bool → (old new : ConsoleView) → Type 0
+AreListed by_path [] inputs left_out old new = (inputs ≡ []) × (left_out ≡ false) × (new ≡ old)
+AreListed by_path (path ∷ more) inputs left_out old new =
+    (own rest : List Input)
+    × (own_left rest_left : Bool)
+    × (between : ConsoleView)
+    × (inputs ≡ own ++ rest)
+    × (left_out ≡ (own_left || rest_left))
+    × IsListed by_path path own own_left old between
+    × AreListed by_path more rest rest_left between new
+
+-- files are left out, or there have to be files, and there is none
+abbrev pub lacks_files : (left_out required : Bool) → List Input → Bool
+lacks_files left_out required inputs = left_out || (required && (length inputs == 0))

@@ -1,0 +1,11 @@
+//! Inputs and results that are JSON (RFC 8259), each value a payload of the encoding `json/plain`, as
+//! Temporal's SDKs write them (Temporal documentation, "Default Data Converter").
+#![tactic(auto)]
+
+mod reading;
+mod writing;
+
+pub use reading::{
+    json_flag, json_number, json_text, json_value, member_flag, member_number, member_text,
+};
+pub use writing::{flag_payload, number_payload, one_payload, text_payload, value_payload};

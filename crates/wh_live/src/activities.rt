@@ -1,0 +1,85 @@
+//! Answers to activity tasks.
+
+ghost use Rattle.std.specs.Prelude.{◌≡◌, ◌++◌, ◌∷◌, [], IfOk, OnOk, OnErr};
+ghost use Rattle.wh_client.specs.declared.codes.Receipt.TheVariants.{Acknowledged};
+ghost use Rattle.wh_tasks.specs.declared.source.Sent.TheVariants.{Activity as OfActivity};
+ghost use Rattle.wh_tasks.specs.Source.{FailsOnly};
+ghost use Rattle.wh_live.specs.Private.Activities.{AnswersActivity, IsActivityRequest};
+
+use crate::answering::{send_written, settle};
+use crate::journals::Journal;
+use crate::task_log::log_activity;
+use crate::tasks::OpenTask;
+use wh_client::{Client, Connection, Receipt, Request};
+use wh_events::OutOfMemory;
+use wh_ghost_list::GhostList;
+use wh_slots::TaskName;
+use wh_tasks::{ActivityAnswer, Sent, SourceFault};
+
+/// The request that answers an activity task, of which the handler had heard that it is to be
+/// cancelled, or not. One that was to be cancelled and failed has given up.
+fn activity_request<L: Connection>(
+    client: &Client<'_, L>,
+    task: &OpenTask,
+    answer: &ActivityAnswer,
+    was_cancelled: bool,
+) -> Result<Request, OutOfMemory>
+    ensures { IfOk result
+        (IsActivityRequest client.now.options.now.names task.now.token answer.now was_cancelled) }
+{
+    match answer {
+        ActivityAnswer::Completed(outcome) => client.activity_completed(&task.token, outcome.get()),
+        ActivityAnswer::Failed(reason) => {
+            client.activity_failed(&task.token, reason.get(), was_cancelled)
+        }
+    }
+}
+
+/// Answers an activity task, and logs how it ended.
+fn respond<L: Connection>(
+    client: &Client<'_, L>,
+    task: &OpenTask,
+    answer: &ActivityAnswer,
+) -> Receipt
+    ensures { result ≡ Acknowledged →
+        AnswersActivity L.gives client.now.options.now.names task.now.token answer.now }
+{
+    let was_cancelled = client.was_cancelled(&task.token);
+    let request = activity_request(client, task, answer, was_cancelled);
+    let receipt = send_written(client, task, request);
+    log_activity(client, task, answer, was_cancelled, receipt);
+    receipt
+}
+
+/// Answers the open activity task, if it has this name.
+fn answer_open<L: Connection>(
+    client: &Client<'_, L>,
+    current: &Option<OpenTask>,
+    name: TaskName,
+    answer: &ActivityAnswer,
+) -> Receipt {
+    match current {
+        Some(task) if task.name == name => respond(client, task, answer),
+        _ => Receipt::Lost,
+    }
+}
+
+/// Answers the activity task of a name, and notes the answer where it was taken.
+pub(crate) fn answer_activity<L: Connection>(
+    client: &Client<'_, L>,
+    journal: &mut Journal,
+    taken: &mut GhostList<(TaskName, Sent)>,
+    current: Option<OpenTask>,
+    name: TaskName,
+    answer: &ActivityAnswer,
+) -> Result<(), SourceFault>
+    ensures sent { OnOk result (taken.new.items ≡ taken.old.items ++ (name, OfActivity answer.now) ∷ []) }
+    ensures unsent { OnErr result (taken.new.items ≡ taken.old.items) }
+    ensures failures { FailsOnly result journal.old.tally.failures journal.new.tally.failures }
+{
+    let Ok(copy) = answer.try_copy() else {
+        return Err(SourceFault::OutOfMemory);
+    };
+    let receipt = answer_open(client, &current, name, answer);
+    settle(journal, taken, receipt, (name, Sent::Activity(copy)))
+}

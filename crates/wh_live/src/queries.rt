@@ -1,0 +1,16 @@
+//! Queries that polls bring.
+
+ghost use Rattle.wh_client.specs.Polls.{GivesQuery};
+
+use wh_client::{Client, Connection};
+use wh_responses::QueryPoll;
+
+/// Hands a query that a poll gave on to what answers queries beside the workers, or refuses it where
+/// nothing does.
+pub(crate) fn hand_query_on<L: Connection>(client: &Client<'_, L>, query: QueryPoll)
+    requires { GivesQuery L.gives query }
+{
+    if let Err(query) = client.connection.hand_on(query) {
+        client.refuse_query(&query.token);
+    }
+}

@@ -1,9 +1,0 @@
-pub mod Answering
-pub mod Bytes
-pub mod Lists
-pub mod Members
-pub mod ByName
-pub mod Reading
-pub mod Serving
-pub mod Tasks
-pub mod ServerReading

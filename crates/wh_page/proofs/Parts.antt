@@ -1,0 +1,81 @@
+-- A page has its parts, and a task the line of its fault.
+use Rattle.std.proofs.Common.{◌≡◌, ◌<◌, ◌≤◌, ℕ, suc, zero, ◌+◌, ◌-◌, true, List, [], ◌∷◌, ◌++◌, length, get_or, take, min, refl, sym, ap, ◌∙◌, append_assoc, append-nil, arith}
+use Rattle.std.specs.Prelude.{unwrap_or}
+use Rattle.std.specs.List.{All, list_any, position}
+use Rattle.std.proofs.lemmas.List.{length-take}
+use Rattle.wh_html.specs.Html.{Html, nothing, ◌⊕◌, bytes, each}
+use Rattle.wh_timeline.specs.declared.axis.Stop.{Stop}
+use Rattle.wh_timeline.specs.declared.page.Line.{Line}
+use Rattle.wh_timeline.specs.declared.page.Page.{Page}
+use Rattle.wh_timeline.specs.Views.{shown_lanes, shown_tasks}
+use Rattle.wh_timeline.proofs.Shown.{any-taken, any-below, position-any}
+use Rattle.wh_page.specs.Frames.{verdict_html, frame_html}
+use Rattle.wh_page.specs.Tables.{row_html, table_html}
+use Rattle.wh_page.specs.TaskTexts.{is_fault, left_before, shown_lines, task_html, tasks_html}
+use Rattle.wh_page.specs.Pages.{page_html}
+use Rattle.wh_page.specs.Laws.{StandsIn, HasParts, ShowsItsParts, FaultHasALine}
+
+-- a template is a part of another
+data IsPart : Html → Html → Type 0 where
+  here : (a : Html) → IsPart a a
+  left : (a b part : Html) → IsPart part a → IsPart part (a ⊕ b)
+  right : (a b part : Html) → IsPart part b → IsPart part (a ⊕ b)
+
+-- the bytes of a part stand among those of the whole
+stands : (whole part : Html) → IsPart part whole → StandsIn (bytes whole) (bytes part)
+stands whole part (here _) = record { before = []; after = []; joined = sym (append-nil (bytes part)) }
+stands whole part (left a b _ h) =
+    let own = stands a part h in
+    record {
+      before = own.before;
+      after = own.after ++ bytes b;
+      joined =
+          ap (λ front. front ++ bytes b) own.joined
+          ∙ append_assoc own.before (bytes part ++ own.after) (bytes b)
+          ∙ ap (λ back. own.before ++ back) (append_assoc (bytes part) own.after (bytes b));
+    }
+stands whole part (right a b _ h) =
+    let own = stands b part h in
+    record {
+      before = bytes a ++ own.before;
+      after = own.after;
+      joined = ap (λ back. bytes a ++ back) own.joined ∙ sym (append_assoc (bytes a) own.before (bytes part ++ own.after));
+    }
+
+module _ {A : Type 0} where
+  -- the template of an item is a part of those of all
+  each-part : (f : A → Html) (xs : List A) (k : ℕ) (d : A) → k < length xs → IsPart (f (get_or xs k d)) (each f xs)
+  each-part f [] k d h = absurd (omega arith)
+  each-part f (x ∷ xs) zero d h = left (f x) (each f xs) (f x) (here (f x))
+  each-part f (x ∷ xs) (suc k) d h = right (f x) (each f xs) (f (get_or xs k d)) (each-part f xs k d (omega arith))
+
+verdict-part : (stops : List Stop) (page : Page) → IsPart (verdict_html page) (page_html stops page)
+unfolding page_html frame_html
+verdict-part stops page = left _ _ _ (right _ _ _ (left _ _ _ (here _)))
+
+row-part : (stops : List Stop) (page : Page) (part : Html) → IsPart part (each (row_html page.fault) (shown_lanes page)) → IsPart part (page_html stops page)
+unfolding page_html table_html
+row-part stops page part h = right _ _ _ (right _ _ _ (right _ _ _ (left _ _ _ (right _ _ _ (right _ _ _ (right _ _ _ (left _ _ _ h)))))))
+
+task-part : (stops : List Stop) (page : Page) (part : Html) → IsPart part (each task_html (shown_tasks page)) → IsPart part (page_html stops page)
+unfolding page_html tasks_html
+task-part stops page part h = right _ _ _ (right _ _ _ (right _ _ _ (right _ _ _ (left _ _ _ (right _ _ _ (right _ _ _ (left _ _ _ h)))))))
+
+pub shows_its_parts : ShowsItsParts
+shows_its_parts stops page =
+    let whole = page_html stops page in
+    record {
+      verdict = stands whole (verdict_html page) (verdict-part stops page);
+      things = λ k d h. stands whole (row_html page.fault (get_or (shown_lanes page) k d)) (row-part stops page _ (each-part (row_html page.fault) (shown_lanes page) k d h));
+      tasks = λ k d h. stands whole (task_html (get_or (shown_tasks page) k d)) (task-part stops page _ (each-part task_html (shown_tasks page) k d h));
+    }
+
+-- the line of the fault
+line-shown : (lines : List Line) → list_any (λ line. is_fault line.side) lines ≡ true → list_any (λ line. is_fault line.side) (shown_lines lines) ≡ true
+line-shown lines h =
+    let at = position-any (λ line. is_fault line.side) lines 0 h in
+    let below = any-below (λ line. is_fault line.side) lines h in
+    any-taken (λ line. is_fault line.side) lines (left_before lines) 40 h (omega arith) (omega arith)
+
+pub fault_has_a_line : FaultHasALine
+fault_has_a_line lines = (rw length-take (omega arith), line-shown lines)

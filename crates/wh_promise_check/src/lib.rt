@@ -1,0 +1,21 @@
+//! What a table promises, in words, and whether it keeps it.
+//!
+//! | Phrase | Stands for |
+//! |---|---|
+//! | `at most N WHAT` | it happens so many times at most |
+//! | `only after FIRST: WHAT` | it happens only after the first has |
+//! | `never after FIRST: WHAT` | once the first has happened, it does not happen any more |
+//! | `after FIRST, before LAST: WHAT` | it happens between the first FIRST and any later LAST |
+//!
+//! What happens is a job as a row writes it, a command `activity TYPE`, `child TYPE` or `send SIGNAL`,
+//! or that the run closes: `complete`, `fail`, `canceled`, `continued`, and `close` in whichever way.
+#![tactic(auto)]
+
+mod findings;
+mod reading;
+mod texts;
+
+pub use findings::{
+    MOST_PROMISES, Outcome, PromiseFinding, PromiseFindings, are_kept, check_promises,
+};
+pub use texts::{findings_json, findings_text};

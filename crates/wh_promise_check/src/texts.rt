@@ -1,0 +1,290 @@
+//! What is found of promises, as text and as JSON.
+ghost use Rattle.std.specs.Prelude.{◌≡◌, IfOk, string_bytes};
+ghost use Rattle.wh_promise_check.specs.Texts.{later_jobs, jobs_text, doubt_text, verdict_text, outcome_text, finding_line};
+ghost use Rattle.wh_promise_check.specs.Texts.{step_line, step_lines, way_lines, finding_lines, each_text, findings_text};
+ghost use Rattle.wh_promise_check.specs.Texts.{step_json, later_step, later_steps, steps_json, verdict_members, outcome_members};
+ghost use Rattle.wh_promise_check.specs.Texts.{finding_json, later_finding, later_findings, each_json, findings_json};
+
+use crate::findings::{Outcome, PromiseFinding, PromiseFindings};
+use std::alloc::{AllocError, Global};
+use wh_table_promises::{Doubt, Verdict, WayStep};
+use wh_tester::{EscapedName, Shown};
+
+/// The jobs of steps, with a semicolon in front of each.
+fn later_jobs(alloc: Global, steps: &[WayStep]) -> Result<String, AllocError>
+    ensures { IfOk result (λ text. string_bytes text ≡ later_jobs steps.now) }
+{
+    let mut text = String::new(alloc);
+    for step in steps {
+        text.push_str("; ")?;
+        text.push_str(step.job.get())?;
+    }
+    Ok(text)
+}
+
+/// The jobs of a way, with a semicolon between each and the next.
+fn jobs_text(alloc: Global, way: &[WayStep]) -> Result<String, AllocError>
+    ensures { IfOk result (λ text. string_bytes text ≡ jobs_text way.now) }
+{
+    let [first, others @ ..] = way else {
+        return Ok(String::new(alloc));
+    };
+    let job = first.job.get();
+    let later = later_jobs(alloc, others)?;
+    format!(in alloc; "{job}{later}")
+}
+
+/// Why a promise is not decided.
+fn doubt_text(doubt: Doubt) -> &'static str
+    ensures { result.now ≡ doubt_text doubt }
+{
+    match doubt {
+        Doubt::TooMany => "more than 200000 configurations",
+        Doubt::ByName => "it may depend on the name of the run",
+    }
+}
+
+/// What is said of a verdict.
+fn verdict_text(alloc: Global, verdict: &Verdict) -> Result<String, AllocError>
+    ensures { IfOk result (λ text. string_bytes text ≡ verdict_text verdict.now) }
+{
+    match verdict {
+        Verdict::Kept => String::from_str(alloc, "kept"),
+        Verdict::Broken(way) => {
+            let jobs = jobs_text(alloc, way.as_slice())?;
+            format!(in alloc; "broken by: {jobs}")
+        }
+        Verdict::NotDecided(doubt) => {
+            let doubt = doubt_text(*doubt);
+            format!(in alloc; "not decided: {doubt}")
+        }
+    }
+}
+
+/// What is said of a phrase.
+fn outcome_text(alloc: Global, outcome: &Outcome) -> Result<String, AllocError>
+    ensures { IfOk result (λ text. string_bytes text ≡ outcome_text outcome.now) }
+{
+    match outcome {
+        Outcome::NoPromise => String::from_str(alloc, "no promise is written so"),
+        Outcome::Decided(verdict) => verdict_text(alloc, verdict),
+    }
+}
+
+/// The line of a promise of this number.
+fn finding_line(
+    alloc: Global,
+    number: usize,
+    finding: &PromiseFinding,
+) -> Result<String, AllocError>
+    ensures { IfOk result (λ text. string_bytes text ≡ finding_line number finding.now) }
+{
+    let phrase = Shown(finding.phrase.get());
+    let outcome = outcome_text(alloc, &finding.outcome)?;
+    format!(in alloc; "promise {number}, {phrase}: {outcome}\n")
+}
+
+/// A line of a scenario.
+fn step_line(alloc: Global, step: &WayStep) -> Result<String, AllocError>
+    ensures { IfOk result (λ text. string_bytes text ≡ step_line step.now) }
+{
+    let job = step.job.get();
+    let gives = step.gives.get();
+    format!(in alloc; "  {job} => {gives}\n")
+}
+
+/// The lines of a scenario.
+fn step_lines(alloc: Global, way: &[WayStep]) -> Result<String, AllocError>
+    ensures { IfOk result (λ text. string_bytes text ≡ step_lines way.now) }
+{
+    let mut text = String::new(alloc);
+    for step in way {
+        let line = step_line(alloc, step)?;
+        text.push_str(line.as_str())?;
+    }
+    Ok(text)
+}
+
+/// The scenario below the line of a promise, if it is broken.
+fn way_lines(alloc: Global, outcome: &Outcome) -> Result<String, AllocError>
+    ensures { IfOk result (λ text. string_bytes text ≡ way_lines outcome.now) }
+{
+    match outcome {
+        Outcome::Decided(Verdict::Broken(way)) => step_lines(alloc, way.as_slice()),
+        _ => Ok(String::new(alloc)),
+    }
+}
+
+/// The lines of a promise.
+fn finding_lines(
+    alloc: Global,
+    number: usize,
+    finding: &PromiseFinding,
+) -> Result<String, AllocError>
+    ensures { IfOk result (λ text. string_bytes text ≡ finding_lines number finding.now) }
+{
+    let line = finding_line(alloc, number, finding)?;
+    let way = way_lines(alloc, &finding.outcome)?;
+    format!(in alloc; "{line}{way}")
+}
+
+/// The lines of promises.
+fn each_text(alloc: Global, list: &[PromiseFinding]) -> Result<String, AllocError>
+    ensures { IfOk result (λ text. string_bytes text ≡ each_text 1 list.now) }
+{
+    let mut text = String::new(alloc);
+    for (index, finding) in list.iter().enumerate() {
+        let lines = finding_lines(alloc, index + 1, finding)?;
+        text.push_str(lines.as_str())?;
+    }
+    Ok(text)
+}
+
+/// What is found of the promises of a table, as text: a line for each, and below a broken one a
+/// scenario that breaks it. `AllocError` where there was no memory for it.
+pub fn findings_text(alloc: Global, found: &PromiseFindings) -> Result<String, AllocError>
+    ensures { IfOk result (λ text. string_bytes text ≡ findings_text found.now) }
+{
+    match found {
+        PromiseFindings::NoPhrases => String::from_str(
+            alloc,
+            "promises: they are neither a text nor a list of texts\n",
+        ),
+        PromiseFindings::TooMany => String::from_str(alloc, "promises: there are more than 50\n"),
+        PromiseFindings::Each(list) => each_text(alloc, list.get()),
+    }
+}
+
+/// A line of a scenario, as JSON.
+fn step_json(alloc: Global, step: &WayStep) -> Result<String, AllocError>
+    ensures { IfOk result (λ text. string_bytes text ≡ step_json step.now) }
+{
+    let job = EscapedName(step.job.get());
+    let gives = EscapedName(step.gives.get());
+    format!(in alloc; "{{\"job\":\"{job}\",\"gives\":\"{gives}\"}}")
+}
+
+/// A line of a scenario, as JSON, with a comma in front.
+fn later_step(alloc: Global, step: &WayStep) -> Result<String, AllocError>
+    ensures { IfOk result (λ text. string_bytes text ≡ later_step step.now) }
+{
+    let own = step_json(alloc, step)?;
+    format!(in alloc; ",{own}")
+}
+
+/// Lines of a scenario, with a comma in front of each.
+fn later_steps(alloc: Global, steps: &[WayStep]) -> Result<String, AllocError>
+    ensures { IfOk result (λ text. string_bytes text ≡ later_steps steps.now) }
+{
+    let mut text = String::new(alloc);
+    for step in steps {
+        let own = later_step(alloc, step)?;
+        text.push_str(own.as_str())?;
+    }
+    Ok(text)
+}
+
+/// Lines of a scenario, with a comma between them.
+fn steps_json(alloc: Global, way: &[WayStep]) -> Result<String, AllocError>
+    ensures { IfOk result (λ text. string_bytes text ≡ steps_json way.now) }
+{
+    let [first, others @ ..] = way else {
+        return Ok(String::new(alloc));
+    };
+    let own = step_json(alloc, first)?;
+    let later = later_steps(alloc, others)?;
+    format!(in alloc; "{own}{later}")
+}
+
+/// The members that say a verdict.
+fn verdict_members(alloc: Global, verdict: &Verdict) -> Result<String, AllocError>
+    ensures { IfOk result (λ text. string_bytes text ≡ verdict_members verdict.now) }
+{
+    match verdict {
+        Verdict::Kept => String::from_str(alloc, "\"verdict\":\"kept\""),
+        Verdict::Broken(way) => {
+            let steps = steps_json(alloc, way.as_slice())?;
+            format!(in alloc; "\"verdict\":\"broken\",\"scenario\":[{steps}]")
+        }
+        Verdict::NotDecided(doubt) => {
+            let doubt = doubt_text(*doubt);
+            format!(in alloc; "\"verdict\":\"not decided\",\"reason\":\"{doubt}\"")
+        }
+    }
+}
+
+/// The members that say what is found of a phrase.
+fn outcome_members(alloc: Global, outcome: &Outcome) -> Result<String, AllocError>
+    ensures { IfOk result (λ text. string_bytes text ≡ outcome_members outcome.now) }
+{
+    match outcome {
+        Outcome::NoPromise => String::from_str(alloc, "\"verdict\":\"no promise\""),
+        Outcome::Decided(verdict) => verdict_members(alloc, verdict),
+    }
+}
+
+/// The object of a promise of this number.
+fn finding_json(
+    alloc: Global,
+    number: usize,
+    finding: &PromiseFinding,
+) -> Result<String, AllocError>
+    ensures { IfOk result (λ text. string_bytes text ≡ finding_json number finding.now) }
+{
+    let phrase = EscapedName(finding.phrase.get());
+    let members = outcome_members(alloc, &finding.outcome)?;
+    format!(in alloc; "{{\"promise\":{number},\"text\":\"{phrase}\",{members}}}")
+}
+
+/// The object of a promise of this number, with a comma in front.
+fn later_finding(
+    alloc: Global,
+    number: usize,
+    finding: &PromiseFinding,
+) -> Result<String, AllocError>
+    ensures { IfOk result (λ text. string_bytes text ≡ later_finding number finding.now) }
+{
+    let own = finding_json(alloc, number, finding)?;
+    format!(in alloc; ",{own}")
+}
+
+/// The objects of promises from the second on, with a comma in front of each.
+fn later_findings(alloc: Global, list: &[PromiseFinding]) -> Result<String, AllocError>
+    ensures { IfOk result (λ text. string_bytes text ≡ later_findings 2 list.now) }
+{
+    let mut text = String::new(alloc);
+    for (index, finding) in list.iter().enumerate() {
+        let own = later_finding(alloc, index + 2, finding)?;
+        text.push_str(own.as_str())?;
+    }
+    Ok(text)
+}
+
+/// The objects of promises, with a comma between them.
+fn each_json(alloc: Global, list: &[PromiseFinding]) -> Result<String, AllocError>
+    ensures { IfOk result (λ text. string_bytes text ≡ each_json list.now) }
+{
+    let [first, others @ ..] = list else {
+        return Ok(String::new(alloc));
+    };
+    let own = finding_json(alloc, 1, first)?;
+    let later = later_findings(alloc, others)?;
+    format!(in alloc; "{own}{later}")
+}
+
+/// What is found of the promises of a table, as a JSON value (RFC 8259): a list with an object for
+/// each, or a text that says why there is none. `AllocError` where there was no memory for it.
+pub fn findings_json(alloc: Global, found: &PromiseFindings) -> Result<String, AllocError>
+    ensures { IfOk result (λ text. string_bytes text ≡ findings_json found.now) }
+{
+    match found {
+        PromiseFindings::NoPhrases => {
+            String::from_str(alloc, "\"they are neither a text nor a list of texts\"")
+        }
+        PromiseFindings::TooMany => String::from_str(alloc, "\"there are more than 50\""),
+        PromiseFindings::Each(list) => {
+            let each = each_json(alloc, list.get())?;
+            format!(in alloc; "[{each}]")
+        }
+    }
+}

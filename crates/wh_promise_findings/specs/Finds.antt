@@ -1,0 +1,37 @@
+-- What `check` says of a table's promises.
+use Rattle.std.specs.Prelude.{◌≡◌, ℕ, Bool, false, List, [], ◌++◌, length, nat_eq, codes, Result, Ok, Err, if◌then◌else◌}
+use Rattle.wh_row_rules.specs.Broken.{definition}
+use Rattle.wh_row_rules.specs.declared.owned.OwnedTable.{OwnedTable}
+use Rattle.wh_table_text.specs.declared.fault.TableFault.{TableFault}
+use Rattle.wh_table_text.specs.Reading.{table_of}
+use Rattle.wh_table_check.specs.declared.checking.More.{More}
+use Rattle.wh_promise_check.specs.declared.findings.PromiseFindings.{PromiseFindings}
+use Rattle.wh_promise_check.specs.declared.findings.PromiseFindings.TheVariants as found
+use Rattle.wh_promise_check.specs.Findings.{phrases_in, AreDecided, are_kept}
+use Rattle.wh_promise_check.specs.Texts.{findings_text, findings_json}
+
+-- there is no promise
+abbrev pub has_none : PromiseFindings → Bool
+has_none (found.Each list) = nat_eq (length list) 0
+has_none _ = false
+
+-- the member of a table's object that says what is found; none where there is no promise
+abbrev pub members_of : PromiseFindings → List ℕ
+members_of findings = if has_none findings then [] else codes ",\"promises\":" ++ findings_json findings
+
+-- the same with the lines of text, and whether each promise is kept
+abbrev pub more_of : PromiseFindings → More
+more_of findings = record { good = are_kept findings; text = findings_text findings; members = members_of findings }
+
+-- what is found is right of the table, if there is one
+abbrev pub IsOfTable : List ℕ → Result OwnedTable TableFault → PromiseFindings → Type 0
+IsOfTable bytes (Ok table) findings = AreDecided (definition table) (phrases_in bytes) findings
+IsOfTable bytes (Err fault) findings = Unit {0}
+
+-- so of the table that the bytes are
+abbrev pub IsOf : List ℕ → PromiseFindings → Type 0
+IsOf bytes findings = IsOfTable bytes (table_of bytes) findings
+
+-- what `check` says is what is found of the promises
+abbrev pub Finds : List ℕ → More → Type 0
+Finds bytes more = (findings : PromiseFindings) × IsOf bytes findings × (more ≡ more_of findings)

@@ -1,0 +1,87 @@
+-- What queries of live runs are answered.
+use Rattle.std.specs.Prelude.{◌≡◌, ◌⊎◌, ℕ, List, codes, Option, Some, None, Result, Ok, Err, length}
+use Rattle.std.specs.Map.{lookup}
+use Rattle.serde_json.specs.Data.{Data}
+use Rattle.wh_client.specs.Calls.{Gives}
+use Rattle.wh_client.specs.Histories.{HasAllMembers, IsWhole, ReadsEvents}
+use Rattle.wh_client.specs.Requests.{IsRequest}
+use Rattle.wh_client.specs.declared.requests.Request.{Request}
+use Rattle.wh_commands.specs.declared.names.WorkerNames.{WorkerNames}
+use Rattle.wh_events.specs.declared.event.Event.{Event}
+use Rattle.wh_events.specs.declared.key.RunKey.{RunKey}
+use Rattle.wh_events.specs.Keys.{same_key}
+use Rattle.wh_host.specs.Machine.{HostView, IsHost}
+use Rattle.wh_query.specs.Queries.{query_at}
+use Rattle.wh_query.specs.Told.{completed_part}
+use Rattle.wh_query_messages.specs.Answers.{query_completed}
+use Rattle.wh_query_messages.specs.Polled.{Asked, query_in}
+use Rattle.wh_queryable.specs.Queries.{Queries}
+use Rattle.wh_queryable.specs.declared.queryable.QueryResult.{QueryResult}
+use Rattle.wh_queryable.specs.declared.queryable.QueryResult.TheVariants.{Failed}
+use Rattle.wh_replay.specs.Runs.{HistoryView}
+use Rattle.wh_replay.specs.declared.fault.Fault.{Fault}
+use Rattle.wh_tester.specs.Faults.{replay_fault_text}
+use Rattle.wh_workflow.specs.Law.{Program}
+
+-- ---- Histories
+
+-- the events that a query comes with: its members, and those of the pages after them
+pub record IsOwn (gives : Gives) (names : WorkerNames) (run : RunKey) (next_page : List ℕ) (members : List Data)
+    (events : List Event) : Type 0 where
+  pub all : List Data
+  pub are_all : HasAllMembers gives names run next_page members all
+  pub read : ReadsEvents all events
+
+-- the events of a run, as the server gives them from the first one
+pub record IsFetched (gives : Gives) (names : WorkerNames) (run : RunKey) (events : List Event) : Type 0 where
+  pub all : List Data
+  pub whole : IsWhole gives names run all
+  pub read : ReadsEvents all events
+
+-- the history of a run: what its query comes with, or what is fetched
+abbrev pub IsTold : Gives → WorkerNames → RunKey → List ℕ → List Data → List Event → Type 0
+IsTold gives names run next_page members events =
+    IsOwn gives names run next_page members events ⊎ IsFetched gives names run events
+
+-- ---- Results
+
+-- what is sent for what a query gave: that, or the fault of replay in words
+abbrev pub settled : Result QueryResult Fault → QueryResult
+settled (Ok given) = given
+settled (Err fault) = Failed (replay_fault_text fault)
+
+module _ {S : Type 0} (program : Program S) (queries : Queries S) where
+  -- what the query gives at the run that the host has cached under its key, where that ends in the last completed task
+  pub record IsResultIn (host : HostView) (asked : Asked) (given : QueryResult) : Type 0 where
+    pub history : HistoryView
+    pub cached : lookup (same_key asked.run) host.cache.runs ≡ Some history
+    pub up_to : length history.events ≡ asked.previous
+    pub is : query_at program queries history.events asked.query.query_type asked.query.input ≡ Ok given
+
+  -- what the query gives at the cached run of a host
+  pub record IsCachedResult (asked : Asked) (given : QueryResult) : Type 0 where
+    pub host : HostView
+    pub is_host : IsHost program host
+    pub is : IsResultIn host asked given
+
+module _ {S : Type 0} (gives : Gives) (names : WorkerNames) (program : Program S) (queries : Queries S) where
+  -- what the query gives at what the completed tasks of a told history say, or the fault of replay in words
+  pub record IsToldResult (asked : Asked) (given : QueryResult) : Type 0 where
+    pub events : List Event
+    pub told : IsTold gives names asked.run asked.next_page asked.members events
+    pub is : given ≡ settled (query_at program queries (completed_part events) asked.query.query_type asked.query.input)
+
+  -- what the query gives: at a cached run, or at a told history
+  abbrev pub IsQueryResult : Asked → QueryResult → Type 0
+  IsQueryResult asked given = IsCachedResult program queries asked given ⊎ IsToldResult asked given
+
+  -- the query could be read, and this is what it gives
+  abbrev pub IsSettled : Option Asked → QueryResult → Type 0
+  IsSettled None given = ⊥
+  IsSettled (Some asked) given = IsQueryResult asked given
+
+  -- the request answers the query of the token: with what it gives, or with a reason why it gives nothing
+  pub record AnswersPoll (token : List ℕ) (result : Data) (request : Request) : Type 0 where
+    pub given : QueryResult
+    pub is : IsSettled (query_in token result) given ⊎ ((reason : List ℕ) × (given ≡ Failed reason))
+    pub request_is : IsRequest request (codes "RespondQueryTaskCompleted") (query_completed names token given)

@@ -1,0 +1,118 @@
+//! The answer to a query.
+ghost use Rattle.std.specs.Prelude.{◌≡◌, Result, IfOk};
+ghost use Rattle.serde_json.specs.View.{view};
+ghost use Rattle.wh_queryable.specs.declared.queryable.QueryResult.{QueryResult};
+ghost use Rattle.wh_replay.specs.Checks.{Answers};
+ghost use Rattle.wh_replay.specs.declared.fault.Fault.{Fault};
+ghost use Rattle.wh_query_messages.specs.Polled.{query_in, query_seen};
+ghost use Rattle.wh_query_desk.specs.Answers.{AnswersPoll, IsQueryResult, IsSettled, settled};
+
+use crate::cached::query_cached;
+use crate::reasons::reason_of;
+use crate::told::told_events;
+use std::alloc::Global;
+use std::sync::Wait;
+use std::sync::ledger::Ledger;
+use wh_client::{AskFault, Client, Connection, Request};
+use wh_events::{OutOfMemory, Text};
+use wh_host::Host;
+use wh_query::query_told;
+use wh_query_messages::{PolledQuery, polled_query, query_completed};
+use wh_queryable::{QueryResult, Queryable};
+use wh_replay::RunFault;
+use wh_responses::QueryPoll;
+use wh_tester::ReplayFaultText;
+
+/// What is sent for what a query gave: that, or the fault of replay in words.
+fn settled(alloc: Global, given: Result<QueryResult, RunFault>) -> Result<QueryResult, OutOfMemory>
+    ensures { (defined : Result QueryResult Fault) → Answers given defined (λ given. given) →
+        IfOk result (λ sent. sent ≡ settled defined) }
+{
+    match given {
+        Ok(given) => Ok(given),
+        Err(RunFault::Fault(fault)) => {
+            let fault = ReplayFaultText(fault);
+            let text = format!(in alloc; "{fault}")?;
+            Ok(QueryResult::Failed(Text::new(text)))
+        }
+        Err(RunFault::OutOfMemory) => Err(OutOfMemory),
+    }
+}
+
+/// What a query gives by replay of its run's history, or the fault of that replay in words.
+fn query_by_replay<W: Queryable, L: Connection>(
+    client: &Client<'_, L>,
+    polled: PolledQuery,
+) -> Result<QueryResult, AskFault>
+    ensures { IfOk result (IsQueryResult L.gives client.now.options.now.names W.program W.queries (query_seen polled)) }
+{
+    let PolledQuery {
+        run,
+        query,
+        members,
+        next_page,
+        ..
+    } = polled;
+    let events = told_events(client, &run, next_page, members)?;
+    let alloc = client.allocator();
+    let given = query_told::<W>(alloc, events, query.query_type.get(), query.input.get());
+    Ok(settled(alloc, given)?)
+}
+
+/// What a query gives: at the run that the host has cached for it, or else by replay.
+fn query_polled<R: Wait, W: Queryable, T: Ledger, C: Ledger, F: Ledger, L: Connection>(
+    rt: &R,
+    host: &Host<W, T, C, F>,
+    client: &Client<'_, L>,
+    polled: PolledQuery,
+) -> Result<QueryResult, AskFault>
+    ensures { IfOk result (IsQueryResult L.gives client.now.options.now.names W.program W.queries (query_seen polled)) }
+{
+    if let Some(given) = query_cached(rt, client.allocator(), host, &polled)? {
+        return Ok(given);
+    }
+    query_by_replay::<W, L>(client, polled)
+}
+
+/// Reads a query, and gives what it gives.
+fn query_read<R: Wait, W: Queryable, T: Ledger, C: Ledger, F: Ledger, L: Connection>(
+    rt: &R,
+    host: &Host<W, T, C, F>,
+    client: &Client<'_, L>,
+    poll: QueryPoll,
+) -> Result<QueryResult, AskFault>
+    ensures { IfOk result (IsSettled L.gives client.now.options.now.names W.program W.queries
+        (query_in poll.token (view poll.result))) }
+{
+    let QueryPoll { token, result } = poll;
+    match polled_query(client.allocator(), token, result)? {
+        Some(polled) => query_polled(rt, host, client, polled),
+        None => Err(AskFault::Unreadable),
+    }
+}
+
+/// The request that answers a query, under its token: with what the query gives in the state after the
+/// last completed task of its run, from the cached run or by replay of its history (Temporal
+/// documentation, "Queries"); or with the reason why it gives nothing. Nothing of the host changes.
+/// `OutOfMemory` where there was no memory for the request.
+pub fn query_answer<R: Wait, W: Queryable, T: Ledger, C: Ledger, F: Ledger, L: Connection>(
+    rt: &R,
+    host: &Host<W, T, C, F>,
+    client: &Client<'_, L>,
+    poll: QueryPoll,
+) -> Result<Request, OutOfMemory>
+    ensures { IfOk result (AnswersPoll L.gives client.now.options.now.names W.program W.queries
+        poll.token (view poll.result)) }
+{
+    let alloc = client.allocator();
+    let token = poll.token.try_copy()?;
+    let given = match query_read(rt, host, client, poll) {
+        Ok(given) => given,
+        Err(fault) => QueryResult::Failed(Text::new(reason_of(alloc, &fault)?)),
+    };
+    let params = query_completed(alloc, &client.options.names, token.get(), &given)?;
+    Ok(Request {
+        method: "RespondQueryTaskCompleted",
+        params,
+    })
+}

@@ -1,0 +1,65 @@
+//! The history that a query is answered from, where its run is not cached.
+ghost use Rattle.std.specs.Prelude.{◌≡◌, IfOk, map};
+ghost use Rattle.serde_json.specs.View.{view};
+ghost use Rattle.wh_query_desk.specs.Answers.{IsFetched, IsOwn, IsTold};
+ghost use Rattle.wh_replay.specs.Runs.{follows};
+
+use serde_json::Value;
+use wh_client::{AskFault, Client, Connection, read_history};
+use wh_events::{Event, RunKey, Text};
+
+/// Whether events begin with the first of a history.
+fn begins_with_first(events: &[Event]) -> bool
+    ensures { result ≡ follows 0 events.now }
+{
+    match events.first() {
+        Some(event) => event.number.get() == 1,
+        None => false,
+    }
+}
+
+/// The events that a query comes with: its members, and those of the pages after them.
+fn own_events<L: Connection>(
+    client: &Client<'_, L>,
+    run: &RunKey,
+    next_page: Text,
+    members: Vec<Value>,
+) -> Result<Vec<Event>, AskFault>
+    ensures { IfOk result (λ events. IsOwn L.gives client.now.options.now.names run.now next_page
+        (map view members.items) events.items) }
+{
+    let all = client.with_pages(run, next_page, members)?;
+    read_history(client.allocator(), all.as_slice())
+}
+
+/// The events of a run, fetched from the first one.
+fn fetched_events<L: Connection>(
+    client: &Client<'_, L>,
+    run: &RunKey,
+) -> Result<Vec<Event>, AskFault>
+    ensures { IfOk result (λ events. IsFetched L.gives client.now.options.now.names run.now events.items) }
+{
+    let all = client.fetch_history(run)?;
+    read_history(client.allocator(), all.as_slice())
+}
+
+/// The history of a query's run: the events that the query comes with, where the first is among them,
+/// and else those that are fetched. The fault says why they can't be had.
+pub(crate) fn told_events<L: Connection>(
+    client: &Client<'_, L>,
+    run: &RunKey,
+    next_page: Text,
+    members: Vec<Value>,
+) -> Result<Vec<Event>, AskFault>
+    ensures { IfOk result (λ events. IsTold L.gives client.now.options.now.names run.now next_page
+        (map view members.items) events.items) }
+{
+    if members.is_empty() {
+        return fetched_events(client, run);
+    }
+    let events = own_events(client, run, next_page, members)?;
+    if begins_with_first(events.as_slice()) {
+        return Ok(events);
+    }
+    fetched_events(client, run)
+}

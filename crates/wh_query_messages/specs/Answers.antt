@@ -1,0 +1,53 @@
+-- The answer to a query, and what a server reads of it.
+use Rattle.std.specs.Prelude.{◌≡◌, ℕ, List, [], ◌∷◌, codes, Some, ⊤}
+use Rattle.serde_json.specs.Data.{Data, string}
+use Rattle.wh_events.specs.declared.event.Payload.{Payload}
+use Rattle.wh_queryable.specs.declared.queryable.QueryResult.{QueryResult}
+use Rattle.wh_queryable.specs.declared.queryable.QueryResult.TheVariants.{Answered, Failed}
+use Rattle.wh_commands.specs.declared.names.WorkerNames.{WorkerNames}
+use Rattle.wh_commands.specs.Objects.{object_of}
+use Rattle.wh_commands.specs.Payloads.{payloads_written}
+use Rattle.wh_commands.specs.ReadBack.{HaveBytes, payloads_of, text_at}
+use Rattle.wh_requests.specs.Requests.{query_failed}
+use Rattle.wh_requests.specs.ServerReads.{IsQueryFailed}
+
+-- a query that has a result
+abbrev pub query_answered : WorkerNames → List ℕ → List Payload → Data
+query_answered names token payloads = object_of (
+    (codes "namespace", string names.namespace) ∷ (codes "taskToken", string token)
+    ∷ (codes "completedType", string (codes "QUERY_RESULT_TYPE_ANSWERED"))
+    ∷ (codes "queryResult", payloads_written payloads) ∷ [])
+
+-- the answer to the query of a token: payloads, or why there are none
+abbrev pub query_completed : WorkerNames → List ℕ → QueryResult → Data
+query_completed names token (Answered payloads) = query_answered names token payloads
+query_completed names token (Failed reason) = query_failed names token reason
+
+-- ---- Laws
+
+-- a query is answered with these payloads
+pub record IsQueryAnswered (names : WorkerNames) (token : List ℕ) (payloads : List Payload) (d : Data) : Type 0 where
+  pub namespace : text_at (codes "namespace") d ≡ Some names.namespace
+  pub task : text_at (codes "taskToken") d ≡ Some token
+  pub kind : text_at (codes "completedType") d ≡ Some (codes "QUERY_RESULT_TYPE_ANSWERED")
+  pub result : payloads_of (codes "queryResult") d ≡ Some payloads
+
+-- the payloads of a result, if there are any, consist of bytes
+abbrev pub HasBytes : QueryResult → Type 0
+HasBytes (Answered payloads) = HaveBytes payloads
+HasBytes (Failed reason) = ⊤
+
+-- the answer has the payloads, or the reason
+abbrev pub IsAnswer : WorkerNames → List ℕ → QueryResult → Data → Type 0
+IsAnswer names token (Answered payloads) d = IsQueryAnswered names token payloads d
+IsAnswer names token (Failed reason) d = IsQueryFailed names token reason d
+
+-- what a server reads of an answer is the answer
+abbrev pub AnswersAreRead : Type 0
+AnswersAreRead = (names : WorkerNames) (token : List ℕ) (given : QueryResult) → HasBytes given
+    → IsAnswer names token given (query_completed names token given)
+
+-- two answers that are written alike are one answer to one query
+abbrev pub AnswersDiffer : Type 0
+AnswersDiffer = (names : WorkerNames) (token other_token : List ℕ) (given other : QueryResult) → HasBytes given → HasBytes other
+    → query_completed names token given ≡ query_completed names other_token other → (token ≡ other_token) × (given ≡ other)

@@ -1,0 +1,10 @@
+//! Queries that a poll brings, and the request that answers one, as their proto3 JSON forms
+//! (<https://protobuf.dev/programming-guides/json/>).
+#![tactic(auto)]
+
+mod answer;
+pub mod laws;
+mod polled;
+
+pub use answer::query_completed;
+pub use polled::{PolledQuery, polled_query};

@@ -1,0 +1,38 @@
+-- What is told of an activity that runs, and that it was cancelled.
+use Rattle.std.specs.Prelude.{◌≡◌, ◌≢◌, ℕ, List, [], ◌∷◌, codes, Some}
+use Rattle.serde_json.specs.Data.{Data, string, object}
+use Rattle.wh_events.specs.declared.event.Payload.{Payload}
+use Rattle.wh_commands.specs.declared.names.WorkerNames.{WorkerNames}
+use Rattle.wh_commands.specs.Objects.{put_all}
+use Rattle.wh_commands.specs.Payloads.{json_payloads, payloads_written}
+use Rattle.wh_commands.specs.ReadBack.{HaveBytes, payloads_of}
+use Rattle.wh_requests.specs.Requests.{activity_completed, activity_failed, answer_of}
+use Rattle.wh_requests.specs.ServerReads.{IsAnswer}
+
+-- the activity of a task goes on, with details for a later attempt
+abbrev pub activity_heartbeat : WorkerNames → List ℕ → List Payload → Data
+activity_heartbeat names token details = object (put_all (
+    (codes "details", payloads_written details) ∷ []) (answer_of names token))
+
+-- an activity that was cancelled, with the reason as its details
+abbrev pub activity_cancelled : WorkerNames → List ℕ → List ℕ → Data
+activity_cancelled names token reason = object (put_all (
+    (codes "details", json_payloads (string reason)) ∷ []) (answer_of names token))
+
+-- ---- Laws
+
+-- a heartbeat names the worker and the task, and has the details; an activity that was cancelled names both
+pub record AreHeartbeats (names : WorkerNames) (token : List ℕ) : Type 0 where
+  pub heartbeat : (details : List Payload) → IsAnswer names token (activity_heartbeat names token details)
+  pub details : (details : List Payload) → HaveBytes details
+      → payloads_of (codes "details") (activity_heartbeat names token details) ≡ Some details
+  pub cancelled : (reason : List ℕ) → IsAnswer names token (activity_cancelled names token reason)
+
+abbrev pub HeartbeatsAreRead : Type 0
+HeartbeatsAreRead = (names : WorkerNames) (token : List ℕ) → AreHeartbeats names token
+
+-- an activity that was cancelled is never written as one that failed, nor as a result
+abbrev pub CancelledIsApart : Type 0
+CancelledIsApart = (names : WorkerNames) (token other_token reason message : List ℕ) (outcome : List Payload)
+    → (activity_cancelled names token reason ≢ activity_failed names other_token message)
+    × (activity_cancelled names token reason ≢ activity_completed names other_token outcome)

@@ -1,0 +1,4 @@
+pub mod Requests
+pub mod Apart
+pub mod ServerReads
+pub mod Heartbeats

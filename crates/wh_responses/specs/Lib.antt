@@ -1,0 +1,4 @@
+pub mod Responses
+pub mod Served
+pub mod Refusals
+pub mod Heartbeats

@@ -1,0 +1,180 @@
+-- What the results of calls mean.
+use Rattle.std.specs.Prelude.{ℕ, List, [], ◌∷◌, codes, map, Option, Some, None, option_map}
+use Rattle.std.specs.Result.{result_ok}
+use Rattle.serde_json.specs.Data.{Data, Members, no_members, member}
+use Rattle.serde_json.specs.Find.{as_object}
+use Rattle.serde_json.specs.View.{view}
+use Rattle.wh_events.specs.declared.key.RunKey.{RunKey}
+use Rattle.wh_json.specs.Fields.{field, text_of, number_of, list_in}
+use Rattle.wh_json.specs.Markers.{some_text}
+use Rattle.wh_json.specs.Payloads.{payloads_at}
+use Rattle.wh_commands.specs.Options.{◌>>=◌}
+use Rattle.wh_commands.specs.ReadBack.{text_or_empty}
+use Rattle.wh_responses.specs.declared.response.ActivityPoll.{ActivityPoll}
+use Rattle.wh_responses.specs.declared.response.ActivityPoll.TheVariants as activity
+use Rattle.wh_responses.specs.declared.response.PolledActivity.{PolledActivity}
+use Rattle.wh_responses.specs.declared.response.HistoryPage.{HistoryPage}
+use Rattle.wh_responses.specs.declared.response.PolledTask.{PolledTask}
+use Rattle.wh_responses.specs.declared.response.WorkflowPoll.{WorkflowPoll}
+use Rattle.wh_responses.specs.declared.response.WorkflowPoll.TheVariants as workflow
+
+-- ---- Parts
+
+-- the members of a list, none where it is absent
+abbrev pub list_or_empty : Option Data → Option (List Data)
+list_or_empty None = Some []
+list_or_empty (Some d) = list_in d
+
+-- the number that a value is, 1 where it is absent
+abbrev pub number_or_one : Option Data → Option ℕ
+number_or_one None = Some 1
+number_or_one (Some d) = number_of d
+
+abbrev pub names_of : Members → List (List ℕ)
+names_of no_members = []
+names_of (member name d ms) = name ∷ names_of ms
+
+-- the names of an object's members, none where it is absent
+abbrev pub names_in : Option Data → Option (List (List ℕ))
+names_in None = Some []
+names_in (Some d) = option_map names_of (as_object d)
+
+-- the token of a task, empty where there is none
+abbrev pub token_in : Data → Option (List ℕ)
+token_in d = text_or_empty (field (codes "taskToken") (Some d))
+
+-- a text that is not empty
+abbrev pub needed : Option Data → Option (List ℕ)
+needed value = some_text (text_of value)
+
+-- the run that a task belongs to
+unfoldable pub run_in : Option Data → Option RunKey
+run_in execution = do
+  workflow_id ← needed (field (codes "workflowId") execution)
+  run_id ← needed (field (codes "runId") execution)
+  Some (record { workflow_id = workflow_id; run_id = run_id })
+
+-- the members of the history's list of events, none where it is absent
+abbrev pub events_in : Data → Option (List Data)
+events_in d = list_or_empty (field (codes "events") (field (codes "history") (Some d)))
+
+-- the token of the next page, empty on the last one
+abbrev pub next_page_in : Data → Option (List ℕ)
+next_page_in d = text_or_empty (field (codes "nextPageToken") (Some d))
+
+-- ---- Pages
+
+-- a page, its members as what they are
+pub record Page : Type 0 where
+  pub members : List Data
+  pub next_page : List ℕ
+
+abbrev pub page_seen : HistoryPage → Page
+page_seen page = record { members = map view page.members.items; next_page = page.next_page }
+
+-- the page that a result of `GetWorkflowExecutionHistory` is
+unfoldable pub page_in : Data → Option Page
+page_in d = do
+  next_page ← next_page_in d
+  members ← events_in d
+  Some (record { members = members; next_page = next_page })
+
+-- ---- Workflow tasks
+
+-- a task, its members as what they are
+pub record Task : Type 0 where
+  pub token : List ℕ
+  pub run : RunKey
+  pub attempt : ℕ
+  pub members : List Data
+  pub next_page : List ℕ
+  pub queries : List (List ℕ)
+
+abbrev pub task_seen : PolledTask → Task
+task_seen task = record {
+  token = task.token;
+  run = task.run;
+  attempt = task.attempt;
+  members = map view task.members.items;
+  next_page = task.next_page;
+  queries = task.queries.items;
+}
+
+-- what a poll gave
+pub data Poll : Type 0 where
+  nothing : Poll
+  task : Task → Poll
+  query : (token : List ℕ) (result : Data) → Poll
+  unreadable : Poll
+
+abbrev pub poll_seen : WorkflowPoll → Poll
+poll_seen workflow.Nothing = nothing
+poll_seen (workflow.Task polled) = task (task_seen polled)
+poll_seen (workflow.Query asked) = query asked.token (view asked.result)
+poll_seen workflow.Unreadable = unreadable
+
+-- the task of a token
+unfoldable pub task_in : List ℕ → Data → Option Task
+task_in token d = do
+  attempt ← number_or_one (field (codes "attempt") (Some d))
+  run ← run_in (field (codes "workflowExecution") (Some d))
+  queries ← names_in (field (codes "queries") (Some d))
+  page ← page_in d
+  Some (record {
+    token = token;
+    run = run;
+    attempt = attempt;
+    members = page.members;
+    next_page = page.next_page;
+    queries = queries;
+  })
+
+-- a task, if it could be read
+abbrev pub task_or_unreadable : Option Task → Poll
+task_or_unreadable None = unreadable
+task_or_unreadable (Some read) = task read
+
+-- the query that came by itself, if there is one, or else the task
+abbrev pub query_or_task : List ℕ → Data → Option Data → Poll
+query_or_task token d (Some asked) = query token d
+query_or_task token d None = task_or_unreadable (task_in token d)
+
+-- what a result with this token means; with an empty one it is an empty poll
+abbrev pub poll_of_token : Data → Option (List ℕ) → Poll
+poll_of_token d None = unreadable
+poll_of_token d (Some []) = nothing
+poll_of_token d (Some (c ∷ cs)) = query_or_task (c ∷ cs) d (field (codes "query") (Some d))
+
+-- what a result of `PollWorkflowTaskQueue` means
+abbrev pub workflow_poll : Data → Poll
+workflow_poll d = poll_of_token d (token_in d)
+
+-- ---- Activity tasks
+
+-- the type of an activity
+unfoldable pub activity_type : Data → Option (List ℕ)
+activity_type d = needed (field (codes "name") (field (codes "activityType") (Some d)))
+
+-- the task of a token
+unfoldable pub activity_in : List ℕ → Data → Option PolledActivity
+activity_in token d = do
+  run ← run_in (field (codes "workflowExecution") (Some d))
+  id ← needed (field (codes "activityId") (Some d))
+  activity ← activity_type d
+  input ← result_ok (payloads_at 0 (field (codes "input") (Some d)))
+  Some (record { token = token; run = run; id = id; activity = activity; input = input })
+
+-- a task, if it could be read
+abbrev pub activity_or_unreadable : Option PolledActivity → ActivityPoll
+activity_or_unreadable None = activity.Unreadable
+activity_or_unreadable (Some read) = activity.Task read
+
+-- what a result with this token means; with an empty one it is an empty poll
+abbrev pub activity_of_token : Data → Option (List ℕ) → ActivityPoll
+activity_of_token d None = activity.Unreadable
+activity_of_token d (Some []) = activity.Nothing
+activity_of_token d (Some (c ∷ cs)) = activity_or_unreadable (activity_in (c ∷ cs) d)
+
+-- what a result of `PollActivityTaskQueue` means
+abbrev pub activity_poll : Data → ActivityPoll
+activity_poll d = activity_of_token d (token_in d)

@@ -1,0 +1,60 @@
+-- What a server's results are read as: the tasks and pages that it writes.
+use Rattle.std.specs.Prelude.{◌≡◌, ◌≢◌, ◌<◌, ◌^◌, List, [], ◌∷◌, codes, Some}
+use Rattle.serde_json.specs.Data.{Data, number, string, array, object, unsigned, Members}
+use Rattle.serde_json.specs.View.{items_of}
+use Rattle.wh_events.specs.declared.key.RunKey.{RunKey}
+use Rattle.wh_responses.specs.declared.response.ActivityPoll.TheVariants as activity
+use Rattle.wh_responses.specs.declared.response.PolledActivity.{PolledActivity}
+use Rattle.wh_commands.specs.Commands.{named}
+use Rattle.wh_commands.specs.Objects.{object_of}
+use Rattle.wh_commands.specs.Payloads.{payloads_written}
+use Rattle.wh_commands.specs.ReadBack.{HaveBytes}
+use Rattle.wh_responses.specs.Responses.{Page, Task, nothing, task, names_of, page_in, workflow_poll, activity_poll}
+
+-- the list of events of a history
+abbrev pub history_of : List Data → Data
+history_of members = object_of ((codes "events", array (items_of members)) ∷ [])
+
+-- a page of a run's history
+abbrev pub page_result : Page → Data
+page_result page = object_of (
+    (codes "history", history_of page.members) ∷ (codes "nextPageToken", string page.next_page) ∷ [])
+
+abbrev pub run_result : RunKey → Data
+run_result run = object_of ((codes "workflowId", string run.workflow_id) ∷ (codes "runId", string run.run_id) ∷ [])
+
+-- a workflow task, with the queries beside it
+abbrev pub task_result : Task → Members → Data
+task_result polled queries = object_of (
+    (codes "taskToken", string polled.token) ∷ (codes "workflowExecution", run_result polled.run)
+    ∷ (codes "attempt", number (unsigned polled.attempt)) ∷ (codes "history", history_of polled.members)
+    ∷ (codes "nextPageToken", string polled.next_page) ∷ (codes "queries", object queries) ∷ [])
+
+-- an activity task
+abbrev pub activity_result : PolledActivity → Data
+activity_result polled = object_of (
+    (codes "taskToken", string polled.token) ∷ (codes "workflowExecution", run_result polled.run)
+    ∷ (codes "activityId", string polled.id) ∷ (codes "activityType", named polled.activity)
+    ∷ (codes "input", payloads_written polled.input) ∷ [])
+
+-- both ids of a run are there
+abbrev pub IsNamed : RunKey → Type 0
+IsNamed run = (run.workflow_id ≢ []) × (run.run_id ≢ [])
+
+-- a page is read as it is
+abbrev pub PageIsRead : Type 0
+PageIsRead = (page : Page) → page_in (page_result page) ≡ Some page
+
+-- a workflow task is read as it is: under its own token, with its own run, events and queries
+abbrev pub TaskIsRead : Type 0
+TaskIsRead = (polled : Task) (queries : Members) → polled.token ≢ [] → IsNamed polled.run → polled.attempt < 2 ^ 63
+    → names_of queries ≡ polled.queries → workflow_poll (task_result polled queries) ≡ task polled
+
+-- an activity task is read as it is
+abbrev pub ActivityIsRead : Type 0
+ActivityIsRead = (polled : PolledActivity) → polled.token ≢ [] → IsNamed polled.run → polled.id ≢ [] → polled.activity ≢ []
+    → HaveBytes polled.input → activity_poll (activity_result polled) ≡ activity.Task polled
+
+-- a result without any field is an empty poll
+abbrev pub EmptyIsNothing : Type 0
+EmptyIsNothing = (workflow_poll (object_of []) ≡ nothing) × (activity_poll (object_of []) ≡ activity.Nothing)

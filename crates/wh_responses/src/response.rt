@@ -1,0 +1,382 @@
+//! Reads results.
+
+ghost use Rattle.std.specs.Prelude.{◌≡◌, IfOk, IfErr, map, option_map, codes, Some, None, Option};
+ghost use Rattle.std.specs.Result.{result_ok};
+ghost use Rattle.serde_json.specs.Find.{get};
+ghost use Rattle.serde_json.specs.View.{view, members_view};
+ghost use Rattle.wh_json.specs.Fields.{field, list_in, unless_null};
+ghost use Rattle.wh_json.specs.Payloads.{payloads_at};
+ghost use Rattle.wh_commands.specs.ReadBack.{text_or_empty};
+ghost use Rattle.wh_responses.specs.Responses as spec;
+ghost use Rattle.wh_responses.specs.Responses.{page_seen, poll_seen, task_seen};
+
+use serde_json::{Map, Value};
+use std::alloc::Global;
+use wh_events::{Items, OutOfMemory, Payload, RunKey, Text};
+use wh_json::{ReadFault, field, number_of, payloads_at, text_of};
+
+/// A page of a run's history.
+#[derive(Debug, Drop)]
+pub struct HistoryPage {
+    /// Its events, as the members of a history's list.
+    pub members: Vec<Value>,
+    /// The token of the next page, empty on the last one.
+    pub next_page: Text,
+}
+
+/// A workflow task, as a poll gives it.
+#[derive(Debug, Drop)]
+pub struct PolledTask {
+    /// The token under which it is answered.
+    pub token: Text,
+    /// The run that it belongs to.
+    pub run: RunKey,
+    /// Which attempt of the task this is, counted from 1.
+    pub attempt: u64,
+    /// The events that it comes with, as the members of a history's list: those from the first, or
+    /// since the last task.
+    pub members: Vec<Value>,
+    /// The token of the page on which they go on, empty where they are all.
+    pub next_page: Text,
+    /// The names of the queries that came with it.
+    pub queries: Vec<Text>,
+}
+
+/// A query that came by itself, as a poll gives it.
+#[derive(Debug, Drop)]
+pub struct QueryPoll {
+    /// The token under which it is answered.
+    pub token: Text,
+    /// The whole result of the poll.
+    pub result: Value,
+}
+
+/// What a result of `PollWorkflowTaskQueue` means.
+#[derive(Debug, Drop)]
+pub enum WorkflowPoll {
+    /// There is no task now.
+    Nothing,
+    /// A task.
+    Task(PolledTask),
+    /// A query that came by itself.
+    Query(QueryPoll),
+    /// A task in another form than that of the service.
+    Unreadable,
+}
+
+/// An activity task, as a poll gives it.
+#[derive(Debug, Drop)]
+pub struct PolledActivity {
+    /// The token under which it is answered.
+    pub token: Text,
+    /// The run that asked for the activity.
+    pub run: RunKey,
+    /// The id of the activity in its run.
+    pub id: Text,
+    /// The type of the activity.
+    pub activity: Text,
+    /// What the activity is given.
+    pub input: Items<Payload>,
+}
+
+/// What a result of `PollActivityTaskQueue` means.
+#[derive(Debug, Drop)]
+pub enum ActivityPoll {
+    /// There is no task now.
+    Nothing,
+    /// A task.
+    Task(PolledActivity),
+    /// A task in another form than that of the service.
+    Unreadable,
+}
+
+/// The text that a value is, empty where it is absent.
+fn text_or_empty<'v>(value: Option<&'v Value>) -> Option<&'v str>
+    ensures { option_map (λ text. text.now) result
+        ≡ text_or_empty (option_map (λ v. view v.now) value.entry) }
+{
+    match value {
+        Some(value) => value.as_str(),
+        None => Some(""),
+    }
+}
+
+/// A copy of the text that a value is, if it is one and not empty. `OutOfMemory` where there was no
+/// memory for it.
+pub fn needed(alloc: Global, value: Option<&Value>) -> Result<Option<Text>, OutOfMemory>
+    ensures { IfOk result (λ text. text ≡ spec.needed (option_map (λ v. view v.now) value.entry)) }
+{
+    let text = text_of(value);
+    if text.is_empty() {
+        return Ok(None);
+    }
+    Ok(Some(Text::new(String::from_str(alloc, text)?)))
+}
+
+/// The run that a task belongs to, if both of its ids are there. `OutOfMemory` where there was no memory
+/// for them.
+#[tactic(auto, unfolding(crate::specs::Responses::run_in))]
+pub fn run_in(alloc: Global, value: Option<&Value>) -> Result<Option<RunKey>, OutOfMemory>
+    ensures { IfOk result (λ run. run ≡ spec.run_in (option_map (λ v. view v.now) value.entry)) }
+{
+    let Some(workflow_id) = needed(alloc, field(value, "workflowId"))? else {
+        return Ok(None);
+    };
+    let Some(run_id) = needed(alloc, field(value, "runId"))? else {
+        return Ok(None);
+    };
+    Ok(Some(RunKey {
+        workflow_id,
+        run_id,
+    }))
+}
+
+/// The member at a name.
+fn removed(value: Value, name: &str) -> Option<Value>
+    ensures { option_map view result ≡ get name.now (view value) }
+{
+    match value {
+        Value::Object(mut members) => members.remove(name),
+        _ => None,
+    }
+}
+
+/// The value, unless it is null.
+fn unless_null(value: Option<Value>) -> Option<Value>
+    ensures { option_map view result ≡ unless_null (option_map view value) }
+{
+    let value = value?;
+    if value.is_null() {
+        drop(value);
+        return None;
+    }
+    Some(value)
+}
+
+/// The member at a name. A member that is null counts as absent.
+#[tactic(auto, unfolding(wh_json::specs::Fields::field))]
+fn taken(value: Option<Value>, name: &str) -> Option<Value>
+    ensures { option_map view result ≡ field name.now (option_map view value) }
+{
+    unless_null(removed(value?, name))
+}
+
+/// The members of a list.
+#[tactic(auto, unfolding(wh_json::specs::Fields::list_in))]
+fn into_list(value: Value) -> Option<Vec<Value>>
+    ensures { option_map (λ values. map view values.items) result ≡ list_in (view value) }
+{
+    match value {
+        Value::Array(values) => Some(values),
+        _ => None,
+    }
+}
+
+/// The members of a list, none where it is absent.
+fn list_or_empty(alloc: Global, value: Option<Value>) -> Option<Vec<Value>>
+    ensures { option_map (λ values. map view values.items) result ≡ spec.list_or_empty (option_map view value) }
+{
+    match value {
+        None => Some(Vec::new(alloc)),
+        Some(value) => into_list(value),
+    }
+}
+
+/// The members of the history's list of events, none where it is absent.
+fn events_in(alloc: Global, value: Value) -> Option<Vec<Value>>
+    ensures { option_map (λ events. map view events.items) result ≡ spec.events_in (view value) }
+{
+    let history = taken(Some(value), "history");
+    list_or_empty(alloc, taken(history, "events"))
+}
+
+/// A page of events, and the token of the next one.
+#[tactic(auto, unfolding(crate::specs::Responses::page_in))]
+fn page_in(alloc: Global, value: Value) -> Result<Option<HistoryPage>, OutOfMemory>
+    ensures { IfOk result (λ page. option_map page_seen page ≡ spec.page_in (view value)) }
+{
+    let Some(next_page) = text_or_empty(field(Some(&value), "nextPageToken")) else {
+        return Ok(None);
+    };
+    let next_page = Text::new(String::from_str(alloc, next_page)?);
+    let Some(members) = events_in(alloc, value) else {
+        return Ok(None);
+    };
+    Ok(Some(HistoryPage { members, next_page }))
+}
+
+/// Reads a result of `GetWorkflowExecutionHistory`: a page of the history, which may be empty. Its
+/// members are those of the result, not copies. `None` where the list of events is no list or the
+/// token is no text. `OutOfMemory` where there was no memory for the token.
+pub fn history_page(alloc: Global, value: Value) -> Result<Option<HistoryPage>, OutOfMemory>
+    ensures { IfOk result (λ page. option_map page_seen page ≡ spec.page_in (view value)) }
+{
+    page_in(alloc, value)
+}
+
+/// The number that a value is, 1 where it is absent.
+fn number_or_one(value: Option<&Value>) -> Option<u64>
+    ensures { result ≡ spec.number_or_one (option_map (λ v. view v.now) value.entry) }
+{
+    match value {
+        None => Some(1),
+        Some(value) => number_of(value),
+    }
+}
+
+/// The names of an object's members.
+#[tactic(auto, using(crate::proofs::Lists::names_of_view))]
+fn names_of(alloc: Global, members: &Map<String, Value>) -> Result<Vec<Text>, OutOfMemory>
+    ensures { IfOk result (λ names. names.items ≡ spec.names_of (members_view members.now.entries)) }
+{
+    let mut names = Vec::new(alloc);
+    for name in members.keys() {
+        names.push(Text::new(name.clone()?))?;
+    }
+    Ok(names)
+}
+
+/// The names of an object's members, none where it is absent.
+fn names_in(alloc: Global, value: Option<&Value>) -> Result<Option<Vec<Text>>, OutOfMemory>
+    ensures { IfOk result (λ names. option_map (λ names. names.items) names
+        ≡ spec.names_in (option_map (λ v. view v.now) value.entry)) }
+{
+    let Some(value) = value else {
+        return Ok(Some(Vec::new(alloc)));
+    };
+    let Some(members) = value.as_object() else {
+        return Ok(None);
+    };
+    Ok(Some(names_of(alloc, members)?))
+}
+
+/// The token of a task, empty where there is none.
+fn token_in(alloc: Global, value: &Value) -> Result<Option<Text>, OutOfMemory>
+    ensures { IfOk result (λ token. token ≡ spec.token_in (view value.now)) }
+{
+    let Some(token) = text_or_empty(field(Some(value), "taskToken")) else {
+        return Ok(None);
+    };
+    Ok(Some(Text::new(String::from_str(alloc, token)?)))
+}
+
+/// The workflow task of a token.
+#[tactic(auto, unfolding(crate::specs::Responses::task_in))]
+fn task_in(alloc: Global, token: Text, value: Value) -> Result<Option<PolledTask>, OutOfMemory>
+    ensures { IfOk result (λ task. option_map task_seen task ≡ spec.task_in token (view value)) }
+{
+    let Some(attempt) = number_or_one(field(Some(&value), "attempt")) else {
+        return Ok(None);
+    };
+    let Some(run) = run_in(alloc, field(Some(&value), "workflowExecution"))? else {
+        return Ok(None);
+    };
+    let Some(queries) = names_in(alloc, field(Some(&value), "queries"))? else {
+        return Ok(None);
+    };
+    let Some(page) = page_in(alloc, value)? else {
+        return Ok(None);
+    };
+    Ok(Some(PolledTask {
+        token,
+        run,
+        attempt,
+        members: page.members,
+        next_page: page.next_page,
+        queries,
+    }))
+}
+
+/// Reads a result of `PollWorkflowTaskQueue`. Without a token it is an empty poll; else a query that
+/// came by itself, or a task. The members of the task's history are those of the result, not copies.
+/// A task without the ids of its run, or with a field of another form, is unreadable. `OutOfMemory`
+/// where there was no memory for its texts.
+pub fn workflow_poll(alloc: Global, value: Value) -> Result<WorkflowPoll, OutOfMemory>
+    ensures { IfOk result (λ poll. poll_seen poll ≡ spec.workflow_poll (view value)) }
+{
+    let Some(token) = token_in(alloc, &value)? else {
+        return Ok(WorkflowPoll::Unreadable);
+    };
+    if token.get().is_empty() {
+        return Ok(WorkflowPoll::Nothing);
+    }
+    if field(Some(&value), "query").is_some() {
+        return Ok(WorkflowPoll::Query(QueryPoll {
+            token,
+            result: value,
+        }));
+    }
+    match task_in(alloc, token, value)? {
+        Some(task) => Ok(WorkflowPoll::Task(task)),
+        None => Ok(WorkflowPoll::Unreadable),
+    }
+}
+
+/// The payloads that an activity is given.
+fn input_in(alloc: Global, value: Option<&Value>) -> Result<Option<Items<Payload>>, OutOfMemory>
+    ensures { IfOk result (λ input. input
+        ≡ result_ok (payloads_at 0 (option_map (λ v. view v.now) value.entry))) }
+{
+    match payloads_at(alloc, 0, value) {
+        Ok(input) => Ok(Some(Items::new(input))),
+        Err(ReadFault::OutOfMemory) => Err(OutOfMemory),
+        Err(_) => Ok(None),
+    }
+}
+
+/// The type of an activity.
+#[tactic(auto, unfolding(crate::specs::Responses::activity_type))]
+fn activity_type(alloc: Global, value: &Value) -> Result<Option<Text>, OutOfMemory>
+    ensures { IfOk result (λ activity. activity ≡ spec.activity_type (view value.now)) }
+{
+    let named = field(Some(value), "activityType");
+    needed(alloc, field(named, "name"))
+}
+
+/// The activity task of a token.
+#[tactic(auto, unfolding(crate::specs::Responses::activity_in))]
+fn activity_in(
+    alloc: Global,
+    token: Text,
+    value: &Value,
+) -> Result<Option<PolledActivity>, OutOfMemory>
+    ensures { IfOk result (λ task. task ≡ spec.activity_in token (view value.now)) }
+{
+    let Some(run) = run_in(alloc, field(Some(value), "workflowExecution"))? else {
+        return Ok(None);
+    };
+    let Some(id) = needed(alloc, field(Some(value), "activityId"))? else {
+        return Ok(None);
+    };
+    let Some(activity) = activity_type(alloc, value)? else {
+        return Ok(None);
+    };
+    let Some(input) = input_in(alloc, field(Some(value), "input"))? else {
+        return Ok(None);
+    };
+    Ok(Some(PolledActivity {
+        token,
+        run,
+        id,
+        activity,
+        input,
+    }))
+}
+
+/// Reads a result of `PollActivityTaskQueue`. Without a token it is an empty poll; else a task. A task
+/// without the ids of its run and of its activity, without a type, or with a field of another form, is
+/// unreadable. `OutOfMemory` where there was no memory for its texts and payloads.
+pub fn activity_poll(alloc: Global, value: &Value) -> Result<ActivityPoll, OutOfMemory>
+    ensures { IfOk result (λ poll. poll ≡ spec.activity_poll (view value.now)) }
+{
+    let Some(token) = token_in(alloc, value)? else {
+        return Ok(ActivityPoll::Unreadable);
+    };
+    if token.get().is_empty() {
+        return Ok(ActivityPoll::Nothing);
+    }
+    match activity_in(alloc, token, value)? {
+        Some(task) => Ok(ActivityPoll::Task(task)),
+        None => Ok(ActivityPoll::Unreadable),
+    }
+}

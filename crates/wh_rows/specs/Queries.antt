@@ -1,0 +1,32 @@
+-- What runs of rows answer to queries.
+use Rattle.std.specs.Prelude.{◌≡◌, ℕ, List, [], ◌∷◌, Some, codes, bytes_eq, if◌then◌else◌}
+use Rattle.serde_json.specs.Data.{string}
+use Rattle.serde_json.specs.Read.{read}
+use Rattle.serde_json.specs.Written.{compact_text}
+use Rattle.wh_events.specs.declared.event.Payload.{Payload}
+use Rattle.wh_queryable.specs.declared.queryable.QueryResult.{QueryResult}
+use Rattle.wh_queryable.specs.declared.queryable.QueryResult.TheVariants.{Answered}
+use Rattle.wh_queryable.specs.Queries.{Queries, json_payload, json_result, unknown_query}
+use Rattle.wh_rows.specs.declared.row.RowsState.{RowsState}
+
+-- the name of the state that a run is in, as a string of JSON
+abbrev pub state_json : RowsState → List ℕ
+state_json state = compact_text (string state.at)
+
+-- what a query of a type gives: `state` is known, and no other type
+abbrev pub row_query : RowsState → List ℕ → QueryResult
+row_query state query_type =
+    if bytes_eq query_type (codes "state") then json_result (state_json state)
+    else unknown_query query_type (codes "state")
+
+-- whatever its input is
+abbrev pub row_queries : Queries RowsState
+row_queries state query_type input = row_query state query_type
+
+-- the query `state` is answered by one payload, a JSON text that reads as the name of the run's state
+abbrev pub TellsItsState : Type 0
+TellsItsState =
+    (state : RowsState) (input : List Payload)
+    → (json : List ℕ)
+    × (row_queries state (codes "state") input ≡ Answered (json_payload json ∷ []))
+    × (read json ≡ Some (string state.at))

@@ -1,0 +1,49 @@
+//! What runs of tables answer to queries.
+ghost use Rattle.std.specs.Prelude.{◌≡◌, IfOk, string_bytes};
+ghost use Rattle.wh_rows.specs.Queries.{state_json, row_query};
+
+use crate::row::RowsState;
+use crate::table::{Rows, Table};
+use serde_json::Value;
+use std::alloc::Global;
+use wh_events::{OutOfMemory, Payload};
+use wh_queryable::{QueryResult, Queryable, json_result, unknown_query};
+
+/// The name of the state that a run is in, as a string of JSON.
+fn state_json(alloc: Global, state: &RowsState) -> Result<String, OutOfMemory>
+    ensures { IfOk result (λ json. string_bytes json ≡ state_json state.now) }
+{
+    let name = Value::String(String::from_str(alloc, state.at.get())?);
+    Ok(name.to_string(alloc)?)
+}
+
+/// What a run of rows answers to a query. The type `state` gives the name of the state that the run
+/// is in, as a string of JSON (RFC 8259); of a closed run that is the state that it was closed in.
+/// Each other type fails as an unknown one. `OutOfMemory` where there was no memory for the result.
+pub fn row_query(
+    alloc: Global,
+    state: &RowsState,
+    query_type: &str,
+) -> Result<QueryResult, OutOfMemory>
+    ensures { IfOk result (λ given. given ≡ row_query state.now query_type.now) }
+{
+    match query_type {
+        "state" => json_result(alloc, state_json(alloc, state)?),
+        _ => unknown_query(alloc, query_type, "state"),
+    }
+}
+
+impl<T: Table> Queryable for Rows<T> {
+    ghost use Rattle.wh_rows.specs.Queries.{row_queries};
+
+    ghost queries = { row_queries };
+
+    fn query(
+        alloc: Global,
+        state: &RowsState,
+        query_type: &str,
+        _input: &[Payload],
+    ) -> Result<QueryResult, OutOfMemory> {
+        row_query(alloc, state, query_type)
+    }
+}

@@ -1,0 +1,4 @@
+pub mod Parts
+pub mod Repeats
+pub mod Sizes
+pub mod Steps

@@ -1,0 +1,45 @@
+-- What is reported of a service beside its report.
+use Rattle.std.specs.Prelude.{ℕ, List, [], ◌∷◌, ◌++◌, codes, Bool, true, false, Option, Some, None, if◌then◌else◌}
+use Rattle.wh_diagnostics.specs.Diagnostics.{fault_lines, named_line}
+use Rattle.wh_service.specs.Repeats.{is_repeat, repeated_text, repeats}
+use Rattle.wh_service.specs.declared.failures.FileFailure.{FileFailure}
+use Rattle.wh_service.specs.declared.service.ServiceEnd.{ServiceEnd}
+use Rattle.wh_service_command.specs.declared.diagnostics.ServiceNotes.{ServiceNotes}
+
+-- a failed task repeats the one before it, if there is one
+abbrev pub is_reported_before : Option FileFailure → FileFailure → Bool
+is_reported_before None failure = false
+is_reported_before (Some before) failure = is_repeat before failure
+
+-- the line of a failed task and those after it that repeat it, unless it repeats the one before
+abbrev pub failure_line : Option FileFailure → FileFailure → List FileFailure → List ℕ → List ℕ
+failure_line before failure rest name =
+    if is_reported_before before failure then [] else named_line (repeated_text failure (repeats failure rest)) name
+
+-- a line for each failed task, after the one before, but for those that repeat one
+abbrev pub failure_lines : Option FileFailure → List FileFailure → List ℕ → List ℕ
+failure_lines before [] name = []
+failure_lines before (failure ∷ rest) name =
+    failure_line before failure rest name ++ failure_lines (Some failure) rest name
+
+-- whether no worker has a fault
+abbrev pub worker_lines : Bool → List ℕ → List ℕ
+worker_lines true name = []
+worker_lines false name = named_line (codes "a worker has a fault: a call of its source failed") name
+
+-- whether a last task was not compared with its record
+abbrev pub uncompared_lines : Bool → List ℕ → List ℕ
+uncompared_lines true name =
+    named_line (codes "the last task of a recorded history is not compared with its record; replay does that") name
+uncompared_lines false name = []
+
+-- what is reported of a service beside its report: the files that are no JSON, the failed tasks, a fault of a worker, and
+-- whether a last task was not compared
+abbrev pub service_lines : ServiceEnd → List ℕ → List ℕ
+service_lines end name =
+    fault_lines end.file_faults.items name ++ (failure_lines None end.failures.items name
+    ++ (worker_lines end.faultless name ++ uncompared_lines end.uncompared name))
+
+-- the same of the end that the notes hold
+abbrev pub notes_text : ServiceNotes → List ℕ → List ℕ
+notes_text notes name = service_lines notes.end name

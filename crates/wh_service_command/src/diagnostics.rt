@@ -1,0 +1,122 @@
+//! What is reported of a service beside its report.
+
+ghost use Rattle.std.specs.Prelude.{◌≡◌, None, OnOk, option_map};
+ghost use Rattle.std.specs.Io.KnownBytes.{Appends};
+ghost use Rattle.wh_service_command.specs.Diagnostics.{failure_line, failure_lines, is_reported_before};
+ghost use Rattle.wh_service_command.specs.Diagnostics.{service_lines, uncompared_lines, worker_lines};
+
+use std::io;
+use std::io::Write;
+use wh_console::Message;
+use wh_diagnostics::{write_faults, write_line};
+use wh_service::{FileFailure, RepeatedFailure, ServiceEnd, is_repeat, repeats};
+use wh_tester::Shown;
+
+/// What is reported of a service beside its report.
+#[derive(Drop)]
+pub(crate) struct ServiceNotes {
+    /// How the service ended.
+    pub(crate) end: ServiceEnd,
+}
+
+/// Whether a failed task repeats the one before it, if there is one.
+fn is_reported_before(before: Option<&FileFailure>, failure: &FileFailure) -> bool
+    ensures { result ≡ is_reported_before (option_map (λ one. one.now) before.entry) failure.now }
+{
+    match before {
+        Some(before) => is_repeat(before, failure),
+        None => false,
+    }
+}
+
+/// Writes why a task failed, and how many of those after it repeat that, unless it repeats the one
+/// before.
+fn write_failure<E: Write>(
+    before: Option<&FileFailure>,
+    failure: &FileFailure,
+    rest: &[FileFailure],
+    name: &str,
+    writer: &mut E,
+) -> io::Result<()>
+    ensures { let line = failure_line (option_map (λ one. one.now) before.entry) failure.now rest.now name.now in
+        OnOk result (Appends (E.contents writer.old) (E.contents writer.new) line) }
+{
+    if is_reported_before(before, failure) {
+        return Ok(());
+    }
+    let more = repeats(failure, rest);
+    let failure = RepeatedFailure { failure, more };
+    let name = Shown(name);
+    writeln!(writer, "{name}: {failure}")
+}
+
+/// Writes why tasks failed, a line for each, but for those that repeat one.
+fn write_failures<E: Write>(failures: &[FileFailure], name: &str, writer: &mut E) -> io::Result<()>
+    ensures { OnOk result (Appends (E.contents writer.old) (E.contents writer.new)
+        (failure_lines None failures.now name.now)) }
+{
+    let mut before = None;
+    for index in 0..failures.len() {
+        let failure = &failures[index];
+        write_failure(before, failure, &failures[index + 1..], name, writer)?;
+        before = Some(failure);
+    }
+    Ok(())
+}
+
+/// Writes that a worker has a fault, where one has.
+fn write_worker<E: Write>(faultless: bool, name: &str, writer: &mut E) -> io::Result<()>
+    ensures { OnOk result (Appends (E.contents writer.old) (E.contents writer.new) (worker_lines faultless name.now)) }
+{
+    if faultless {
+        return Ok(());
+    }
+    write_line(
+        "a worker has a fault: a call of its source failed",
+        name,
+        writer,
+    )
+}
+
+/// Writes that not all that is recorded was compared, where it is so.
+fn write_uncompared<E: Write>(uncompared: bool, name: &str, writer: &mut E) -> io::Result<()>
+    ensures { OnOk result (Appends (E.contents writer.old) (E.contents writer.new)
+        (uncompared_lines uncompared name.now)) }
+{
+    if !uncompared {
+        return Ok(());
+    }
+    write_line(
+        "the last task of a recorded history is not compared with its record; replay does that",
+        name,
+        writer,
+    )
+}
+
+/// Writes where files are no JSON and why tasks failed, and then in a line each where a worker has a
+/// fault and where `serve` did not compare all that is recorded.
+fn write_service<E: Write>(end: ServiceEnd, name: &str, writer: &mut E) -> io::Result<()>
+    ensures { OnOk result (Appends (E.contents writer.old) (E.contents writer.new) (service_lines end name.now)) }
+{
+    let ServiceEnd {
+        failures,
+        uncompared,
+        faultless,
+        file_faults,
+        ..
+    } = end;
+    write_faults(file_faults, name, writer)?;
+    write_failures(failures.as_slice(), name, writer)?;
+    write_worker(faultless, name, writer)?;
+    write_uncompared(uncompared, name, writer)
+}
+
+impl Message for ServiceNotes {
+    ghost use Rattle.wh_service_command.specs.Diagnostics.{notes_text};
+
+    ghost text = { notes_text };
+
+    fn write<E: Write>(self, name: &str, writer: &mut E) -> io::Result<()> {
+        write_service(self.end, name, writer)
+    }
+}

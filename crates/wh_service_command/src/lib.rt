@@ -1,0 +1,10 @@
+//! The command `serve`: a service of the histories of a folder, as what it writes, what it reports and its
+//! status.
+#![tactic(auto)]
+
+mod diagnostics;
+mod serve;
+mod services;
+
+pub use serve::serve_folder;
+pub use services::{serve_command, serve_with_failures};

@@ -1,0 +1,22 @@
+-- What is found of a table.
+use Rattle.std.specs.Prelude.{ℕ, List, ◌++◌, codes, decimal, Option, Some, None}
+use Rattle.wh_table_text.specs.declared.fault.TableFault.{TableFault}
+use Rattle.wh_table_text.specs.declared.fault.TableFault.TheVariants as faults
+use Rattle.wh_table_text.specs.Texts.{fault_text}
+use Rattle.wh_table_check.specs.declared.finding.Finding.{Finding}
+
+-- the row that a fault is about
+abbrev pub row_of : TableFault → Option ℕ
+row_of (faults.InRow row fault) = Some row
+row_of _ = None
+
+-- a fault of a table
+abbrev pub fault_finding : TableFault → Finding
+fault_finding fault = record { row = row_of fault; text = fault_text fault }
+
+-- what is said of the row of that number, and of a name in it
+abbrev pub finding_at : ℕ → List ℕ → List ℕ → Finding
+finding_at row words name = record {
+  row = Some row;
+  text = codes "row " ++ (decimal row ++ (codes ": " ++ (words ++ name)));
+}

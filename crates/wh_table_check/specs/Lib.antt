@@ -1,0 +1,4 @@
+pub mod Findings
+pub mod Warnings
+pub mod Checks
+pub mod Texts

@@ -1,0 +1,94 @@
+-- What a table without a fault may have been meant otherwise.
+use Rattle.std.specs.Prelude.{ℕ, ◌+◌, Bool, true, false, not, ◌&&◌, ◌||◌, List, [], ◌∷◌, ◌++◌, take, bytes_eq, codes, Option, Some, None, if◌then◌else◌}
+use Rattle.std.specs.List.{flat_map}
+use Rattle.wh_rows.specs.declared.row.JobPattern.TheVariants as patterns
+use Rattle.wh_rows.specs.declared.row.CommandTemplate.TheVariants as templates
+use Rattle.wh_rows.specs.Tables.{JobPattern, CommandTemplate, Row}
+use Rattle.wh_rows.specs.Rows.{some_closes}
+use Rattle.wh_rows.specs.Rules.{has_state}
+use Rattle.wh_table_text.specs.Numbered.{numbered}
+use Rattle.wh_table_check.specs.declared.finding.Finding.{Finding}
+use Rattle.wh_table_check.specs.Findings.{finding_at}
+
+-- ---- What a row opens
+
+-- the row is for an end of the activity under the id
+abbrev pub ends_activity : JobPattern → List ℕ → Bool
+ends_activity (patterns.Done other) id = bytes_eq other id
+ends_activity (patterns.NotDone other) id = bytes_eq other id
+ends_activity _ id = false
+
+-- the row is for the timer under the id
+abbrev pub fires : JobPattern → List ℕ → Bool
+fires (patterns.Fired other) id = bytes_eq other id
+fires _ id = false
+
+-- the row is for the start or an end of the child of the workflow id
+abbrev pub is_of_child : JobPattern → List ℕ → Bool
+is_of_child (patterns.ChildStarted other) id = bytes_eq other id
+is_of_child (patterns.ChildDone other) id = bytes_eq other id
+is_of_child (patterns.ChildCanceled other) id = bytes_eq other id
+is_of_child (patterns.ChildNotDone other) id = bytes_eq other id
+is_of_child _ id = false
+
+-- the row is for what becomes of what the command opens, if it opens something
+abbrev pub awaits : CommandTemplate → JobPattern → Bool
+awaits (templates.StartActivity id activity source) pattern = ends_activity pattern id
+awaits (templates.StartTimer id seconds) pattern = fires pattern id
+awaits (templates.StartChild id workflow source) pattern = is_of_child pattern id
+awaits _ pattern = true
+
+-- one of the rows is
+abbrev pub is_awaited : CommandTemplate → List Row → Bool
+is_awaited template [] = false
+is_awaited template (row ∷ rows) = awaits template row.job || is_awaited template rows
+
+-- what is said of a command that opens something that no row waits for, and the id of that
+abbrev pub opened : CommandTemplate → Option (List ℕ × List ℕ)
+opened (templates.StartActivity id activity source) = Some (codes "no row waits for the activity ", id)
+opened (templates.StartTimer id seconds) = Some (codes "no row waits for the timer ", id)
+opened (templates.StartChild id workflow source) = Some (codes "no row waits for the child ", id)
+opened _ = None
+
+-- the warning of the row of that number, unless it is awaited
+abbrev pub unless_awaited : ℕ → Bool → Option (List ℕ × List ℕ) → List Finding
+unless_awaited number awaited None = []
+unless_awaited number awaited (Some said) = if awaited then [] else finding_at number said.0 said.1 ∷ []
+
+-- the warning of a command of the row of that number
+abbrev pub unawaited : ℕ → List Row → CommandTemplate → List Finding
+unawaited number rows template = unless_awaited number (is_awaited template rows) (opened template)
+
+-- ---- States
+
+-- the row counts in the state, and closes the run or leads to another one
+abbrev pub leads_out : List ℕ → Row → Bool
+leads_out name row =
+    (bytes_eq row.state (codes "any") || bytes_eq row.state name)
+    && (some_closes row.gives || not (bytes_eq row.next (codes "same") || bytes_eq row.next name))
+
+-- one of the rows does
+abbrev pub has_way_out : List ℕ → List Row → Bool
+has_way_out name [] = false
+has_way_out name (row ∷ rows) = leads_out name row || has_way_out name rows
+
+-- it is the first row for its state, and that has a way out, or it is not
+unfoldable pub goes_on : ℕ → List Row → Row → Bool
+goes_on place rows row =
+    bytes_eq row.state (codes "any") || (has_state row.state (take place rows) || has_way_out row.state rows)
+
+-- the warning of the first row for a state without a way out
+abbrev pub stuck : ℕ → List Row → Row → List Finding
+stuck place rows row =
+    if goes_on place rows row then []
+    else finding_at (place + 1) (codes "no row leads on from the state ") row.state ∷ []
+
+-- ---- All of them
+
+-- the warnings of a row
+abbrev pub row_warnings : List Row → ℕ → Row → List Finding
+row_warnings rows place row = stuck place rows row ++ flat_map (unawaited (place + 1) rows) row.gives
+
+-- the warnings of the rows of a table
+abbrev pub warnings : List Row → List Finding
+warnings rows = numbered (row_warnings rows) 0 rows

@@ -1,0 +1,137 @@
+//! What is found of a table in a file.
+ghost use Rattle.std.specs.Prelude.{◌≡◌, IfOk};
+ghost use Rattle.wh_table_check.specs.Checks.{nothing, faults_found, count_of, warnings_of, IsMoreOf, checked};
+ghost use Rattle.wh_table_text.specs.Reading.{table_of};
+
+use crate::finding::{Finding, fault_findings};
+use crate::warning::warnings;
+use std::alloc::Global;
+use wh_events::{Items, OutOfMemory, Text};
+use wh_table_text::{TableFault, list_faults, read_table};
+
+/// What else is found of a table that breaks no rule.
+#[derive(Drop)]
+pub struct More {
+    /// Whether the table is as it is to be by that.
+    pub good: bool,
+    /// Lines of text, each with its line feed at the end.
+    pub text: Text,
+    /// Members of a JSON object (RFC 8259), each with a comma in front.
+    pub members: Text,
+}
+
+/// What else is decided of a table that breaks no rule.
+pub trait MoreFindings {
+    ghost use Rattle.std.specs.Prelude.{ℕ, List};
+    ghost use Rattle.wh_table_check.specs.declared.checking.More.{More};
+
+    /// What may be found of the table that the bytes are.
+    ghost finds: { List ℕ → More → Type 0 };
+
+    /// What is found. It is called with the bytes of a table that breaks no rule. `OutOfMemory`
+    /// where an allocation was refused.
+    fn more(alloc: Global, bytes: &[u8]) -> Result<More, OutOfMemory>
+        ensures { IfOk result (λ found. finds bytes.now found) };
+}
+
+/// Nothing else.
+pub struct NoMore;
+
+/// Nothing more is found.
+fn nothing(alloc: Global) -> Result<More, OutOfMemory>
+    ensures { IfOk result (λ found. found ≡ nothing) }
+{
+    Ok(More {
+        good: true,
+        text: Text::new(String::new(alloc)),
+        members: Text::new(String::new(alloc)),
+    })
+}
+
+impl MoreFindings for NoMore {
+    ghost use Rattle.std.specs.Prelude.{◌≡◌};
+    ghost use Rattle.wh_table_check.specs.Checks.{nothing};
+
+    ghost finds = { λ bytes found. found ≡ nothing };
+
+    fn more(alloc: Global, _bytes: &[u8]) -> Result<More, OutOfMemory> {
+        nothing(alloc)
+    }
+}
+
+/// What is found of a table in a file.
+#[derive(Drop)]
+pub struct Checked {
+    /// The name of the file.
+    pub name: Text,
+    /// How many rows the table has, where it breaks no rule, or else 0.
+    pub rows: usize,
+    /// Its faults, the first of which is that at which reading it stops.
+    pub faults: Items<Finding>,
+    /// What it may have been meant otherwise. There are no warnings where it breaks a rule.
+    pub warnings: Items<Finding>,
+    /// What else is decided of it, which is nothing where it breaks a rule.
+    pub more: More,
+}
+
+/// The faults of a text as a table.
+fn faults_found(alloc: Global, bytes: &[u8]) -> Result<Vec<Finding>, OutOfMemory>
+    ensures { IfOk result (λ found. found.items ≡ faults_found bytes.now) }
+{
+    let faults = list_faults(alloc, bytes)?;
+    fault_findings(alloc, faults)
+}
+
+/// The number of rows of a table, its warnings, and what else is found of it.
+#[derive(Drop)]
+struct TableFacts {
+    rows: usize,
+    warnings: Vec<Finding>,
+    more: More,
+}
+
+/// The same of a text that is a table.
+fn facts_of<M: MoreFindings>(alloc: Global, bytes: &[u8]) -> Result<TableFacts, OutOfMemory>
+    ensures rows { IfOk result (λ facts. facts.rows ≡ count_of (table_of bytes.now)) }
+    ensures warnings { IfOk result (λ facts. facts.warnings.items ≡ warnings_of (table_of bytes.now)) }
+    ensures more { IfOk result (λ facts. IsMoreOf M.finds (table_of bytes.now) bytes.now facts.more) }
+{
+    match read_table(alloc, bytes) {
+        Ok(table) => Ok(TableFacts {
+            rows: table.rows.get().len(),
+            warnings: warnings(alloc, table.rows.get())?,
+            more: M::more(alloc, bytes)?,
+        }),
+        Err(TableFault::OutOfMemory) => Err(OutOfMemory),
+        Err(_) => Ok(TableFacts {
+            rows: 0,
+            warnings: Vec::new(alloc),
+            more: nothing(alloc)?,
+        }),
+    }
+}
+
+/// Checks the table that a file of that name and these bytes is, and what `M` decides of it.
+/// `OutOfMemory` where an allocation was refused.
+pub fn check_table<M: MoreFindings>(
+    alloc: Global,
+    name: &Text,
+    bytes: &[u8],
+) -> Result<Checked, OutOfMemory>
+    ensures checked { IfOk result (λ own. own ≡ checked name.now bytes.now own.more) }
+    ensures more { IfOk result (λ own. IsMoreOf M.finds (table_of bytes.now) bytes.now own.more) }
+{
+    let faults = faults_found(alloc, bytes)?;
+    let TableFacts {
+        rows,
+        warnings,
+        more,
+    } = facts_of::<M>(alloc, bytes)?;
+    Ok(Checked {
+        name: name.try_copy()?,
+        rows,
+        faults: Items::new(faults),
+        warnings: Items::new(warnings),
+        more,
+    })
+}

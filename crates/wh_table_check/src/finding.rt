@@ -1,0 +1,66 @@
+//! What is found of a table.
+ghost use Rattle.std.specs.Prelude.{◌≡◌, IfOk, map};
+ghost use Rattle.wh_table_check.specs.Findings.{row_of, fault_finding, finding_at};
+
+use std::alloc::Global;
+use wh_events::{OutOfMemory, Text};
+use wh_table_text::{TableFault, fault_text};
+
+/// A fault of a table, or a warning.
+#[derive(Drop)]
+pub struct Finding {
+    /// The row that it is about, counted from 1. `None` where it is about the whole table.
+    pub row: Option<u64>,
+    /// What is said of it, which begins with `row N: ` where it is about a row.
+    pub text: Text,
+}
+
+/// The row that a fault is about.
+fn row_of(fault: TableFault) -> Option<u64>
+    ensures { result ≡ row_of fault }
+{
+    match fault {
+        TableFault::InRow { row, fault: _ } => Some(row),
+        _ => None,
+    }
+}
+
+/// A fault of a table, as a finding.
+fn fault_finding(alloc: Global, fault: TableFault) -> Result<Finding, OutOfMemory>
+    ensures { IfOk result (λ finding. finding ≡ fault_finding fault) }
+{
+    Ok(Finding {
+        row: row_of(fault),
+        text: fault_text(alloc, fault)?,
+    })
+}
+
+/// Faults of a table, as findings.
+pub(crate) fn fault_findings(
+    alloc: Global,
+    faults: Vec<TableFault>,
+) -> Result<Vec<Finding>, OutOfMemory>
+    ensures { IfOk result (λ findings. findings.items ≡ map fault_finding faults.items) }
+{
+    let mut findings = Vec::new(alloc);
+    for fault in faults {
+        let finding = fault_finding(alloc, fault)?;
+        findings.push(finding)?;
+    }
+    Ok(findings)
+}
+
+/// What is said of the row of that number, and of a name in it.
+pub(crate) fn finding_at(
+    alloc: Global,
+    row: u64,
+    words: &str,
+    name: &str,
+) -> Result<Finding, OutOfMemory>
+    ensures { IfOk result (λ finding. finding ≡ finding_at row words.now name.now) }
+{
+    Ok(Finding {
+        row: Some(row),
+        text: Text::new(format!(in alloc; "row {row}: {words}{name}")?),
+    })
+}

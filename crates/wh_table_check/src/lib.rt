@@ -1,0 +1,14 @@
+//! All faults of tables in files, warnings, and what else is decided of them, as text and as JSON.
+#![tactic(auto)]
+
+mod checking;
+mod commands;
+mod finding;
+mod texts;
+mod warning;
+
+pub use checking::{Checked, More, MoreFindings, NoMore, check_table};
+pub use commands::{TableFile, check_command, status_of, write_checked};
+pub use finding::Finding;
+pub use texts::{is_good, verdict_word};
+pub use warning::warnings;

@@ -1,0 +1,192 @@
+//! What is found of tables, as text and as JSON.
+ghost use Rattle.std.specs.Prelude.{◌≡◌, ◌++◌, IfOk, OnOk, string_bytes};
+ghost use Rattle.std.specs.List.{flat_map};
+ghost use Rattle.wh_table_check.specs.Checks.{is_good};
+ghost use Rattle.wh_table_check.specs.Texts.{finding_line, finding_lines, verdict_word, rows_line, verdict_lines, checked_text};
+ghost use Rattle.wh_table_check.specs.Texts.{row_member, finding_object, after_commas, finding_list};
+ghost use Rattle.wh_table_check.specs.Texts.{object_head, list_member, checked_object, checked_as, totals_as};
+
+use crate::checking::Checked;
+use crate::finding::Finding;
+use std::alloc::{AllocError, Global};
+use wh_console::Format;
+use wh_tester::{EscapedName, Shown};
+
+/// Whether a table has no fault, and is good by what else is found of it.
+pub fn is_good(own: &Checked) -> bool
+    ensures { result ≡ is_good own.now }
+{
+    own.faults.get().is_empty() && own.more.good
+}
+
+/// The word for a good table, and for another one.
+pub fn verdict_word(own: &Checked) -> &'static str
+    ensures { result.now ≡ verdict_word own.now }
+{
+    if is_good(own) { "ok" } else { "fault" }
+}
+
+/// The line of a finding, after some words.
+fn finding_line(
+    alloc: Global,
+    name: &str,
+    words: &str,
+    found: &Finding,
+) -> Result<String, AllocError>
+    ensures { IfOk result (λ text. string_bytes text ≡ finding_line name.now words.now found.now) }
+{
+    let name = Shown(name);
+    let text = Shown(found.text.get());
+    format!(in alloc; "{name}: {words}{text}\n")
+}
+
+/// The lines of findings.
+fn finding_lines(
+    alloc: Global,
+    name: &str,
+    words: &str,
+    list: &[Finding],
+) -> Result<String, AllocError>
+    ensures { IfOk result (λ text. string_bytes text ≡ finding_lines name.now words.now list.now) }
+{
+    let mut text = String::new(alloc);
+    for found in list {
+        let line = finding_line(alloc, name, words, found)?;
+        text.push_str(line.as_str())?;
+    }
+    Ok(text)
+}
+
+/// The line of a table that breaks no rule.
+fn rows_line(alloc: Global, own: &Checked) -> Result<String, AllocError>
+    ensures { IfOk result (λ text. string_bytes text ≡ rows_line own.now) }
+{
+    let name = Shown(own.name.get());
+    let verdict = verdict_word(own);
+    let rows = own.rows;
+    format!(in alloc; "{name}: {verdict}, {rows} rows\n")
+}
+
+/// That line, or those of the faults.
+fn verdict_lines(alloc: Global, own: &Checked) -> Result<String, AllocError>
+    ensures { IfOk result (λ text. string_bytes text ≡ verdict_lines own.now) }
+{
+    if own.faults.get().is_empty() {
+        rows_line(alloc, own)
+    } else {
+        finding_lines(alloc, own.name.get(), "", own.faults.get())
+    }
+}
+
+/// The lines of a file.
+fn checked_text(alloc: Global, own: &Checked) -> Result<String, AllocError>
+    ensures { IfOk result (λ text. string_bytes text ≡ checked_text own.now) }
+{
+    let mut text = verdict_lines(alloc, own)?;
+    let warnings = finding_lines(alloc, own.name.get(), "warning, ", own.warnings.get())?;
+    text.push_str(warnings.as_str())?;
+    text.push_str(own.more.text.get())?;
+    Ok(text)
+}
+
+/// The row of a finding, as a member before others.
+fn row_member(alloc: Global, row: Option<u64>) -> Result<String, AllocError>
+    ensures { IfOk result (λ text. string_bytes text ≡ row_member row) }
+{
+    match row {
+        Some(row) => format!(in alloc; "\"row\":{row},"),
+        None => Ok(String::new(alloc)),
+    }
+}
+
+/// The object of a finding.
+fn finding_object(alloc: Global, found: &Finding) -> Result<String, AllocError>
+    ensures { IfOk result (λ text. string_bytes text ≡ finding_object found.now) }
+{
+    let row = row_member(alloc, found.row)?;
+    let text = EscapedName(found.text.get());
+    format!(in alloc; "{{{row}\"text\":\"{text}\"}}")
+}
+
+/// Findings with a comma in front of each.
+fn after_commas(alloc: Global, list: &[Finding]) -> Result<String, AllocError>
+    ensures { IfOk result (λ text. string_bytes text ≡ after_commas list.now) }
+{
+    let mut text = String::new(alloc);
+    for found in list {
+        let own = finding_object(alloc, found)?;
+        text.push_str(",")?;
+        text.push_str(own.as_str())?;
+    }
+    Ok(text)
+}
+
+/// Findings with a comma between them.
+fn finding_list(alloc: Global, list: &[Finding]) -> Result<String, AllocError>
+    ensures { IfOk result (λ text. string_bytes text ≡ finding_list list.now) }
+{
+    let [first, others @ ..] = list else {
+        return Ok(String::new(alloc));
+    };
+    let mut text = finding_object(alloc, first)?;
+    let more = after_commas(alloc, others)?;
+    text.push_str(more.as_str())?;
+    Ok(text)
+}
+
+/// The beginning of the object of a file: its name, its verdict, and its number of rows.
+fn object_head(alloc: Global, own: &Checked) -> Result<String, AllocError>
+    ensures { IfOk result (λ text. string_bytes text ≡ object_head own.now) }
+{
+    let name = EscapedName(own.name.get());
+    let verdict = verdict_word(own);
+    let rows = own.rows;
+    format!(in alloc; "{{\"file\":\"{name}\",\"verdict\":\"{verdict}\",\"rows\":{rows}")
+}
+
+/// A list of findings, as a member after others.
+fn list_member(alloc: Global, key: &str, list: &[Finding]) -> Result<String, AllocError>
+    ensures { IfOk result (λ text. string_bytes text ≡ list_member key.now list.now) }
+{
+    let list = finding_list(alloc, list)?;
+    format!(in alloc; ",\"{key}\":[{list}]")
+}
+
+/// The object of a file, on a line.
+fn checked_object(alloc: Global, own: &Checked) -> Result<String, AllocError>
+    ensures { IfOk result (λ text. string_bytes text ≡ checked_object own.now) }
+{
+    let mut text = object_head(alloc, own)?;
+    let faults = list_member(alloc, "faults", own.faults.get())?;
+    text.push_str(faults.as_str())?;
+    let warnings = list_member(alloc, "warnings", own.warnings.get())?;
+    text.push_str(warnings.as_str())?;
+    text.push_str(own.more.members.get())?;
+    text.push_str("}\n")?;
+    Ok(text)
+}
+
+/// What is written of a file.
+pub(crate) fn checked_as(alloc: Global, own: &Checked, format: Format) -> Result<String, AllocError>
+    ensures { IfOk result (λ text. string_bytes text ≡ checked_as format own.now) }
+{
+    match format {
+        Format::Text => checked_text(alloc, own),
+        Format::Json => checked_object(alloc, own),
+    }
+}
+
+/// The line of so many files and good tables.
+pub(crate) fn totals_as(
+    alloc: Global,
+    files: usize,
+    good: usize,
+    format: Format,
+) -> Result<String, AllocError>
+    ensures { IfOk result (λ text. string_bytes text ≡ totals_as format files good) }
+{
+    match format {
+        Format::Text => format!(in alloc; "{files} files, {good} ok\n"),
+        Format::Json => format!(in alloc; "{{\"files\":{files},\"ok\":{good}}}\n"),
+    }
+}

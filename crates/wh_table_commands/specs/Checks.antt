@@ -1,0 +1,45 @@
+-- What a check of tables writes and reports.
+use Rattle.std.specs.Prelude.{◌≡◌, ℕ, List, ◌∷◌, Bool, false}
+use Rattle.std.specs.List.{AllZip}
+use Rattle.wh_console.specs.Consoles.{ConsoleView, Printed}
+use Rattle.wh_console.specs.declared.format.Format.{Format}
+use Rattle.wh_diagnostics.specs.Printing.{status_with}
+use Rattle.wh_files.specs.Inputs.{IsReadFrom}
+use Rattle.wh_files.specs.declared.Input.{Input}
+use Rattle.wh_inputs.specs.Listings.{AreListed, is_by_path, lacks_files}
+use Rattle.wh_inputs.specs.Readings.{Gives}
+use Rattle.wh_table_check.specs.Checks.{AreChecked, status_of}
+use Rattle.wh_table_check.specs.Texts.{report_as}
+use Rattle.wh_table_check.specs.declared.checking.Checked.{Checked}
+use Rattle.wh_table_check.specs.declared.checking.More.{More}
+use Rattle.wh_table_check.specs.declared.commands.TableFile.{TableFile}
+use Rattle.wh_table_commands.specs.Files.{IsTableOf}
+
+-- which findings more there may be of bytes
+abbrev pub Finds : Type 1
+Finds = List ℕ → More → Type 0
+
+-- files were checked and what was found of them was written, and the status is that of the check, unless files are left
+-- out
+pub record HasChecked (finds : Finds) (files : List TableFile) (format : Format) (lacks : Bool)
+    (old new : ConsoleView) (status : ℕ) : Type 0 where
+  pub all : List Checked
+  pub checked : AreChecked finds files all
+  pub printed : Printed old new (report_as format all)
+  pub ends : status ≡ status_with lacks (status_of all)
+
+-- inputs were read as the files of tables, and those were checked
+pub record HasCheckedAll (gives : Gives) (finds : Finds) (inputs : List Input) (format : Format) (lacks : Bool)
+    (old new : ConsoleView) (status : ℕ) : Type 0 where
+  pub files : List TableFile
+  pub read : AllZip (IsTableOf gives) inputs files
+  pub checked : HasChecked finds files format lacks old new status
+
+-- what paths name was checked
+pub record HasCheckedPaths (finds : Finds) (first : List ℕ) (others : List (List ℕ)) (format : Format)
+    (old new : ConsoleView) (status : ℕ) : Type 0 where
+  pub inputs : List Input
+  pub left_out : Bool
+  pub between : ConsoleView
+  pub listed : AreListed (is_by_path others) (first ∷ others) inputs left_out old between
+  pub checked : HasCheckedAll IsReadFrom finds inputs format (lacks_files left_out false inputs) between new status

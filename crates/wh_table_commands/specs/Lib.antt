@@ -1,0 +1,4 @@
+pub mod Checks
+pub mod Files
+pub mod Pictures
+pub mod Trials

@@ -1,0 +1,81 @@
+//! The command `check`.
+
+ghost use Rattle.std.specs.Prelude.{IfOk};
+ghost use Rattle.wh_console.specs.Consoles.{Printed};
+ghost use Rattle.wh_table_check.specs.Checks.{AreChecked};
+ghost use Rattle.wh_table_check.specs.Texts.{report_as};
+ghost use Rattle.wh_table_commands.specs.Checks.{HasChecked, HasCheckedAll, HasCheckedPaths};
+
+use crate::files::table_files;
+use std::alloc::Global;
+use std::io::Write;
+use std::rt::Runtime;
+use wh_console::{Console, Format, Outlet};
+use wh_diagnostics::{Failure, flushed, status_with};
+use wh_events::Text;
+use wh_file_faults::CommandFault;
+use wh_files::Input;
+use wh_inputs::{InputReader, all_inputs};
+use wh_table_check::{Checked, MoreFindings, TableFile, check_command, status_of};
+
+/// Checks files, and writes what was found of them.
+fn print_check<M: MoreFindings, O: Write, E: Write>(
+    alloc: Global,
+    files: &[TableFile],
+    format: Format,
+    console: &mut Console<'_, O, E>,
+) -> Result<Vec<Checked>, CommandFault>
+    ensures checked { IfOk result (λ all. AreChecked M.finds files.now all.items) }
+    ensures printed { IfOk result (λ all. Printed console.old console.new (report_as format all.items)) }
+{
+    check_command::<M, Outlet<O>>(alloc, files, format, &mut console.output)
+}
+
+/// Checks files, writes what was found of them, and gives the status once that is out.
+fn check_files<M: MoreFindings, O: Write, E: Write>(
+    alloc: Global,
+    files: &[TableFile],
+    format: Format,
+    lacks: bool,
+    console: &mut Console<'_, O, E>,
+) -> Result<u8, Failure>
+    ensures { IfOk result (HasChecked M.finds files.now format lacks console.old console.new) }
+{
+    let checked = match print_check::<M, O, E>(alloc, files, format, console) {
+        Ok(checked) => checked,
+        Err(fault) => return flushed(Err(fault), console),
+    };
+    let status = flushed(Ok(status_of(checked.as_slice())), console)?;
+    Ok(status_with(lacks, status))
+}
+
+/// Reads inputs, and checks them.
+fn check_inputs<M: MoreFindings, R: InputReader + AllocGlobal, O: Write, E: Write>(
+    rt: &R,
+    inputs: Vec<Input>,
+    format: Format,
+    lacks: bool,
+    console: &mut Console<'_, O, E>,
+) -> Result<u8, Failure>
+    ensures { IfOk result (HasCheckedAll R.gives M.finds inputs.items format lacks console.old console.new) }
+{
+    let files = table_files(rt, inputs)?;
+    check_files::<M, O, E>(rt.alloc(), files.as_slice(), format, lacks, console)
+}
+
+/// Checks the tables that the files at paths are, with what `M` decides of those that break no rule, and
+/// writes what was found. What is left out of folders is reported first. The status is 0 where each table
+/// is good and no file is left out, and else 1. Nothing is written before all files are read.
+pub fn check_paths<M: MoreFindings, R: Runtime + AllocGlobal, O: Write, E: Write>(
+    rt: &R,
+    first: Text,
+    more: Vec<Text>,
+    format: Format,
+    console: &mut Console<'_, O, E>,
+) -> Result<u8, Failure>
+    ensures checked { IfOk result (HasCheckedPaths M.finds first more.items format console.old console.new) }
+{
+    let listed = all_inputs(rt, first, more, console)?;
+    let lacks = listed.lacks_files(false);
+    check_inputs::<M, R, O, E>(rt, listed.inputs, format, lacks, console)
+}

@@ -1,0 +1,39 @@
+//! Files of tables.
+
+ghost use Rattle.std.specs.Prelude.{IfOk};
+ghost use Rattle.std.specs.List.{AllZip};
+ghost use Rattle.wh_table_commands.specs.Files.{IsTableOf};
+
+use wh_diagnostics::Failure;
+use wh_events::{Items, Text};
+use wh_files::Input;
+use wh_inputs::{InputReader, file_from};
+use wh_table_check::TableFile;
+
+/// An input as the file of a table.
+pub(crate) fn table_file<R: InputReader>(rt: &R, input: Input) -> Result<TableFile, Failure>
+    ensures { IfOk result (IsTableOf R.gives input) }
+{
+    let (name, bytes) = file_from(rt, input)?;
+    Ok(TableFile {
+        name: Text::new(name),
+        bytes: Items::new(bytes),
+    })
+}
+
+/// Inputs as the files of tables, in their order.
+pub(crate) fn table_files<R: InputReader + AllocGlobal>(
+    rt: &R,
+    inputs: Vec<Input>,
+) -> Result<Vec<TableFile>, Failure>
+    ensures { IfOk result (λ files. AllZip (IsTableOf R.gives) inputs.items files.items) }
+{
+    let mut files = Vec::new(rt.alloc());
+    for input in inputs {
+        let file = table_file(rt, input)?;
+        let Ok(()) = files.push(file) else {
+            return Err(Failure::OutOfMemory);
+        };
+    }
+    Ok(files)
+}

@@ -1,0 +1,72 @@
+//! The command `check --html`.
+
+ghost use Rattle.std.specs.Prelude.{◌≡◌, ◌∷◌, [], IfOk};
+ghost use Rattle.wh_console.specs.Consoles.{Printed};
+ghost use Rattle.wh_html.specs.Html.{bytes};
+ghost use Rattle.wh_table_check.specs.Checks.{IsChecked, status_of};
+ghost use Rattle.wh_table_commands.specs.Pictures.{HasDrawn, HasDrawnPath};
+ghost use Rattle.wh_table_picture.specs.Drawings.{drawing_of};
+ghost use Rattle.wh_table_picture.specs.Pages.{page_html};
+
+use crate::files::table_file;
+use std::alloc::Global;
+use std::io::Write;
+use std::rt::Runtime;
+use std::slice;
+use wh_console::{Console, Outlet};
+use wh_diagnostics::{Failure, flushed};
+use wh_events::Text;
+use wh_file_faults::CommandFault;
+use wh_inputs::input_of;
+use wh_table_check::{MoreFindings, TableFile, status_of};
+use wh_table_picture::{Drawing, picture_command};
+
+/// Checks the table that a file is, and writes its page.
+fn print_picture<M: MoreFindings, O: Write, E: Write>(
+    alloc: Global,
+    file: &TableFile,
+    console: &mut Console<'_, O, E>,
+) -> Result<Drawing, CommandFault>
+    ensures drawing { IfOk result (λ drawing. drawing ≡ drawing_of file.now drawing.checked) }
+    ensures checked { IfOk result (λ drawing. IsChecked M.finds file.now drawing.checked) }
+    ensures printed { IfOk result (λ drawing. Printed console.old console.new (bytes (page_html drawing))) }
+{
+    picture_command::<M, Outlet<O>>(alloc, file, &mut console.output)
+}
+
+/// The status of a page: that of the check of its table.
+fn picture_status(drawing: &Drawing) -> u8
+    ensures { result ≡ status_of (drawing.now.checked ∷ []) }
+{
+    status_of(slice::from_ref(&drawing.checked))
+}
+
+/// Checks the table that a file is, writes its page, and gives the status once that is out.
+fn draw<M: MoreFindings, O: Write, E: Write>(
+    alloc: Global,
+    file: &TableFile,
+    console: &mut Console<'_, O, E>,
+) -> Result<u8, Failure>
+    ensures { IfOk result (HasDrawn M.finds file.now console.old console.new) }
+{
+    let drawing = match print_picture::<M, O, E>(alloc, file, console) {
+        Ok(drawing) => drawing,
+        Err(fault) => return flushed(Err(fault), console),
+    };
+    flushed(Ok(picture_status(&drawing)), console)
+}
+
+/// Checks the table that the file at a path is, with what `M` decides of it where it breaks no rule, and
+/// writes a page with what was found and a picture of its states, as HTML. The status is that of the
+/// check.
+pub fn picture_path<M: MoreFindings, R: Runtime + AllocGlobal, O: Write, E: Write>(
+    rt: &R,
+    path: Text,
+    console: &mut Console<'_, O, E>,
+) -> Result<u8, Failure>
+    ensures drawn { IfOk result (HasDrawnPath M.finds path console.old console.new) }
+{
+    let input = input_of(rt, path)?;
+    let file = table_file(rt, input)?;
+    draw::<M, O, E>(rt.alloc(), &file, console)
+}

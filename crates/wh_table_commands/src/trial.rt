@@ -1,0 +1,117 @@
+//! The command `try`.
+
+ghost use Rattle.std.specs.Prelude.{◌≡◌, IfOk};
+ghost use Rattle.wh_console.specs.Consoles.{Printed};
+ghost use Rattle.wh_table_commands.specs.Trials.{HasTried, HasTriedPath, IsBeside, IsScenario, IsTextAt};
+ghost use Rattle.wh_table_trial.specs.Texts.{trial_text};
+ghost use Rattle.wh_table_trial.specs.Trials.{trial};
+
+use crate::files::table_file;
+use std::alloc::{AllocError, Global};
+use std::io;
+use std::io::Write;
+use std::rt::{Files, Runtime};
+use wh_console::{Console, Outlet};
+use wh_diagnostics::{Failure, flushed};
+use wh_events::Text;
+use wh_file_faults::CommandFault;
+use wh_inputs::{file_from, input_of};
+use wh_table_check::TableFile;
+use wh_table_trial::{Trial, status_of, try_command};
+
+/// Tries the table that a file is on a scenario, and writes what came of it.
+fn print_trial<O: Write, E: Write>(
+    alloc: Global,
+    file: &TableFile,
+    scenario: &str,
+    console: &mut Console<'_, O, E>,
+) -> Result<Trial, CommandFault>
+    ensures tried { IfOk result (λ own. own ≡ trial file.now.bytes scenario.now) }
+    ensures printed { IfOk result (λ own. Printed console.old console.new (trial_text file.now.name own)) }
+{
+    try_command::<Outlet<O>>(
+        alloc,
+        file.name.get(),
+        file.bytes.get(),
+        scenario,
+        &mut console.output,
+    )
+}
+
+/// Tries the table that a file is on a scenario, writes what came of it, and gives the status once that
+/// is out.
+fn try_file<O: Write, E: Write>(
+    alloc: Global,
+    file: &TableFile,
+    scenario: &str,
+    console: &mut Console<'_, O, E>,
+) -> Result<u8, Failure>
+    ensures { IfOk result (HasTried file.now scenario.now console.old console.new) }
+{
+    let own = match print_trial(alloc, file, scenario, console) {
+        Ok(own) => own,
+        Err(fault) => return flushed(Err(fault), console),
+    };
+    flushed(Ok(status_of(&own)), console)
+}
+
+/// The path of the file beside that of a table which holds its scenario: with `.txt` in place of `.json`
+/// at its end, or behind it.
+fn beside(alloc: Global, path: &str) -> Result<Text, AllocError>
+    ensures { IfOk result (IsBeside path.now) }
+{
+    let stem = path.strip_suffix(".json").unwrap_or(path);
+    let text = format!(in alloc; "{stem}.txt")?;
+    Ok(Text::new(text))
+}
+
+/// The text in the file at a path.
+fn text_at<R: Files + io::Input + AllocGlobal>(rt: &R, path: Text) -> Result<Text, Failure>
+    ensures { IfOk result (IsTextAt path) }
+{
+    let input = input_of(rt, path)?;
+    let (name, bytes) = file_from(rt, input)?;
+    match String::from_utf8(bytes) {
+        Ok(text) => Ok(Text::new(text)),
+        Err(_) => Err(Failure::NotText {
+            file: Text::new(name),
+        }),
+    }
+}
+
+/// The scenario that is given, or else the text of the file beside that of the table.
+fn scenario_of<R: Files + io::Input + AllocGlobal>(
+    rt: &R,
+    path: &str,
+    given: Option<Text>,
+) -> Result<Text, Failure>
+    ensures { IfOk result (IsScenario path.now given) }
+{
+    if let Some(text) = given {
+        return Ok(text);
+    }
+    match beside(rt.alloc(), path) {
+        Ok(path) => text_at(rt, path),
+        Err(_) => Err(Failure::OutOfMemory),
+    }
+}
+
+/// Tries the table that the file at a path is on the scenario that is given, or else on that of the file
+/// beside it, whose path has `.txt` in place of `.json`, and writes what came of it. The status is 0 where
+/// nothing differs, and else 1. `NotText` where the file of the scenario is no UTF-8.
+pub fn try_path<R: Runtime + AllocGlobal, O: Write, E: Write>(
+    rt: &R,
+    path: Text,
+    scenario: Option<Text>,
+    console: &mut Console<'_, O, E>,
+) -> Result<u8, Failure>
+    ensures tried { IfOk result (HasTriedPath path scenario console.old console.new) }
+{
+    let Ok(copy) = path.try_copy() else {
+        return Err(Failure::OutOfMemory);
+    };
+    let input = input_of(rt, path)?;
+    let file = table_file(rt, input)?;
+    let scenario = scenario_of(rt, copy.get(), scenario)?;
+    try_file(rt.alloc(), &file, scenario.get(), console)
+}

@@ -1,0 +1,5 @@
+pub mod Cells
+pub mod Layout
+pub mod Drawings
+pub mod Pictures
+pub mod Pages

@@ -1,0 +1,100 @@
+-- The picture: the rows of a table by their states, and where each leads to.
+use Rattle.std.specs.Prelude.{ℕ, ◌+◌, ◌*◌, ◌%◌, min, Bool, if◌then◌else◌, Option, Some, None, List, length, nat_eq, codes}
+use Rattle.wh_html.specs.Html.{Html, nothing, markup, plain, hole, ◌⊕◌, number, each}
+use Rattle.wh_table_picture.specs.declared.layout.Line.{Line}
+
+-- where a row begins, from above
+abbrev pub top_of : (place : ℕ) → ℕ
+top_of place = 10 + 46 * min place 400
+
+-- how far to the right the ways to a place go
+abbrev pub lane_of : (place : ℕ) → ℕ
+lane_of place = 710 + 11 * min place 24
+
+-- how the name of a state stands at a row: the first of the state, or a later one
+abbrev pub name_class : Bool → List ℕ
+name_class begins = if begins then codes "name" else codes "name again"
+
+-- the conditions of a row
+abbrev pub conditions_html : List ℕ → Html
+conditions_html words =
+    if nat_eq (length words) 0 then nothing
+    else markup (codes "<tspan class=\"soft\" dx=\"8\">if ") ⊕ hole 30 words ⊕ markup (codes "</tspan>")
+
+-- the commands of a row
+abbrev pub gives_html : List ℕ → Html
+gives_html words =
+    if nat_eq (length words) 0 then markup (codes "<tspan class=\"soft\">nothing</tspan>") else hole 64 words
+
+-- the marks of a row
+abbrev pub marks_html : List ℕ → Html
+marks_html words =
+    if nat_eq (length words) 0 then nothing
+    else markup (codes "<tspan class=\"soft\" dx=\"8\">") ⊕ hole 24 words ⊕ markup (codes "</tspan>")
+
+-- the upper edge of a state, at its first row
+abbrev pub edge_html : (place : ℕ) → Bool → Html
+edge_html place begins =
+    if begins
+    then markup (codes "<line class=\"edge\" x1=\"10\" x2=\"690\" y1=\"") ⊕ number (top_of place) ⊕ markup (codes "\" y2=\"")
+    ⊕ number (top_of place) ⊕ markup (codes "\"/>")
+    else nothing
+
+-- the tip of a way to a place
+abbrev pub tip_html : (target : ℕ) → Html
+tip_html target =
+    markup (codes "<path class=\"tip to") ⊕ number (target % 5) ⊕ markup (codes "\" d=\"M690 ") ⊕ number (top_of target + 14)
+    ⊕ markup (codes "l9 -5v10z\"/>")
+
+-- where a row leads to: from its place to that place
+abbrev pub way_to_html : (place target : ℕ) → Html
+way_to_html place target =
+    markup (codes "<path class=\"way to") ⊕ number (target % 5) ⊕ markup (codes "\" d=\"M690 ") ⊕ number (top_of place + 34)
+    ⊕ markup (codes "H") ⊕ number (lane_of target) ⊕ markup (codes "V") ⊕ number (top_of target + 14)
+    ⊕ markup (codes "H698\"/>") ⊕ tip_html target
+
+-- the same, unless it stays in its state
+abbrev pub way_html : (place : ℕ) → Option ℕ → Html
+way_html place None = nothing
+way_html place (Some target) = way_to_html place target
+
+-- the box of a row, with the name of its state
+abbrev pub state_html : Line → Html
+state_html line =
+    markup (codes "<rect class=\"box\" x=\"10\" y=\"") ⊕ number (top_of line.place)
+    ⊕ markup (codes "\" width=\"680\" height=\"46\"/><text class=\"") ⊕ plain (name_class line.begins)
+    ⊕ markup (codes "\" x=\"24\" y=\"") ⊕ number (top_of line.place + 20) ⊕ markup (codes "\">") ⊕ hole 20 line.state
+    ⊕ markup (codes "</text>")
+
+-- the job of a row, with its conditions
+abbrev pub job_html : Line → Html
+job_html line =
+    markup (codes "<text class=\"job\" x=\"180\" y=\"") ⊕ number (top_of line.place + 20) ⊕ markup (codes "\">")
+    ⊕ hole 40 line.job ⊕ conditions_html line.conditions ⊕ markup (codes "</text>")
+
+-- the commands of a row, with its marks
+abbrev pub commands_html : Line → Html
+commands_html line =
+    markup (codes "<text class=\"gives\" x=\"180\" y=\"") ⊕ number (top_of line.place + 37) ⊕ markup (codes "\">")
+    ⊕ gives_html line.gives ⊕ marks_html line.marks ⊕ markup (codes "</text>")
+
+-- a row of the picture
+abbrev pub row_html : Line → Html
+row_html line =
+    markup (codes "<g>") ⊕ state_html line ⊕ job_html line ⊕ commands_html line ⊕ edge_html line.place line.begins
+    ⊕ way_html line.place line.way ⊕ markup (codes "</g>\n")
+
+-- the picture of rows
+unfoldable pub picture_html : List Line → Html
+picture_html lines =
+    markup (codes "<section>\n<h2 id=\"states\">States</h2>\n<div class=\"scroll picture\" tabindex=\"0\" role=\"region\" aria-labelledby=\"states\">\n<svg viewBox=\"0 0 1000 ")
+    ⊕ number (top_of (length lines) + 54)
+    ⊕ markup (codes "\" role=\"img\" aria-labelledby=\"states\" aria-describedby=\"states-words\">\n<desc id=\"states-words\">The rows of ")
+    ⊕ number (length lines)
+    ⊕ markup (codes " by their states, and where each leads to. The table below says the same.</desc>\n")
+    ⊕ each row_html lines
+    ⊕ markup (codes "<rect class=\"end\" x=\"10\" y=\"")
+    ⊕ number (top_of (length lines) + 6)
+    ⊕ markup (codes "\" width=\"680\" height=\"34\"/><text class=\"name\" x=\"24\" y=\"")
+    ⊕ number (top_of (length lines) + 28)
+    ⊕ markup (codes "\">closed</text>\n</svg>\n</div>\n</section>\n")

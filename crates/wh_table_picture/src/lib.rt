@@ -1,0 +1,15 @@
+//! The page of a table: what is found of it, a picture of its states, and its rows.
+#![tactic(auto)]
+
+mod cells;
+mod commands;
+mod drawing;
+mod layout;
+mod page;
+mod picture;
+mod style;
+
+pub use commands::picture_command;
+pub use drawing::{Drawing, drawing_of};
+pub use layout::Line;
+pub use page::write_page;

@@ -1,0 +1,70 @@
+-- Configurations that were found show what the definitions do.
+use Rattle.std.proofs.Common.{◌≡◌, ℕ, zero, suc, ◌+◌, ◌<◌, ◌≤◌, Bool, true, false, ◌&&◌, ◌||◌, List, [], ◌∷◌, length, get_or, map, refl, inl, inr, ap, sym, ◌∙◌, arith}
+use Rattle.std.specs.Prelude.{leb, ltb, IsTrue}
+use Rattle.std.proofs.lemmas.Bool.{and_parts, or_cases}
+use Rattle.wh_rows.specs.declared.row.Counts.{Counts}
+use Rattle.wh_rows.specs.Tables.{Definition}
+use Rattle.wh_promises.specs.Watches.{Turn}
+use Rattle.wh_promises.specs.Promises.{Promise, Promises, watch_of}
+use Rattle.wh_promises.specs.Deciding.{Line, Config, place, lines, steps, starts, covered, each, all_within, are_cuts, begun, case_of}
+use Rattle.wh_promises.proofs.Cuts.{Cuts, cuts_from}
+use Rattle.wh_promises.proofs.Turns.{both_of}
+use Rattle.wh_promises.proofs.Meant.{means}
+use Rattle.wh_promises.proofs.Sound.{IsGood, keeps_all}
+use Rattle.wh_table_promises.specs.declared.config.Config.{Config as ConfigHeld}
+use Rattle.wh_table_promises.specs.Private.Seen.{config_seen}
+use Rattle.wh_table_promises.specs.Private.Found.{is_in, is_good, shows_all}
+
+or_left : (t u : Bool) → t ≡ true → (t || u) ≡ true
+or_left true u is = refl
+or_left false u is = cc
+
+or_right : (t u : Bool) → u ≡ true → (t || u) ≡ true
+or_right true u is = refl
+or_right false u is = is
+
+-- a configuration that is covered by the one at a place is covered by one of them
+pub in_at : (configs : List ConfigHeld) (i : ℕ) (other : ConfigHeld) (one : Config) → i < length configs
+    → covered one (config_seen (get_or configs i other)) ≡ true → is_in (map config_seen configs) one ≡ true
+in_at [] i other one within is = absurd (none within)
+  where
+    none : i < 0 → ⊥
+    none below = omega (arith, below)
+in_at (first ∷ rest) zero other one within is = or_left (covered one (config_seen first)) (is_in (map config_seen rest) one) is
+in_at (first ∷ rest) (suc i) other one within is =
+    let below : i < length rest = omega (arith, within) in
+    or_right (covered one (config_seen first)) (is_in (map config_seen rest) one) (in_at rest i other one below is)
+
+module _ (table : Definition) (promise : Promise) (tops : Counts) (all : List Config) where
+  abbrev rows : List Line
+  rows = lines table.rows table.rows
+
+  abbrev turns : List Turn
+  turns = (watch_of promise).turns
+
+  -- what covers a configuration among these is good
+  under : (fine : Cuts table.bounds tops) (list : List Config) (one : Config) → is_in list one ≡ true
+      → each (is_good tops turns (watch_of promise).budget rows all) list ≡ true
+      → (other : Config) × (covered one other ≡ true) × IsGood table tops turns fine (watch_of promise).budget (is_in all) other
+  under fine [] one is good = cc
+  under fine (first ∷ rest) one is good =
+      let parts : (is_good tops turns (watch_of promise).budget rows all first ≡ true)
+      × (each (is_good tops turns (watch_of promise).budget rows all) rest ≡ true) =
+      both_of (is_good tops turns (watch_of promise).budget rows all first) (each (is_good tops turns (watch_of promise).budget rows all) rest) good in
+      elim (or_cases (covered one first) (is_in rest one) is) [
+        | inl covers ↦ (first, covers, and_parts (leb first.watch.spent (watch_of promise).budget) (each (is_in all) (steps tops turns rows first)) parts.0)
+        | inr later ↦ under fine rest one later parts.1
+      ]
+
+  -- configurations that show it show it
+  pub shown_keeps : shows_all (case_of table) tops turns (watch_of promise).budget all ≡ true → Promises table promise
+  shown_keeps shown =
+      let halves : ((are_cuts table.bounds tops && all_within (length table.rows) tops rows) ≡ true)
+      × ((each (is_in all) (starts tops turns rows (begun (place table.first table.rows)))
+      && each (is_good tops turns (watch_of promise).budget rows all) all) ≡ true) = and_parts _ _ shown in
+      let cuts : (are_cuts table.bounds tops ≡ true) × (all_within (length table.rows) tops rows ≡ true) = and_parts _ _ halves.0 in
+      let lists : (each (is_in all) (starts tops turns rows (begun (place table.first table.rows))) ≡ true)
+      × (each (is_good tops turns (watch_of promise).budget rows all) all ≡ true) = and_parts _ _ halves.1 in
+      let fine : Cuts table.bounds tops = cuts_from table.bounds tops cuts.0 in
+      means table promise
+      (keeps_all table (watch_of promise) tops fine (is_in all) (λ one there. under fine all one there lists.1) cuts.1 lists.0)

@@ -1,0 +1,25 @@
+-- Configurations that were found show a promise where they have the first one and each that a job leads to, and none
+-- of them spends more than the budget.
+use Rattle.std.specs.Prelude.{ℕ, Bool, false, ◌&&◌, ◌||◌, List, [], ◌∷◌, leb, ltb}
+use Rattle.wh_rows.specs.declared.row.Counts.{Counts}
+use Rattle.wh_promises.specs.Watches.{Turn}
+use Rattle.wh_promises.specs.Deciding.{Line, Config, Case, steps, starts, covered, each, asks_within, all_within, are_cuts, begun}
+
+-- one of these covers the configuration
+abbrev pub is_in : List Config → Config → Bool
+is_in [] one = false
+is_in (other ∷ rest) one = covered one other || is_in rest one
+
+-- a configuration keeps to the budget, and leads to those that were found
+abbrev pub is_good : Counts → List Turn → ℕ → List Line → List Config → Config → Bool
+is_good tops turns budget rows all one = leb one.watch.spent budget && each (is_in all) (steps tops turns rows one)
+
+-- the state of the row is one of so many, and cut counters tell whether it fits
+abbrev pub is_line_within : ℕ → Counts → Line → Bool
+is_line_within many tops row = ltb row.state many && asks_within tops row.conditions
+
+-- the configurations show that a run keeps to the budget
+abbrev pub shows_all : Case → Counts → List Turn → ℕ → List Config → Bool
+shows_all it tops turns budget all =
+    (are_cuts it.bounds tops && all_within it.many tops it.rows)
+    && (each (is_in all) (starts tops turns it.rows (begun it.first)) && each (is_good tops turns budget it.rows all) all)

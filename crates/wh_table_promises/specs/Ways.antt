@@ -1,0 +1,44 @@
+-- A way that breaks a promise: jobs in words, and what each is given.
+use Rattle.std.specs.Prelude.{◌≡◌, ℕ, List, [], ◌∷◌, map, Option, Some, IsTrue, codes}
+use Rattle.wh_workflow.specs.declared.job.Job.{Job}
+use Rattle.wh_rows.specs.declared.row.RowsState.{RowsState}
+use Rattle.wh_rows.specs.Tables.{Definition}
+use Rattle.wh_rows.specs.Rows.{gives, after, initial}
+use Rattle.wh_promises.specs.Courses.{course, begins}
+use Rattle.wh_promises.specs.Promises.{Promise, KeptIn, Promises}
+use Rattle.wh_scenarios.specs.JobTexts.{job_of}
+use Rattle.wh_scenarios.specs.CommandTexts.{commands_text}
+use Rattle.wh_table_promises.specs.declared.ways.WayStep.{WayStep}
+use Rattle.wh_table_promises.specs.declared.deciding.Verdict.{Verdict}
+use Rattle.wh_table_promises.specs.declared.deciding.Verdict.TheVariants as verdicts
+
+-- the commands that a job is given, as scenarios write them
+abbrev pub text_given : Definition → RowsState → Job → List ℕ
+text_given table state job = commands_text (gives table state job)
+
+-- those of each job, one after another
+abbrev pub texts_given : Definition → RowsState → List Job → List (List ℕ)
+texts_given table state [] = []
+texts_given table state (job ∷ later) = text_given table state job ∷ texts_given table (after table state job) later
+
+-- the job that words are in a scenario of a run of the type `Table`
+abbrev pub job_read : List ℕ → Option Job
+job_read words = job_of (codes "Table") words
+
+-- a way of these jobs: scenarios read its words as them; they begin with one start; each is given what the way says; and
+-- what happens in a run at them does not keep the promise
+pub record IsWayOf (table : Definition) (promise : Promise) (way : List WayStep) (jobs : List Job) : Type 0 where
+  pub read : map (λ step. job_read step.job) way ≡ map (λ job. Some job) jobs
+  pub begins : IsTrue (begins jobs)
+  pub given : map (λ step. step.gives) way ≡ texts_given table (initial table) jobs
+  pub breaks : KeptIn promise (course table (initial table) jobs) → ⊥
+
+-- a way that breaks the promise
+abbrev pub IsWay : Definition → Promise → List WayStep → Type 0
+IsWay table promise way = (jobs : List Job) × IsWayOf table promise way jobs
+
+-- a verdict is right: what is kept is kept whatever jobs come, and a way breaks the promise
+abbrev pub IsRight : Definition → Promise → Verdict → Type 0
+IsRight table promise verdicts.Kept = Promises table promise
+IsRight table promise (verdicts.Broken way) = IsWay table promise way.items
+IsRight table promise (verdicts.NotDecided _) = Unit {0}

@@ -1,0 +1,246 @@
+//! Whether a table that was read keeps a promise.
+ghost use Rattle.std.specs.Prelude.{◌≡◌, ◌<◌, ◌^◌, true, Some, IfOk, IfSome, map};
+ghost use Rattle.wh_row_rules.specs.Broken.{definition};
+ghost use Rattle.wh_promises.specs.Deciding.{case_of};
+ghost use Rattle.wh_promises.specs.Promises.{Promises, watch_of};
+ghost use Rattle.wh_table_promises.specs.Promised.{promise_of};
+ghost use Rattle.wh_table_promises.specs.Ways.{IsRight, IsWay, job_read};
+ghost use Rattle.wh_table_promises.specs.Private.Seen.{turn_seen, line_seen, config_seen};
+ghost use Rattle.wh_table_promises.specs.Private.Found.{shows_all};
+
+use crate::candidates::{Candidate, candidates_of};
+use crate::config::{Rules, begun, starts};
+use crate::counters::{are_cuts, cuts_of};
+use crate::found::{Found, all_within, are_good, are_known};
+use crate::lines::{lines_of, place};
+use crate::promise::TablePromise;
+use crate::search::{Search, SearchEnd, begin_search, search_all, search_way};
+use crate::watch::{Turn, budget_of, turns_of};
+use crate::ways::{WayStep, follow_jobs, steps_of};
+use std::alloc::Global;
+use wh_events::{OutOfMemory, Text};
+use wh_row_rules::OwnedTable;
+use wh_scenarios::job_of;
+use wh_workflow::Job;
+
+/// No promise with so great a number is decided.
+const MOST_BUDGET: u64 = 4_611_686_018_427_387_904;
+
+/// Why it is not told whether a promise is kept.
+#[derive(Clone, Copy, Debug)]
+pub enum Doubt {
+    /// There are more than `MOST_CONFIGURATIONS` configurations: states of a run, its counters and
+    /// what the promise has seen.
+    TooMany,
+    /// No way breaks it in a run that is started without input, and it is not shown for each name
+    /// that a run may have.
+    ByName,
+}
+
+/// Whether a promise is kept.
+#[derive(Drop)]
+pub enum Verdict {
+    /// It is, whatever jobs come.
+    Kept,
+    /// It is broken in this way: a scenario.
+    Broken(Vec<WayStep>),
+    /// It is not told.
+    NotDecided(Doubt),
+}
+
+/// Whether the configurations that were found show the promise.
+fn shows(
+    alloc: Global,
+    table: &OwnedTable,
+    rules: &Rules,
+    budget: u64,
+    found: &Found,
+) -> Result<bool, OutOfMemory>
+    requires budget { budget < 2 ^ 62 }
+    requires lines { map line_seen rules.now.lines.now ≡ (case_of (definition table.now)).rows }
+    ensures { IfOk result (λ shown. shown ≡ true → shows_all (case_of (definition table.now)) rules.now.tops
+        (map turn_seen rules.now.turns.now) budget (map config_seen found.now.configs.items) ≡ true) }
+{
+    let rows = table.rows.get();
+    if !are_cuts(table.bounds, rules.tops) || !all_within(rows.len(), rules.tops, rules.lines) {
+        return Ok(false);
+    }
+    let configs = found.configs.as_slice();
+    let slots = found.slots.as_slice();
+    let mut first = Vec::new(alloc);
+    starts(&mut first, rules, &begun(place(&table.first, rows)))?;
+    if !are_known(configs, slots, first.as_slice()) {
+        return Ok(false);
+    }
+    are_good(alloc, rules, budget, configs, slots)
+}
+
+/// The words of a way's jobs.
+fn words_of(
+    alloc: Global,
+    candidates: &[Candidate],
+    path: &[usize],
+) -> Result<Vec<Text>, OutOfMemory> {
+    let mut words = Vec::new(alloc);
+    words.push(Text::new(String::from_str(alloc, "start")?))?;
+    for number in path {
+        if *number < candidates.len() {
+            let copy = candidates[*number].words.try_copy()?;
+            words.push(copy)?;
+        }
+    }
+    Ok(words)
+}
+
+/// The jobs of these words. `None` where some are no job.
+fn jobs_of(alloc: Global, words: &[Text]) -> Result<Option<Vec<Job>>, OutOfMemory>
+    ensures { IfOk result (λ found. IfSome found (λ jobs.
+        map job_read words.now ≡ map (λ job. Some job) jobs.items)) }
+{
+    let mut jobs = Vec::new(alloc);
+    for text in words {
+        match job_of(alloc, "Table", text.get())? {
+            Some(job) => jobs.push(job)?,
+            None => return Ok(None),
+        }
+    }
+    Ok(Some(jobs))
+}
+
+/// The way of these words, if it breaks the promise.
+fn way_of(
+    alloc: Global,
+    table: &OwnedTable,
+    promise: &TablePromise,
+    turns: &[Turn],
+    words: Vec<Text>,
+) -> Result<Option<Vec<WayStep>>, OutOfMemory>
+    requires turns { map turn_seen turns.now ≡ (watch_of (promise_of promise.now)).turns }
+    requires budget { (watch_of (promise_of promise.now)).budget < 2 ^ 62 }
+    ensures { IfOk result (λ found. IfSome found (λ way.
+        IsWay (definition table.now) (promise_of promise.now) way.items)) }
+{
+    let Some(jobs) = jobs_of(alloc, words.as_slice())? else {
+        return Ok(None);
+    };
+    let Some(gives) = follow_jobs(alloc, table, turns, budget_of(promise), jobs.as_slice())? else {
+        return Ok(None);
+    };
+    if words.len() != gives.len() {
+        return Ok(None);
+    }
+    let way = steps_of(alloc, words.as_slice(), gives.as_slice())?;
+    Ok(Some(way))
+}
+
+/// The verdict where a search found a way.
+fn by_way(
+    alloc: Global,
+    table: &OwnedTable,
+    promise: &TablePromise,
+    turns: &[Turn],
+    words: Vec<Text>,
+) -> Result<Verdict, OutOfMemory>
+    requires turns { map turn_seen turns.now ≡ (watch_of (promise_of promise.now)).turns }
+    requires budget { (watch_of (promise_of promise.now)).budget < 2 ^ 62 }
+    ensures { IfOk result (λ verdict. IsRight (definition table.now) (promise_of promise.now) verdict) }
+{
+    match way_of(alloc, table, promise, turns, words)? {
+        Some(way) => Ok(Verdict::Broken(way)),
+        None => Ok(Verdict::NotDecided(Doubt::ByName)),
+    }
+}
+
+/// Whether the configurations that were found show that the table keeps the promise.
+fn proves(
+    alloc: Global,
+    table: &OwnedTable,
+    promise: &TablePromise,
+    rules: &Rules,
+    found: &Found,
+) -> Result<bool, OutOfMemory>
+    requires turns { map turn_seen rules.now.turns.now ≡ (watch_of (promise_of promise.now)).turns }
+    requires lines { map line_seen rules.now.lines.now ≡ (case_of (definition table.now)).rows }
+    requires budget { (watch_of (promise_of promise.now)).budget < 2 ^ 62 }
+    ensures { IfOk result (λ shown. shown ≡ true → Promises (definition table.now) (promise_of promise.now)) }
+{
+    if shows(alloc, table, rules, budget_of(promise), found)? {
+        return Ok(true);
+    }
+    Ok(false)
+}
+
+/// The verdict where a search found no way: what it found may show the promise, or does so with all
+/// that runs of other names may come to.
+fn by_found(
+    alloc: Global,
+    table: &OwnedTable,
+    promise: &TablePromise,
+    rules: &Rules,
+    search: Search,
+) -> Result<Verdict, OutOfMemory>
+    requires turns { map turn_seen rules.now.turns.now ≡ (watch_of (promise_of promise.now)).turns }
+    requires lines { map line_seen rules.now.lines.now ≡ (case_of (definition table.now)).rows }
+    requires budget { (watch_of (promise_of promise.now)).budget < 2 ^ 62 }
+    ensures { IfOk result (λ verdict. IsRight (definition table.now) (promise_of promise.now) verdict) }
+{
+    if proves(alloc, table, promise, rules, &search.found)? {
+        return Ok(Verdict::Kept);
+    }
+    let mut search = search;
+    search_all(alloc, &mut search, rules, budget_of(promise))?;
+    if proves(alloc, table, promise, rules, &search.found)? {
+        return Ok(Verdict::Kept);
+    }
+    Ok(Verdict::NotDecided(Doubt::ByName))
+}
+
+/// The verdict by what a search finds.
+fn by_search(
+    alloc: Global,
+    table: &OwnedTable,
+    promise: &TablePromise,
+    rules: &Rules,
+) -> Result<Verdict, OutOfMemory>
+    requires turns { map turn_seen rules.now.turns.now ≡ (watch_of (promise_of promise.now)).turns }
+    requires lines { map line_seen rules.now.lines.now ≡ (case_of (definition table.now)).rows }
+    requires budget { (watch_of (promise_of promise.now)).budget < 2 ^ 62 }
+    ensures { IfOk result (λ verdict. IsRight (definition table.now) (promise_of promise.now) verdict) }
+{
+    let budget = budget_of(promise);
+    let candidates = candidates_of(alloc, &table.name, rules.lines, rules.turns)?;
+    let first = place(&table.first, table.rows.get());
+    let mut search = begin_search(alloc, rules, first)?;
+    match search_way(alloc, &mut search, rules, budget, candidates.as_slice())? {
+        SearchEnd::Complete => by_found(alloc, table, promise, rules, search),
+        SearchEnd::TooMany => Ok(Verdict::NotDecided(Doubt::TooMany)),
+        SearchEnd::Breaks(path) => {
+            let words = words_of(alloc, candidates.as_slice(), path.as_slice())?;
+            by_way(alloc, table, promise, rules.turns, words)
+        }
+    }
+}
+
+/// Whether a table keeps a promise. `Kept` says that it is kept whatever jobs come, in whatever order
+/// and number, after the one start; a way is a scenario of a run that breaks it. Where neither is
+/// found the verdict says why. A promise that may be broken so often as 2^62 times is not decided.
+/// `OutOfMemory` where an allocation was refused; nothing is left then.
+pub fn decide(
+    alloc: Global,
+    table: &OwnedTable,
+    promise: &TablePromise,
+) -> Result<Verdict, OutOfMemory>
+    ensures { IfOk result (λ verdict. IsRight (definition table.now) (promise_of promise.now) verdict) }
+{
+    if MOST_BUDGET <= budget_of(promise) {
+        return Ok(Verdict::NotDecided(Doubt::TooMany));
+    }
+    let lines = lines_of(alloc, table.rows.get())?;
+    let turns = turns_of(alloc, promise)?;
+    let rules = Rules {
+        lines: lines.as_slice(),
+        tops: cuts_of(lines.as_slice()),
+        turns: turns.as_slice(),
+    };
+    by_search(alloc, table, promise, &rules)
+}

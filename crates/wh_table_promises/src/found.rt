@@ -1,0 +1,165 @@
+//! Configurations that were found, and whether they show a promise.
+ghost use Rattle.std.specs.Prelude.{◌≡◌, ◌<◌, ◌^◌, true, IfOk, length, map};
+ghost use Rattle.wh_promises.specs.Deciding.{same_counts, covered, each, all_within};
+ghost use Rattle.wh_table_promises.specs.Private.Seen.{turn_seen, line_seen, config_seen};
+ghost use Rattle.wh_table_promises.specs.Private.Found.{is_in, is_good, is_line_within};
+
+use crate::config::{Config, Rules, steps};
+use crate::counters::asks_within;
+use crate::lines::Line;
+use std::alloc::Global;
+use wh_events::OutOfMemory;
+use wh_rows::Counts;
+
+/// Configurations, with a table to look them up by where they stand.
+#[derive(Drop)]
+pub(crate) struct Found {
+    /// The configurations.
+    pub configs: Vec<Config>,
+    /// One more than the number of a configuration, or 0 where the slot is empty.
+    pub slots: Vec<usize>,
+}
+
+/// Whether both are the same numbers.
+fn same_counts(one: Counts, other: Counts) -> bool
+    ensures { result ≡ same_counts one other }
+{
+    (one.a == other.a && one.b == other.b) && (one.c == other.c && one.d == other.d)
+}
+
+/// Whether both stand at the same place.
+fn same_place(one: &Config, other: &Config) -> bool {
+    one.state == other.state
+        && one.closed == other.closed
+        && same_counts(one.counts, other.counts)
+        && one.watch.at == other.watch.at
+}
+
+/// Whether the first stands where the second does, and has spent no more.
+pub(crate) fn covered(one: &Config, other: &Config) -> bool
+    ensures { result ≡ covered (config_seen one.now) (config_seen other.now) }
+{
+    (one.state == other.state && one.closed == other.closed)
+        && (same_counts(one.counts, other.counts)
+            && (one.watch.at == other.watch.at && one.watch.spent <= other.watch.spent))
+}
+
+/// A scattered number of the place where a configuration stands.
+fn key_of(one: &Config) -> u64 {
+    let mut key = one.state as u64;
+    for part in [
+        one.counts.a,
+        one.counts.b,
+        one.counts.c,
+        one.counts.d,
+        one.watch.at,
+        if one.closed { 1 } else { 0 },
+    ] {
+        key = (key ^ part).wrapping_mul(0x9E37_79B9_7F4A_7C15);
+        key = key ^ (key >> 29);
+    }
+    key
+}
+
+/// The slot of the place where a configuration stands: one that names a configuration there, or else
+/// an empty one, if there is one.
+pub(crate) fn slot_of(configs: &[Config], slots: &[usize], one: &Config) -> usize
+    requires { 0 < length slots.now }
+    ensures { result < length slots.now }
+{
+    let mut slot = (key_of(one) % slots.len() as u64) as usize;
+    for _step in 0..slots.len() {
+        let held = slots[slot];
+        if held == 0 || (held <= configs.len() && same_place(one, &configs[held - 1])) {
+            return slot;
+        }
+        slot = if slot + 1 < slots.len() { slot + 1 } else { 0 };
+    }
+    slot
+}
+
+/// Whether one of the configurations is found that covers this one.
+fn is_known(configs: &[Config], slots: &[usize], one: &Config) -> bool
+    ensures { result ≡ true → is_in (map config_seen configs.now) (config_seen one.now) ≡ true }
+{
+    if slots.is_empty() {
+        return false;
+    }
+    let held = slots[slot_of(configs, slots, one)];
+    if held == 0 || configs.len() < held {
+        return false;
+    }
+    covered(one, &configs[held - 1])
+}
+
+/// Whether for each of the list one is found that covers it.
+pub(crate) fn are_known(configs: &[Config], slots: &[usize], list: &[Config]) -> bool
+    ensures { result ≡ true → each (is_in (map config_seen configs.now)) (map config_seen list.now) ≡ true }
+{
+    for one in list {
+        if !is_known(configs, slots, one) {
+            return false;
+        }
+    }
+    true
+}
+
+/// Whether the configuration keeps to the budget, and leads to those that were found.
+fn is_good(
+    alloc: Global,
+    rules: &Rules,
+    budget: u64,
+    configs: &[Config],
+    slots: &[usize],
+    one: &Config,
+) -> Result<bool, OutOfMemory>
+    requires { budget < 2 ^ 62 }
+    ensures { IfOk result (λ good. good ≡ true → is_good rules.now.tops (map turn_seen rules.now.turns.now) budget
+        (map line_seen rules.now.lines.now) (map config_seen configs.now) (config_seen one.now) ≡ true) }
+{
+    if budget < one.watch.spent {
+        return Ok(false);
+    }
+    let mut next = Vec::new(alloc);
+    steps(alloc, &mut next, rules, one)?;
+    Ok(are_known(configs, slots, next.as_slice()))
+}
+
+/// Whether each of them does.
+pub(crate) fn are_good(
+    alloc: Global,
+    rules: &Rules,
+    budget: u64,
+    configs: &[Config],
+    slots: &[usize],
+) -> Result<bool, OutOfMemory>
+    requires { budget < 2 ^ 62 }
+    ensures { IfOk result (λ good. good ≡ true → each (is_good rules.now.tops (map turn_seen rules.now.turns.now) budget
+        (map line_seen rules.now.lines.now) (map config_seen configs.now)) (map config_seen configs.now) ≡ true) }
+{
+    for one in configs {
+        if !is_good(alloc, rules, budget, configs, slots, one)? {
+            return Ok(false);
+        }
+    }
+    Ok(true)
+}
+
+/// Whether the state of the row is one of so many, and cut counters tell whether it fits.
+fn is_line_within(many: usize, tops: Counts, line: &Line) -> bool
+    ensures { result ≡ is_line_within many tops (line_seen line.now) }
+{
+    line.state < many && asks_within(tops, line.row.conditions.get())
+}
+
+/// Whether it is so for each row.
+pub(crate) fn all_within(many: usize, tops: Counts, lines: &[Line]) -> bool
+    ensures { result ≡ all_within many tops (map line_seen lines.now) }
+{
+    for line in lines {
+        if !is_line_within(many, tops, line) {
+            return false;
+        }
+    }
+    true
+}

@@ -1,0 +1,230 @@
+//! The search for a shortest way that breaks a promise. Nothing rests on it: a way that is found is
+//! followed (`ways`), and configurations that are found are judged (`found`).
+ghost use Rattle.std.specs.Prelude.{◌≡◌, ◌≤◌, ◌<◌, ◌+◌, ◌^◌};
+
+use crate::candidates::Candidate;
+use crate::config::{Config, Rules, begun, is_ready, stand, started, steps};
+use crate::found::{Found, covered, slot_of};
+use crate::lines::Line;
+use crate::promise::Happening;
+use crate::watch::{Standing, Turn, took};
+use std::alloc::Global;
+use wh_events::{OutOfMemory, Text};
+use wh_row_rules::covers;
+use wh_rows::JobPattern;
+
+/// The most configurations that a search looks at.
+pub const MOST_CONFIGURATIONS: usize = 200_000;
+
+/// How a configuration was reached.
+#[derive(Clone, Copy)]
+struct Origin {
+    /// The number of the configuration before it.
+    from: usize,
+    /// The number of the job that led to it.
+    by: usize,
+}
+
+/// A search.
+#[derive(Drop)]
+pub(crate) struct Search {
+    /// The configurations that were reached.
+    pub found: Found,
+    /// How each was reached.
+    origins: Vec<Origin>,
+}
+
+/// How a search ends.
+pub(crate) enum SearchEnd {
+    /// By a configuration that breaks the promise: the numbers of the jobs that lead to it.
+    Breaks(Vec<usize>),
+    /// With no configuration that was not looked at.
+    Complete,
+    /// With too many of them.
+    TooMany,
+}
+
+/// The first turn that a job of the pattern makes.
+fn turn_on<'t, 'a>(
+    turns: &'t [Turn<'a>],
+    pattern: &JobPattern<Text>,
+    at: u64,
+) -> Option<&'t Turn<'a>> {
+    for turn in turns {
+        if let Happening::Comes(wanted) = turn.what {
+            if turn.from == at && covers(wanted, pattern) {
+                return Some(turn);
+            }
+        }
+    }
+    None
+}
+
+/// Where a watch stands after a job of the pattern.
+fn turned_on(turns: &[Turn], pattern: &JobPattern<Text>, now: Standing) -> Standing
+    requires { now.spent < 2 ^ 62 }
+    ensures { result.spent ≤ 2 ^ 62 }
+{
+    match turn_on(turns, pattern, now.at) {
+        Some(turn) => took(turn, now),
+        None => now,
+    }
+}
+
+/// The first row that fits.
+fn ready_line<'t, 'a>(lines: &'t [Line<'a>], one: &Config) -> Option<&'t Line<'a>> {
+    for line in lines {
+        if is_ready(line, one) {
+            return Some(line);
+        }
+    }
+    None
+}
+
+/// Where a job leads.
+fn step(rules: &Rules, candidate: &Candidate, one: &Config) -> Config
+    requires { one.now.watch.spent < 2 ^ 62 }
+{
+    let line = ready_line(candidate.lines.as_slice(), one);
+    let now = turned_on(rules.turns, candidate.pattern, one.watch);
+    stand(rules, line, one, now)
+}
+
+/// Where the start leads.
+fn after_start(rules: &Rules, first: usize) -> Config {
+    let one = begun(first);
+    let line = started(rules.lines, &one);
+    let now = turned_on(rules.turns, &JobPattern::Start, one.watch);
+    stand(rules, line, &one, now)
+}
+
+/// A search that has reached nothing.
+fn new_search(alloc: Global) -> Result<Search, OutOfMemory> {
+    Ok(Search {
+        found: Found {
+            configs: Vec::new(alloc),
+            slots: vec![in alloc; 0; 2 * MOST_CONFIGURATIONS]?,
+        },
+        origins: Vec::new(alloc),
+    })
+}
+
+/// Adds a configuration, unless one is found that covers it.
+fn reach(search: &mut Search, one: Config, origin: Origin) -> Result<(), OutOfMemory> {
+    let found = &mut search.found;
+    if found.slots.is_empty() {
+        return Ok(());
+    }
+    let slot = slot_of(found.configs.as_slice(), found.slots.as_slice(), &one);
+    let held = found.slots[slot];
+    if 0 < held && held <= found.configs.len() && covered(&one, &found.configs[held - 1]) {
+        return Ok(());
+    }
+    found.configs.push(one)?;
+    found.slots[slot] = found.configs.len();
+    search.origins.push(origin)?;
+    Ok(())
+}
+
+/// Adds where each job leads from a configuration.
+fn visit(
+    search: &mut Search,
+    rules: &Rules,
+    candidates: &[Candidate],
+    from: usize,
+    one: &Config,
+) -> Result<(), OutOfMemory>
+    requires { one.now.watch.spent < 2 ^ 62 }
+{
+    for (by, candidate) in candidates.iter().enumerate() {
+        reach(search, step(rules, candidate, one), Origin { from, by })?;
+    }
+    Ok(())
+}
+
+/// The jobs that led to a configuration.
+fn path_to(alloc: Global, origins: &[Origin], index: usize) -> Result<Vec<usize>, OutOfMemory> {
+    let mut path = Vec::new(alloc);
+    let mut index = index;
+    for _step in 0..origins.len() {
+        if 0 < index && index < origins.len() {
+            path.insert(0, origins[index].by)?;
+            index = origins[index].from;
+        }
+    }
+    Ok(path)
+}
+
+/// Searches for a shortest way that breaks the promise.
+pub(crate) fn search_way(
+    alloc: Global,
+    search: &mut Search,
+    rules: &Rules,
+    budget: u64,
+    candidates: &[Candidate],
+) -> Result<SearchEnd, OutOfMemory>
+    requires { budget < 2 ^ 62 }
+{
+    for index in 0..MOST_CONFIGURATIONS {
+        if search.found.configs.len() <= index {
+            return Ok(SearchEnd::Complete);
+        }
+        let one = search.found.configs[index];
+        if budget < one.watch.spent {
+            return Ok(SearchEnd::Breaks(path_to(alloc, search.origins.as_slice(), index)?));
+        }
+        visit(search, rules, candidates, index, &one)?;
+    }
+    Ok(SearchEnd::TooMany)
+}
+
+/// Begins a search.
+pub(crate) fn begin_search(
+    alloc: Global,
+    rules: &Rules,
+    first: usize,
+) -> Result<Search, OutOfMemory> {
+    let mut search = new_search(alloc)?;
+    let one = after_start(rules, first);
+    reach(&mut search, one, Origin { from: 0, by: 0 })?;
+    Ok(search)
+}
+
+/// Adds all that a job of whichever name may lead to, until nothing more comes.
+pub(crate) fn search_all(
+    alloc: Global,
+    search: &mut Search,
+    rules: &Rules,
+    budget: u64,
+) -> Result<(), OutOfMemory>
+    requires { budget < 2 ^ 62 }
+{
+    for index in 0..MOST_CONFIGURATIONS {
+        if search.found.configs.len() <= index {
+            return Ok(());
+        }
+        let one = search.found.configs[index];
+        if budget < one.watch.spent {
+            return Ok(());
+        }
+        reach_each(alloc, search, rules, &one)?;
+    }
+    Ok(())
+}
+
+/// Adds all that a job may lead to from a configuration.
+fn reach_each(
+    alloc: Global,
+    search: &mut Search,
+    rules: &Rules,
+    one: &Config,
+) -> Result<(), OutOfMemory>
+    requires { one.now.watch.spent < 2 ^ 62 }
+{
+    let mut next = Vec::new(alloc);
+    steps(alloc, &mut next, rules, one)?;
+    for config in &next {
+        reach(search, *config, Origin { from: 0, by: 0 })?;
+    }
+    Ok(())
+}

@@ -1,0 +1,271 @@
+//! A way that breaks a promise, followed job by job.
+ghost use Rattle.std.specs.Prelude.{◌≡◌, ◌≤◌, ◌<◌, ◌+◌, ◌-◌, ◌^◌, true, IfOk, IfSome, OnOk, length, map};
+ghost use Rattle.wh_rows.specs.Rows.{after, initial, seen_by, rows_give, after_rows};
+ghost use Rattle.wh_row_rules.specs.Broken.{definition};
+ghost use Rattle.wh_promises.specs.Courses.{begins, goes_on, comes, is_given, gave};
+ghost use Rattle.wh_promises.specs.Watches.{watched};
+ghost use Rattle.wh_scenarios.specs.CommandTexts.{commands_text};
+ghost use Rattle.wh_table_promises.specs.Promised.{happening_of};
+ghost use Rattle.wh_table_promises.specs.Ways.{text_given, texts_given};
+ghost use Rattle.wh_table_promises.specs.Private.Seen.{turn_seen, standing_seen};
+ghost use Rattle.wh_table_promises.specs.Private.Told.{told_by, given_by, through, spends};
+
+use crate::promise::Happening;
+use crate::watch::{Standing, Turn, new_standing, took};
+use std::alloc::{AllocError, Global};
+use wh_events::{Items, OutOfMemory, Text};
+use wh_row_rules::OwnedTable;
+use wh_rows::{Counts, RowsState, StateName, answer, is_for_job, take_start};
+use wh_scenarios::commands_text;
+use wh_workflow::{Command, Job, no_payloads, text_of};
+
+/// A line of a scenario that breaks a promise: a job, and the commands that it is given.
+#[derive(Drop)]
+pub struct WayStep {
+    /// The job, as scenarios write it.
+    pub job: Text,
+    /// The commands, as scenarios write them.
+    pub gives: Text,
+}
+
+/// Whether this happens by the job that comes.
+fn comes(what: &Happening, state: &RowsState, job: &Job) -> bool
+    ensures { result ≡ comes (happening_of what.now) state.now job.now }
+{
+    match what {
+        Happening::Comes(pattern) => is_for_job(pattern, state, job),
+        _ => false,
+    }
+}
+
+/// Where a watch stands once a job has come.
+fn told(turns: &[Turn], state: &RowsState, job: &Job, now: Standing) -> Standing
+    requires { now.spent < 2 ^ 62 }
+    ensures told { standing_seen result ≡ told_by (map turn_seen turns.now) state.now job.now (standing_seen now) }
+    ensures most { result.spent ≤ 2 ^ 62 }
+{
+    for turn in turns {
+        if turn.from == now.at && comes(turn.what, state, job) {
+            return took(turn, now);
+        }
+    }
+    now
+}
+
+/// Whether this happens by the command that is given.
+fn is_given(what: &Happening, command: &Command) -> bool
+    ensures { result ≡ is_given (happening_of what.now) command.now }
+{
+    match what {
+        Happening::Comes(_) => false,
+        Happening::StartsActivity(kind) => match command {
+            Command::StartActivity { activity, .. } => kind.get() == activity.get(),
+            _ => false,
+        },
+        Happening::StartsChild(kind) => match command {
+            Command::StartChild { workflow, .. } => kind.get() == workflow.get(),
+            _ => false,
+        },
+        Happening::SendsSignal(name) => match command {
+            Command::SignalExternal { signal, .. } => name.get() == signal.get(),
+            _ => false,
+        },
+        Happening::Completes => matches!(command, Command::Complete { .. }),
+        Happening::Fails => matches!(command, Command::Fail { .. }),
+        Happening::Cancels => matches!(command, Command::Cancel),
+        Happening::ContinuesAsNew => matches!(command, Command::ContinueAsNew { .. }),
+        Happening::Closes => matches!(
+            command,
+            Command::Complete { .. }
+                | Command::Fail { .. }
+                | Command::Cancel
+                | Command::ContinueAsNew { .. }
+        ),
+    }
+}
+
+/// Where a watch stands after a command.
+fn given_by(turns: &[Turn], command: &Command, now: Standing) -> Standing
+    requires { now.spent < 2 ^ 64 - 1 }
+    ensures given { standing_seen result ≡ given_by (map turn_seen turns.now) command.now (standing_seen now) }
+    ensures most { result.spent ≤ now.spent + 1 }
+{
+    for turn in turns {
+        if turn.from == now.at && is_given(turn.what, command) {
+            return took(turn, now);
+        }
+    }
+    now
+}
+
+/// Where a watch stands after commands.
+fn all_given(turns: &[Turn], commands: &[Command], now: Standing) -> Standing
+    requires { now.spent ≤ 2 ^ 62 }
+    ensures { standing_seen result ≡ watched (map turn_seen turns.now) (standing_seen now) (gave commands.now) }
+{
+    let mut now = now;
+    for command in commands {
+        now = given_by(turns, command, now);
+    }
+    now
+}
+
+/// Whether none of the jobs starts the run.
+fn goes_on(jobs: &[Job]) -> bool
+    ensures { result ≡ goes_on jobs.now }
+{
+    for job in jobs {
+        if matches!(job, Job::Start { .. }) {
+            return false;
+        }
+    }
+    true
+}
+
+/// Whether the jobs begin with the start, and then none of them is one.
+fn begins(jobs: &[Job]) -> bool
+    ensures { result ≡ true → begins jobs.now ≡ true }
+{
+    match jobs {
+        [Job::Start { .. }, later @ ..] => goes_on(later),
+        _ => false,
+    }
+}
+
+/// Where a run of a table begins.
+fn first_run(alloc: Global, table: &OwnedTable) -> Result<RowsState, OutOfMemory>
+    ensures { IfOk result (λ run. run ≡ initial (definition table.now)) }
+{
+    Ok(RowsState {
+        at: StateName::owned(table.first.try_copy()?),
+        closed: false,
+        name: text_of(alloc, "")?,
+        input: no_payloads(alloc),
+        kept: no_payloads(alloc),
+        counts: Counts {
+            a: 0,
+            b: 0,
+            c: 0,
+            d: 0,
+        },
+    })
+}
+
+/// What a run has come to.
+#[derive(Drop)]
+struct Followed {
+    /// The run.
+    run: RowsState,
+    /// The watch.
+    watch: Standing,
+}
+
+/// Lets a run see a job.
+fn see_job(
+    alloc: Global,
+    table: &OwnedTable,
+    run: &mut RowsState,
+    job: &Job,
+) -> Result<(), OutOfMemory>
+    ensures { OnOk result (run.new ≡ seen_by (definition table.now) run.old job.now) }
+{
+    take_start(alloc, &table.name, run, job)
+}
+
+/// The commands that rows give to a job that the run has seen, and what it leaves of the run.
+fn answer_job(
+    alloc: Global,
+    table: &OwnedTable,
+    run: &mut RowsState,
+    job: &Job,
+) -> Result<Vec<Command>, OutOfMemory>
+    ensures commands { IfOk result (λ given. given.items ≡ rows_give table.now.rows run.old job.now) }
+    ensures state { OnOk result (run.new ≡ after_rows table.now.rows table.now.bounds run.old job.now) }
+{
+    answer(alloc, table.rows.get(), table.bounds, run, job)
+}
+
+/// The text of commands.
+fn text_of_all(alloc: Global, commands: &[Command]) -> Result<Text, OutOfMemory>
+    ensures { IfOk result (λ text. text ≡ commands_text commands.now) }
+{
+    Ok(Text::new(commands_text(alloc, commands)?))
+}
+
+/// Gives a job to a run, and says what it is given.
+fn follow_job(
+    alloc: Global,
+    table: &OwnedTable,
+    turns: &[Turn],
+    now: &mut Followed,
+    job: &Job,
+) -> Result<Text, OutOfMemory>
+    requires { now.old.watch.spent < 2 ^ 62 }
+    ensures text { IfOk result (λ text. text ≡ text_given (definition table.now) now.old.run job.now) }
+    ensures run { OnOk result (now.new.run ≡ after (definition table.now) now.old.run job.now) }
+    ensures watch { OnOk result (standing_seen now.new.watch
+        ≡ through (definition table.now) (map turn_seen turns.now) now.old.run job.now (standing_seen now.old.watch)) }
+{
+    see_job(alloc, table, &mut now.run, job)?;
+    let watch = told(turns, &now.run, job, now.watch);
+    let commands = answer_job(alloc, table, &mut now.run, job)?;
+    now.watch = all_given(turns, commands.as_slice(), watch);
+    text_of_all(alloc, commands.as_slice())
+}
+
+/// Follows jobs, and says what each is given. `None` where the watch keeps to the budget, or has
+/// spent more before the last job.
+pub(crate) fn follow_jobs(
+    alloc: Global,
+    table: &OwnedTable,
+    turns: &[Turn],
+    budget: u64,
+    jobs: &[Job],
+) -> Result<Option<Vec<Text>>, OutOfMemory>
+    requires { budget < 2 ^ 62 }
+    ensures texts { IfOk result (λ found. IfSome found (λ texts.
+        texts.items ≡ texts_given (definition table.now) (initial (definition table.now)) jobs.now)) }
+    ensures begins { IfOk result (λ found. IfSome found (λ texts. begins jobs.now ≡ true)) }
+    ensures spends { IfOk result (λ found. IfSome found (λ texts.
+        budget < spends (definition table.now) (map turn_seen turns.now) jobs.now)) }
+{
+    if !begins(jobs) {
+        return Ok(None);
+    }
+    let mut now = Followed {
+        run: first_run(alloc, table)?,
+        watch: new_standing(),
+    };
+    let mut texts = Vec::new(alloc);
+    for job in jobs {
+        if budget < now.watch.spent {
+            return Ok(None);
+        }
+        let text = follow_job(alloc, table, turns, &mut now, job)?;
+        texts.push(text)?;
+    }
+    if budget < now.watch.spent {
+        Ok(Some(texts))
+    } else {
+        Ok(None)
+    }
+}
+
+/// The lines of a scenario: jobs, each with the commands that it is given.
+pub(crate) fn steps_of(
+    alloc: Global,
+    words: &[Text],
+    gives: &[Text],
+) -> Result<Vec<WayStep>, OutOfMemory>
+    requires { length words.now ≡ length gives.now }
+    ensures jobs { IfOk result (λ way. map (λ step. step.job) way.items ≡ words.now) }
+    ensures given { IfOk result (λ way. map (λ step. step.gives) way.items ≡ gives.now) }
+{
+    let mut way = Vec::new(alloc);
+    for (index, job) in words.iter().enumerate() {
+        let job = job.try_copy()?;
+        let gives = gives[index].try_copy()?;
+        way.push(WayStep { job, gives })?;
+    }
+    Ok(way)
+}

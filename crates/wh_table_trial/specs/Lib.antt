@@ -1,0 +1,4 @@
+pub mod Entries
+pub mod Trials
+pub mod Texts
+pub mod Commands

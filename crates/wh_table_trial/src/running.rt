@@ -1,0 +1,350 @@
+//! A run of a table on a scenario.
+ghost use Rattle.std.specs.Prelude.{◌≡◌, ◌∷◌, [], IfOk, OnOk, map};
+ghost use Rattle.wh_table.specs.Program.{after, gives};
+ghost use Rattle.wh_table_trial.specs.Entries.{scenario_entries};
+ghost use Rattle.wh_table_trial.specs.Trials.{table_payload, started, named, shorter, given_text, differs, seen, told, stop, later};
+ghost use Rattle.wh_table_trial.specs.Trials.{ended, tried, begun, no_table, trial};
+
+use crate::entries::{Entry, scenario_entries};
+use std::alloc::Global;
+use wh_events::{Items, OutOfMemory, Payload, Text};
+use wh_scenarios::commands_text;
+use wh_table::{TableState, TableWorkflow};
+use wh_table_text::{TableFault, fault_text, read_table};
+use wh_workflow::{Command, Job, Meter, Workflow};
+
+/// A job of a scenario, and the commands that it is given.
+#[derive(Drop)]
+pub struct Step {
+    /// The words of the job.
+    pub words: Text,
+    /// The commands, as a scenario writes them.
+    pub given: Text,
+}
+
+/// Where a run differs from a scenario. Lines are counted from 1.
+#[derive(Drop)]
+pub enum Difference {
+    /// The file is no table.
+    NoTable {
+        /// Why it is none.
+        reason: Text,
+    },
+    /// A line has words that are no job.
+    NoJob {
+        /// The number of the line.
+        line: usize,
+        /// The words.
+        words: Text,
+    },
+    /// The jobs of a line are given other commands.
+    Gives {
+        /// The number of the line.
+        line: usize,
+        /// What they are given.
+        given: Text,
+        /// What the line wants.
+        wanted: Text,
+    },
+}
+
+/// What came of a scenario.
+#[derive(Drop)]
+pub struct Trial {
+    /// Its jobs, up to the first line where a run differs.
+    pub steps: Items<Step>,
+    /// Where it differs, if it does.
+    pub difference: Option<Difference>,
+}
+
+/// How far a trial has come.
+#[derive(Drop)]
+struct Run {
+    /// The run of the table.
+    state: TableState,
+    /// The commands of the line so far.
+    given: Vec<Command>,
+    /// The jobs so far.
+    steps: Vec<Step>,
+}
+
+/// The bytes of a text.
+fn bytes_of(alloc: Global, text: &str) -> Result<Items<u8>, OutOfMemory>
+    ensures { IfOk result (λ bytes. bytes ≡ text.now) }
+{
+    Ok(Items::new(text.as_bytes().to_vec(alloc)?))
+}
+
+/// The payload of a JSON text.
+fn table_payload(alloc: Global, table: &[u8]) -> Result<Payload, OutOfMemory>
+    ensures { IfOk result (λ payload. payload ≡ table_payload table.now) }
+{
+    Ok(Payload {
+        encoding: bytes_of(alloc, "json/plain")?,
+        content: Items::new(table.to_vec(alloc)?),
+    })
+}
+
+/// The payloads, behind the table.
+fn behind_table(
+    alloc: Global,
+    table: &[u8],
+    input: &Items<Payload>,
+) -> Result<Items<Payload>, OutOfMemory>
+    ensures { IfOk result (λ all. all ≡ table_payload table.now ∷ input.now) }
+{
+    let mut all = Vec::new(alloc);
+    let first = table_payload(alloc, table)?;
+    all.push(first)?;
+    let mut rest = input.try_copy()?.into_inner();
+    all.append(&mut rest)?;
+    Ok(Items::new(all))
+}
+
+/// Gives a run of the table a job.
+fn answer(alloc: Global, state: &mut TableState, job: &Job) -> Result<Vec<Command>, OutOfMemory>
+    ensures commands { IfOk result (λ given. given.items ≡ gives state.old job.now) }
+    ensures state { OnOk result (state.new ≡ after state.old job.now) }
+{
+    let mut given = Vec::new(alloc);
+    let mut meter = Meter::new();
+    TableWorkflow::step(alloc, state, job, &mut given, &mut meter)?;
+    Ok(given)
+}
+
+/// Gives a run of the table a job, where a start brings the table.
+fn give(
+    alloc: Global,
+    table: &[u8],
+    state: &mut TableState,
+    job: &Job,
+) -> Result<Vec<Command>, OutOfMemory>
+    ensures commands { IfOk result (λ given. given.items ≡ gives state.old (started table.now job.now)) }
+    ensures state { OnOk result (state.new ≡ after state.old (started table.now job.now)) }
+{
+    match job {
+        Job::Start { workflow, input } => {
+            let own = Job::Start {
+                workflow: workflow.try_copy()?,
+                input: behind_table(alloc, table, input)?,
+            };
+            answer(alloc, state, &own)
+        }
+        job => answer(alloc, state, job),
+    }
+}
+
+/// A payload, or `TABLE` in place of the table.
+fn named(alloc: Global, table: &[u8], payload: &Payload) -> Result<Payload, OutOfMemory>
+    ensures { IfOk result (λ own. own ≡ named table.now payload.now) }
+{
+    if payload.content.get() == table {
+        Ok(Payload {
+            encoding: payload.encoding.try_copy()?,
+            content: bytes_of(alloc, "TABLE")?,
+        })
+    } else {
+        payload.try_copy()
+    }
+}
+
+/// Payloads, with `TABLE` in place of the table.
+fn all_named(alloc: Global, table: &[u8], input: &[Payload]) -> Result<Items<Payload>, OutOfMemory>
+    ensures { IfOk result (λ all. all ≡ map (named table.now) input.now) }
+{
+    let mut all = Vec::new(alloc);
+    for payload in input {
+        let own = named(alloc, table, payload)?;
+        all.push(own)?;
+    }
+    Ok(Items::new(all))
+}
+
+/// A command, with `TABLE` in place of the table where it goes on as new.
+fn shorter(alloc: Global, table: &[u8], command: &Command) -> Result<Command, OutOfMemory>
+    ensures { IfOk result (λ own. own ≡ shorter table.now command.now) }
+{
+    match command {
+        Command::ContinueAsNew { workflow, input } => Ok(Command::ContinueAsNew {
+            workflow: workflow.try_copy()?,
+            input: all_named(alloc, table, input.get())?,
+        }),
+        command => command.try_copy(),
+    }
+}
+
+/// Commands, each so.
+fn all_shorter(
+    alloc: Global,
+    table: &[u8],
+    commands: &[Command],
+) -> Result<Vec<Command>, OutOfMemory>
+    ensures { IfOk result (λ all. all.items ≡ map (shorter table.now) commands.now) }
+{
+    let mut all = Vec::new(alloc);
+    for command in commands {
+        let own = shorter(alloc, table, command)?;
+        all.push(own)?;
+    }
+    Ok(all)
+}
+
+/// Commands, as a scenario writes them.
+fn given_text(alloc: Global, table: &[u8], commands: &[Command]) -> Result<Text, OutOfMemory>
+    ensures { IfOk result (λ text. text ≡ given_text table.now commands.now) }
+{
+    let all = all_shorter(alloc, table, commands)?;
+    let text = commands_text(alloc, all.as_slice())?;
+    Ok(Text::new(text))
+}
+
+/// Where a line wants other commands than its jobs are given, if it says some.
+fn differs(
+    line: usize,
+    given: Text,
+    wanted: &Option<Text>,
+) -> Result<Option<Difference>, OutOfMemory>
+    ensures { IfOk result (λ difference. difference ≡ differs line given wanted.now) }
+{
+    match wanted {
+        Some(wanted) => {
+            if given.get() == wanted.get() {
+                return Ok(None);
+            }
+            let wanted = wanted.try_copy()?;
+            Ok(Some(Difference::Gives {
+                line,
+                given,
+                wanted,
+            }))
+        }
+        None => Ok(None),
+    }
+}
+
+/// Gives a run a job of a scenario.
+fn take_job(
+    alloc: Global,
+    table: &[u8],
+    run: &mut Run,
+    words: &Text,
+    job: &Job,
+) -> Result<(), OutOfMemory>
+    ensures { OnOk result (seen run.new ≡ told table.now (seen run.old) words.now job.now) }
+{
+    let mut given = give(alloc, table, &mut run.state, job)?;
+    let step = Step {
+        words: words.try_copy()?,
+        given: given_text(alloc, table, given.as_slice())?,
+    };
+    run.steps.push(step)?;
+    run.given.append(&mut given)?;
+    Ok(())
+}
+
+/// Ends a line.
+fn end_line(
+    alloc: Global,
+    table: &[u8],
+    run: &mut Run,
+    line: usize,
+    wanted: &Option<Text>,
+) -> Result<Option<Difference>, OutOfMemory>
+    ensures stop { IfOk result (λ difference.
+        difference ≡ differs line (given_text table.now (seen run.old).given) wanted.now) }
+    ensures run { OnOk result (seen run.new ≡ record (seen run.old) { given = [] }) }
+{
+    let given = given_text(alloc, table, run.given.as_slice())?;
+    let difference = differs(line, given, wanted)?;
+    run.given = Vec::new(alloc);
+    Ok(difference)
+}
+
+/// Takes a thing that a scenario says.
+fn take_entry(
+    alloc: Global,
+    table: &[u8],
+    run: &mut Run,
+    entry: &Entry,
+) -> Result<Option<Difference>, OutOfMemory>
+    ensures stop { IfOk result (λ difference. difference ≡ stop table.now (seen run.old) entry.now) }
+    ensures run { OnOk result (seen run.new ≡ later table.now (seen run.old) entry.now) }
+{
+    match entry {
+        Entry::Told { words, job } => {
+            take_job(alloc, table, run, words, job)?;
+            Ok(None)
+        }
+        Entry::NoJob { line, words } => {
+            let words = words.try_copy()?;
+            Ok(Some(Difference::NoJob { line: *line, words }))
+        }
+        Entry::LineEnd { line, wanted } => end_line(alloc, table, run, *line, wanted),
+    }
+}
+
+/// Takes all that a scenario says, up to the first line where the run differs.
+fn take_entries(
+    alloc: Global,
+    table: &[u8],
+    run: &mut Run,
+    entries: &[Entry],
+) -> Result<Option<Difference>, OutOfMemory>
+    ensures { IfOk result (λ difference.
+        ended (seen run.new) difference ≡ tried table.now (seen run.old) entries.now) }
+{
+    for entry in entries {
+        if let Some(difference) = take_entry(alloc, table, run, entry)? {
+            return Ok(Some(difference));
+        }
+    }
+    Ok(None)
+}
+
+/// Tries a table that can be read.
+fn run_scenario(alloc: Global, table: &[u8], scenario: &str) -> Result<Trial, OutOfMemory>
+    ensures { IfOk result (λ own. own ≡ tried table.now begun (scenario_entries scenario.now)) }
+{
+    let entries = scenario_entries(alloc, scenario)?;
+    let mut run = Run {
+        state: TableWorkflow::begin(alloc, "Table")?,
+        given: Vec::new(alloc),
+        steps: Vec::new(alloc),
+    };
+    let difference = take_entries(alloc, table, &mut run, entries.as_slice())?;
+    let Run {
+        state,
+        given,
+        steps,
+    } = run;
+    drop(state);
+    drop(given);
+    Ok(Trial {
+        steps: Items::new(steps),
+        difference,
+    })
+}
+
+/// Tries what is no table.
+fn no_table(alloc: Global, fault: TableFault) -> Result<Trial, OutOfMemory>
+    ensures { IfOk result (λ own. own ≡ no_table fault) }
+{
+    let reason = fault_text(alloc, fault)?;
+    Ok(Trial {
+        steps: Items::new(Vec::new(alloc)),
+        difference: Some(Difference::NoTable { reason }),
+    })
+}
+
+/// Tries the table that these bytes are on a scenario: the jobs, each with the commands that a run
+/// of the type `Table` is given, up to the first line that wants others or has words that are no
+/// job. `OutOfMemory` where an allocation was refused.
+pub fn try_table(alloc: Global, table: &[u8], scenario: &str) -> Result<Trial, OutOfMemory>
+    ensures { IfOk result (λ own. own ≡ trial table.now scenario.now) }
+{
+    match read_table(alloc, table) {
+        Ok(_) => run_scenario(alloc, table, scenario),
+        Err(TableFault::OutOfMemory) => Err(OutOfMemory),
+        Err(fault) => no_table(alloc, fault),
+    }
+}

@@ -1,0 +1,4 @@
+pub mod Values
+pub mod Gathered
+pub mod Checked
+pub mod Texts

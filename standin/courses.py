@@ -1,0 +1,356 @@
+"""What a run has to do, found from its own history: which commands each of its tasks has to give, or with which fault it
+fails, and in which state it leaves the run.
+
+docs/DEFINITIONS.md says what the jobs of a task are, which commands are faults and which are sent. This is written from
+that page alone. What a workflow gives to a job is that of a program:
+
+    program.step(job)   the commands that a job is given, as `commands_in` below has them; it goes on to the state after it
+    program.copy()      one that is in the same state
+    program.query(type, values)   what a query gives: `(True, JSON value)`, or `(False, text)`
+
+A job is a tuple: ("start", payloads), ("signal", name, payloads), ("cancel",), ("activity", id, end, payloads),
+("fired", id), ("child-started", id), ("child", id, end, payloads), ("version", change, number), ("sent",), ("unsent",), which
+say what became of a signal. An end is `completed`, `failed`, `timed-out`, `canceled`, `terminated` or `not-started`.
+"""
+
+import base64
+import json
+
+from messages import command_in
+
+MOST_COMMANDS = 4_096
+CLOSING = ("Complete", "Fail", "Cancel", "ContinueAsNew")
+OPENING = {"StartActivity": "activity", "StartTimer": "timer", "StartChild": "child"}
+CANCELLING = {"CancelActivity": "activity", "CancelTimer": "timer", "CancelChild": "child"}
+# What a worker says of the query types that SDKs keep for themselves.
+BUILT_IN = "built-in query types are not supported: "
+
+
+class Payload(bytes):
+    """The content of a payload, with its encoding."""
+
+    encoding = ""
+
+    def __eq__(self, other):
+        return bytes(self) == bytes(other) and self.encoding == other.encoding
+
+    def __ne__(self, other):
+        return not self == other
+
+    __hash__ = bytes.__hash__
+
+
+def payloads_in(attributes, name):
+    """The payloads of a member."""
+    found = []
+    for one in (attributes.get(name) or {}).get("payloads", []):
+        payload = Payload(base64.b64decode(one.get("data", "")))
+        payload.encoding = one.get("metadata", {}).get("encoding", "")
+        found.append(payload)
+    return found
+
+
+def value_in(payloads):
+    """The JSON value of a marker's only payload."""
+    (payload,) = payloads
+    return json.loads(payload)
+
+
+def commands_in(values):
+    """The commands of an answer, as programs give them, but for a cancel of an activity, which has the number of the event
+    that scheduled it."""
+    return [READERS[kind](attributes) for kind, attributes, _ in map(command_in, values)]
+
+
+READERS = {
+    "SCHEDULE_ACTIVITY_TASK": lambda one: ("StartActivity", one["activityId"], one["activityType"]["name"], payloads_in(one, "input")),
+    "REQUEST_CANCEL_ACTIVITY_TASK": lambda one: ("CancelActivity", int(one["scheduledEventId"])),
+    "START_TIMER": lambda one: ("StartTimer", one["timerId"], one["startToFireTimeout"]),
+    "CANCEL_TIMER": lambda one: ("CancelTimer", one["timerId"]),
+    "START_CHILD_WORKFLOW_EXECUTION": lambda one: (
+        "StartChild", one["workflowId"], one["workflowType"]["name"], payloads_in(one, "input")
+    ),
+    "REQUEST_CANCEL_EXTERNAL_WORKFLOW_EXECUTION": lambda one: ("CancelChild", one["workflowId"]),
+    "SIGNAL_EXTERNAL_WORKFLOW_EXECUTION": lambda one: (
+        "SignalExternal", one["execution"]["workflowId"], one["signalName"], payloads_in(one, "input")
+    ),
+    "RECORD_MARKER": lambda one: (
+        "Marker", *(value_in(payloads_in(one["details"], name)) for name in ("change-id", "version"))
+    ),
+    "COMPLETE_WORKFLOW_EXECUTION": lambda one: ("Complete", payloads_in(one, "result")),
+    "FAIL_WORKFLOW_EXECUTION": lambda one: ("Fail", one["failure"].get("message", "")),
+    "CANCEL_WORKFLOW_EXECUTION": lambda one: ("Cancel",),
+    "CONTINUE_AS_NEW_WORKFLOW_EXECUTION": lambda one: (
+        "ContinueAsNew", one["workflowType"]["name"], payloads_in(one, "input")
+    ),
+}
+
+
+class Fault(Exception):
+    """Why a task fails."""
+
+
+class Thing:
+    """An activity, a timer or a child."""
+
+    def __init__(self, number, kind, name):
+        self.number, self.kind, self.name = number, kind, name
+        self.is_open, self.is_cancelling = True, False
+
+    def copy(self):
+        other = Thing(self.number, self.kind, self.name)
+        other.is_open, other.is_cancelling = self.is_open, self.is_cancelling
+        return other
+
+
+class Activation:
+    """One task: it is given its jobs, and keeps the commands that come of them."""
+
+    def __init__(self, course):
+        self.program, self.versions = course.program, course.versions
+        self.open = {(one.kind, one.name): one for one in course.things.values() if one.is_open}
+        self.late = course.ended[: course.ends_before]
+        self.issued, self.opened, self.cancelled, self.is_closed = [], {}, set(), False
+
+    def run(self, jobs):
+        """The commands that are sent. A Fault where one of them can't be."""
+        for job in jobs:
+            while job is not None:
+                job = self.take(self.program.step(job))
+        return [command for command in self.issued if command is not None]
+
+    def take(self, commands):
+        """Takes the commands of a step. Where the last one asks, this is the job that answers it."""
+        for command in commands:
+            if self.is_closed:
+                raise Fault("AfterClosing")
+            if len(self.issued) >= MOST_COMMANDS:
+                raise Fault("TooManyCommands")
+            if command[0] == "Ask":
+                return self.ask(*command[1:])
+            self.issue(command)
+        return None
+
+    def issue(self, command):
+        kind, name = command[0], command[1] if len(command) > 1 else None
+        if kind in OPENING:
+            return self.start((OPENING[kind], name), command)
+        if kind in CANCELLING:
+            return self.cancel((CANCELLING[kind], name), kind)
+        self.is_closed = kind in CLOSING
+        self.issued.append(command)
+
+    def start(self, thing, command):
+        is_open = thing in self.open and not (thing[0] == "timer" and thing in self.cancelled)
+        if thing in self.opened:
+            raise Fault("IdInUse" if self.opened[thing] is not None else "IdReused")
+        if is_open:
+            raise Fault("IdInUse")
+        self.opened[thing] = len(self.issued)
+        if thing[0] == "timer":
+            seconds = command[2]
+            command = (command[0], command[1], f"{seconds}s" if seconds else "0.001s")
+        self.issued.append(command)
+
+    def cancel(self, thing, kind):
+        # What this task opened is withdrawn, and then not sent at all.
+        if thing in self.opened:
+            if self.opened[thing] is None:
+                raise Fault("NotOpen")
+            self.issued[self.opened[thing]] = None
+            self.opened[thing] = None
+            return self.issued.append(None)
+        if thing not in self.open:
+            if thing not in self.late:
+                raise Fault("NotOpen")
+            return self.issued.append(None)
+        if thing in self.cancelled or self.open[thing].is_cancelling:
+            raise Fault("NotOpen" if thing[0] == "timer" else "AlreadyCancelling")
+        self.cancelled.add(thing)
+        self.issued.append((kind, self.open[thing].number if thing[0] == "activity" else thing[1]))
+
+    def ask(self, change, least, greatest):
+        if greatest < least or least < -1 or greatest < 0:
+            raise Fault("BadRange")
+        version = self.versions.get(change, greatest)
+        if not least <= version <= greatest:
+            raise Fault("VersionOutOfRange")
+        self.issued.append(None if change in self.versions else ("Marker", change, version))
+        self.versions[change] = version
+        return ("version", change, version)
+
+
+class Course:
+    """A run, followed by its history."""
+
+    def __init__(self, begin):
+        """`begin(kind, payloads)` makes a program."""
+        self.begin, self.program, self.kind = begin, None, None
+        self.count, self.things, self.versions, self.requests = 0, {}, {}, {}
+        # The jobs since the last task that was completed, and what ended since then. The last task that was started is
+        # given so many of both.
+        self.jobs, self.ended, self.jobs_before, self.ends_before = [], [], 0, 0
+        self.started, self.is_live = 0, False
+
+    def copy(self):
+        other = Course(self.begin)
+        other.__dict__.update(self.__dict__)
+        other.program = self.program.copy()
+        other.things = {number: thing.copy() for number, thing in self.things.items()}
+        other.versions, other.jobs, other.ended = dict(self.versions), list(self.jobs), list(self.ended)
+        return other
+
+    def read(self, events):
+        """Goes on by the events behind those that were read. The list is the whole history."""
+        for event in events[self.count :]:
+            name = "".join(word.capitalize() for word in event["eventType"].split("_")[2:])
+            attributes = event.get(name[0].lower() + name[1:] + "EventAttributes", {})
+            getattr(self, "on_" + name, lambda *_: None)(int(event["eventId"]), attributes)
+            self.count += 1
+
+    def answered(self, events):
+        """The commands that a task has to give whose events these are, from the first one of the run on. A Fault where it
+        has to fail."""
+        other = self.copy()
+        other.read(events)
+        return other.activated()
+
+    def activated(self):
+        return Activation(self).run(self.jobs[: self.jobs_before])
+
+    def queried(self, kind, values):
+        """What a query of this type gives after the last completed task: `(True, JSON value)` or `(False, text)`."""
+        return (False, BUILT_IN + kind) if kind.startswith("__") else self.program.query(kind, values)
+
+    def queried_beside(self, kind, values):
+        """So too, after the task that is in hand. Nothing more can be read then."""
+        try:
+            self.activated()
+        except Fault as fault:
+            return False, f"task at {self.started}: {fault}"
+        return self.queried(kind, values)
+
+    # Tasks.
+
+    def on_WorkflowTaskStarted(self, number, _):
+        self.started, self.is_live = number, True
+        self.jobs_before, self.ends_before = len(self.jobs), len(self.ended)
+
+    def on_WorkflowTaskCompleted(self, *_):
+        """The task was completed: the workflow has gone on by its jobs."""
+        self.is_live = False
+        self.activated()
+        del self.jobs[: self.jobs_before], self.ended[: self.ends_before]
+
+    def on_WorkflowTaskFailed(self, *_):
+        self.is_live = False
+
+    on_WorkflowTaskTimedOut = on_WorkflowTaskFailed
+
+    # What comes to the run.
+
+    def on_WorkflowExecutionStarted(self, _, attributes):
+        self.kind, input = attributes["workflowType"]["name"], payloads_in(attributes, "input")
+        self.program = self.begin(self.kind, input)
+        self.jobs.append(("start", input))
+
+    def on_WorkflowExecutionSignaled(self, _, attributes):
+        """Signals come before all else but the start."""
+        place = next((at for at, job in enumerate(self.jobs) if job[0] not in ("start", "signal")), len(self.jobs))
+        self.jobs.insert(place, ("signal", attributes["signalName"], payloads_in(attributes, "input")))
+
+    def on_WorkflowExecutionCancelRequested(self, *_):
+        self.jobs.append(("cancel",))
+
+    # Activities, timers, children.
+
+    def opened(self, number, kind, name):
+        self.things[number] = Thing(number, kind, name)
+
+    def ends(self, number):
+        thing = self.things[int(number)]
+        thing.is_open = False
+        return thing
+
+    def over(self, number, *job):
+        """A thing has ended from outside."""
+        thing = self.ends(number)
+        self.ended.append((thing.kind, thing.name))
+        self.jobs.append((job[0], thing.name, *job[1:]))
+
+    def on_ActivityTaskScheduled(self, number, attributes):
+        self.opened(number, "activity", attributes["activityId"])
+
+    def on_ActivityTaskCancelRequested(self, _, attributes):
+        self.things[int(attributes["scheduledEventId"])].is_cancelling = True
+
+    def on_ActivityTaskCompleted(self, _, attributes):
+        self.over(attributes["scheduledEventId"], "activity", "completed", payloads_in(attributes, "result"))
+
+    def on_ActivityTaskFailed(self, _, attributes):
+        self.over(attributes["scheduledEventId"], "activity", "failed", [])
+
+    def on_ActivityTaskTimedOut(self, _, attributes):
+        self.over(attributes["scheduledEventId"], "activity", "timed-out", [])
+
+    def on_ActivityTaskCanceled(self, _, attributes):
+        self.over(attributes["scheduledEventId"], "activity", "canceled", [])
+
+    def on_TimerStarted(self, number, attributes):
+        self.opened(number, "timer", attributes["timerId"])
+
+    def on_TimerFired(self, _, attributes):
+        self.over(attributes["startedEventId"], "fired")
+
+    def on_TimerCanceled(self, _, attributes):
+        self.ends(attributes["startedEventId"])
+
+    def on_StartChildWorkflowExecutionInitiated(self, number, attributes):
+        self.opened(number, "child", attributes["workflowId"])
+
+    def on_RequestCancelExternalWorkflowExecutionInitiated(self, _, attributes):
+        name = attributes["workflowExecution"]["workflowId"]
+        for thing in self.things.values():
+            if thing.is_open and (thing.kind, thing.name) == ("child", name):
+                thing.is_cancelling = True
+
+    def on_ExternalWorkflowExecutionSignaled(self, *_):
+        self.jobs.append(("sent",))
+
+    def on_SignalExternalWorkflowExecutionFailed(self, *_):
+        self.jobs.append(("unsent",))
+
+    def on_ChildWorkflowExecutionStarted(self, _, attributes):
+        self.jobs.append(("child-started", self.things[int(attributes["initiatedEventId"])].name))
+
+    def child_over(self, attributes, end):
+        given = payloads_in(attributes, "result") if end == "completed" else []
+        self.over(attributes["initiatedEventId"], "child", end, given)
+
+    def on_ChildWorkflowExecutionCompleted(self, _, attributes):
+        self.child_over(attributes, "completed")
+
+    def on_ChildWorkflowExecutionFailed(self, _, attributes):
+        self.child_over(attributes, "failed")
+
+    def on_ChildWorkflowExecutionCanceled(self, _, attributes):
+        self.child_over(attributes, "canceled")
+
+    def on_ChildWorkflowExecutionTimedOut(self, _, attributes):
+        self.child_over(attributes, "timed-out")
+
+    def on_ChildWorkflowExecutionTerminated(self, _, attributes):
+        self.child_over(attributes, "terminated")
+
+    def on_StartChildWorkflowExecutionFailed(self, _, attributes):
+        self.child_over(attributes, "not-started")
+
+
+def fault_of(course, events, started, commands):
+    """What is wrong with the commands of a task that was started by the event of this number, or nothing."""
+    try:
+        wanted = course.answered(events)
+    except Fault as fault:
+        return f"it gives {commands_in(commands)}, and not the fault task at {started}: {fault}"
+    given = commands_in(commands)
+    return "" if given == wanted else f"it gives {given}, and not {wanted}"

@@ -1,0 +1,77 @@
+"""What handlers of activities do, written by itself: the beats and the answer that each task has to get."""
+
+import json
+
+from courses import payloads_in
+from findings import readable
+from peers import NOT_FOUND
+
+BEAT, ANSWER = "RecordActivityTaskHeartbeat", "RespondActivityTask"
+CALLED_OFF = "called off"
+
+
+class Heard:
+    """What a handler has heard by the beats of one task: how many there were, and whether one of them said that it should give
+    up, as `cancel` or `gone`."""
+
+    def __init__(self):
+        self.beats, self.end = 0, None
+
+
+class Till:
+    """The activities of `order_worker`: `ChargeCard` gives its input; `PrintLabels` beats before each payload of its input, with
+    how many it has printed, and gives their number; one of another type fails. Where a beat says that the cancellation of the
+    activity is requested, or that nobody waits for it any more, it gives up."""
+
+    kinds = ("ChargeCard", "PrintLabels", "PrintLabels", "Mail")
+
+    def __init__(self, server):
+        self.server, self.tasks = server, {}
+
+    def replied(self, peer, method, params, result, error):
+        """A worker has made a call and gets this response."""
+        token = params.get("taskToken")
+        if peer.is_disturbed or token not in self.server.activities.by_token:
+            return
+        activity, heard = self.server.activities.by_token[token][1], self.tasks.setdefault(token, Heard())
+        if method == BEAT:
+            fault = self.beaten(heard, params, result, error)
+        elif method.startswith(ANSWER):
+            fault = self.answered(activity, heard, method.removeprefix(ANSWER), params)
+        else:
+            return
+        if fault:
+            self.server.findings.blame(peer, f"{activity.kind} {readable(token)}: {fault}")
+
+    def beaten(self, heard, params, result, error):
+        """What is wrong with a beat, or nothing."""
+        wanted, given = [f"{heard.beats}".encode()], payloads_in(params, "details")
+        fault = f"it beats after {heard.end}" if heard.end else "" if [bytes(one) for one in given] == wanted else f"it beats with {given}"
+        heard.beats += 1
+        if result and result.get("cancelRequested"):
+            heard.end = "cancel"
+        elif error is not None and error[0] == NOT_FOUND:
+            heard.end = "gone"
+        return fault
+
+    def answered(self, activity, heard, kind, params):
+        """What is wrong with an answer, or nothing."""
+        what = params["failure"].get("message", "") if kind == "Failed" else self.values(params, "result" if kind == "Completed" else "details")
+        given, input = (kind, what), self.values({"input": activity.input}, "input")
+        if activity.kind == "ChargeCard":
+            wanted = ("Completed", input)
+        elif activity.kind != "PrintLabels":
+            wanted = ("Failed", "no such activity")
+        elif heard.end == "cancel":
+            wanted = ("Canceled", [json.dumps(CALLED_OFF).encode()])
+        elif heard.end == "gone":
+            wanted = ("Failed", CALLED_OFF)
+        else:
+            wanted = ("Completed", [f"{len(input)}".encode()])
+        if given == wanted and (heard.end or activity.kind != "PrintLabels" or heard.beats == len(input)):
+            return ""
+        return f"after {heard.beats} beats it answers {given}, and not {wanted}"
+
+    @staticmethod
+    def values(members, name):
+        return [bytes(one) for one in payloads_in(members, name)]

@@ -1,0 +1,451 @@
+#!/usr/bin/env python3
+"""Tries the pages of runs: `explain --html FILE` of the built program, over the example histories, edited ones with a fault, one
+whose names are hostile, and one of 51,200 events.
+
+Each page is read by a parser: its tags balance, nothing in it runs or is fetched, what is named by an id is there, and the
+times of the picture are those of the table. Its verdict is the line of `replay`, the event that is marked is the one that the
+line names, and both sides of a difference are those that `replay` tells. Whatever the history holds stands as text: a history
+whose names are hostile has the very tags of the same history with plain names.
+
+    tests/pages.py [--program PATH]       crates/wfhost/out/wfhost, where it isn't given
+    .. --sizes                            prints how large each page is, and how long it took
+    .. --shots FOLDER                     then pictures of some pages by Chromium: wide and narrow, light and dark
+
+The last line is `N tried, M wrong`, or `skipped: WHY` where the program knows no pages."""
+
+import argparse
+import copy
+import datetime
+import json
+import re
+import shutil
+import subprocess
+import sys
+import tempfile
+import time
+from html.parser import HTMLParser
+from pathlib import Path
+
+TOP = Path(__file__).resolve().parent.parent
+EXAMPLES = TOP / "examples" / "histories"
+VOID = {"meta"}
+KNOWN = set(
+    "html head meta title style body header h1 h2 h3 p dl div dt dd main section pre code svg desc defs pattern line"
+    " text rect circle g span path table thead tbody tr th td details summary ol ul li footer".split()
+)
+# What stands in place of a character that can't be seen.
+UNSEEN = re.compile("[\x80-\x9f\u200e\u200f\u2028-\u202e\u2066-\u2069\u061c\ufeff]")
+HOSTILE = (
+    "<script>alert(\"1\")</script><img src=x onerror='alert(2)'> & &lt; &#x3c; &amp; ]]> \0\x01\x1b[31m\t\n\x7f\x85\u202ekcab"
+    "</title></svg></table></details></style>--><!-- \u65e5\u672c\u8a9e \U0001f642 {hole} \\ "
+)
+STAMP = r"\d+-\d\d-\d\d \d\d:\d\d:\d\d(?:\.\d+)?"
+WIDTHS = {"wide": 1280, "narrow": 420}
+EVENTS = 51_200
+
+
+def seen(text, most):
+    """A text as a page shows it, by its first characters."""
+    shown = "".join(chr(0x2400 + ord(c)) if c < " " else "\u2421" if c == "\x7f" else c for c in text[:most])
+    return UNSEEN.sub("\ufffd", shown) + ("…" if len(text) > most else "")
+
+
+class Page(HTMLParser):
+    """What a parser finds in a page."""
+
+    def __init__(self, html):
+        super().__init__(convert_charrefs=True)
+        self.html = html
+        self.wrong = []
+        self.open = []
+        self.tags = []
+        self.ids = []
+        self.refs = []
+        self.texts = []
+        self.headings = []
+        self.lanes = []
+        self.in_lane = False
+        self.rows = []
+        self.tasks = []
+        self.part = None
+        self.parts = {"title": "", "verdict": "", "fault-word": ""}
+        self.sides = []
+        self.notes = ""
+        self.feed(html)
+        self.close()
+        if self.open:
+            self.wrong.append(f"not closed: {self.open}")
+
+    def handle_starttag(self, tag, attributes):
+        names = dict(attributes)
+        self.tags.append((tag, tuple(attributes)))
+        if tag not in KNOWN:
+            self.wrong.append(f"unknown tag {tag}")
+        for name, value in attributes:
+            if name.startswith("on") or name in ("href", "src", "action", "xlink:href", "srcset", "style"):
+                self.wrong.append(f"{tag} has {name}={value!r}")
+        self.ids += [names["id"]] if "id" in names else []
+        for name in ("aria-labelledby", "aria-describedby"):
+            self.refs += names.get(name, "").split()
+        classes = names.get("class", "").split()
+        self.part = "title" if tag == "h1" else next((name for name in classes if name in self.parts), None)
+        if tag in ("h1", "h2", "h3"):
+            self.headings.append(int(tag[1]))
+        if tag == "g":
+            self.in_lane = "lane" in classes
+            if self.in_lane:
+                self.lanes.append({"class": classes[1:], "title": "", "signs": []})
+        if tag in ("rect", "circle") and self.in_lane and self.open[-1] == "g":
+            self.lanes[-1]["signs"].append(names)
+        if tag == "tr" and "tbody" in self.open:
+            self.rows.append({"class": classes, "cells": []})
+        if tag in ("td", "th") and "tbody" in self.open and self.rows:
+            self.rows[-1]["cells"].append("")
+        if tag == "details":
+            self.tasks.append({"open": "open" in names, "lines": []})
+        if tag == "li" and "details" in self.open:
+            self.tasks[-1]["lines"].append({"class": classes, "text": ""})
+        if tag == "pre":
+            self.sides.append("")
+        if tag not in VOID:
+            self.open.append(tag)
+
+    def handle_startendtag(self, tag, attributes):
+        self.handle_starttag(tag, attributes)
+        if tag not in VOID:
+            self.open.pop()
+
+    def handle_endtag(self, tag):
+        self.part = None
+        if not self.open or self.open[-1] != tag:
+            self.wrong.append(f"</{tag}> within {self.open[-3:]}")
+        else:
+            self.open.pop()
+
+    def handle_data(self, data):
+        if self.open and self.open[-1] == "style":
+            return
+        self.texts.append(data)
+        if self.part:
+            self.parts[self.part] += data
+        if self.open[-2:] == ["g", "title"] and self.in_lane:
+            self.lanes[-1]["title"] += data
+        if self.rows and self.rows[-1]["cells"] and ("td" in self.open or "th" in self.open):
+            self.rows[-1]["cells"][-1] += data
+        if "pre" in self.open:
+            self.sides[-1] += data
+        if "details" in self.open and "li" in self.open:
+            self.tasks[-1]["lines"][-1]["text"] += data
+
+    def handle_comment(self, data):
+        self.wrong.append(f"a comment {data[:40]!r}")
+
+    def handle_pi(self, data):
+        self.wrong.append(f"an instruction {data[:40]!r}")
+
+    def unknown_decl(self, data):
+        self.wrong.append(f"a declaration {data[:40]!r}")
+
+    def judge(self):
+        """What is wrong with the page by itself."""
+        wrong = list(self.wrong)
+        text = "\0".join(self.texts)
+        if len(self.ids) != len(set(self.ids)):
+            wrong.append(f"an id twice: {self.ids}")
+        wrong += [f"no element has the id {ref}" for ref in self.refs if ref not in self.ids]
+        if self.headings.count(1) != 1 or any(b > a + 1 for a, b in zip(self.headings, self.headings[1:])):
+            wrong.append(f"headings {self.headings}")
+        if re.search("[\x01-\x09\x0b-\x1f\x7f-\x9f]", text) or re.search(r"https?:|@import|url\((?!#)", self.html):
+            wrong.append("a control character or an address")
+        if len(self.lanes) != len(self.rows) or len(self.lanes) > 300 or len(self.tasks) > 300:
+            wrong.append(f"{len(self.lanes)} lanes, {len(self.rows)} rows, {len(self.tasks)} tasks")
+        if len(self.html.encode()) > 1_000_000:
+            wrong.append(f"{len(self.html)} characters")
+        for stamp in re.findall(r"\d+-\d\d-\d\d \d\d:\d\d:\d\d", text):
+            datetime.datetime.strptime(stamp, "%Y-%m-%d %H:%M:%S")
+        for lane, row in zip(self.lanes, self.rows):
+            wrong += self.judge_lane(lane, row)
+        return wrong
+
+    @staticmethod
+    def judge_lane(lane, row):
+        """What is wrong with a lane, beside its row of the table."""
+        wrong = []
+        if lane["class"] != row["class"]:
+            wrong.append(f"lane {lane['class']}, row {row['class']}")
+        cells = [cell for cell in row["cells"][2:5] if cell]
+        said = re.findall(rf"by event (\d+), ({STAMP})", lane["title"])
+        told = [(event, moment) for cell in cells for moment, event in re.findall(rf"({STAMP}) event (\d+)", cell)]
+        if said[: len(told)] != told:
+            wrong.append(f"the lane says {said}, the table {told}")
+        for sign in lane["signs"]:
+            if sign["class"] == "room":
+                continue
+            x = int(sign.get("x") or sign["cx"])
+            if not 200 <= x <= 830 or int(sign.get("width", 0)) + x > 833:
+                wrong.append(f"a sign from {x}, {sign.get('width')} wide")
+        return wrong
+
+    def judge_verdict(self, told, name):
+        """What is wrong with the page beside what `replay` told: its line, and its notes on standard error."""
+        wrong = []
+        line = told.stdout.decode().splitlines()[0]
+        said = f"{re.sub('[^ -~]', '?', name[:255])}: {self.parts['verdict']}"
+        if said != line:
+            wrong.append(f"the page says {said!r}, replay {line!r}")
+        named = re.search(r"event (\d+)|task at (\d+)", self.parts["verdict"]) if not line.endswith("not in place") else None
+        number = next((n for n in named.groups() if n), None) if named else None
+        marked = [one for task in self.tasks if task["open"] for one in task["lines"] if "fault" in one["class"]]
+        if number is None and (marked or self.parts["fault-word"]):
+            wrong.append("an event is marked and none has a fault")
+        if number and self.parts["fault-word"] != f"event {number}":
+            wrong.append(f"the picture marks {self.parts['fault-word']!r}, the line names {number}")
+        if number and (len(marked) != 1 or not re.match(rf"fault event {number} ", marked[0]["text"])):
+            wrong.append(f"the line names {number}, the tasks mark {[one['text'][:40] for one in marked]}")
+        sides = re.search(r"sends (.*), recorded (?:(\d+) )?(.*)", told.stderr.decode())
+        if (sides is None) != (not self.sides) or sides and self.sides != [sides[1], sides[3]]:
+            wrong.append(f"the page has {self.sides}, replay tells {told.stderr.decode()!r}")
+        return wrong
+
+
+class Program:
+    """The built program."""
+
+    def __init__(self, path):
+        self.path = path
+
+    def run(self, *words):
+        """What came of a command of it."""
+        return subprocess.run([self.path, *map(str, words)], stdout=subprocess.PIPE, stderr=subprocess.PIPE, timeout=300)
+
+
+def key_of(kind):
+    """The member of an event with its attributes."""
+    return kind[0].lower() + kind[1:] + "EventAttributes"
+
+
+class History:
+    """Events one after another, seven seconds apart."""
+
+    def __init__(self):
+        self.events = []
+        self.start = datetime.datetime(2024, 5, 1, 10)
+
+    def add(self, kind, **fields):
+        number = len(self.events) + 1
+        moment = (self.start + datetime.timedelta(seconds=7 * number, milliseconds=250)).isoformat() + "Z"
+        self.events.append({"eventId": str(number), "eventTime": moment, "eventType": kind, key_of(kind): fields})
+        return number
+
+    def task(self):
+        scheduled = self.add("WorkflowTaskScheduled")
+        started = self.add("WorkflowTaskStarted", scheduledEventId=str(scheduled))
+        self.add("WorkflowTaskCompleted", scheduledEventId=str(scheduled), startedEventId=str(started))
+
+    def text(self):
+        return json.dumps({"events": self.events})
+
+
+def named(names):
+    """A history whose workflow type, ids, types, signals, failures and values have these names, in turn."""
+    history, names = History(), iter(names)
+    history.add("WorkflowExecutionStarted", workflowType={"name": next(names)})
+    history.task()
+    scheduled = str(history.add("ActivityTaskScheduled", activityId=next(names), activityType={"name": next(names)}))
+    started = str(history.add("ActivityTaskStarted", scheduledEventId=scheduled, attempt=1))
+    failure = {"message": next(names), "applicationFailureInfo": {"type": "x"}}
+    history.add("ActivityTaskFailed", scheduledEventId=scheduled, startedEventId=started, failure=failure)
+    history.add("WorkflowExecutionSignaled", signalName=next(names))
+    history.task()
+    history.add("TimerStarted", timerId=next(names), startToFireTimeout="60s")
+    child = {"workflowId": next(names), "workflowType": {"name": next(names)}}
+    history.add("StartChildWorkflowExecutionInitiated", **child)
+    history.add(next(names))
+    return history.text()
+
+
+def uneven(record):
+    """A history of the sample Nap, which starts one timer, with this record of its first task."""
+    history = History()
+    history.add("WorkflowExecutionStarted", workflowType={"name": "Nap"})
+    history.task()
+    for kind, fields in record:
+        history.add(kind, **fields)
+    history.add("WorkflowExecutionSignaled", signalName="<i>wake</i>")
+    history.task()
+    return history.text()
+
+
+def crowded():
+    """One whose first task has a fault after a hundred signals, and a hundred more in the task of the next event."""
+    history = History()
+    history.add("WorkflowExecutionStarted", workflowType={"name": "Nap"})
+    for number in range(100):
+        history.add("WorkflowExecutionSignaled", signalName=f"note-{number}")
+    history.task()
+    history.add("TimerStarted", timerId="another", startToFireTimeout="60s")
+    for number in range(100):
+        history.add("WorkflowExecutionSignaled", signalName=f"later-{number}")
+    history.task()
+    return history.text()
+
+
+def big():
+    """A history of the most events that a run may have, of which most are signals and timers of a type that has no code."""
+    history = History()
+    history.add("WorkflowExecutionStarted", workflowType={"name": "Big"})
+    while len(history.events) + 9 < EVENTS:
+        history.task()
+        timer = str(history.add("TimerStarted", timerId=f"wait-{len(history.events)}", startToFireTimeout="7s"))
+        scheduled = history.add("ActivityTaskScheduled", activityId=f"step-{len(history.events)}", activityType={"name": "Step"})
+        history.add("TimerFired", startedEventId=timer, timerId="wait")
+        started = history.add("ActivityTaskStarted", scheduledEventId=str(scheduled), attempt=2)
+        history.add("ActivityTaskCompleted", scheduledEventId=str(scheduled), startedEventId=str(started))
+        history.add("WorkflowExecutionSignaled", signalName=f"note-{len(history.events)}")
+    while len(history.events) < EVENTS:
+        history.add("WorkflowExecutionSignaled", signalName="last")
+    return history.text()
+
+
+def edited():
+    """The example histories, and each of them with each of these faults that it can have."""
+    for file in sorted(EXAMPLES.glob("*.json")):
+        whole = json.loads(file.read_text())
+        yield file.stem, whole
+        events = whole["events"]
+        given = [i for i, one in enumerate(events) if re.search("Scheduled$|Started$|Initiated$", short(one)) and i >= 4
+                 and not short(one).startswith(("WorkflowTask", "ActivityTaskStarted", "ChildWorkflowExecutionStarted"))]
+        for i in given[:2]:
+            for name, edit in (("id", rename), ("type", retype), ("field", strip)):
+                other = copy.deepcopy(whole)
+                if edit(other["events"][i]):
+                    yield f"{file.stem}-{name}-{i + 1}", other
+        other = copy.deepcopy(whole)
+        other["events"][-1]["eventId"] = "3"
+        yield f"{file.stem}-order", other
+        other = copy.deepcopy(whole)
+        other["events"][0][key_of(short(events[0]))]["workflowType"]["name"] = "Nobody's <type>"
+        yield f"{file.stem}-unknown", other
+
+
+def short(event):
+    """The type of an event in the form `ActivityTaskScheduled`, which histories write in two forms."""
+    kind = event["eventType"]
+    return "".join(word.capitalize() for word in kind[11:].split("_")) if kind.startswith("EVENT_TYPE_") else kind
+
+
+def attributes_of(event):
+    return event.get(key_of(short(event)), {})
+
+
+def rename(event):
+    """Another id in place of that which the event gives."""
+    for name in ("activityId", "timerId", "workflowId"):
+        if name in attributes_of(event):
+            attributes_of(event)[name] = "<b>other</b>"
+            return True
+    return False
+
+
+def retype(event):
+    """A type that no reader knows."""
+    event["eventType"] = "Unheard<i>Of</i>"
+    return True
+
+
+def strip(event):
+    """No id at all."""
+    return any(attributes_of(event).pop(name, None) for name in ("activityId", "timerId", "workflowId"))
+
+
+def tried(program, file, name, recorded=False):
+    """The page of a file, how long it took, and what is wrong with it."""
+    words = ["explain", "--html"] + (["--recorded"] if recorded else []) + [file]
+    begun = time.monotonic()
+    made = program.run(*words)
+    took = time.monotonic() - begun
+    page = Page(made.stdout.decode())
+    faults = page.judge()
+    if page.parts["title"] != seen(file.name, 300):
+        faults.append(f"the title is {page.parts['title']!r}")
+    told = program.run("replay", file)
+    status = 0 if recorded else told.returncode
+    if made.returncode != status:
+        faults.append(f"status {made.returncode} in place of {status}: {made.stderr.decode()!r}")
+    if recorded and (page.parts["verdict"] != "recorded, and not replayed" or page.sides or page.parts["fault-word"]):
+        faults.append(f"the page of what is recorded says {page.parts['verdict']!r}")
+    if not recorded:
+        faults += page.judge_verdict(told, file.name)
+    return page, took, faults
+
+
+def shoot(pages, folder):
+    """Pictures of the pages, by Chromium."""
+    folder.mkdir(parents=True, exist_ok=True)
+    for name, page in pages.items():
+        file = folder / f"{name}.html"
+        file.write_text(page.html)
+        for width in WIDTHS:
+            for dark in (False, True):
+                picture = folder / f"{name}-{width}-{'dark' if dark else 'light'}.png"
+                command = ["chromium", "--headless", "--no-sandbox", "--disable-gpu", "--hide-scrollbars"]
+                command += [f"--window-size={WIDTHS[width]},1700", f"--screenshot={picture}"]
+                command += [f"--blink-settings=preferredColorScheme={0 if dark else 1}"]
+                subprocess.run(command + [file.as_uri()], stdout=subprocess.DEVNULL, stderr=subprocess.DEVNULL, timeout=200)
+
+
+def main():
+    parser = argparse.ArgumentParser()
+    parser.add_argument("--program", default=str(TOP / "crates" / "wfhost" / "out" / "wfhost"))
+    parser.add_argument("--sizes", action="store_true")
+    parser.add_argument("--shots", type=Path)
+    words = parser.parse_args()
+    program = Program(words.program)
+    if "--html" not in program.run("explain", "--help").stdout.decode():
+        print("skipped: the program makes no pages")
+        return 0
+    plain = [f"plain-{i}" for i in range(8)] + ["PlainType"]
+    hostile = [(f"{i}{HOSTILE}" + f"{i}<b>long</b> \"name\" 'of' a & thing, " * 9)[:255] for i in range(9)]
+    count = wrong = 0
+    pages = {}
+    with tempfile.TemporaryDirectory() as path:
+        room = Path(path)
+        texts = {name: json.dumps(whole) for name, whole in edited()}
+        second = ("ActivityTaskScheduled", {"activityId": "2", "activityType": {"name": "more"}})
+        texts |= {"no-event": uneven([]), "other": uneven([second]), "crowded": crowded()}
+        texts |= {"plain": named(plain), "hostile": named(hostile), "big": big()}
+        for name, text in texts.items():
+            file = room / f"{name}.json"
+            file.write_text(text)
+            for recorded in (False, True):
+                key = name + "-recorded" * recorded
+                page, took, faults = tried(program, file, name, recorded)
+                pages[key] = page
+                if name in ("plain", "hostile"):
+                    given = plain if name == "plain" else hostile
+                    said = "".join(page.texts)
+                    faults += [f"no text {one!r}" for one in given if seen(one, 300) not in said]
+                if name == "hostile" and page.tags != pages[key.replace("hostile", "plain")].tags:
+                    faults.append("other tags than with plain names")
+                count += 1
+                wrong += bool(faults)
+                for fault in faults[:10]:
+                    print(f"pages: {key}: {fault}", flush=True)
+                if words.sizes:
+                    print(f"{key}: {len(text.encode()):,} bytes of history, {len(page.html.encode()):,} of page, {took:.2f} s")
+        for bad, text in (("no-json", "{"), ("no-events", "{}")):
+            file = room / f"{bad}.json"
+            file.write_text(text)
+            one, other = program.run("explain", "--html", file), program.run("explain", "--recorded", file)
+            count += 1
+            if one.stdout or (one.returncode, one.stderr) != (other.returncode, other.stderr):
+                wrong += 1
+                print(f"pages: {bad}: {one} in place of {other}", flush=True)
+    if words.shots and shutil.which("chromium"):
+        shoot({name: pages[name] for name in ("nap", "racer-id-6", "crowded", "hostile", "big") if name in pages}, words.shots)
+    print(f"{count} tried, {wrong} wrong")
+    return 1 if wrong else 0
+
+
+if __name__ == "__main__":
+    sys.exit(main())
