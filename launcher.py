@@ -27,7 +27,7 @@ PROCESSORS = len(os.sched_getaffinity(0))
 # The memory that one crate takes at most while it is proved, in KiB.
 MEMORY = 5_000_000
 FIRST = """proving and building the program, which takes 20 to 35 minutes on four processors, this first time
-wfhost: `./wfhost --unproved` and the same arguments answer in some two minutes, with nothing proved"""
+wfhost: `./wfhost --unproved` and the same arguments answer in some three minutes, with nothing proved"""
 UNPROVED = "nothing of this program is proved: it is built for this run alone, which ends after a minute or 1 MiB of output"
 # What `rt try` says of a run that ended.
 CLOSING = re.compile(rb"checked: ended .*\n(races: .*\n)?run=ended .*\n\Z")

@@ -19,8 +19,8 @@ class Heard:
 
 
 class Till:
-    """The activities of `order_worker`: `ChargeCard` gives its input; `PrintLabels` beats before each payload of its input, with
-    how many it has printed, and gives their number; one of another type fails. Where a beat says that the cancellation of the
+    """The activities of `order_worker`: `ChargeCard` gives its input; `PrintLabels` prints a label for each payload of its input,
+    beats after each, with how many it has printed, and gives their number; one of another type fails. Where a beat says that the cancellation of the
     activity is requested, or that nobody waits for it any more, it gives up."""
 
     kinds = ("ChargeCard", "PrintLabels", "PrintLabels", "Mail")
@@ -45,7 +45,7 @@ class Till:
 
     def beaten(self, heard, params, result, error):
         """What is wrong with a beat, or nothing."""
-        wanted, given = [f"{heard.beats}".encode()], payloads_in(params, "details")
+        wanted, given = [f"{heard.beats + 1}".encode()], payloads_in(params, "details")
         fault = f"it beats after {heard.end}" if heard.end else "" if [bytes(one) for one in given] == wanted else f"it beats with {given}"
         heard.beats += 1
         if result and result.get("cancelRequested"):

@@ -8,7 +8,8 @@ count as one function more: an edit of them, or of a constant that those of an i
 where one of them does not hold. An edit is wrong that is not refused, can't be applied or doesn't compile, or fails only
 because a proof file cites a name that it took away.
 
-`rt ci` and `./wfhost` leave the libraries that this needs; any other is built first. The last line is
+`rt ci` and `./wfhost` leave the libraries that this needs; any other is built first. With `--seconds N` as the first
+words no round begins after so many seconds, and the last line says how many edits are left. That line is
 `N tried, M wrong`, and the status is 0 where edits were tried and none is wrong."""
 
 import os
@@ -18,6 +19,7 @@ import signal
 import subprocess
 import sys
 import tempfile
+import time
 from concurrent.futures import ThreadPoolExecutor
 from pathlib import Path
 
@@ -287,11 +289,11 @@ class Check:
 
 
 class Trial:
-    """The trial of the edits of a crate."""
+    """The trial of the edits of a crate, in which no round begins after a time."""
 
-    def __init__(self, crate, kit, room):
-        self.crate, self.kit, self.room = crate, kit, room
-        self.rounds = self.refused = self.wrong = self.seconds = 0
+    def __init__(self, crate, kit, room, until):
+        self.crate, self.kit, self.room, self.until = crate, kit, room, until
+        self.rounds = self.refused = self.wrong = self.left = self.seconds = 0
         files = sorted((crate.folder / "src").rglob("*.rt"))
         self.texts = {str(file.relative_to(crate.folder)): file.read_text(encoding="utf-8") for file in files}
         functions = [rust_items.functions_of(file, text) for file, text in self.texts.items()]
@@ -307,11 +309,12 @@ class Trial:
         """Tries each edit, and says what comes of it."""
         self.copy()
         left = [edit for edit in map(Edit, sorted(self.crate.folder.glob("edits/*.edit"))) if self.is_read(edit)]
-        while left:
+        while left and time.monotonic() < self.until:
             chosen, texts = self.choose(left)
             judged = self.judge(chosen, self.check(chosen, texts))
             left = [edit for edit in left if edit not in judged]
-        words = f"{self.refused} edits refused, {self.wrong} wrong, in {self.rounds} rounds"
+        self.left = len(left)
+        words = f"{self.refused} edits refused, {self.wrong} wrong, {self.left} left, in {self.rounds} rounds"
         say(f"{self.crate.name}: {words}, with {self.seconds:.0f} seconds of a processor")
 
     def is_read(self, edit):
@@ -409,9 +412,9 @@ def link(source, target):
     return os.link(source, target) if source.endswith(".oantt") else shutil.copy2(source, target)
 
 
-def tried(crate, kit, room):
-    """Tries the edits of a crate, and returns how many are refused, and how many are wrong."""
-    trial = Trial(crate, kit, room / crate.name)
+def tried(crate, kit, room, until):
+    """Tries the edits of a crate until a time, and returns how many are refused, wrong and left."""
+    trial = Trial(crate, kit, room / crate.name, until)
     try:
         trial.try_all()
     except (Wrong, OSError) as why:
@@ -419,7 +422,7 @@ def tried(crate, kit, room):
         trial.wrong = max(trial.wrong, len([*crate.folder.glob("edits/*.edit")]) - trial.refused)
     # What its checks wrote is hundreds of megabytes for a large crate.
     shutil.rmtree(trial.room, ignore_errors=True)
-    return trial.refused, trial.wrong
+    return trial.refused, trial.wrong, trial.left
 
 
 def lanes():
@@ -442,10 +445,15 @@ def end_by_signals(room):
 
 
 def main():
-    if sys.argv[1:2] in (["-h"], ["--help"]):
+    words, until = sys.argv[1:], float("inf")
+    if words[:1] in (["-h"], ["--help"]):
         sys.exit(__doc__)
+    if words[:1] == ["--seconds"]:
+        if not words[1:] or not words[1].isdigit():
+            sys.exit("edits: --seconds needs a number")
+        until, words = time.monotonic() + int(words[1]), words[2:]
     crates = crates_listed()
-    names = sys.argv[1:] or [name for name in crates if (CRATES / name / "edits").is_dir()]
+    names = words or [name for name in crates if (CRATES / name / "edits").is_dir()]
     for name in names:
         if not (CRATES / name / "edits").is_dir():
             sys.exit(f"edits: no crates/{name}/edits")
@@ -460,9 +468,12 @@ def main():
     place.mkdir(parents=True, exist_ok=True)
     with tempfile.TemporaryDirectory(dir=place, prefix="edits.") as room, ThreadPoolExecutor(lanes()) as pool:
         end_by_signals(room)
-        counts = [*pool.map(lambda name: tried(crates[name], kit, Path(room)), names)]
-    refused, wrong = (sum(count) for count in zip(*counts))
-    print(f"{refused + wrong} tried, {wrong} wrong")
+        counts = [*pool.map(lambda name: tried(crates[name], kit, Path(room), until), names)]
+    refused, wrong, left = (sum(count) for count in zip(*counts))
+    if left and not refused + wrong:
+        print("skipped: no time was left")
+        return 0
+    print(f"{refused + wrong} tried, {wrong} wrong" + f" ({left} left, since the time was up)" * bool(left))
     return 1 if wrong or not refused else 0
 
 

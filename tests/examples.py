@@ -2,7 +2,7 @@
 """Tries the tables of examples/tables with the built program: `check` finds no fault in any, `try` finds that each follows the
 scenarios beside it, and `check --html` writes a page that is well formed, with each state of the table and a way from each row
 that leaves its state. A twin of a table for each of its promises breaks that one: `check` has to print the way that is written
-below, and `try` to find that the twin follows it.
+below, `try` to find that the twin follows it, and `check --html` to mark its rows.
 
     tests/examples.py [--program PATH..]
 
@@ -130,6 +130,19 @@ def faults_of_twin(program, text, number, way):
         tried = run("try", path, scenario)
         if tried.returncode or not tried.stdout.endswith(f"twin.json: ok, {len(steps)} jobs\n"):
             yield f"try: {tried.stdout}{tried.stderr}"
+        yield from faults_of_marks(run("check", "--html", path).stdout, number, found["text"], len(steps))
+
+
+def faults_of_marks(page, number, promise, steps):
+    """What is wrong with what a page marks of a broken promise."""
+    told = re.findall(r"<li>(.*): rows((?: \d+)*)</li>", page)
+    own = [rows.split() for text, rows in told if html.unescape(text) == f"promise {number}, {promise}"]
+    if len(own) != 1 or not 0 < len(own[0]) <= steps:
+        yield f"the page tells {told}"
+    marked = {row for _, rows in told for row in rows.split()}
+    count = page.count('<g class="row taken">')
+    if count != len(marked):
+        yield f"{count} rows are marked, of {sorted(marked)}"
 
 
 def faults_of_twins(program, path):

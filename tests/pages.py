@@ -1,11 +1,12 @@
 #!/usr/bin/env python3
 """Tries the pages of runs: `explain --html FILE` of the built program, over the example histories, edited ones with a fault, one
-whose names are hostile, and one of 51,200 events.
+whose names are hostile, one of 51,200 events, and runs of a table that came with them.
 
 Each page is read by a parser: its tags balance, nothing in it runs or is fetched, what is named by an id is there, and the
 times of the picture are those of the table. Its verdict is the line of `replay`, the event that is marked is the one that the
 line names, and both sides of a difference are those that `replay` tells. Whatever the history holds stands as text: a history
-whose names are hostile has the very tags of the same history with plain names.
+whose names are hostile has the very tags of the same history with plain names. A run of a table has that table with marks at the
+rows that it took, and no other page has one.
 
     tests/pages.py [--program PATH]       crates/wfhost/out/wfhost, where it isn't given
     .. --sizes                            prints how large each page is, and how long it took
@@ -14,6 +15,7 @@ whose names are hostile has the very tags of the same history with plain names.
 The last line is `N tried, M wrong`, or `skipped: WHY` where the program knows no pages."""
 
 import argparse
+import base64
 import copy
 import datetime
 import json
@@ -31,7 +33,7 @@ EXAMPLES = TOP / "examples" / "histories"
 VOID = {"meta"}
 KNOWN = set(
     "html head meta title style body header h1 h2 h3 p dl div dt dd main section pre code svg desc defs pattern line"
-    " text rect circle g span path table thead tbody tr th td details summary ol ul li footer".split()
+    " text tspan strong rect circle g span path table thead tbody tr th td details summary ol ul li footer".split()
 )
 # What stands in place of a character that can't be seen.
 UNSEEN = re.compile("[\x80-\x9f\u200e\u200f\u2028-\u202e\u2066-\u2069\u061c\ufeff]")
@@ -264,6 +266,46 @@ def named(names):
     return history.text()
 
 
+def tabled(names):
+    """A run of a table whose states, ids, types, signal, counter and message have these names, in turn. It takes the rows 1, 2
+    and 4, and stands in the second state; the last task has a fault, so that what comes with it takes none."""
+    first, second, step, kind, wait, note, count, words = names
+    rows = [
+        [first, "start", "", [f"activity {step} {kind}", f"timer {wait} 60"], second, f"up {count}"],
+        [second, f"signal {note}", f"{count} < 2", [], "same", f"up {count}"],
+        [second, f"done {step}", "", f"fail {words}"],
+        [second, f"signal {note}", "", f"cancel-timer {wait}", "same"],
+        [second, f"fired {wait}", "", "complete"],
+    ]
+    table = json.dumps({"version": 1, "counters": [f"{count} 2"], "rows": rows}).encode()
+    payload = {"metadata": {"encoding": "anNvbi9wbGFpbg=="}, "data": base64.b64encode(table).decode()}
+    history = History()
+    history.add("WorkflowExecutionStarted", workflowType={"name": "Table:made"}, input={"payloads": [payload]})
+    history.task()
+    scheduled = history.add("ActivityTaskScheduled", activityId=step, activityType={"name": kind})
+    history.add("TimerStarted", timerId=wait, startToFireTimeout="60s")
+    history.add("WorkflowExecutionSignaled", signalName=note)
+    history.task()
+    history.add("WorkflowExecutionSignaled", signalName=note)
+    history.task()
+    history.add("TimerStarted", timerId=f"{wait}-other", startToFireTimeout="60s")
+    started = history.add("ActivityTaskStarted", scheduledEventId=str(scheduled), attempt=1)
+    history.add("ActivityTaskCompleted", scheduledEventId=str(scheduled), startedEventId=str(started))
+    history.task()
+    return history.text()
+
+
+def judge_way(page):
+    """What is wrong with the table of a run that `tabled` makes."""
+    section = page.html.partition('<h2 id="way">The table of this run</h2>')[2]
+    rows = re.findall(r'<g class="row( taken)?"><rect [^>]*/><text class="([^"]*)"', section)
+    wanted = [(1, "name passed"), (1, "name last"), (0, "name again"), (1, "name again"), (0, "name again")]
+    wrong = [] if [(bool(taken), name) for taken, name in rows] == wanted else [f"the table marks {rows}"]
+    if "Jobs for which the run took a row: 3. It stands in the state <strong>" not in section or 'class="end last"' in section:
+        wrong.append("the table says otherwise where the run stands")
+    return wrong
+
+
 def uneven(record):
     """A history of the sample Nap, which starts one timer, with this record of its first task."""
     history = History()
@@ -414,6 +456,8 @@ def main():
         second = ("ActivityTaskScheduled", {"activityId": "2", "activityType": {"name": "more"}})
         texts |= {"no-event": uneven([]), "other": uneven([second]), "crowded": crowded()}
         texts |= {"plain": named(plain), "hostile": named(hostile), "big": big()}
+        worded = [one[:60].replace(" ", "_") for one in hostile]
+        texts |= {"table": tabled(plain[:8]), "hostile-table": tabled(worded[:8])}
         for name, text in texts.items():
             file = room / f"{name}.json"
             file.write_text(text)
@@ -427,6 +471,12 @@ def main():
                     faults += [f"no text {one!r}" for one in given if seen(one, 300) not in said]
                 if name == "hostile" and page.tags != pages[key.replace("hostile", "plain")].tags:
                     faults.append("other tags than with plain names")
+                if name == "hostile-table" and page.tags != pages[key.replace("hostile-", "")].tags:
+                    faults.append("other tags than with plain names")
+                if name in ("table", "hostile-table") and not recorded:
+                    faults += judge_way(page)
+                elif "way" in page.ids:
+                    faults.append("a table of a run that has none")
                 count += 1
                 wrong += bool(faults)
                 for fault in faults[:10]:
@@ -442,7 +492,7 @@ def main():
                 wrong += 1
                 print(f"pages: {bad}: {one} in place of {other}", flush=True)
     if words.shots and shutil.which("chromium"):
-        shoot({name: pages[name] for name in ("nap", "racer-id-6", "crowded", "hostile", "big") if name in pages}, words.shots)
+        shoot({name: pages[name] for name in ("nap", "racer-id-6", "crowded", "hostile", "big", "table") if name in pages}, words.shots)
     print(f"{count} tried, {wrong} wrong")
     return 1 if wrong else 0
 

@@ -3,8 +3,8 @@
 
 Makes random tables and promises, decides each as `crates/wh_promises/specs/Deciding.antt` does, and tries scenarios of up to
 10 jobs on the table, by rules of its own that follow docs/WRITE-A-WORKFLOW.md. A promise is wrong that holds by the first and
-is broken by a scenario, and a way that breaks a promise by the first and does not when it is tried. Four faults are then put
-into the deciding, one after another, and each has to be found.
+is broken by a scenario, and a way that breaks a promise by the first and does not when it is tried, or that is longer than a
+scenario which breaks it. Four faults are then put into the deciding, one after another, and each has to be found.
 
 What is decided here is a second writing of the definition, not the definition itself, of which the law
 `keeps_its_promises` is proved: so this tells of the meaning of rows and promises, and not of the prover.
@@ -478,7 +478,7 @@ def by_program(program, seed, many):
         if table["rows"] and table["rows"][0]["state"] == table["first"]:
             tables.append((table, any_promise(chance)))
     said = checked(program, tables)
-    wrong, counts = int(len(said) != many), {}
+    wrong, counts, unsure = int(len(said) != many), {}, 0
     for number, ((table, promise), found) in enumerate(zip(tables, said)):
         verdict = found.get("verdict")
         counts[verdict] = counts.get(verdict, 0) + 1
@@ -488,12 +488,14 @@ def by_program(program, seed, many):
                 fault = "is kept, and a scenario breaks it"
         elif verdict == "broken":
             fault = fault_of_way(table, promise, found["scenario"])
+            unsure += not found["shortest"]
         elif verdict != "not decided" or decided(table, promise) is None:
             fault = f"is {verdict}"
         if fault:
             wrong += 1
             print(f"promises: file {number}: {promise_words(promise)}: {fault}: {table_words(table, promise)}: {found}")
     print(f"promises: by check {', '.join(f'{times} {verdict}' for verdict, times in sorted(counts.items()))}")
+    print(f"promises: of {unsure} broken ones fewer jobs may break them too, by check")
     return wrong
 
 
@@ -518,6 +520,9 @@ def main():
         if not tried(table, promise, way):
             wrong += 1
             print(f"promises: table {number}: {promise} is not broken by the rows {way}: {table}")
+        elif len(way) <= MOST_JOBS + 1 and broken_by_scenario(table, promise, JOBS) != len(way):
+            wrong += 1
+            print(f"promises: table {number}: {promise} is broken by fewer jobs than by the rows {way}: {table}")
         for fault in FAULTS:
             if decided(table, promise, fault) is None and broken_by_scenario(table, promise, JOBS):
                 found[fault] += 1

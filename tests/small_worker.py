@@ -325,7 +325,7 @@ class Worker:
         self.beat(task, 0, again)
 
     def beat(self, task, beats, again):
-        """Beats before each payload, and then completes the activity, unless it is to be given up."""
+        """Beats after each payload, and then completes the activity, unless it is to be given up."""
         params = {"identity": self.options.identity, "taskToken": task["taskToken"]}
         labels = len(task.get("input", {}).get("payloads", []))
         if beats == labels:
@@ -339,7 +339,7 @@ class Worker:
                 return self.end(task, "completed", "Canceled", {"details": details}, again)
             self.beat(task, beats + 1, again)
 
-        details = {"payloads": [payload(str(beats).encode())]}
+        details = {"payloads": [payload(str(beats + 1).encode())]}
         if self.is_wrong("token"):
             params["taskToken"] = base64.b64encode(b"activity 1000000").decode()
         if self.is_wrong("beat"):

@@ -10,7 +10,9 @@ import tempfile
 from functools import partial
 from pathlib import Path
 
-from statuses import command_lines, files, policies, queries, reports, services, streams, tables, views
+from statuses import (
+    command_lines, files, policies, progress, queries, reports, services, streams, tables, values, views,
+)
 from statuses.rooms import Room, TOP
 from statuses.runs import compared
 
@@ -20,6 +22,8 @@ TABLES = [
     command_lines.command_lines,
     command_lines.names,
     reports.reports,
+    progress.progress,
+    values.strict_values,
     views.views,
     tables.tables,
     queries.queries,
@@ -32,7 +36,7 @@ TABLES = [
     streams.streams,
 ]
 # These start the program themselves.
-MEASURES = [services.cache_options, services.worker_options, services.short_memory]
+MEASURES = [progress.terminals, services.cache_options, services.worker_options, services.short_memory]
 
 
 def main():

@@ -11,6 +11,7 @@ import argparse
 import base64
 import json
 import random
+import re
 import subprocess
 import sys
 import tempfile
@@ -116,6 +117,29 @@ class Maker:
 
 # ---- Histories
 
+class Traced(Run):
+    """A run that remembers the rows that it takes, by their places, with the states that it takes them in."""
+
+    def __init__(self, kind, payloads):
+        self.taken = []
+        super().__init__(kind, payloads)
+
+    def follow(self, row, job):
+        self.taken.append((self.table.rows.index(row), self.state))
+        super().follow(row, job)
+
+    def way(self):
+        """What a page marks of its table: the rows that it took, for how many jobs, how each state is named, and whether it is closed."""
+        if self.table is None:
+            return None
+        passed, names = {state for _, state in self.taken}, []
+        for place, row in enumerate(self.table.rows):
+            first = all(other.state != row.state for other in self.table.rows[:place])
+            last = not self.closed and row.state == self.state
+            names.append("name last" if last else "name passed" if row.state in passed else "name") if first else names.append("name again")
+        return sorted({place for place, _ in self.taken}), len(self.taken), names, self.closed
+
+
 class History:
     """A history of a run, as its commands and what comes to it from outside make it."""
 
@@ -123,7 +147,7 @@ class History:
         self.dice = dice
         self.payloads = [json.dumps(table).encode(), b'{"plan":"gold"}', dice.choice((b'"seven"', b"7", b'"a\\\\b"'))]
         self.payloads = self.payloads[: dice.randrange(1, 4)]
-        self.run = Run("Table", self.payloads)
+        self.run, self.way = Traced("Table", self.payloads), None
         self.events, self.shown, self.open, self.ended, self.completed = [], [], {}, False, 0
         self.write("WorkflowExecutionStarted", {"workflowType": {"name": "Table"}, "input": self.listed(self.payloads)})
 
@@ -153,6 +177,7 @@ class History:
                     del self.events[before:]
                     self.open, self.shown = kept[0], self.shown[: kept[1]]
                     return False
+        self.way = self.run.way()
         return True
 
     def take(self, command):
@@ -270,6 +295,17 @@ def explained(program, path):
     return lines[-1] if lines else done.stderr, [line.strip()[6:] for line in lines if line.strip().startswith("gives ")]
 
 
+def way_shown(program, path):
+    """What the page of a history marks of the table of its run, or None where it has no table."""
+    page = subprocess.run([*program, "explain", "--html", str(path)], capture_output=True, text=True, timeout=120).stdout
+    section = page.partition('<h2 id="way">')[2]
+    if not section:
+        return None
+    rows = re.findall(r'<g class="row( taken)?"><rect [^>]*/><text class="([^"]*)"', section)
+    jobs = re.search(r"took a row: (\d+)\.", section)
+    return [place for place, row in enumerate(rows) if row[0]], int(jobs[1]), [row[1] for row in rows], 'class="end last"' in section
+
+
 def main():
     parser = argparse.ArgumentParser(description=__doc__.splitlines()[0])
     parser.add_argument("--runs", type=int, default=200)
@@ -287,11 +323,12 @@ def main():
             path = Path(folder) / f"{tried}.json"
             path.write_text(json.dumps({"events": history.events}))
             verdict, shown = explained(options.program, path)
-            if ": ok, " not in verdict or shown != history.shown:
+            way = way_shown(options.program, path)
+            if ": ok, " not in verdict or shown != history.shown or way != history.way:
                 wrong += 1
                 kept = Path(f"wrong-{options.seed}-{tried}.json")
                 kept.write_text(path.read_text())
-                print(f"{kept}: {verdict}\n  shown  {shown}\n  wanted {history.shown}")
+                print(f"{kept}: {verdict}\n  shown  {shown}, {way}\n  wanted {history.shown}, {history.way}")
     print(f"{tried} tried, {wrong} wrong ({refused} of them no table)")
     return 1 if wrong else 0
 

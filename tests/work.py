@@ -24,7 +24,8 @@ A talk is a file of lines:
     says TEXT        what is within one of the lines on its standard error
     hides TEXT       what is within none of them
     sees FILE LINE   a line that a file in @new has now, or gets soon
-    has FILE LINE    a line that a file in @new has at the end; its lines stand one after another, and @new has no other file
+    has FILE LINE    a line that a file in @new has at the end; its lines stand one after another, @any in one is any number,
+                     and @new has no other file
 """
 
 import argparse
@@ -236,7 +237,7 @@ class Talk:
                 raise Wrong(f"it says {text!r}: {said!r}")
         left = {path.name: path.read_text() for path in self.new.iterdir()}
         wanted = {name: "".join(f"{line}\n" for line in lines) for name, lines in self.files.items()}
-        if left != wanted:
+        if left.keys() != wanted.keys() or any(not same(text, wanted[name], {}) for name, text in left.items()):
             raise Wrong(f"the files are\n{left}\nnot\n{wanted}")
 
 

@@ -2,10 +2,10 @@
 
 from .rooms import NAP
 from .runs import Like
-from .texts import FEW_SLOTS, MISSING, NO_COMMAND, VERSION, cannot_read
+from .texts import FEW_SLOTS, KNOWN_TYPES, MISSING, NO_COMMAND, VERSION, cannot_read
 from .verdicts import SERVED_VERDICTS, TOLD_VERDICTS, VERDICTS
 
-HELP = """Usage: wfhost [COMMAND]
+HELP = f"""Usage: wfhost [COMMAND]
 
 Commands:
   replay   Replays each history of folders and files, and prints a line for each
@@ -25,6 +25,9 @@ Status:
   0  each file was read, and no task of it has a fault
   1  the report names a file or a task that has one
   2  there is no report; standard error says why
+  3  replay --strict-values: values of files differ, and none has a fault
+
+Workflow types: {KNOWN_TYPES}
 """
 REPLAY_HELP = """Replays each history of folders and files, and prints a line for each
 
@@ -36,6 +39,8 @@ Arguments:
 Options:
       --json           Prints the report as JSON
       --require-files  Fails where there is no history
+      --strict-values  Warns of inputs, results and durations that differ
+      --progress       Prints on the standard error how many files are done, also where that is no terminal
   -h, --help           Print help
 """
 EXPLAIN_HELP = """Replays a history, and prints what the workflow was told and gave, task by task
@@ -99,9 +104,9 @@ Arguments:
 
 Options:
       --workers <N>       How many workers poll at once, 1 to 64 [default: 1]
-      --cache <N>         How many runs are kept between their tasks, 0 to 10000 [default: 100]
-      --cache-events <N>  How many events the kept runs hold together, where 0 is no bound, 0 to 512000000 [default: 0]
-      --slots <N>         How many tasks of each kind are in hand at once, 1 to 1000 [default: 100]
+      --cache <N>         How many runs the cache keeps, 0 to 10000 [default: 100]
+      --cache-events <N>  How much the cached runs weigh: 1 an event, 1 a KiB of input, where 0 is no bound, 0 to 512000000 [default: 0]
+      --slots <N>         How many tasks of each kind are processed at once, 1 to 1000 [default: 100]
       --require-files     Fails where there is no history
   -h, --help              Print help
 """
@@ -112,19 +117,19 @@ Usage: wfhost work [OPTIONS] --task-queue <NAME>
 Options:
       --task-queue <NAME>           The Task Queue whose tasks are served
       --namespace <NAME>            The namespace of the Task Queue [default: default]
-      --identity <NAME>             Who the server is told that it is [default: wfhost]
+      --identity <NAME>             The identity that the server records for this process [default: wfhost]
       --workers <N>                 How many workers poll for workflow tasks, 1 to 64 [default: 2]
-      --cache <N>                   How many runs are kept between their tasks, 0 to 10000 [default: 100]
-      --cache-events <N>            How many events the kept runs hold together, where 0 is no bound, 0 to 512000000 [default: 0]
-      --slots <N>                   How many tasks of each kind are in hand at once, 1 to 1000 [default: 100]
+      --cache <N>                   How many runs the cache keeps, 0 to 10000 [default: 100]
+      --cache-events <N>            How much the cached runs weigh: 1 an event, 1 a KiB of input, where 0 is no bound, 0 to 512000000 [default: 0]
+      --slots <N>                   How many tasks of each kind are processed at once, 1 to 1000 [default: 100]
       --activity-workers <N>        How many workers more poll for activity tasks, of 64 workers at most, 0 to 63 [default: 0]
       --activity-timeout <SECONDS>  How long an activity may take from its start, 1 to 4294967295 [default: 60]
       --activity-attempts <N>       How often an activity is tried, where 0 leaves it to the server, 0 to 65535 [default: 1]
       --policies <FILE>             A TOML file that says what the server is asked for with activities, children and failures
       --sticky-timeout <SECONDS>    How long a task waits for the workers that keep its run, 1 to 4294967295 [default: 10]
-      --verbose                     Tells more on the standard error
-      --stats <SECONDS>             Tells the counts on the standard error, each time after as many seconds, 1 to 4294967295
-      --json                        Tells the counts as JSON
+      --verbose                     Prints a line for each task on the standard error
+      --stats <SECONDS>             Prints the counts on the standard error at this interval, 1 to 4294967295
+      --json                        Prints the counts as JSON
       --metrics <FILE>              A file in which the counts are kept, in the form that Prometheus reads
   -h, --help                        Print help
 
@@ -147,6 +152,7 @@ def command_lines(room):
         ["serve"],
         ["serve", well, well],
         ["serve", well, "--json"],
+        ["serve", well, "--progress"],
         ["no-such-command"],
         ["check"],
         ["try"],

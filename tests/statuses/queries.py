@@ -6,7 +6,7 @@ import json
 
 from .rooms import NAP, NOT_JSON, RACER, TOP, up_to
 from .runs import Like
-from .texts import MISSING, cannot_read
+from .texts import MISSING, OTHER_TYPE, cannot_read
 
 ORDERS = TOP / "crates/order_worker/out/order_worker"
 # The events of an order, without those of its workflow tasks: it is charged for and called off, or shipped.
@@ -186,7 +186,7 @@ def queries(room):
             ["query", nope, "phase"],
             1,
             "nope.json: fault, task at 1: UnknownWorkflow\nquery failed, task at 1: UnknownWorkflow\n",
-            "wfhost: nope.json: no code for the workflow type Nope\n",
+            "wfhost: nope.json: no code for the workflow type Nope\n" + OTHER_TYPE,
         ),
         (["query", missing, "phase"], 2, "", cannot_read(missing, MISSING)),
         (["query", folder, "phase"], 2, "", cannot_read(folder, "is a folder")),

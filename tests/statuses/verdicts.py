@@ -1,7 +1,7 @@
 """A file of each kind of verdict, and what is reported of these files."""
 
 from .rooms import NAP, NOT_JSON, RACER, up_to
-from .texts import UNCOMPARED
+from .texts import OTHER_TYPE, UNCOMPARED
 
 OTHER_TIMER = {
     "eventId": "6",
@@ -56,10 +56,10 @@ wfhost: f.json: event 6 refers to event 9
 wfhost: g.json: event 5 lacks timerId
 wfhost: h.json: sends StartTimer t (30 s), recorded nothing
 wfhost: i.json: sends nothing, recorded 6 TimerStarted x
-"""
+{OTHER_TYPE}"""
 # Where files are no JSON and for which workflow types there is no code, then why tasks failed, a repeated fault once, and
 # then the hint.
 TOLD_VERDICTS = f"""{STOPPED_VERDICTS}wfhost: d.json: task at 8: event 5 differs
 wfhost: e.json: task at 3: UnknownWorkflow, and 1 more
 wfhost: f.json: task at 8: event 6 is not in place: NoSuchRef
-{UNCOMPARED}"""
+{UNCOMPARED}{OTHER_TYPE}"""

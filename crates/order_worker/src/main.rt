@@ -1,18 +1,15 @@
 //! A program that serves orders: live ones, recorded ones, or, without a word, six in memory.
 #![tactic(auto)]
 
-mod inbox;
-mod memory;
-mod orders;
-mod till;
-
-use crate::memory::serve_from_memory;
-use crate::till::Till;
 use order::Order;
+use order_host::{Till, serve_from_memory};
 use std::env::Env;
 use std::process::ExitCode;
 use std::{env, thread};
-use wh_cli::{calls_over, no_memory, read_input, run};
+use wh_cli::{calls_over, no_memory, read_input, run_beating};
+
+/// The workflow types that there is code for.
+const TYPES: &str = "Order";
 
 /// Whether a word stands after the program's name.
 fn has_words<R: Env + AllocGlobal>(rt: &R) -> bool {
@@ -33,8 +30,9 @@ fn main(rt: HostRuntime) -> ExitCode {
     let Ok((calls, theirs)) = calls_over(alloc, rt.stdout()) else {
         return no_memory(&rt);
     };
-    run::<Order, _, _, _, _, _>(
+    run_beating::<Order, _, _, _, _, _>(
         &rt,
+        TYPES,
         &*calls,
         || thread::spawn(&rt, move || read_input(&rt, alloc, &*theirs)).is_ok(),
         || Till { alloc },

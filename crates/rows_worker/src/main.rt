@@ -5,15 +5,19 @@
 use row_samples::All;
 use std::process::ExitCode;
 use std::thread;
-use wh_cli::{NoActivities, calls_over, no_memory, read_input, run};
+use wh_cli::{NoActivities, calls_over, no_memory, read_input, run_with_types};
+
+/// The workflow types that there is code for.
+const TYPES: &str = "Nap, Family, Order, Plan, Subscription, Booking";
 
 fn main(rt: HostRuntime) -> ExitCode {
     let alloc = rt.alloc();
     let Ok((calls, theirs)) = calls_over(alloc, rt.stdout()) else {
         return no_memory(&rt);
     };
-    run::<All, _, _, _, _, _>(
+    run_with_types::<All, _, _, _, _, _>(
         &rt,
+        TYPES,
         &*calls,
         || thread::spawn(&rt, move || read_input(&rt, alloc, &*theirs)).is_ok(),
         || NoActivities { alloc },

@@ -12,6 +12,8 @@ use Rattle.wh_events.specs.Keys.{same_key, same_key-true}
 use Rattle.wh_workflow.specs.Law.{Program}
 use Rattle.wh_replay.specs.Runs.{Held, history_of, IsReplayed}
 use Rattle.wh_cache.specs.Cache.{CacheView, Entry, entry_of, held_by, AllReplayed, Fits, FitMost, IsSound, KeepsMost, Enters, with_first, fitting, PutReply, IsKept, HasPushedOut, IsOff, IsShort, IsLarge, HasNoMemory, Puts}
+use Rattle.wh_cache.specs.Weights.{weight_of}
+use Rattle.wh_cache.proofs.Weights.{weight_of-most}
 use Rattle.wh_cache.proofs.Runs.{held_by-append, held_by-remove_le, AllReplayed-remove, IsDistinct-remove}
 
 -- the runs of other keys
@@ -61,28 +63,28 @@ goes_on (suc room) left len e = grind (arith, nat_tests)
 
 -- where not all fit, the last run adds nothing to the count
 pub fitting-last : (room left : ℕ) (rs : List Entry) (r : Entry) → (length (rs ++ r ∷ []) ≤ room → held_by (rs ++ r ∷ []) ≤ left → ⊥) → fitting room left (rs ++ r ∷ []) ≡ fitting room left rs
-fitting-last room left [] r over = (elim (room == 0 || nat_lt left (length r.1.events)) as (λ b. (room == 0 || nat_lt left (length r.1.events)) ≡ b → cond b 0 (fitting (room - 1) (left - length r.1.events) [] + 1) ≡ 0) [
+fitting-last room left [] r over = (elim (room == 0 || nat_lt left (weight_of r.1.events)) as (λ b. (room == 0 || nat_lt left (weight_of r.1.events)) ≡ b → cond b 0 (fitting (room - 1) (left - weight_of r.1.events) [] + 1) ≡ 0) [
   | true ↦ λ e. refl
-  | false ↦ λ e. let some = goes_on room left (length r.1.events) e in absurd (over (omega (arith, some.0)) (omega (arith, some.1)))
+  | false ↦ λ e. let some = goes_on room left (weight_of r.1.events) e in absurd (over (omega (arith, some.0)) (omega (arith, some.1)))
 ]) refl
-fitting-last room left (x ∷ rs) r over = (elim (room == 0 || nat_lt left (length x.1.events)) as (λ b. (room == 0 || nat_lt left (length x.1.events)) ≡ b
-    → cond b 0 (fitting (room - 1) (left - length x.1.events) (rs ++ r ∷ []) + 1) ≡ cond b 0 (fitting (room - 1) (left - length x.1.events) rs + 1)) [
+fitting-last room left (x ∷ rs) r over = (elim (room == 0 || nat_lt left (weight_of x.1.events)) as (λ b. (room == 0 || nat_lt left (weight_of x.1.events)) ≡ b
+    → cond b 0 (fitting (room - 1) (left - weight_of x.1.events) (rs ++ r ∷ []) + 1) ≡ cond b 0 (fitting (room - 1) (left - weight_of x.1.events) rs + 1)) [
       | true ↦ λ e. refl
       | false ↦ λ e.
-          let some = goes_on room left (length x.1.events) e in
-          ap (λ n. n + 1) (fitting-last (room - 1) (left - length x.1.events) rs r (λ fits enough. over (omega (arith, some.0, fits)) (omega (arith, some.1, enough))))
+          let some = goes_on room left (weight_of x.1.events) e in
+          ap (λ n. n + 1) (fitting-last (room - 1) (left - weight_of x.1.events) rs r (λ fits enough. over (omega (arith, some.0, fits)) (omega (arith, some.1, enough))))
     ]) refl
 
 -- where all fit, the count is theirs
 pub fitting-all : (room left : ℕ) (rs : List Entry) → length rs ≤ room → held_by rs ≤ left → fitting room left rs ≡ length rs
 fitting-all room left [] fits enough = refl
-fitting-all room left (r ∷ rs) fits enough = (elim (room == 0 || nat_lt left (length r.1.events)) as (λ b. (room == 0 || nat_lt left (length r.1.events)) ≡ b → cond b 0 (fitting (room - 1) (left - length r.1.events) rs + 1) ≡ length (r ∷ rs)) [
-  | true ↦ λ e. absurd (stops room left (length r.1.events) e (omega arith) (omega arith))
-  | false ↦ λ e. let rest = fitting-all (room - 1) (left - length r.1.events) rs (omega arith) (omega arith) in omega (arith, rest)
+fitting-all room left (r ∷ rs) fits enough = (elim (room == 0 || nat_lt left (weight_of r.1.events)) as (λ b. (room == 0 || nat_lt left (weight_of r.1.events)) ≡ b → cond b 0 (fitting (room - 1) (left - weight_of r.1.events) rs + 1) ≡ length (r ∷ rs)) [
+  | true ↦ λ e. absurd (stops room left (weight_of r.1.events) e (omega arith) (omega arith))
+  | false ↦ λ e. let rest = fitting-all (room - 1) (left - weight_of r.1.events) rs (omega arith) (omega arith) in omega (arith, rest)
 ]) refl
 
 one_less : (room left : ℕ) (before after : List Entry) (r : Entry) → before ≡ after ++ r ∷ [] → (length before ≤ room → held_by before ≤ left → ⊥)
-    → (length before ≡ length after + 1) × (held_by before ≡ held_by after + length r.1.events) × (fitting room left before ≡ fitting room left after)
+    → (length before ≡ length after + 1) × (held_by before ≡ held_by after + weight_of r.1.events) × (fitting room left before ≡ fitting room left after)
 one_less room left before after r last over =
     let long = ap length last ∙ length-append after (r ∷ []) in
     let sum = ap held_by last ∙ held_by-append after (r ∷ []) in
@@ -92,7 +94,7 @@ one_less room left before after r last over =
 -- where not all fit, the last run goes with its events, and as many fit as before
 pub one_goes : (key : RunKey) (before after : List Entry) (r : Entry) (room left count held : ℕ) → before ≡ after ++ r ∷ [] → same_key key r.0 ≡ false
     → count ≡ length (beside key before) → held ≡ held_by (beside key before) → (count ≤ room → held ≤ left → ⊥)
-    → (count ≡ length (beside key after) + 1) × (held ≡ held_by (beside key after) + length r.1.events) × (fitting room left (beside key after) ≡ fitting room left (beside key before))
+    → (count ≡ length (beside key after) + 1) × (held ≡ held_by (beside key after) + weight_of r.1.events) × (fitting room left (beside key after) ≡ fitting room left (beside key before))
 one_goes key before after r room left count held last at counted sum over =
     let others = ap (beside key) last ∙ beside-last_other key after r at in
     let less = one_less room left (beside key before) (beside key after) r others (λ fits enough. over (omega (arith, counted, fits)) (omega (arith, sum, enough))) in
@@ -100,23 +102,23 @@ one_goes key before after r room left count held last at counted sum over =
 
 pub fitting-within : (room left : ℕ) (rs : List Entry) → (fitting room left rs ≤ length rs) × (fitting room left rs ≤ room) × (held_by (take (fitting room left rs) rs) ≤ left)
 fitting-within room left [] = (omega arith, omega arith, omega arith)
-fitting-within room left (r ∷ rs) = (elim (room == 0 || nat_lt left (length r.1.events)) as (λ b. (room == 0 || nat_lt left (length r.1.events)) ≡ b →
-    let n : ℕ = cond b 0 (fitting (room - 1) (left - length r.1.events) rs + 1) in (n ≤ length (r ∷ rs)) × (n ≤ room) × (held_by (take n (r ∷ rs)) ≤ left)) [
+fitting-within room left (r ∷ rs) = (elim (room == 0 || nat_lt left (weight_of r.1.events)) as (λ b. (room == 0 || nat_lt left (weight_of r.1.events)) ≡ b →
+    let n : ℕ = cond b 0 (fitting (room - 1) (left - weight_of r.1.events) rs + 1) in (n ≤ length (r ∷ rs)) × (n ≤ room) × (held_by (take n (r ∷ rs)) ≤ left)) [
       | true ↦ λ e. (omega arith, omega arith, omega arith)
       | false ↦ λ e.
-          let more = goes_on room left (length r.1.events) e in
-          let rest = fitting-within (room - 1) (left - length r.1.events) rs in
+          let more = goes_on room left (weight_of r.1.events) e in
+          let rest = fitting-within (room - 1) (left - weight_of r.1.events) rs in
           (omega (arith, rest.0), omega (arith, rest.1, more.0), rw add-one (omega (arith, rest.2, more.1)))
     ]) refl
 
 pub fitting-most : (room left : ℕ) (rs : List Entry) (m : ℕ) → fitting room left rs < m → m ≤ length rs → m ≤ room → held_by (take m rs) ≤ left → ⊥
 fitting-most room left [] m more within fits enough = omega arith
 fitting-most room left (r ∷ rs) zero more within fits enough = omega arith
-fitting-most room left (r ∷ rs) (suc m) more within fits enough = (elim (room == 0 || nat_lt left (length r.1.events)) as (λ b. (room == 0 || nat_lt left (length r.1.events)) ≡ b → cond b 0 (fitting (room - 1) (left - length r.1.events) rs + 1) < suc m → ⊥) [
-  | true ↦ λ e. λ less. stops room left (length r.1.events) e (omega arith) (omega arith)
+fitting-most room left (r ∷ rs) (suc m) more within fits enough = (elim (room == 0 || nat_lt left (weight_of r.1.events)) as (λ b. (room == 0 || nat_lt left (weight_of r.1.events)) ≡ b → cond b 0 (fitting (room - 1) (left - weight_of r.1.events) rs + 1) < suc m → ⊥) [
+  | true ↦ λ e. λ less. stops room left (weight_of r.1.events) e (omega arith) (omega arith)
   | false ↦ λ e. λ less.
-      let some = goes_on room left (length r.1.events) e in
-      fitting-most (room - 1) (left - length r.1.events) rs m (omega (arith, less)) (omega arith) (omega (arith, some.0)) (omega (arith, some.1))
+      let some = goes_on room left (weight_of r.1.events) e in
+      fitting-most (room - 1) (left - weight_of r.1.events) rs m (omega (arith, less)) (omega arith) (omega (arith, some.0)) (omega (arith, some.1))
 ]) refl more
 
 held_by-take_le : (n : ℕ) (rs : List Entry) → held_by (take n rs) ≤ held_by rs
@@ -124,12 +126,12 @@ held_by-take_le zero rs = omega arith
 held_by-take_le (suc n) [] = omega arith
 held_by-take_le (suc n) (r ∷ rs) = let rest = held_by-take_le n rs in omega (arith, rest)
 
-pub held_by-most : {S : Type 0} (program : Program S) (rs : List Entry) → AllReplayed program rs → held_by rs ≤ 51200 * length rs
+pub held_by-most : {S : Type 0} (program : Program S) (rs : List Entry) → AllReplayed program rs → held_by rs ≤ 4245504 * length rs
 held_by-most program [] all = omega arith
-held_by-most program (r ∷ rs) all = let rest = held_by-most program rs all.1 in let one = all.0.most in omega (arith, rest, one)
+held_by-most program (r ∷ rs) all = let rest = held_by-most program rs all.1 in let one = weight_of-most r.1.events all.0.most in omega (arith, rest, one)
 
 -- where the bound lets them in, there is room for these
-enough_left : (bound left held len : ℕ) → (bound ≢ 0 → len + held ≤ bound) → (bound ≢ 0 → left + len ≡ bound) → (bound ≡ 0 → 512000000 ≤ left) → held ≤ 512000000 → held ≤ left
+enough_left : (bound left held len : ℕ) → (bound ≢ 0 → len + held ≤ bound) → (bound ≢ 0 → left + len ≡ bound) → (bound ≡ 0 → 42455040000 ≤ left) → held ≤ 42455040000 → held ≤ left
 enough_left zero left held len within bounded free few = let most = free refl in omega (arith, most)
 enough_left (suc bound) left held len within bounded free few =
     let some : suc bound ≢ 0 = λ e. absurd (omega arith) in
@@ -137,7 +139,7 @@ enough_left (suc bound) left held len within bounded free few =
     let two = bounded some in omega (arith, one, two)
 
 -- no longer beginning fits
-beyond : (c : CacheView) (run : Entry) (left : ℕ) → 0 < c.capacity → held_by c.runs ≤ 512000000 → (c.bound ≢ 0 → left + length run.1.events ≡ c.bound) → (c.bound ≡ 0 → 512000000 ≤ left)
+beyond : (c : CacheView) (run : Entry) (left : ℕ) → 0 < c.capacity → held_by c.runs ≤ 42455040000 → (c.bound ≢ 0 → left + weight_of run.1.events ≡ c.bound) → (c.bound ≡ 0 → 42455040000 ≤ left)
     → (m : ℕ) → suc (fitting (c.capacity - 1) left (remove_entry (same_key run.0) c.runs)) < m → m ≤ length (with_first run c.runs) → Fits c.capacity c.bound (take m (with_first run c.runs)) → ⊥
 beyond c run left some few bounded free zero more within fits = omega arith
 beyond c run left some few bounded free (suc m) more within fits =
@@ -147,10 +149,10 @@ beyond c run left some few bounded free (suc m) more within fits =
     let fewest = held_by-remove_le (same_key run.0) c.runs in
     let one = fits.0 in
     let two = fits.1 in
-    fitting-most (c.capacity - 1) left rest m (omega arith) (omega arith) (omega (arith, long, one)) (enough_left c.bound left (held_by (take m rest)) (length run.1.events) two bounded free (omega (arith, fewer, fewest)))
+    fitting-most (c.capacity - 1) left rest m (omega arith) (omega arith) (omega (arith, long, one)) (enough_left c.bound left (held_by (take m rest)) (weight_of run.1.events) two bounded free (omega (arith, fewer, fewest)))
 
 -- the run in front and those that fit beside it are the longest beginning that fits
-pub FitMost-fitting : (c : CacheView) (run : Entry) (left : ℕ) → 0 < c.capacity → held_by c.runs ≤ 512000000 → (c.bound ≢ 0 → left + length run.1.events ≡ c.bound) → (c.bound ≡ 0 → 512000000 ≤ left)
+pub FitMost-fitting : (c : CacheView) (run : Entry) (left : ℕ) → 0 < c.capacity → held_by c.runs ≤ 42455040000 → (c.bound ≢ 0 → left + weight_of run.1.events ≡ c.bound) → (c.bound ≡ 0 → 42455040000 ≤ left)
     → FitMost c (with_first run c.runs) (suc (fitting (c.capacity - 1) left (remove_entry (same_key run.0) c.runs)))
 FitMost-fitting c run left some few bounded free =
     let rest = remove_entry (same_key run.0) c.runs in
@@ -169,7 +171,7 @@ not_all_fit c runs going h some less fits =
     h.most (length runs) (omega arith) (omega arith) (subst (λ (rs : List Entry). Fits c.capacity c.bound rs) (sym (take-length runs)) fits)
 
 pub going_parts : (c : CacheView) (run : Entry) (left going : ℕ) → going + fitting (c.capacity - 1) left (remove_entry (same_key run.0) c.runs) ≡ length (remove_entry (same_key run.0) c.runs)
-    → 0 < c.capacity → held_by c.runs ≤ 512000000 → (c.bound ≢ 0 → left + length run.1.events ≡ c.bound) → (c.bound ≡ 0 → 512000000 ≤ left)
+    → 0 < c.capacity → held_by c.runs ≤ 42455040000 → (c.bound ≢ 0 → left + weight_of run.1.events ≡ c.bound) → (c.bound ≡ 0 → 42455040000 ≤ left)
     → FitMost c (with_first run c.runs) (length (with_first run c.runs) - going)
 going_parts c run left going rest some few bounded free =
     let most = FitMost-fitting c run left some few bounded free in
@@ -243,8 +245,8 @@ Puts-keeps program old run new (IsShort back) sound replayed p = IsSound-same pr
 Puts-keeps program old run new (IsLarge back) sound replayed p = IsSound-same program old new p.4 sound
 Puts-keeps program old run new (HasNoMemory back) sound replayed p = IsSound-same program old new p.3 sound
 
--- how many events a sound cache may hold
-pub held_by-few : {S : Type 0} (program : Program S) (c : CacheView) → IsSound program c → held_by c.runs ≤ 512000000
+-- how much a sound cache may hold
+pub held_by-few : {S : Type 0} (program : Program S) (c : CacheView) → IsSound program c → held_by c.runs ≤ 42455040000
 held_by-few program c sound =
     let most = held_by-most program c.runs sound.replayed in
     let few = sound.fits.0 in

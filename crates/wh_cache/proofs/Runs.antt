@@ -1,8 +1,8 @@
 -- Lists of runs: one removed, one put in front, some dropped from the back.
-use Rattle.std.proofs.Common.{◌≡◌, ℕ, suc, ◌+◌, ◌-◌, ◌<◌, ◌≤◌, Bool, true, false, cond, List, [], ◌∷◌, ◌++◌, length, take, reverse, Option, Some, None, refl, sym, ap, ◌∙◌, subst, arith, append_assoc}
+use Rattle.std.proofs.Common.{◌≡◌, ℕ, suc, ◌+◌, ◌-◌, ◌<◌, ◌≤◌, Bool, true, false, cond, List, [], ◌∷◌, ◌++◌, length, take, reverse, Option, Some, None, refl, sym, ap, ◌∙◌, subst, arith, append_assoc, length-append, inl, inr}
 use Rattle.std.specs.Prelude.{is_some, map, slice_get}
-use Rattle.std.proofs.lemmas.List.{map-append, reverse-append, take_all}
-use Rattle.std.proofs.lemmas.Option.{same_Some}
+use Rattle.std.proofs.lemmas.List.{map-append, reverse-append, take_all, length-reverse, length-map}
+use Rattle.std.proofs.lemmas.Option.{same_Some, none-some, slice_get_cases}
 use Rattle.std.specs.Map.{lookup, lookup_entry, remove_entry}
 use Rattle.std.specs.List.{IsDistinct, AllByRecursion}
 use Rattle.std.specs.Map.{keys_of}
@@ -13,6 +13,7 @@ use Rattle.wh_events.specs.Keys.{same_key, same_key-true}
 use Rattle.wh_workflow.specs.Law.{Program}
 use Rattle.wh_replay.specs.Runs.{HistoryView, Held}
 use Rattle.wh_cache.specs.Cache.{Entry, cache_view, entry_of, held_by, AllReplayed, IsSound, with_first}
+use Rattle.wh_cache.specs.Weights.{weight_of}
 
 module _ (t : RunKey → Bool) where
   pub remove_entry-none : (es : List Entry) → lookup_entry t es ≡ None → remove_entry t es ≡ es
@@ -22,10 +23,10 @@ module _ (t : RunKey → Bool) where
     | false ↦ λ h. rw h (ap (λ l. x ∷ l) (remove_entry-none es (rw h at e)))
   ]) refl
 
-  pub held_by-remove : (es : List Entry) (e : Entry) → lookup_entry t es ≡ Some e → held_by (remove_entry t es) + length e.1.events ≡ held_by es
+  pub held_by-remove : (es : List Entry) (e : Entry) → lookup_entry t es ≡ Some e → held_by (remove_entry t es) + weight_of e.1.events ≡ held_by es
   held_by-remove [] e h = cc
-  held_by-remove (x ∷ es) e h = (elim (t x.0) as (λ b. t x.0 ≡ b → held_by (remove_entry t (x ∷ es)) + length e.1.events ≡ held_by (x ∷ es)) [
-    | true ↦ λ at. let a = rw at at h in let same : x ≡ e = cc in rw at (let n = ap (λ (r : Entry). length r.1.events) same in omega (arith, n))
+  held_by-remove (x ∷ es) e h = (elim (t x.0) as (λ b. t x.0 ≡ b → held_by (remove_entry t (x ∷ es)) + weight_of e.1.events ≡ held_by (x ∷ es)) [
+    | true ↦ λ at. let a = rw at at h in let same : x ≡ e = cc in rw at (let n = ap (λ (r : Entry). weight_of r.1.events) same in omega (arith, n))
     | false ↦ λ at. rw at (let rest = held_by-remove es e (rw at at h) in omega (arith, rest))
   ]) refl
 
@@ -134,7 +135,7 @@ last_parts (x ∷ y ∷ es) e h =
     subst (λ n. take n (x ∷ y ∷ es) ++ e ∷ [] ≡ x ∷ y ∷ es) (sym more)
     (ap (λ l. x ∷ l) (last_parts (y ∷ es) e (subst (λ n. slice_get (x ∷ y ∷ es) n ≡ Some e) more h)))
 
-pub held_by-last : (es : List Entry) (e : Entry) → slice_get es (length es - 1) ≡ Some e → held_by (take (length es - 1) es) + length e.1.events ≡ held_by es
+pub held_by-last : (es : List Entry) (e : Entry) → slice_get es (length es - 1) ≡ Some e → held_by (take (length es - 1) es) + weight_of e.1.events ≡ held_by es
 held_by-last es e h =
     let parts = ap held_by (last_parts es e h) in
     let sum = held_by-append (take (length es - 1) es) (e ∷ []) in omega (arith, parts, sum)
@@ -149,6 +150,19 @@ one_more_gone es gone run all h parts =
     ∙ sym (append_assoc (take (length es - 1) es) (entry_of run ∷ []) (reverse out))
     ∙ ap (λ l. l ++ reverse out) (last_parts es (entry_of run) h)
     ∙ parts
+
+-- where some have to go still, there is a last run
+pub some_left : (es : List Entry) (gone : List Held) (all : List Entry) (turn count : ℕ) → es ++ reverse (map entry_of gone) ≡ all → length gone ≡ turn → turn < count → count ≤ length all
+    → slice_get es (length es - 1) ≡ None → ⊥
+some_left es gone all turn count parts went more most none =
+    let sum = ap length parts in
+    let joined = length-append es (reverse (map entry_of gone)) in
+    let turned = length-reverse (map entry_of gone) in
+    let out = length-map gone entry_of in
+    elim (slice_get_cases es (length es - 1)).1 [
+      | inl found ↦ none-some found.0 (sym none ∙ found.2)
+      | inr past ↦ let beyond = past.0 in omega (arith, sum, joined, turned, out, beyond, went, more, most)
+    ]
 
 -- a cache with room for one more puts the run in front, in place of the one of its key
 pub put_entries-first : (c : LruCache RunKey (HistoryView)) (run : Entry) → length c.entries < c.cap → put_entries same_key c run.0 run.1 ≡ with_first run c.entries

@@ -6,6 +6,7 @@ use Rattle.wh_events.specs.declared.key.RunKey.{RunKey}
 use Rattle.wh_events.specs.Keys.{same_key}
 use Rattle.wh_workflow.specs.Law.{Program}
 use Rattle.wh_replay.specs.Runs.{HistoryView, Held, history_of, run_under, IsReplayed}
+use Rattle.wh_cache.specs.Weights.{weight_of}
 use Rattle.wh_cache.specs.declared.Put.{Put}
 use Rattle.wh_cache.specs.declared.Put.TheVariants.{Kept, PushedOut, Off, Shorter, TooLarge, NoMemory}
 
@@ -22,7 +23,7 @@ abbrev pub held_of : Entry → Held
 held_of entry = run_under entry.0 entry.1
 
 -- the runs, the most recently used first, and the bounds on their number and, unless it is 0, on
--- their held events together
+-- their weight together
 pub record CacheView : Type 0 where
   pub runs : List Entry
   pub capacity : ℕ
@@ -31,10 +32,10 @@ pub record CacheView : Type 0 where
 abbrev pub cache_view : List Entry → ℕ → ℕ → CacheView
 cache_view runs capacity bound = record { runs = runs; capacity = capacity; bound = bound }
 
--- how many events the runs hold together
+-- the weight of the runs together
 abbrev pub held_by : List Entry → ℕ
 held_by [] = 0
-held_by (r ∷ rs) = length r.1.events + held_by rs
+held_by (r ∷ rs) = weight_of r.1.events + held_by rs
 
 -- the machines, versions and unsent commands of each run are those that replay of its held events
 -- from the first gives
@@ -59,12 +60,12 @@ pub record IsSound {S : Type 0} (program : Program S) (c : CacheView) : Type 0 w
 abbrev pub with_first : Entry → List Entry → List Entry
 with_first run runs = run ∷ remove_entry (same_key run.0) runs
 
--- how many runs fit, from the front on, where there is room for so many runs and so many events are
+-- how many runs fit, from the front on, where there is room for so many runs and so much weight is
 -- left
 abbrev pub fitting : ℕ → ℕ → List Entry → ℕ
 fitting room left [] = 0
 fitting room left (r ∷ rs) =
-    cond (room == 0 || nat_lt left (length r.1.events)) 0 (fitting (room - 1) (left - length r.1.events) rs + 1)
+    cond (room == 0 || nat_lt left (weight_of r.1.events)) 0 (fitting (room - 1) (left - weight_of r.1.events) rs + 1)
 
 -- the first n runs fit, and no longer beginning does
 pub record FitMost (c : CacheView) (runs : List Entry) (n : ℕ) : Type 0 where
@@ -84,9 +85,9 @@ IsShorter c run =
     × (lookup (same_key run.key) c.runs ≡ Some held)
     × (length run.events ≤ length held.events)
 
--- there is a bound on held events, and the run alone holds more
+-- there is a bound on the weight, and the run alone weighs more
 abbrev pub IsTooLarge : CacheView → Held → Type 0
-IsTooLarge c run = (c.bound ≢ 0) × (c.bound < length run.events)
+IsTooLarge c run = (c.bound ≢ 0) × (c.bound < weight_of run.events)
 
 -- the cache takes runs, and this one is neither shorter than the cached one nor too large
 abbrev pub MayEnter : CacheView → Held → Type 0

@@ -1,8 +1,9 @@
-//! A sticky cache: runs of workflows kept between their tasks, bounded by their number and by the
-//! events that they hold.
+//! A sticky cache: runs of workflows kept between their tasks, bounded by their number and by their
+//! weight together. A run weighs one for each held event, and one for each whole KiB (1,024 bytes)
+//! of its input, of which at most 4 GiB count.
 #![tactic(auto)]
 
-ghost use Rattle.std.specs.Prelude.{◌≡◌, ◌≢◌, ◌↔◌, ◌≤◌, ◌<◌, ◌+◌, ◌-◌, ◌++◌, [], None, IsTrue};
+ghost use Rattle.std.specs.Prelude.{◌≡◌, ◌≢◌, ◌↔◌, ◌≤◌, ◌<◌, ◌+◌, ◌-◌, ◌*◌, ◌++◌, [], None, IsTrue};
 ghost use Rattle.std.specs.Prelude.{IfOk, IfErr, MatchOption, OnOk, OnErr, length, map, reverse};
 ghost use Rattle.std.specs.Prelude.{is_some, option_map, vec_capacity};
 ghost use Rattle.std.specs.Map.{keys_of, lookup, lookup_entry, remove_entry};
@@ -13,18 +14,22 @@ ghost use Rattle.wh_cache.specs.Cache.{cache_view, entry_of, held_of, held_by, I
 ghost use Rattle.wh_cache.specs.Cache.{IsTooLarge, MayEnter, Enters, NeedsMemory, FitMost};
 ghost use Rattle.wh_cache.specs.Cache.{with_first, fitting, put_reply_of, Puts};
 
+mod weighing;
+
 use lru::LruCache;
 use std::alloc::Global;
 use std::marker::Model;
 use std::num::NonZeroUsize;
-use wh_events::{Items, MOST_EVENTS, OutOfMemory, RunKey};
+pub use weighing::MOST_WEIGHT;
+use weighing::{Weighed, weight_of};
+use wh_events::{Items, OutOfMemory, RunKey};
 use wh_replay::{ReplayedHistory, Run};
 use wh_workflow::Workflow;
 
 /// The most runs that a cache may hold.
 pub const MOST_RUNS: usize = 10_000;
 
-/// The largest bound on the events that the cached runs hold together.
+/// The largest bound on the weight of the cached runs together.
 pub const MOST_CACHED_EVENTS: u64 = 512_000_000;
 
 /// What became of a run that was put into the cache. The last four hand it back and leave the cache
@@ -39,7 +44,7 @@ pub enum Put<W: Workflow> {
     Off(Run<W>),
     /// The cached run of the same key holds at least as many events.
     Shorter(Run<W>),
-    /// The run alone holds more events than the cache may hold.
+    /// The run alone weighs more than the cached runs may together.
     TooLarge(Run<W>),
     /// No memory was found, for a run of a key that is not cached or for the list of the runs that
     /// have to go.
@@ -55,7 +60,7 @@ pub struct Sticky<W: Workflow> {
     capacity: usize,
     bound: u64,
     held: u64,
-    runs: LruCache<RunKey, ReplayedHistory<W>>,
+    runs: LruCache<RunKey, Weighed<W>>,
 }
 
 impl<W: Workflow> Model for Sticky<W> {
@@ -74,7 +79,7 @@ impl<W: Workflow> Model for Sticky<W> {
 
 impl<W: Workflow> Sticky<W> {
     /// An empty cache of at most `capacity` runs, none where it is 0. Where `events` is not 0, the
-    /// cached runs hold at most so many events together. `OutOfMemory` where there was no memory.
+    /// cached runs weigh at most so much together. `OutOfMemory` where there was no memory.
     pub fn open(alloc: Global, capacity: usize, events: u64) -> Result<Self, OutOfMemory>
         requires capacity { capacity ≤ MOST_RUNS }
         requires events { events ≤ MOST_CACHED_EVENTS }
@@ -96,9 +101,9 @@ impl<W: Workflow> Sticky<W> {
         ensures run { result ≡ option_map held_of (lookup_entry (same_key key.now) self.old.runs) }
         ensures runs { self.new ≡ record self.old { runs = remove_entry (same_key key.now) self.old.runs } }
     {
-        let (key, history) = self.runs.pop_entry(key)?;
-        self.held -= history.len() as u64;
-        Some(Run::from_parts(key, history))
+        let (key, weighed) = self.runs.pop_entry(key)?;
+        self.held -= weighed.weight();
+        Some(Run::from_parts(key, weighed.into_history()))
     }
 
     /// Drops the run of the key, and says whether there was one.
@@ -115,14 +120,15 @@ impl<W: Workflow> Sticky<W> {
     pub fn peek(&self, key: &RunKey) -> Option<&ReplayedHistory<W>>
         ensures { option_map (λ history. history.now) result ≡ lookup (same_key key.now) self.now.runs }
     {
-        self.runs.peek(key)
+        let weighed = self.runs.peek(key)?;
+        Some(weighed.history())
     }
 
     /// How many events the run of the key holds, if there is one. The order of use stays.
     pub fn peek_len(&self, key: &RunKey) -> Option<usize>
         ensures { result ≡ option_map (λ history. length history.events) (lookup (same_key key.now) self.now.runs) }
     {
-        let history = self.runs.peek(key)?;
+        let history = self.peek(key)?;
         Some(history.len())
     }
 
@@ -135,7 +141,7 @@ impl<W: Workflow> Sticky<W> {
         self.runs.len()
     }
 
-    /// How many events the cached runs hold together.
+    /// The weight of the cached runs together.
     pub fn held(&self) -> u64
         ensures { result ≡ held_by self.now.runs }
     {
@@ -200,11 +206,11 @@ impl<W: Workflow> Sticky<W> {
         }
     }
 
-    /// Whether the run alone holds more events than the bound.
+    /// Whether the run alone weighs more than the bound.
     fn is_too_large(&self, run: &Run<W>) -> bool
         ensures { IsTrue result ↔ IsTooLarge self.now run.now }
     {
-        self.bound != 0 && self.bound < run.held_len() as u64
+        self.bound != 0 && self.bound < weight_of(run)
     }
 
     /// How many runs have to go, the last first, once this one is in front. It is what replay of
@@ -218,9 +224,9 @@ impl<W: Workflow> Sticky<W> {
     {
         // Made for the proof: its contract says that the run is replayed.
         run.invariant();
-        let left = room_beside(self.bound, run.held_len() as u64);
+        let left = room_beside(self.bound, weight_of(run));
         let count = self.others(run.key());
-        let held = self.held - replaced_len(&self.runs, run.key());
+        let held = self.held - replaced_weight(&self.runs, run.key());
         going_beside(&self.runs, run.key(), count, held, self.capacity - 1, left)
     }
 
@@ -236,12 +242,11 @@ impl<W: Workflow> Sticky<W> {
     }
 }
 
-/// How many events fit beside these. Where there is no bound, all that a cache may hold do.
+/// How much weight fits beside this. Where there is no bound, all that a cache may hold does.
 fn room_beside(bound: u64, added: u64) -> u64
-    requires added { added ≤ MOST_EVENTS }
-    requires bound { bound ≢ 0 → added ≤ bound }
+    requires { bound ≢ 0 → added ≤ bound }
     ensures some { bound ≢ 0 → result + added ≡ bound }
-    ensures none { bound ≡ 0 → MOST_CACHED_EVENTS ≤ result }
+    ensures none { bound ≡ 0 → MOST_RUNS * MOST_WEIGHT ≤ result }
 {
     if bound == 0 { u64::MAX } else { bound - added }
 }
@@ -259,12 +264,12 @@ fn room_for<W: Workflow>(alloc: Global, count: usize) -> Option<Vec<Run<W>>>
 
 /// Puts the run in front, in place of the one of its key, which takes no memory where there is one.
 fn put_first<W: Workflow>(
-    runs: &mut LruCache<RunKey, ReplayedHistory<W>>,
+    runs: &mut LruCache<RunKey, Weighed<W>>,
     held: &mut u64,
     run: Run<W>,
 ) -> Result<(), Run<W>>
     requires room { length runs.old.entries < runs.old.cap }
-    requires held { (held.old ≡ held_by runs.old.entries) × (held.old ≤ MOST_CACHED_EVENTS) }
+    requires held { (held.old ≡ held_by runs.old.entries) × (held.old ≤ MOST_RUNS * MOST_WEIGHT) }
     ensures runs { OnOk result (runs.new.entries ≡ with_first (entry_of run) runs.old.entries) }
     ensures held { OnOk result (held.new ≡ held_by runs.new.entries) }
     ensures cap { runs.new.cap ≡ runs.old.cap }
@@ -272,37 +277,37 @@ fn put_first<W: Workflow>(
     ensures missing { OnErr result (lookup (same_key run.key) runs.old.entries ≡ None) }
     ensures unchanged { OnErr result ((runs.new ≡ runs.old) × (held.new ≡ held.old)) }
 {
-    let added = run.held_len() as u64;
-    let replaced = replaced_len(runs, run.key());
-    let (key, history) = run.into_parts();
-    match runs.push(key, history) {
+    let replaced = replaced_weight(runs, run.key());
+    let (key, weighed) = Weighed::of(run);
+    let added = weighed.weight();
+    match runs.push(key, weighed) {
         Ok(_replaced) => {
             *held = *held - replaced + added;
             Ok(())
         }
         Err(failed) => {
-            let (key, history) = failed.value;
-            Err(Run::from_parts(key, history))
+            let (key, weighed) = failed.value;
+            Err(Run::from_parts(key, weighed.into_history()))
         }
     }
 }
 
-/// How many events the run of the key holds, 0 where there is none.
-fn replaced_len<W: Workflow>(runs: &LruCache<RunKey, ReplayedHistory<W>>, key: &RunKey) -> u64
+/// The weight of the run of the key, 0 where there is none.
+fn replaced_weight<W: Workflow>(runs: &LruCache<RunKey, Weighed<W>>, key: &RunKey) -> u64
     ensures held { held_by (remove_entry (same_key key.now) runs.now.entries) + result ≡ held_by runs.now.entries }
-    ensures most { result ≤ MOST_EVENTS }
+    ensures most { result ≤ MOST_WEIGHT }
 {
     match runs.peek(key) {
-        Some(history) => history.len() as u64,
+        Some(weighed) => weighed.weight(),
         None => 0,
     }
 }
 
-/// How many of the other runs, `count` with `held` events, have to go beside one of this key, the
-/// last first, where `room` runs with `left` events fit. It visits those that go, and at most the
+/// How many of the other runs, `count` of the weight `held`, have to go beside one of this key, the
+/// last first, where `room` runs of the weight `left` fit. It visits those that go, and at most the
 /// run of the key besides.
 fn going_beside<W: Workflow>(
-    runs: &LruCache<RunKey, ReplayedHistory<W>>,
+    runs: &LruCache<RunKey, Weighed<W>>,
     key: &RunKey,
     count: usize,
     held: u64,
@@ -320,14 +325,14 @@ fn going_beside<W: Workflow>(
     let mut going = 0;
     let mut rest = runs.iter();
     'last: while room < count || left < held {
-        let Some((other, history)) = rest.next_back() else {
+        let Some((other, weighed)) = rest.next_back() else {
             unreachable!()
         };
         if key == other {
             continue;
         }
         count -= 1;
-        held -= history.len() as u64;
+        held -= weighed.weight();
         going += 1;
     }
     going
@@ -335,7 +340,7 @@ fn going_beside<W: Workflow>(
 
 /// Moves the last runs out, the least recently used first.
 fn push_out<W: Workflow>(
-    runs: &mut LruCache<RunKey, ReplayedHistory<W>>,
+    runs: &mut LruCache<RunKey, Weighed<W>>,
     held: &mut u64,
     count: usize,
     gone: &mut Vec<Run<W>>,
@@ -349,10 +354,10 @@ fn push_out<W: Workflow>(
     ensures held { held.new ≡ held_by runs.new.entries }
 {
     for _turn in 0..count {
-        let Some((key, history)) = runs.pop_lru() else {
+        let Some((key, weighed)) = runs.pop_lru() else {
             unreachable!()
         };
-        *held -= history.len() as u64;
-        gone.push_reserved(Run::from_parts(key, history));
+        *held -= weighed.weight();
+        gone.push_reserved(Run::from_parts(key, weighed.into_history()));
     }
 }

@@ -62,21 +62,22 @@ where
     Ok(status)
 }
 
-/// Does what is asked for, and gives the status. Where there is none, why.
+/// Does what is asked for, and gives the status. `types` are the workflow types that there is code
+/// for. Where there is none, why.
 pub(crate) fn obey<
     W: Queryable + Send,
     R: Runtime + AllocGlobal + Threads + Wait + Sync,
     O: Write,
     E: Write,
     F: FnOnce(LivePlan) -> Result<LiveEnd, OutOfMemory>,
->(rt: &R, plan: Plan, live: F, console: &mut Console<'_, O, E>) -> Result<u8, Failure>
+>(rt: &R, types: &str, plan: Plan, live: F, console: &mut Console<'_, O, E>) -> Result<u8, Failure>
 where
     R::File: Send,
     R::Dir: Send,
     F: Drop,
     requires limits { IsWithinLimits plan }
     requires serves { MayServe (F.pre live) }
-    ensures { IfOk result (Obeys W.program W.queries (lives (F.post live)) plan console.old console.new) }
+    ensures { IfOk result (Obeys W.program W.queries (lives (F.post live)) types.now plan console.old console.new) }
 {
     match plan {
         Plan::Replay {
@@ -84,7 +85,19 @@ where
             more,
             format,
             require_files,
-        } => replay_paths::<W, R, O, E>(rt, dir, more, format, require_files, console),
+            strict_values,
+            progress,
+        } => replay_paths::<W, R, O, E>(
+            rt,
+            dir,
+            more,
+            format,
+            require_files,
+            strict_values,
+            progress,
+            types,
+            console,
+        ),
         Plan::Explain {
             file,
             selection,
@@ -104,7 +117,7 @@ where
             query_type,
             input,
             format,
-        } => query_path::<W, R, O, E>(rt, file, query_type, input, format, console),
+        } => query_path::<W, R, O, E>(rt, file, query_type, input, format, types, console),
         Plan::Check { file, more, format } => {
             check_paths::<Promises, R, O, E>(rt, file, more, format, console)
         }
@@ -114,7 +127,7 @@ where
             dir,
             options,
             require_files,
-        } => serve_folder::<W, R, O, E>(rt, dir, options, require_files, console),
+        } => serve_folder::<W, R, O, E>(rt, dir, options, require_files, types, console),
         Plan::Work { options } => work::<R, F, O, E>(rt, options, live, console),
         Plan::Help { text } => print(text.get(), console),
     }

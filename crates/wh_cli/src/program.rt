@@ -17,6 +17,7 @@ use std::rt::Runtime;
 use std::sync::Wait;
 use std::thread::Threads;
 use std::{env, io};
+use wh_activities::{BeatingHandler, NeverBeats};
 use wh_command_line::{Plan, Refusal, parse};
 use wh_console::{Console, ErrorPrinter};
 use wh_crew::LiveEnd;
@@ -70,12 +71,12 @@ pub(crate) fn called(words: &[String]) -> &str
 }
 
 /// What the words of the command line ask for.
-fn plan(alloc: Global, words: &[String]) -> Result<Plan, Failure>
+fn plan(alloc: Global, types: &str, words: &[String]) -> Result<Plan, Failure>
     ensures limits { IfOk result IsWithinLimits }
     ensures asked { IfOk result (IsAskedBy (map string_bytes words.now)) }
     ensures few { result ≡ Err Failure.FewSlots → HasFewSlots (map string_bytes words.now) }
 {
-    match parse(alloc, called(words), words) {
+    match parse(alloc, called(words), types, words) {
         Ok(plan) => Ok(plan),
         Err(Refusal::BadLine { text }) => Err(Failure::BadLine { text }),
         Err(Refusal::FewSlots) => Err(Failure::FewSlots),
@@ -122,17 +123,17 @@ fn answer<
     O: Write,
     E: Write,
     F: FnOnce(LivePlan) -> Result<LiveEnd, OutOfMemory>,
->(rt: &R, words: &[String], live: F, console: &mut Console<'_, O, E>) -> u8
+>(rt: &R, types: &str, words: &[String], live: F, console: &mut Console<'_, O, E>) -> u8
 where
     R::File: Send,
     R::Dir: Send,
     F: Drop,
     requires { MayServe (F.pre live) }
-    ensures { Answers W.program W.queries (lives (F.post live)) (map string_bytes words.now)
+    ensures { Answers W.program W.queries (lives (F.post live)) types.now (map string_bytes words.now)
         console.old console.new result }
 {
-    match plan(rt.alloc(), words) {
-        Ok(plan) => match obey::<W, R, O, E, F>(rt, plan, live, console) {
+    match plan(rt.alloc(), types, words) {
+        Ok(plan) => match obey::<W, R, O, E, F>(rt, types, plan, live, console) {
             Ok(status) => status,
             Err(failure) => fail(failure, console),
         },
@@ -151,7 +152,7 @@ fn run_words<
     W: Queryable + Send,
     R: Runtime + AllocGlobal + Threads + Wait + Sync,
     F: FnOnce(LivePlan) -> Result<LiveEnd, OutOfMemory>,
->(rt: &R, words: &[String], live: F) -> u8
+>(rt: &R, types: &str, words: &[String], live: F) -> u8
 where
     R::File: Send,
     R::Dir: Send,
@@ -162,7 +163,7 @@ where
     match output(rt) {
         Ok(output) => {
             let mut console = Console::new(name, output, ErrorPrinter::new(rt));
-            answer::<W, R, _, _, F>(rt, words, live, &mut console)
+            answer::<W, R, _, _, F>(rt, types, words, live, &mut console)
         }
         Err(failure) => fail_under(rt, name, failure),
     }
@@ -179,9 +180,9 @@ fn run_over<
     R: Runtime + AllocGlobal + FileReplacer + Threads + Wait + Sync,
     C: Caller + Sync,
     L: FnOnce() -> bool,
-    A: ActivityHandler + Send + Drop,
-    M: Fn() -> A,
->(rt: &R, words: &[String], calls: &C, listen: L, make: M) -> u8
+    B: BeatingHandler + Send + Drop,
+    M: Fn() -> B,
+>(rt: &R, types: &str, words: &[String], calls: &C, listen: L, make: M) -> u8
 where
     R::File: Send,
     R::Dir: Send,
@@ -195,20 +196,71 @@ where
         requires sizes { IsConfig plan.config }
         requires listens { L.IsAlwaysCallable listen }
         requires makes { M.IsAlwaysCallable make }
-    { serve_calls::<W, R, C, L, A, M>(rt, name, calls, listen, &make, plan) };
-    run_words::<W, R, _>(rt, words, live)
+    { serve_calls::<W, R, C, L, B, M>(rt, name, calls, listen, &make, plan) };
+    run_words::<W, R, _>(rt, types, words, live)
 }
 
 /// Runs the program for the workflows of a type: it does what the arguments ask for, writes the
 /// report to the standard output and, where there is no full report, why to the standard error, and
 /// gives the status. Where the one who reads the report closes it, that is not reported.
 ///
-/// Lines on the standard error begin with the name by which the program was called: the last part of
-/// its first word, or `wfhost` where there is none.
+/// The help lists `types`, the workflow types that there is code for, as `Nap, Greet`, and so does
+/// what is told of a file that has another one. Where they are empty they are not told.
 ///
-/// Live tasks are asked for and answered over the calls. Before the first of them `listen` is called,
-/// which has to start a thread that reads the other end by `read_input`, and says whether it could;
-/// that thread is not waited for. `make` makes the handler of each worker, which runs activities.
+/// Lines on the standard error begin with the name by which the program was called: the last part
+/// of its first word, or `wfhost` where there is none.
+///
+/// Live tasks are asked for and answered over the calls. Before the first of them `listen` is
+/// called, which has to start a thread that reads the other end by `read_input`, and says whether
+/// it could; that thread is not waited for. `make` makes the handler of each worker, which runs
+/// activities and may beat while it does.
+pub fn run_beating<
+    W: Queryable + Send,
+    R: Runtime + AllocGlobal + Threads + Wait + Sync,
+    C: Caller + Sync,
+    L: FnOnce() -> bool,
+    B: BeatingHandler + Send + Drop,
+    M: Fn() -> B,
+>(rt: &R, types: &str, calls: &C, listen: L, make: M) -> ExitCode
+where
+    R::File: Send,
+    R::Dir: Send,
+    L: Drop,
+    M: Drop,
+    requires listens { L.IsAlwaysCallable listen }
+    requires makes { M.IsAlwaysCallable make }
+{
+    let words = match words(rt) {
+        Ok(words) => words,
+        Err(failure) => return ExitCode::from(fail_under(rt, UNCALLED, failure)),
+    };
+    ExitCode::from(run_over::<W, R, C, L, B, M>(rt, types, words.as_slice(), calls, listen, make))
+}
+
+/// Runs the program as `run_beating` does, with handlers that do not beat.
+pub fn run_with_types<
+    W: Queryable + Send,
+    R: Runtime + AllocGlobal + Threads + Wait + Sync,
+    C: Caller + Sync,
+    L: FnOnce() -> bool,
+    A: ActivityHandler + Send + Drop,
+    M: Fn() -> A,
+>(rt: &R, types: &str, calls: &C, listen: L, make: M) -> ExitCode
+where
+    R::File: Send,
+    R::Dir: Send,
+    L: Drop,
+    M: Drop,
+    requires listens { L.IsAlwaysCallable listen }
+    requires makes { M.IsAlwaysCallable make }
+{
+    let make_silent = move || -> NeverBeats<A>
+        requires { M.IsAlwaysCallable make }
+    { NeverBeats { handler: make() } };
+    run_beating::<W, R, C, L, NeverBeats<A>, _>(rt, types, calls, listen, make_silent)
+}
+
+/// Runs the program as `run_with_types` does, with a help that lists no workflow types.
 pub fn run<
     W: Queryable + Send,
     R: Runtime + AllocGlobal + Threads + Wait + Sync,
@@ -225,9 +277,5 @@ where
     requires listens { L.IsAlwaysCallable listen }
     requires makes { M.IsAlwaysCallable make }
 {
-    let words = match words(rt) {
-        Ok(words) => words,
-        Err(failure) => return ExitCode::from(fail_under(rt, UNCALLED, failure)),
-    };
-    ExitCode::from(run_over::<W, R, C, L, A, M>(rt, words.as_slice(), calls, listen, make))
+    run_with_types::<W, R, C, L, A, M>(rt, "", calls, listen, make)
 }

@@ -1,5 +1,6 @@
 pub mod Explanations
 pub mod Given
+pub mod Helps
 pub mod Lines
 pub mod Options
 pub mod Plans

@@ -21,9 +21,11 @@ IsHelp _ = ⊥
 
 -- the plan is what the subcommand of a name asks for by its rows
 abbrev pub IsGiven : Text → List Row → Plan → Type 0
-IsGiven name rows (Replay dir more format require_files) = (name ≡ codes "replay")
+IsGiven name rows (Replay dir more format require_files strict_values progress) = (name ≡ codes "replay")
     × GivesPaths rows dir more.items × GivesFormat rows format
     × GivesFlag (codes "require-files") rows require_files
+    × GivesFlag (codes "strict-values") rows strict_values
+    × GivesFlag (codes "progress") rows progress
 IsGiven name rows (Explain file selection format) =
     (name ≡ codes "explain") × GivesExplanation rows (Explain file selection format)
 IsGiven name rows (View file selection format) =

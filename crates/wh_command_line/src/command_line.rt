@@ -31,13 +31,6 @@ use wh_view_report::Selection;
 /// What `--version` prints after the program's name.
 const VERSION: &str = "0.1.0";
 
-/// What the help says of the statuses.
-const STATUSES: &str = "\
-Status:
-  0  each file was read, and no task of it has a fault
-  1  the report names a file or a task that has one
-  2  there is no report; standard error says why";
-
 /// What the program is to do.
 #[derive(Debug, Drop)]
 pub enum Plan {
@@ -52,6 +45,10 @@ pub enum Plan {
         format: Format,
         /// Whether it is a failure that there is no history.
         require_files: bool,
+        /// Whether values of good files that differ from what is recorded are reported.
+        strict_values: bool,
+        /// Whether progress is told also where the standard error is no terminal.
+        progress: bool,
     },
     /// Explain the replay of the history in a file.
     Explain {
@@ -312,6 +309,18 @@ fn require_files_argument<'a>(alloc: Global) -> Arg<'a>
     flag_argument(alloc, "require-files", "Fails where there is no history")
 }
 
+/// The flag that has progress told also where the standard error is no terminal.
+fn progress_argument<'a>(alloc: Global) -> Arg<'a>
+    ensures rule { rule_of result ≡ flag (codes "progress") }
+    ensures local { result.global ≡ false }
+{
+    flag_argument(
+        alloc,
+        "progress",
+        "Prints on the standard error how many files are done, also where that is no terminal",
+    )
+}
+
 /// The subcommand `replay`.
 fn replay<'a>(alloc: Global) -> Result<Command<'a>, AllocError>
     ensures { IfOk result (StandsFor replay) }
@@ -329,7 +338,14 @@ fn replay<'a>(alloc: Global) -> Result<Command<'a>, AllocError>
     let command = with_argument(Ok(command), paths);
     let json = flag_argument(alloc, "json", "Prints the report as JSON");
     let command = with_argument(command, json);
-    with_argument(command, require_files_argument(alloc))
+    let command = with_argument(command, require_files_argument(alloc));
+    let strict_values = flag_argument(
+        alloc,
+        "strict-values",
+        "Warns of inputs, results and durations that differ",
+    );
+    let command = with_argument(command, strict_values);
+    with_argument(command, progress_argument(alloc))
 }
 
 /// A subcommand, if there is one, with the options more that say how much a host holds.
@@ -363,12 +379,12 @@ fn serve<'a>(alloc: Global, helps: &'a Helps) -> Result<Command<'a>, AllocError>
 
 /// The program, under a name of its user's, with nothing yet but its version and what its help ends
 /// with.
-fn program_alone<'a>(alloc: Global, name: &str) -> Result<Command<'a>, AllocError>
+fn program_alone<'a>(alloc: Global, name: &str, helps: &'a Helps) -> Result<Command<'a>, AllocError>
     ensures { IfOk result (λ c. app_of c ≡ with_version (new_app (codes "wfhost"))) }
 {
     Command::new(alloc, "wfhost")
         .version(VERSION)
-        .after_help(STATUSES)
+        .after_help(helps.ending.as_str())
         .bin_name(name)?
         .display_name(name)
 }
@@ -388,7 +404,7 @@ fn with_subcommand<'a>(
 fn command<'a>(alloc: Global, name: &str, helps: &'a Helps) -> Result<Command<'a>, AllocError>
     ensures { IfOk result (λ c. app_of c ≡ program) }
 {
-    let program = with_subcommand(program_alone(alloc, name), replay(alloc));
+    let program = with_subcommand(program_alone(alloc, name, helps), replay(alloc));
     let program = with_subcommand(program, explain(alloc));
     let program = with_subcommand(program, query(alloc));
     let program = with_subcommand(program, check(alloc));
@@ -538,6 +554,8 @@ fn asked(alloc: Global, name: &str, given: &ArgMatches<'_>) -> Result<Plan, Refu
                 more,
                 format: format_given(given),
                 require_files: flag_given(given, "require-files"),
+                strict_values: flag_given(given, "strict-values"),
+                progress: flag_given(given, "progress"),
             })
         }
         "explain" => explanation_given(alloc, given),
@@ -556,21 +574,27 @@ fn asked(alloc: Global, name: &str, given: &ArgMatches<'_>) -> Result<Plan, Refu
 
 /// The plan of a command line, whose first word is passed over. `Help` comes only where the line
 /// asks for a text, every other plan only where `clap` reads the line. Texts call the program by
-/// `name`.
+/// `name`, and the help lists the workflow types `types` that it has code for, unless they are
+/// empty.
 ///
 /// `BadLine` holds what is wrong with the line, as it is shown. It comes only where `clap` finds a
 /// mistake, where the line names no subcommand, and where what it gives is no number or one that is
-/// not within its limits, or is an empty name of a Task Queue, or where tasks to be shown are selected
-/// twice, or a page is asked for and more. `FewSlots` comes only where the line
-/// names numbers within their limits, with fewer slots than workers. `OutOfMemory` comes where there
-/// is no memory to read it.
-pub fn parse<'a>(alloc: Global, name: &str, words: &'a [String]) -> Result<Plan, Refusal>
+/// not within its limits, or is an empty name of a Task Queue, or where tasks to be shown are
+/// selected twice, or a page is asked for and more. `FewSlots` comes only where the line names
+/// numbers within their limits, with fewer slots than workers. `OutOfMemory` comes where there is
+/// no memory to read it.
+pub fn parse<'a>(
+    alloc: Global,
+    name: &str,
+    types: &str,
+    words: &'a [String],
+) -> Result<Plan, Refusal>
     ensures limits { IfOk result IsWithinLimits }
     ensures asked { IfOk result (IsAskedBy (map string_bytes words.entry.now)) }
     ensures few { result ≡ Err Refusal.FewSlots → HasFewSlots (map string_bytes words.entry.now) }
     ensures bad { IfErr result (IfBad (IsBadLine (map string_bytes words.entry.now))) }
 {
-    let helps = Helps::new(alloc)?;
+    let helps = Helps::new(alloc, types)?;
     let command = command(alloc, name, &helps)?;
     let matches = match command.try_get_matches_from(words) {
         Ok(matches) => matches,

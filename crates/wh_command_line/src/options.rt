@@ -1,8 +1,9 @@
 //! Options that take numbers: their names and their limits.
 
-ghost use Rattle.std.specs.Prelude.{◌≡◌, ◌≢◌, ◌≤◌, ◌<◌, ◌^◌, ℕ, Some, None, Err, IfOk, IfErr, IfSome};
+ghost use Rattle.std.specs.Prelude.{◌≡◌, ◌≢◌, ◌≤◌, ◌<◌, ◌^◌, ℕ, Some, None, Err, IfOk, IfErr, IfSome, string_bytes};
 ghost use Rattle.clap.specs.Words.{found_of, rows_of};
 ghost use Rattle.wh_command_line.specs.Given.{GivesWithin, IsNumber, MayGiveWithin, value_named, value_of};
+ghost use Rattle.wh_command_line.specs.Helps.{help_ending};
 ghost use Rattle.wh_command_line.specs.Refusals.{IfBad};
 
 use crate::command_line::{Refusal, bad_line};
@@ -44,7 +45,7 @@ pub(crate) const CACHE: NumberOption = NumberOption {
     name: "cache",
     otherwise: "100",
     value_name: "N",
-    about: "How many runs are kept between their tasks",
+    about: "How many runs the cache keeps",
     least: 0,
     most: MOST_RUNS as u64,
 };
@@ -54,7 +55,7 @@ pub(crate) const CACHE_EVENTS: NumberOption = NumberOption {
     name: "cache-events",
     otherwise: "0",
     value_name: "N",
-    about: "How many events the kept runs hold together, where 0 is no bound",
+    about: "How much the cached runs weigh: 1 an event, 1 a KiB of input, where 0 is no bound",
     least: 0,
     most: MOST_CACHED_EVENTS,
 };
@@ -64,7 +65,7 @@ pub(crate) const SLOTS: NumberOption = NumberOption {
     name: "slots",
     otherwise: "100",
     value_name: "N",
-    about: "How many tasks of each kind are in hand at once",
+    about: "How many tasks of each kind are processed at once",
     least: 1,
     most: MOST_SLOTS as u64,
 };
@@ -141,9 +142,30 @@ fn value_named(given: &ArgMatches<'_>, name: &str) -> Option<u64>
     number_of(given.get_str(name)?)
 }
 
-/// What the help says of each option.
+/// What the help says of the statuses.
+const STATUSES: &str = "\
+Status:
+  0  each file was read, and no task of it has a fault
+  1  the report names a file or a task that has one
+  2  there is no report; standard error says why
+  3  replay --strict-values: values of files differ, and none has a fault";
+
+/// What the help ends with: the statuses, and the workflow types that the program has code for,
+/// unless they are empty.
+fn ending(alloc: Global, types: &str) -> Result<String, AllocError>
+    ensures { IfOk result (λ text. string_bytes text ≡ help_ending types.now) }
+{
+    if types.is_empty() {
+        String::from_str(alloc, STATUSES)
+    } else {
+        format!(in alloc; "{STATUSES}\n\nWorkflow types: {types}")
+    }
+}
+
+/// What the help says of each option, and what it ends with.
 #[derive(Drop)]
 pub(crate) struct Helps {
+    pub(crate) ending: String,
     pub(crate) workers: String,
     pub(crate) cache: String,
     pub(crate) cache_events: String,
@@ -152,8 +174,11 @@ pub(crate) struct Helps {
 }
 
 impl Helps {
-    pub(crate) fn new(alloc: Global) -> Result<Helps, AllocError> {
+    pub(crate) fn new(alloc: Global, types: &str) -> Result<Helps, AllocError>
+        ensures { IfOk result (λ helps. string_bytes helps.ending ≡ help_ending types.now) }
+    {
         Ok(Helps {
+            ending: ending(alloc, types)?,
             workers: WORKERS.help(alloc)?,
             cache: CACHE.help(alloc)?,
             cache_events: CACHE_EVENTS.help(alloc)?,

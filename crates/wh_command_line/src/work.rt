@@ -90,7 +90,7 @@ const STATS: NumberOption = NumberOption {
     name: "stats",
     otherwise: "",
     value_name: "SECONDS",
-    about: "Tells the counts on the standard error, each time after as many seconds",
+    about: "Prints the counts on the standard error at this interval",
     least: 1,
     most: MOST_SECONDS,
 };
@@ -157,7 +157,7 @@ fn with_names<'a>(
         alloc,
         "identity",
         "NAME",
-        "Who the server is told that it is",
+        "The identity that the server records for this process",
     );
     with_argument(command, with_default(identity, "wfhost"))
 }
@@ -211,11 +211,15 @@ fn with_reports<'a>(
 ) -> Result<Command<'a>, AllocError>
     ensures { (app : App) → IfOk command.entry (StandsFor app) → IfOk result (StandsFor (with_reports app)) }
 {
-    let verbose = flag_argument(alloc, "verbose", "Tells more on the standard error");
+    let verbose = flag_argument(
+        alloc,
+        "verbose",
+        "Prints a line for each task on the standard error",
+    );
     let command = with_argument(command, verbose);
     let stats = option_argument(alloc, "stats", "SECONDS", helps.stats.as_str());
     let command = with_argument(command, stats);
-    let json = flag_argument(alloc, "json", "Tells the counts as JSON");
+    let json = flag_argument(alloc, "json", "Prints the counts as JSON");
     let command = with_argument(command, json);
     let metrics = option_argument(
         alloc,

@@ -19,6 +19,8 @@ use Rattle.wh_diagnostics.specs.Policies.{bad_policies_line}
 use Rattle.wh_fault_details.specs.Texts.{detail_text}
 use Rattle.wh_fault_details.specs.declared.detail.FaultDetail.{FaultDetail}
 use Rattle.wh_file_faults.specs.Texts.{file_fault_text}
+use Rattle.wh_values.specs.Texts.{value_text}
+use Rattle.wh_values.specs.declared.comparing.OtherValue.{OtherValue}
 
 -- `<name>: <text>`, under the name that the program is called by
 abbrev pub named_line : (text name : List ℕ) → List ℕ
@@ -52,12 +54,22 @@ abbrev pub detail_lines : (file : List ℕ) → Option FaultDetail → (name : L
 detail_lines file None name = []
 detail_lines file (Some detail) name = detail_line file detail name
 
--- what stands beside the fault of a file: its difference, or what the fault leaves out
+-- `<name>: <file>: <a value that differs>`
+abbrev pub warning_line : (file : List ℕ) → OtherValue → (name : List ℕ) → List ℕ
+warning_line file value name =
+    shown name ++ (codes ": " ++ (shown file ++ (codes ": " ++ (value_text value ++ codes "\n"))))
+
+-- a line for each value that differs
+abbrev pub warning_lines : (file : List ℕ) → List OtherValue → (name : List ℕ) → List ℕ
+warning_lines file values name = flat_map (λ value. warning_line file value name) values
+
+-- what stands beside the verdict on a file: its difference, what its fault leaves out, and its warnings
 abbrev pub note_lines : Record → List ℕ → List ℕ
 note_lines own name =
-    difference_lines own.line.name own.difference name ++ detail_lines own.line.name own.detail name
+    difference_lines own.line.name own.difference name
+    ++ (detail_lines own.line.name own.detail name ++ warning_lines own.line.name own.warnings name)
 
--- the lines of a file: what stands beside its fault, and why it is named
+-- the lines of a file: what stands beside its verdict, and why it is named
 abbrev pub record_lines : Record → List ℕ → List ℕ
 record_lines own name = note_lines own name ++ fault_lines (fault_of own own.cause) name
 

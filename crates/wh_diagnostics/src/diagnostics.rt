@@ -5,7 +5,7 @@ ghost use Rattle.std.specs.Io.KnownBytes.{Appends};
 ghost use Rattle.wh_diagnostics.specs.Diagnostics.{bad_name_line, bad_name_lines, detail_lines, diagnostic_text};
 ghost use Rattle.wh_diagnostics.specs.Diagnostics.{difference_lines, entry_line, failed_text, fault_line, fault_lines};
 ghost use Rattle.wh_diagnostics.specs.Diagnostics.{named_line, not_text_line, note_lines, path_line, reason_line};
-ghost use Rattle.wh_diagnostics.specs.Diagnostics.{record_lines, records_lines, unviewed_line};
+ghost use Rattle.wh_diagnostics.specs.Diagnostics.{record_lines, records_lines, unviewed_line, warning_line, warning_lines};
 ghost use Rattle.wh_diagnostics.specs.Policies.{bad_policies_line};
 ghost use Rattle.wh_file_faults.specs.Faults.{told_of};
 ghost use Rattle.wh_report.specs.Reports.{fault_of};
@@ -23,6 +23,7 @@ use wh_json::ReadFault;
 use wh_policy_file::PolicyFault;
 use wh_report::Record;
 use wh_tester::{FaultText, Line, Shown};
+use wh_values::{OtherValue, OtherValueText};
 
 /// What a command may report on the standard error.
 #[derive(Drop)]
@@ -44,8 +45,8 @@ pub enum Diagnostic {
         /// The file, and where it is none.
         fault: FileFault,
     },
-    /// What is sent and what is recorded of files where they differ, what their faults leave out, and
-    /// which of them are no JSON or lack code.
+    /// What is sent and what is recorded of files where they differ, what their faults leave out, their
+    /// warnings, and which of them are no JSON or lack code.
     BadFiles {
         /// The records of the files.
         records: Vec<Record>,
@@ -115,9 +116,11 @@ fn fault_of(own: Record) -> Option<FileFault>
         cause,
         detail,
         difference,
+        warnings,
     } = own;
     drop(detail);
     drop(difference);
+    drop(warnings);
     let Line { name, verdict } = line;
     drop(verdict);
     match cause {
@@ -164,15 +167,49 @@ fn write_detail<E: Write>(own: &Record, name: &str, writer: &mut E) -> io::Resul
     writeln!(writer, "{name}: {file}: {detail}")
 }
 
-/// Writes what stands beside the fault of a file: its difference, or what the fault leaves out.
+/// Writes a value of a file that differs from what is recorded.
+fn write_warning<E: Write>(
+    file: &str,
+    value: &OtherValue,
+    name: &str,
+    writer: &mut E,
+) -> io::Result<()>
+    ensures { OnOk result (Appends (E.contents writer.old) (E.contents writer.new)
+        (warning_line file.now value.now name.now)) }
+{
+    let file = Shown(file);
+    let value = OtherValueText(value);
+    let name = Shown(name);
+    writeln!(writer, "{name}: {file}: {value}")
+}
+
+/// Writes the values of a file that differ from what is recorded, a line for each.
+fn write_warnings<E: Write>(
+    file: &str,
+    values: &[OtherValue],
+    name: &str,
+    writer: &mut E,
+) -> io::Result<()>
+    ensures { OnOk result (Appends (E.contents writer.old) (E.contents writer.new)
+        (warning_lines file.now values.now name.now)) }
+{
+    for value in values {
+        write_warning(file, value, name, writer)?;
+    }
+    Ok(())
+}
+
+/// Writes what stands beside the verdict on a file: its difference, what its fault leaves out, and its
+/// warnings.
 fn write_notes<E: Write>(own: &Record, name: &str, writer: &mut E) -> io::Result<()>
     ensures { OnOk result (Appends (E.contents writer.old) (E.contents writer.new) (note_lines own.now name.now)) }
 {
     write_difference(own, name, writer)?;
-    write_detail(own, name, writer)
+    write_detail(own, name, writer)?;
+    write_warnings(own.line.name.get(), own.warnings.get(), name, writer)
 }
 
-/// Writes the lines of a file beside the report: what stands beside its fault, and why it is named.
+/// Writes the lines of a file beside the report: what stands beside its verdict, and why it is named.
 fn write_record<E: Write>(own: Record, name: &str, writer: &mut E) -> io::Result<()>
     ensures { OnOk result (Appends (E.contents writer.old) (E.contents writer.new) (record_lines own name.now)) }
 {

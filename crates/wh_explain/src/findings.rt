@@ -1,6 +1,6 @@
 //! What the replay of a history file finds: its verdict, the workflow type that there is no code for,
 //! and what is sent and what is recorded where they differ.
-ghost use Rattle.std.specs.Prelude.{◌≡◌, ◌≢◌, ◌≤◌, ℕ, [], None, Some, Ok, length, IfOk, IfErr, IfSome, IsSome, string_bytes};
+ghost use Rattle.std.specs.Prelude.{◌≡◌, ◌≢◌, ◌≤◌, ℕ, List, [], None, Some, Ok, length, IfOk, IfErr, IfSome, IsSome, string_bytes};
 ghost use Rattle.wh_json.specs.Events.{history, longest};
 ghost use Rattle.wh_json.specs.declared.fault.ReadFault.TheVariants.{OutOfMemory as ReadMemory};
 ghost use Rattle.wh_replay.specs.declared.fault.Fault.TheVariants.{Mismatch as Mismatched, Workflow as WorkflowFaulty};
@@ -9,6 +9,7 @@ ghost use Rattle.wh_workflow.specs.declared.fault.WorkflowFault.TheVariants.{Unk
 ghost use Rattle.wh_tester.specs.Verdicts.{IsVerdict};
 ghost use Rattle.wh_explain.specs.Differences.{IsDifferenceIn};
 ghost use Rattle.wh_explain.specs.Explaining.{AreTasksIn, unknown_in, unknown_placed};
+ghost use Rattle.wh_explain.specs.Reading.{AreExplained, IsReadOf};
 ghost use Rattle.wh_explain.specs.Private.Findings.{AreFoundIn, AreFoundOf, AreFoundPlaced, verdict_by};
 ghost use Rattle.wh_explain.specs.Private.Tasks.{difference_in, fault_of};
 
@@ -158,9 +159,26 @@ fn unread(alloc: Global, fault: ReadFault) -> Result<Findings, OutOfMemory>
     }
 }
 
+/// What is found of a file by what was read of it. There are no tasks where it can't be read.
+#[tactic(auto, unfolding(wh_tester::specs::Verdicts::verdict_on), using(wh_tester::proofs::Reading::read_within))]
+fn find_in_read<W: Workflow>(
+    alloc: Global,
+    detail: Detail,
+    read: Result<Vec<Event>, ReadFault>,
+) -> Result<Findings, OutOfMemory>
+    ensures found { (bytes : List ℕ) → IsReadOf bytes read
+        → IfOk result (λ found. AreFoundIn detail W.program bytes found.finding found.tasks.items) }
+    ensures read { IfOk result (λ found. found.finding.verdict ≢ Verdict.Unreadable ReadMemory) }
+    ensures memory { (bytes : List ℕ) → IsReadOf bytes read → IfErr result (λ _. length bytes ≤ longest) }
+{
+    match read {
+        Ok(events) => find_in_events::<W>(alloc, detail, events),
+        Err(fault) => unread(alloc, fault),
+    }
+}
+
 /// What is found of a file, which is parsed once and whose history is replayed once. There are no
 /// tasks where it can't be read.
-#[tactic(auto, unfolding(wh_tester::specs::Verdicts::verdict_on), using(wh_tester::proofs::Reading::read_within))]
 fn find_in_bytes<W: Workflow>(
     alloc: Global,
     detail: Detail,
@@ -170,10 +188,8 @@ fn find_in_bytes<W: Workflow>(
     ensures read { IfOk result (λ found. found.finding.verdict ≢ Verdict.Unreadable ReadMemory) }
     ensures memory { IfErr result (λ _. length bytes.now ≤ longest) }
 {
-    match read_events(alloc, bytes) {
-        Ok(events) => find_in_events::<W>(alloc, detail, events),
-        Err(fault) => unread(alloc, fault),
-    }
+    let read = read_events(alloc, bytes);
+    find_in_read::<W>(alloc, detail, read)
 }
 
 /// Replays a history file with the code of `W`, and gives what is found: the verdict of
@@ -199,6 +215,22 @@ pub fn check_file<W: Workflow>(alloc: Global, bytes: &[u8]) -> Finding
             difference: None,
         },
     }
+}
+
+/// Replays a history file with the code of `W`, by the history that was read from it or why there is
+/// none, and gives what `check_file` finds of it, and the tasks that `explain` has of it. The history
+/// is replayed once. `OutOfMemory` where the allocator refused a growth, or did so when the file was
+/// read.
+pub fn explain_read<W: Workflow>(
+    alloc: Global,
+    read: Result<Vec<Event>, ReadFault>,
+) -> Result<(Finding, Vec<ExplainedTask>), OutOfMemory>
+    ensures found { (bytes : List ℕ) → IsReadOf bytes read
+        → IfOk result (λ found. AreExplained W.program bytes found.0 found.1.items) }
+    ensures memory { (bytes : List ℕ) → IsReadOf bytes read → IfErr result (λ _. length bytes ≤ longest) }
+{
+    let Findings { finding, tasks } = find_in_read::<W>(alloc, Detail::Steps, read)?;
+    Ok((finding, tasks))
 }
 
 /// The workflow type of a history whose events are in place, if `W` has no code for it, as `explain`

@@ -11,6 +11,6 @@ mod stepping;
 mod walk;
 
 pub use explanation::{Ending, ExplainedTask, Explanation, Pairing, RecordedEvent, Step};
-pub use findings::{Finding, check_file, explain, unknown_type};
+pub use findings::{Finding, check_file, explain, explain_read, unknown_type};
 pub use numbers::{left_after, number_of};
 pub use pairing::differs;

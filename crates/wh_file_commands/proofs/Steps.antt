@@ -1,6 +1,6 @@
 -- What commands of files wrote and reported, one step after the other.
-use Rattle.std.proofs.Common.{◌≡◌, ◌∙◌, ℕ, List, [], ◌∷◌, Some, sym, ap, subst}
-use Rattle.std.specs.Prelude.{Bool, false, Option, Result, Ok, Err, IfOk, OnOk, string_bytes}
+use Rattle.std.proofs.Common.{◌≡◌, ◌≢◌, ◌∙◌, ℕ, List, [], ◌∷◌, Some, sym, ap, subst}
+use Rattle.std.specs.Prelude.{Bool, false, true, Option, Result, Ok, Err, IfOk, OnOk, string_bytes}
 use Rattle.std.specs.Io.KnownBytes.{Keeps}
 use Rattle.wh_console.proofs.Printing.{printed_kept, quiet_twice, written_kept}
 use Rattle.wh_console.specs.Consoles.{ConsoleView, IsQuiet, Printed, Reported}
@@ -26,8 +26,11 @@ use Rattle.wh_query_report.specs.Inputs.{query_of}
 use Rattle.wh_query_report.specs.Queried.{IsQueried, status_of as query_status}
 use Rattle.wh_query_report.specs.Texts.{queried_as}
 use Rattle.wh_query_report.specs.declared.queried.Queried.{Queried}
+use Rattle.wh_known_types.specs.Types.{known_types_text, lacks_code}
+use Rattle.wh_progress.specs.declared.mode.ProgressMode.{ProgressMode}
+use Rattle.wh_progress.specs.declared.mode.ProgressMode.TheVariants.{Hidden, Lines}
 use Rattle.wh_report.specs.Commands.{IsExplained, view_as}
-use Rattle.wh_report.specs.Reports.{lines_of, report_as, status_of}
+use Rattle.wh_report.specs.Reports.{records_status, report_as, status_of}
 use Rattle.wh_report.specs.declared.records.Record.{Record}
 use Rattle.wh_tester.specs.Verdicts.{IsVerdict}
 use Rattle.wh_tester.specs.declared.line.Line.{Line}
@@ -39,7 +42,7 @@ use Rattle.wh_workflow.specs.Law.{Program}
 -- a report was printed, and once it was out the rest was reported
 pub report_ended : (records seen : List Record) (format : Format) (lacks : Bool) (old first between new : ConsoleView) (answer : Result ℕ CommandFault) (own status : ℕ)
     → seen ≡ records
-    → OnOk answer (Printed old first (report_as format seen)) → IfOk answer (λ status. status ≡ status_of (lines_of seen))
+    → OnOk answer (Printed old first (report_as format seen)) → IfOk answer (λ status. status ≡ records_status seen)
     → IsQuiet first between → Keeps first.output between.output → answer ≡ Ok own
     → Reported between new (records_lines records) → status ≡ status_with lacks own
     → HasReported records format lacks old new status
@@ -47,7 +50,7 @@ report_ended records seen format lacks old first between new (Ok given) own stat
   between = between;
   printed = subst (λ l. Printed old between (report_as format l)) same (printed_kept old first between (report_as format seen) printed quiet kept);
   reported = reported;
-  ends = (let one : given ≡ own = cc in given_status ∙ ap (status_with lacks) (sym one ∙ ends ∙ ap (λ l. status_of (lines_of l)) same));
+  ends = (let one : given ≡ own = cc in given_status ∙ ap (status_with lacks) (sym one ∙ ends ∙ ap records_status same));
 }
 report_ended records seen format lacks old first between new (Err fault) own status same printed ends quiet kept is reported given_status = absurd cc
 
@@ -107,38 +110,41 @@ explained_path program path input selection format old new (Ok status) called fr
 explained_path program path input selection format old new (Err failure) called from single h = tt
 
 -- what came of a query was written, and once that was out the rest was reported
-pub query_ended : {S : Type 0} (program : Program S) (queries : Queries S) (file : File) (query : Query) (format : Format) (old first between new : ConsoleView) (queried : Queried) (answer : Result ℕ CommandFault) (given status : ℕ)
+pub query_ended : {S : Type 0} (program : Program S) (queries : Queries S) (types : List ℕ) (file : File) (query : Query) (format : Format) (old first between ended new : ConsoleView) (queried : Queried) (answer : Result ℕ CommandFault) (given status : ℕ)
     → IsQueried program queries file query queried → Printed old first (queried_as format queried)
     → IsQuiet first between → Keeps first.output between.output
-    → Reported between new (record_lines queried.own)
+    → Reported between ended (record_lines queried.own)
+    → Reported ended new (known_types_text types (lacks_code queried.own.cause))
     → given ≡ query_status queried → answer ≡ Ok given → answer ≡ Ok status
-    → HasQueried program queries file query format old new status
-query_ended program queries file query format old first between new queried answer given status is printed quiet kept reported is_given same_given same_status =
+    → HasQueried program queries types file query format old new status
+query_ended program queries types file query format old first between ended new queried answer given status is printed quiet kept reported known is_given same_given same_status =
     let same : given ≡ status = cc in
     record {
       queried = queried;
       between = between;
+      ended = ended;
       is = is;
       printed = printed_kept old first between (queried_as format queried) printed quiet kept;
       reported = reported;
+      known = known;
       ends = sym same ∙ is_given;
     }
 
 -- an input that was read as a file was queried
-pub queried_input : {S : Type 0} (gives : Gives) (program : Program S) (queries : Queries S) (input : Input) (file : File) (query : Query) (format : Format) (old new : ConsoleView) (answer : Result ℕ Failure)
-    → IsReadAs gives input file → IfOk answer (HasQueried program queries file query format old new)
-    → IfOk answer (HasQueriedInput gives program queries input query format old new)
-queried_input gives program queries input file query format old new (Ok status) read h = record { file = file; read = read; queried = h }
-queried_input gives program queries input file query format old new (Err failure) read h = tt
+pub queried_input : {S : Type 0} (gives : Gives) (program : Program S) (queries : Queries S) (types : List ℕ) (input : Input) (file : File) (query : Query) (format : Format) (old new : ConsoleView) (answer : Result ℕ Failure)
+    → IsReadAs gives input file → IfOk answer (HasQueried program queries types file query format old new)
+    → IfOk answer (HasQueriedInput gives program queries types input query format old new)
+queried_input gives program queries types input file query format old new (Ok status) read h = record { file = file; read = read; queried = h }
+queried_input gives program queries types input file query format old new (Err failure) read h = tt
 
 -- an input of a path was queried
-pub queried_path : {S : Type 0} (program : Program S) (queries : Queries S) (path query_type : List ℕ) (words : List (List ℕ)) (query : Query) (input : Input) (format : Format) (old new : ConsoleView) (answer : Result ℕ Failure)
+pub queried_path : {S : Type 0} (program : Program S) (queries : Queries S) (types path query_type : List ℕ) (words : List (List ℕ)) (query : Query) (input : Input) (format : Format) (old new : ConsoleView) (answer : Result ℕ Failure)
     → query_of query_type words ≡ Some query → IsCalled false input → IsOf path input.origin → IsSingle input.origin
-    → IfOk answer (HasQueriedInput IsReadFrom program queries input query format old new)
-    → IfOk answer (HasQueriedPath program queries path query_type words format old new)
-queried_path program queries path query_type words query input format old new (Ok status) asked called from single h =
+    → IfOk answer (HasQueriedInput IsReadFrom program queries types input query format old new)
+    → IfOk answer (HasQueriedPath program queries types path query_type words format old new)
+queried_path program queries types path query_type words query input format old new (Ok status) asked called from single h =
     record { query = query; asked = asked; input = input; called = called; from = from; single = single; queried = h }
-queried_path program queries path query_type words query input format old new (Err failure) asked called from single h = tt
+queried_path program queries types path query_type words query input format old new (Err failure) asked called from single h = tt
 
 -- the view of bytes was printed
 pub view_printed : (bytes : List ℕ) (view : View) (selection : Selection) (format : Format) (old new : ConsoleView) (answer : Result ℕ Failure)
@@ -168,20 +174,24 @@ viewed_path path input selection format old new (Ok status) called from single h
 viewed_path path input selection format old new (Err failure) called from single h = tt
 
 -- the inputs of paths were replayed
-pub replayed_paths : {S : Type 0} (program : Program S) (first : List ℕ) (more : List (List ℕ)) (format : Format) (required left_out lacks : Bool) (inputs : List Input) (old between new : ConsoleView) (answer : Result ℕ Failure)
+pub replayed_paths : {S : Type 0} (program : Program S) (types first : List ℕ) (more : List (List ℕ)) (format : Format) (required strict left_out lacks progress : Bool) (mode : ProgressMode) (inputs : List Input) (old between new : ConsoleView) (answer : Result ℕ Failure)
     → AreListed (is_by_path more) (first ∷ more) inputs left_out old between
     → lacks ≡ lacks_files left_out required inputs
-    → IfOk answer (HasReplayed IsReadFrom program inputs format lacks between new)
-    → IfOk answer (HasReplayedPaths program first more format required old new)
-replayed_paths program first more format required left_out lacks inputs old between new (Ok status) listed same h =
+    → (progress ≡ true → mode ≢ Hidden) → (progress ≡ false → mode ≢ Lines)
+    → IfOk answer (HasReplayed IsReadFrom strict program types inputs format mode lacks between new)
+    → IfOk answer (HasReplayedPaths program types first more format required strict progress old new)
+replayed_paths program types first more format required strict left_out lacks progress mode inputs old between new (Ok status) listed same asked unasked h =
     record {
+      mode = mode;
+      asked = asked;
+      unasked = unasked;
       inputs = inputs;
       left_out = left_out;
       between = between;
       listed = listed;
-      replayed = subst (λ l. HasReplayed IsReadFrom program inputs format l between new status) same h;
+      replayed = subst (λ l. HasReplayed IsReadFrom strict program types inputs format mode l between new status) same h;
     }
-replayed_paths program first more format required left_out lacks inputs old between new (Err failure) listed same h = tt
+replayed_paths program types first more format required strict left_out lacks progress mode inputs old between new (Err failure) listed same asked unasked h = tt
 
 -- the page of a file that was written stays
 paged_kept : {S : Type 0} (program : Program S) (only_recorded : Bool) (name bytes : List ℕ) (a b c : Option (List ℕ)) (status : ℕ)
@@ -193,6 +203,8 @@ paged_kept program only_recorded name bytes a b c status h kept = record {
   shows = h.shows;
   stops = h.stops;
   axis = h.axis;
+  table = h.table;
+  brought = h.brought;
   written = written_kept a b c _ h.written kept;
 }
 

@@ -1,3 +1,4 @@
+pub mod Batches
 pub mod Explanations
 pub mod Pages
 pub mod Queries

@@ -1,15 +1,21 @@
 -- What replay of files writes and reports.
-use Rattle.std.specs.Prelude.{◌≡◌, ℕ, List, ◌∷◌, Bool}
+use Rattle.std.specs.Prelude.{◌≡◌, ◌≢◌, ℕ, List, ◌∷◌, Bool, true, false}
+use Rattle.std.specs.List.{list_any}
 use Rattle.wh_console.specs.Consoles.{ConsoleView, Printed, Reported}
 use Rattle.wh_console.specs.declared.format.Format.{Format}
 use Rattle.wh_diagnostics.specs.Diagnostics.{records_lines}
 use Rattle.wh_diagnostics.specs.Printing.{status_with}
 use Rattle.wh_files.specs.Inputs.{IsReadFrom}
 use Rattle.wh_files.specs.declared.Input.{Input}
+use Rattle.wh_file_commands.specs.Batches.{faulty_of}
 use Rattle.wh_inputs.specs.Listings.{AreListed, is_by_path, lacks_files}
 use Rattle.wh_inputs.specs.Readings.{Gives, IsReadAs}
+use Rattle.wh_known_types.specs.Types.{known_types_text, lacks_code}
+use Rattle.wh_progress.specs.Batches.{told_of}
+use Rattle.wh_progress.specs.declared.mode.ProgressMode.{ProgressMode}
+use Rattle.wh_progress.specs.declared.mode.ProgressMode.TheVariants.{Hidden, Lines}
 use Rattle.wh_report.specs.Records.{AreRecordsOf}
-use Rattle.wh_report.specs.Reports.{lines_of, report_as, status_of}
+use Rattle.wh_report.specs.Reports.{records_status, report_as}
 use Rattle.wh_report.specs.declared.records.Record.{Record}
 use Rattle.wh_workflow.specs.Law.{Program}
 
@@ -20,21 +26,31 @@ pub record HasReported (records : List Record) (format : Format) (lacks : Bool) 
   pub between : ConsoleView
   pub printed : Printed old between (report_as format records)
   pub reported : Reported between new (records_lines records)
-  pub ends : status ≡ status_with lacks (status_of (lines_of records))
+  pub ends : status ≡ status_with lacks (records_status records)
 
--- inputs were read as files and replayed, and the report of their records was written
-pub record HasReplayed {S : Type 0} (gives : Gives) (program : Program S) (inputs : List Input) (format : Format)
-    (lacks : Bool) (old new : ConsoleView) (status : ℕ) : Type 0 where
+-- inputs were read as files and replayed, progress was told, and then the report of their records was written, which is
+-- the same however progress is told; last the workflow types that there is code for were told, where a file has another
+-- one
+pub record HasReplayed {S : Type 0} (gives : Gives) (strict : Bool) (program : Program S) (types : List ℕ)
+    (inputs : List Input) (format : Format) (mode : ProgressMode) (lacks : Bool) (old new : ConsoleView) (status : ℕ)
+    : Type 0 where
   pub records : List Record
-  pub found : AreRecordsOf program (IsReadAs gives) inputs records
-  pub reported : HasReported records format lacks old new status
+  pub between : ConsoleView
+  pub ended : ConsoleView
+  pub found : AreRecordsOf strict program (IsReadAs gives) inputs records
+  pub told : Reported old between (told_of mode (faulty_of records))
+  pub reported : HasReported records format lacks between ended status
+  pub known : Reported ended new (known_types_text types (list_any (λ own. lacks_code own.cause) records))
 
--- what paths name was replayed
-pub record HasReplayedPaths {S : Type 0} (program : Program S) (first : List ℕ) (more : List (List ℕ))
-    (format : Format) (required : Bool) (old new : ConsoleView) (status : ℕ) : Type 0 where
+-- what paths name was replayed, and progress was told where that was asked for
+pub record HasReplayedPaths {S : Type 0} (program : Program S) (types first : List ℕ) (more : List (List ℕ))
+    (format : Format) (required strict progress : Bool) (old new : ConsoleView) (status : ℕ) : Type 0 where
+  pub mode : ProgressMode
+  pub asked : progress ≡ true → mode ≢ Hidden
+  pub unasked : progress ≡ false → mode ≢ Lines
   pub inputs : List Input
   pub left_out : Bool
   pub between : ConsoleView
   pub listed : AreListed (is_by_path more) (first ∷ more) inputs left_out old between
-  pub replayed : HasReplayed IsReadFrom program inputs format (lacks_files left_out required inputs)
+  pub replayed : HasReplayed IsReadFrom strict program types inputs format mode (lacks_files left_out required inputs)
       between new status

@@ -2,6 +2,7 @@
 //! what it writes, what it reports and its status.
 #![tactic(auto)]
 
+mod batches;
 mod explain;
 mod page;
 mod query;

@@ -16,6 +16,7 @@ use wh_events::Text;
 use wh_file_faults::CommandFault;
 use wh_files::Input;
 use wh_inputs::{InputReader, file_from, input_of};
+use wh_known_types::{KnownTypes, lacks_code};
 use wh_query_report::{Queried, query_command, query_of};
 use wh_queryable::{Query, Queryable};
 
@@ -34,15 +35,17 @@ fn print_query<W: Queryable, O: Write, E: Write>(
 }
 
 /// Queries a file, writes what came of that, and once it is out, reports where the file is no JSON
-/// or for which workflow type there is no code.
+/// or for which workflow type there is no code, and for which there is some then.
 fn query_file<W: Queryable, O: Write, E: Write>(
     alloc: Global,
     file: (String, Vec<u8>),
     query: &Query,
     format: Format,
+    types: &str,
     console: &mut Console<'_, O, E>,
 ) -> Result<u8, Failure>
-    ensures { IfOk result (HasQueried W.program W.queries file query.now format console.old console.new) }
+    ensures { IfOk result
+        (HasQueried W.program W.queries types.now file query.now format console.old console.new) }
 {
     let queried = match print_query::<W, O, E>(alloc, file, query, format, console) {
         Ok(queried) => queried,
@@ -50,7 +53,9 @@ fn query_file<W: Queryable, O: Write, E: Write>(
     };
     let status = flushed(Ok(wh_query_report::status_of(&queried)), console)?;
     let Queried { own, .. } = queried;
+    let lacking = lacks_code(&own.cause);
     console.report(Diagnostic::Queried { own });
+    console.report(KnownTypes { types, lacking });
     Ok(status)
 }
 
@@ -60,13 +65,14 @@ fn query_input<W: Queryable, R: InputReader + AllocGlobal, O: Write, E: Write>(
     input: Input,
     query: &Query,
     format: Format,
+    types: &str,
     console: &mut Console<'_, O, E>,
 ) -> Result<u8, Failure>
-    ensures { IfOk result
-        (HasQueriedInput R.gives W.program W.queries input query.now format console.old console.new) }
+    ensures { IfOk result (HasQueriedInput R.gives W.program W.queries types.now input query.now format
+        console.old console.new) }
 {
     let file = file_from(rt, input)?;
-    query_file::<W, O, E>(rt.alloc(), file, query, format, console)
+    query_file::<W, O, E>(rt.alloc(), file, query, format, types, console)
 }
 
 /// The query that words of the command line ask for.
@@ -80,21 +86,23 @@ fn query_asked(alloc: Global, query_type: Text, words: Vec<Text>) -> Result<Quer
     }
 }
 
-/// Queries the history at a path with words as the arguments, writes what came of that, and once it is
-/// out, reports where the file is no JSON or for which workflow type there is no code. `BadInput` where
-/// a word is no JSON; nothing is read then.
+/// Queries the history at a path with words as the arguments, writes what came of that, and once it
+/// is out, reports where the file is no JSON or for which workflow type there is no code, and then
+/// `types`, for which there is some, unless they are empty. `BadInput` where a word is no JSON;
+/// nothing is read then.
 pub fn query_path<W: Queryable, R: Runtime + AllocGlobal, O: Write, E: Write>(
     rt: &R,
     path: Text,
     query_type: Text,
     words: Vec<Text>,
     format: Format,
+    types: &str,
     console: &mut Console<'_, O, E>,
 ) -> Result<u8, Failure>
-    ensures queried { IfOk result
-        (HasQueriedPath W.program W.queries path query_type words.items format console.old console.new) }
+    ensures queried { IfOk result (HasQueriedPath W.program W.queries types.now path query_type words.items format
+        console.old console.new) }
 {
     let query = query_asked(rt.alloc(), query_type, words)?;
     let input = input_of(rt, path)?;
-    query_input::<W, R, O, E>(rt, input, &query, format, console)
+    query_input::<W, R, O, E>(rt, input, &query, format, types, console)
 }

@@ -1,11 +1,13 @@
 //! The command `replay`.
 
 ghost use Rattle.std.specs.Prelude.{◌≡◌, IfOk, OnOk};
+ghost use Rattle.std.specs.List.{list_any};
 ghost use Rattle.wh_console.specs.Consoles.{Printed};
 ghost use Rattle.wh_file_commands.specs.Replays.{HasReplayed, HasReplayedPaths, HasReported};
-ghost use Rattle.wh_inputs.specs.Readings.{IsReadAs};
-ghost use Rattle.wh_report.specs.Reports.{lines_of, report_as, status_of};
+ghost use Rattle.wh_known_types.specs.Types.{lacks_code};
+ghost use Rattle.wh_report.specs.Reports.{records_status, report_as};
 
+use crate::batches::check_in_batches;
 use std::io::Write;
 use std::rt::Runtime;
 use std::thread::Threads;
@@ -13,9 +15,11 @@ use wh_console::{Console, Format};
 use wh_diagnostics::{Diagnostic, Failure, flushed, status_with};
 use wh_events::Text;
 use wh_file_faults::CommandFault;
-use wh_files::{Input, InputFault};
-use wh_inputs::{InputReader, all_inputs, file_from};
-use wh_report::{Record, check_all, report};
+use wh_files::Input;
+use wh_inputs::{InputReader, all_inputs};
+use wh_known_types::{KnownTypes, lacks_code};
+use wh_progress::{ProgressMode, progress_mode};
+use wh_report::{Record, report};
 use wh_workflow::Workflow;
 
 /// Writes the report of records, and gives its status.
@@ -25,13 +29,13 @@ fn print_report<O: Write, E: Write>(
     console: &mut Console<'_, O, E>,
 ) -> Result<u8, CommandFault>
     ensures printed { OnOk result (Printed console.old console.new (report_as format records.now)) }
-    ensures status { IfOk result (λ status. status ≡ status_of (lines_of records.now)) }
+    ensures status { IfOk result (λ status. status ≡ records_status records.now) }
 {
     report(records, format, &mut console.output)
 }
 
 /// Writes the report of records, and once it is out, reports what is sent and what is recorded where
-/// they differ, where files are no JSON, and for which workflow types there is no code.
+/// they differ, warnings, where files are no JSON, and for which workflow types there is no code.
 fn end_report<O: Write, E: Write>(
     records: Vec<Record>,
     format: Format,
@@ -46,31 +50,44 @@ fn end_report<O: Write, E: Write>(
     Ok(status_with(lacks, status))
 }
 
-/// Replays inputs, writes the report of their records, and once it is out, reports what stands
-/// beside it.
+/// Whether there is no code for the workflow type of a file.
+fn lack_code(records: &[Record]) -> bool
+    ensures { result ≡ list_any (λ own. lacks_code own.cause) records.now }
+{
+    records.iter().any(|own| lacks_code(&own.cause))
+}
+
+/// Replays inputs, tells progress between batches of them, writes the report of their records, and
+/// once it is out, reports what stands beside it, and for which workflow types there is code, where
+/// there is none for that of a file.
 fn replay<W: Workflow + Send, R: InputReader + AllocGlobal + Threads + Sync, O: Write, E: Write>(
     rt: &R,
     inputs: Vec<Input>,
     format: Format,
+    mode: ProgressMode,
+    types: &str,
     lacks: bool,
+    strict: bool,
     console: &mut Console<'_, O, E>,
 ) -> Result<u8, Failure>
-    ensures { IfOk result (HasReplayed R.gives W.program inputs.items format lacks console.old console.new) }
+    ensures { IfOk result
+        (HasReplayed R.gives strict W.program types.now inputs.items format mode lacks console.old console.new) }
 {
-    let records = check_all::<W, R, _, _>(
-        rt,
-        rt.alloc(),
-        inputs,
-        |input: Input| -> Result<(String, Vec<u8>), InputFault>
-            ensures { IfOk result (IsReadAs R.gives input) }
-        { file_from(rt, input) },
-    )?;
-    end_report(records, format, lacks, console)
+    let records = check_in_batches::<W, R, O, E>(rt, inputs, strict, mode, console)?;
+    let lacking = lack_code(records.as_slice());
+    let status = end_report(records, format, lacks, console)?;
+    console.report(KnownTypes { types, lacking });
+    Ok(status)
 }
 
-/// Replays what is at paths, writes the report, and once it is out, reports what stands beside it. What
-/// is left out of folders is reported first. The status is 0 where each file is good and none is lacking,
-/// and else 1. After a failure nothing was reported but what is left out.
+/// Replays what is at paths, writes the report, and once it is out, reports what stands beside it.
+/// What is left out of folders is reported first, and then progress, where the standard error is a
+/// terminal or it is asked for: after each batch of files but the last. The report and the status
+/// are the same without. Where values are strict, those of good files that differ from what is
+/// recorded stand beside the report. Where there is no code for the workflow type of a file,
+/// `types` are told, for which there is some, unless they are empty. The status is 1 where a file is
+/// not good or one is lacking, and else 3 where such values differ, and 0 where none do. After a
+/// failure nothing was reported but what is left out and progress.
 pub fn replay_paths<
     W: Workflow + Send,
     R: Runtime + AllocGlobal + Threads + Sync,
@@ -82,14 +99,28 @@ pub fn replay_paths<
     more: Vec<Text>,
     format: Format,
     require_files: bool,
+    strict: bool,
+    progress: bool,
+    types: &str,
     console: &mut Console<'_, O, E>,
 ) -> Result<u8, Failure>
 where
     R::File: Send,
     R::Dir: Send,
-    ensures replayed { IfOk result (HasReplayedPaths W.program first more.items format require_files console.old console.new) }
+    ensures replayed { IfOk result (HasReplayedPaths W.program types.now first more.items format require_files
+        strict progress console.old console.new) }
 {
     let listed = all_inputs(rt, first, more, console)?;
     let lacks = listed.lacks_files(require_files);
-    replay::<W, R, O, E>(rt, listed.inputs, format, lacks, console)
+    let mode = progress_mode(rt, progress);
+    replay::<W, R, O, E>(
+        rt,
+        listed.inputs,
+        format,
+        mode,
+        types,
+        lacks,
+        strict,
+        console,
+    )
 }

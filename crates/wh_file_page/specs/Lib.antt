@@ -1,2 +1,4 @@
 pub mod Words
+pub mod RunTables
 pub mod Pages
+pub mod Laws

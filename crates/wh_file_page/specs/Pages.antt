@@ -3,7 +3,6 @@ use Rattle.std.specs.Prelude.{◌≡◌, ◌≢◌, ℕ, Bool, true, false, if�
 use Rattle.std.specs.Io.KnownBytes.{Appends}
 use Rattle.wh_explain.specs.Differences.{IsDifferenceIn}
 use Rattle.wh_explain.specs.Explaining.{unknown_in}
-use Rattle.wh_explain.specs.declared.explanation.Pairing.{Pairing}
 use Rattle.wh_explain.specs.declared.findings.Finding.{Finding}
 use Rattle.wh_fault_details.specs.Details.{detail_of}
 use Rattle.wh_fault_details.specs.declared.detail.FaultDetail.{FaultDetail}
@@ -22,6 +21,8 @@ use Rattle.wh_timeline.specs.declared.page.Page.{Page}
 use Rattle.wh_view.specs.Views.{IsViewIn}
 use Rattle.wh_view.specs.declared.view.View.{View}
 use Rattle.wh_workflow.specs.Law.{Program}
+use Rattle.wh_file_page.specs.declared.run_table.RunTable.{RunTable}
+use Rattle.wh_file_page.specs.RunTables.{IsTableOf, table_html}
 use Rattle.wh_file_page.specs.Words.{verdict_place, difference_of, note_of}
 
 -- the status of the report of a file with this verdict
@@ -82,7 +83,7 @@ module _ {S : Type 0} where
     pub found : IsSaidOf program only_recorded name bytes said status
     pub shows : page ≡ page_of view said
 
-  -- the page of a file was written, with its times where its axis has them
+  -- the page of a file was written, with its times where its axis has them, and with the table of its run, if that brought one
   pub record IsPaged (program : Program S) (only_recorded : Bool) (name bytes : List ℕ) (old new : Option (List ℕ))
       (status : ℕ) : Type 0 where
     pub view : View
@@ -91,4 +92,6 @@ module _ {S : Type 0} where
     pub shows : IsPageOf program only_recorded name bytes view page status
     pub stops : List Stop
     pub axis : IsAxisOf page stops
-    pub written : Appends old new (bytes_of (page_html stops page))
+    pub table : Option RunTable
+    pub brought : IsTableOf only_recorded bytes table
+    pub written : Appends old new (bytes_of (page_html stops page (table_html table)))

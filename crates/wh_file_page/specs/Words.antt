@@ -1,6 +1,5 @@
 -- What is said of a verdict and of a difference, in words.
 use Rattle.std.specs.Prelude.{ℕ, List, ◌++◌, codes, Option, Some, None}
-use Rattle.std.specs.Option.{option_map}
 use Rattle.wh_explain.specs.declared.explanation.Pairing.{Pairing}
 use Rattle.wh_explain.specs.declared.explanation.Pairing.TheVariants.{Alike, Different, CommandMissing, CommandExtra}
 use Rattle.wh_explain.specs.declared.explanation.RecordedEvent.{RecordedEvent}

@@ -1,26 +1,33 @@
 //! The page of a history file is written.
 
-ghost use Rattle.std.specs.Prelude.{◌≡◌, ◌≢◌, Err, IfErr, IfOk};
+ghost use Rattle.std.specs.Prelude.{◌≡◌, ◌≢◌, Err, IfErr, IfOk, OnOk};
+ghost use Rattle.std.specs.Io.KnownBytes.{Appends};
 ghost use Rattle.wh_file_page.specs.Pages.{IsPageOf, IsPaged};
+ghost use Rattle.wh_file_page.specs.RunTables.{IsTableOf, table_html};
+ghost use Rattle.wh_html.specs.Html.{bytes as bytes_of};
 ghost use Rattle.wh_json.specs.declared.fault.ReadFault.{ReadFault};
+ghost use Rattle.wh_page.specs.Pages.{page_html};
 ghost use Rattle.wh_timeline.specs.Views.{IsAxisOf};
 ghost use Rattle.wh_view.specs.Views.{IsViewIn, members_of};
 
 use crate::fault::PageFault;
+use crate::run_table::{RunTable, TablePart, table_as};
 use crate::said::said_as;
 use std::alloc::Global;
+use std::io;
 use std::io::Write;
 use wh_json::ReadFault;
-use wh_page::{Axis, Page, axis_of, write_page};
+use wh_page::{Axis, Page, axis_of, write_body, write_end};
 use wh_run_page::page_of;
 use wh_view::{View, view_of};
 use wh_workflow::Workflow;
 
-/// A page with its axis, and the status of its report.
+/// A page with its axis and the table of its run, and the status of its report.
 #[derive(Drop)]
 struct Prepared {
     page: Page,
     axis: Axis,
+    table: Option<RunTable>,
     status: u8,
 }
 
@@ -49,6 +56,7 @@ fn page_with<W: Workflow>(
     ensures page { IfOk result (λ own.
         IsPageOf W.program only_recorded name.now bytes.now view.now own.page own.status) }
     ensures axis { IfOk result (λ own. IsAxisOf own.page own.axis.stops) }
+    ensures table { IfOk result (λ own. IsTableOf only_recorded bytes.now own.table) }
     ensures memory { IfErr result (λ fault. fault ≡ PageFault.OutOfMemory) }
 {
     let own = said_as::<W>(alloc, name, bytes, only_recorded)?;
@@ -57,8 +65,21 @@ fn page_with<W: Workflow>(
     Ok(Prepared {
         page,
         axis,
+        table: table_as(alloc, bytes, only_recorded)?,
         status: own.status,
     })
+}
+
+/// Writes a page, with the table of its run before its end.
+fn write_page<O: Write>(own: &Prepared, writer: &mut O) -> io::Result<()>
+    requires { IsAxisOf own.now.page own.now.axis.stops }
+    ensures { let html = page_html own.now.axis.stops own.now.page (table_html own.now.table) in
+        OnOk result (Appends (O.contents writer.old) (O.contents writer.new) (bytes_of html)) }
+{
+    write_body(&own.page, &own.axis, writer)?;
+    let table = TablePart(&own.table);
+    write!(writer, "{table}")?;
+    write_end(writer)
 }
 
 /// Writes the page of a history file, given by name and bytes: one HTML file, which needs no script
@@ -69,6 +90,11 @@ fn page_with<W: Workflow>(
 /// words of its line in the report of replay, both sides of a difference, and marks the event that
 /// the verdict is about. The status is that of the report: 0 where the verdict is good, and else 1.
 /// With `only_recorded` nothing is replayed, the page has no verdict, and the status is 0.
+///
+/// Where the type is `Table` or `Table:NAME`, and the first payload of the start's input is a table,
+/// the page has that table as `wh_table_picture` draws it, with marks at the rows that the run takes
+/// in a replay, up to its fault where it has one. This does not depend on `W`. With `only_recorded`
+/// there is none.
 ///
 /// `Unviewed` where the bytes have no list of events. Nothing is written then, nor where the answer
 /// is `OutOfMemory`; after `Output` some of the page may have been written.
@@ -87,7 +113,7 @@ pub fn page_command<W: Workflow, O: Write>(
 {
     let view = viewed(alloc, bytes)?;
     let own = page_with::<W>(alloc, name, bytes, only_recorded, &view)?;
-    match write_page(&own.page, &own.axis, writer) {
+    match write_page(&own, writer) {
         Ok(()) => Ok(own.status),
         Err(_) => Err(PageFault::Output),
     }

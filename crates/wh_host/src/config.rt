@@ -20,8 +20,8 @@ pub struct Config {
     pub activity_slots: usize,
     /// How many runs may be cached: 0 to 10,000, where 0 turns the cache off.
     pub cache: usize,
-    /// How many events the cached runs may hold together: 0 for no such bound, else 1 to
-    /// 512,000,000.
+    /// How much the cached runs may weigh together, one for each held event and one for each whole
+    /// KiB of a run's input: 0 for no such bound, else 1 to 512,000,000.
     pub cache_events: u64,
     /// How many threads count tasks, each at a seat of its own: 1 to 64.
     pub seats: usize,

@@ -53,7 +53,8 @@ pub struct Counts {
     pub in_hand: u64,
     /// Runs in the cache.
     pub cached: usize,
-    /// Events that the cached runs hold together.
+    /// The weight of the cached runs together: one for each held event, and one for each whole KiB
+    /// of a run's input.
     pub cached_events: u64,
     /// Workflow slots by their use.
     pub workflow: SlotCount,

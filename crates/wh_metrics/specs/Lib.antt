@@ -1,3 +1,4 @@
 pub mod Labels
+pub mod Times
 pub mod Lines
 pub mod Exposition

@@ -3,6 +3,8 @@ use Rattle.std.specs.Prelude.{ℕ, Option, Some, None, List, [], ◌++◌, codes
 use Rattle.wh_metrics.specs.declared.metrics.Held.{Held}
 use Rattle.wh_metrics.specs.declared.metrics.Metrics.{Metrics}
 use Rattle.wh_metrics.specs.declared.metrics.Slots.{Slots}
+use Rattle.wh_metrics.specs.declared.metrics.TaskTimes.{TaskTimes}
+use Rattle.wh_metrics.specs.Times.{milliseconds_text}
 
 -- `in hand <in hand>, cached <runs> runs with <events> events, `, or nothing where it is not known
 abbrev pub held_text : Option Held → List ℕ
@@ -11,12 +13,25 @@ held_text (Some held) =
     codes "in hand " ++ (decimal held.in_hand ++ (codes ", cached " ++ (decimal held.cached
     ++ (codes " runs with " ++ (decimal held.cached_events ++ codes " events, ")))))
 
--- `completed <completed>, failed <failed>, <held>hits <hits>, misses <misses>, <rate> tasks a second`
+-- `<count> in <sum> ms, longest <longest> ms`
+abbrev pub times_text : TaskTimes → List ℕ
+times_text times =
+    decimal times.count ++ (codes " in " ++ (milliseconds_text times.sum
+    ++ (codes " ms, longest " ++ (milliseconds_text times.longest ++ codes " ms"))))
+
+-- `, workflow tasks <times>, activity tasks <times>`
+abbrev pub kinds_text : Metrics → List ℕ
+kinds_text metrics =
+    codes ", workflow tasks " ++ (times_text metrics.workflow_times
+    ++ (codes ", activity tasks " ++ times_text metrics.activity_times))
+
+-- `completed <completed>, failed <failed>, <held>hits <hits>, misses <misses>, <rate> tasks a second`, and the times of tasks
 abbrev pub counts_text : Metrics → (rate : ℕ) → List ℕ
 counts_text metrics rate =
     codes "completed " ++ (decimal metrics.completed ++ (codes ", failed " ++ (decimal metrics.failed
     ++ (codes ", " ++ (held_text metrics.held ++ (codes "hits " ++ (decimal metrics.hits
-    ++ (codes ", misses " ++ (decimal metrics.misses ++ (codes ", " ++ (decimal rate ++ codes " tasks a second")))))))))))
+    ++ (codes ", misses " ++ (decimal metrics.misses ++ (codes ", " ++ (decimal rate
+    ++ (codes " tasks a second" ++ kinds_text metrics))))))))))))
 
 -- a member of an object: `"KEY":VALUE`
 abbrev pub member : List ℕ → List ℕ → List ℕ
@@ -42,6 +57,19 @@ held_json (Some held) =
     ++ (next (codes "workflowSlots") (slots_json held.workflow)
     ++ next (codes "activitySlots") (slots_json held.activity))))
 
+-- `{"count":<count>,"milliseconds":<sum>,"longestMilliseconds":<longest>}`
+abbrev pub times_json : TaskTimes → List ℕ
+times_json times =
+    codes "{" ++ (member (codes "count") (decimal times.count)
+    ++ (next (codes "milliseconds") (milliseconds_text times.sum)
+    ++ (next (codes "longestMilliseconds") (milliseconds_text times.longest) ++ codes "}")))
+
+-- the times of tasks by their kind
+abbrev pub kinds_json : Metrics → List ℕ
+kinds_json metrics =
+    next (codes "workflowTasks") (times_json metrics.workflow_times)
+    ++ next (codes "activityTasks") (times_json metrics.activity_times)
+
 -- all counts as an object
 abbrev pub json_text : Metrics → (rate : ℕ) → List ℕ
 json_text metrics rate =
@@ -54,4 +82,5 @@ json_text metrics rate =
     ++ (next (codes "emptyPolls") (decimal metrics.empty_polls)
     ++ (next (codes "answersNotFound") (decimal metrics.not_found)
     ++ (next (codes "answersRefused") (decimal metrics.refused)
-    ++ (next (codes "tasksPerSecond") (decimal rate) ++ codes "}"))))))))))
+    ++ (next (codes "tasksPerSecond") (decimal rate)
+    ++ (kinds_json metrics ++ codes "}")))))))))))

@@ -4,10 +4,12 @@ ghost use Rattle.std.specs.Prelude.{◌≡◌, Some, codes};
 ghost use Rattle.wh_metrics.specs.Labels.{labels_text};
 ghost use Rattle.wh_metrics.specs.Exposition.{answers_text, cache_text, cached_text, head_text, hits_text, holdings_text};
 ghost use Rattle.wh_metrics.specs.Exposition.{metrics_text, pair_text, polls_text, sample_text, single_text};
-ghost use Rattle.wh_metrics.specs.Exposition.{slots_text, tasks_text};
+ghost use Rattle.wh_metrics.specs.Exposition.{longest_text, seconds_sample, slots_text, summaries_text};
+ghost use Rattle.wh_metrics.specs.Exposition.{summary_text, tasks_text, times_text};
 
 use crate::labels::WorkerLabels;
-use crate::metrics::{Held, Metrics};
+use crate::metrics::{Held, Metrics, TaskTimes};
+use crate::times::Seconds;
 use std::fmt;
 
 /// What stands before the samples of a metric: what it means, and its type.
@@ -251,6 +253,157 @@ impl fmt::Display for Answers<'_> {
     }
 }
 
+/// The label of workflow tasks.
+const WORKFLOW: &str = ",worker_type=\"WorkflowWorker\"";
+
+/// The label of activity tasks.
+const ACTIVITY: &str = ",worker_type=\"ActivityWorker\"";
+
+/// A sample in seconds, of so many microseconds.
+#[derive(Clone, Copy)]
+struct SecondsSample<'a> {
+    name: &'a str,
+    labels: WorkerLabels<'a>,
+    more: &'a str,
+    microseconds: u64,
+}
+
+impl fmt::Display for SecondsSample<'_> {
+    ghost output = { λ s. Some (seconds_sample s.name.now
+        (labels_text s.labels.namespace.now s.labels.task_queue.now s.labels.identity.now) s.more.now s.microseconds) };
+
+    fn fmt<W: fmt::Write>(&self, f: &mut fmt::Formatter<W>) -> fmt::Result {
+        let SecondsSample {
+            name,
+            labels,
+            more,
+            ..
+        } = *self;
+        let seconds = Seconds(self.microseconds);
+        write!(f, "{name}{{{labels}{more}}} {seconds}\n")
+    }
+}
+
+/// How long tasks of a kind took together, and how many they were.
+#[derive(Clone, Copy)]
+struct Summary<'a> {
+    labels: WorkerLabels<'a>,
+    more: &'a str,
+    times: TaskTimes,
+}
+
+impl fmt::Display for Summary<'_> {
+    ghost output = { λ s. Some (summary_text
+        (labels_text s.labels.namespace.now s.labels.task_queue.now s.labels.identity.now) s.more.now s.times) };
+
+    fn fmt<W: fmt::Write>(&self, f: &mut fmt::Formatter<W>) -> fmt::Result {
+        let Summary {
+            labels,
+            more,
+            times,
+        } = *self;
+        let sum = SecondsSample {
+            name: "wfhost_task_seconds_sum",
+            labels,
+            more,
+            microseconds: times.sum,
+        };
+        let count = Sample {
+            name: "wfhost_task_seconds_count",
+            labels,
+            more,
+            value: times.count,
+        };
+        write!(f, "{sum}{count}")
+    }
+}
+
+/// How long tasks took, by their kind.
+#[derive(Clone, Copy)]
+struct Summaries<'a> {
+    labels: WorkerLabels<'a>,
+    metrics: Metrics,
+}
+
+impl fmt::Display for Summaries<'_> {
+    ghost output = { λ t. Some (summaries_text
+        (labels_text t.labels.namespace.now t.labels.task_queue.now t.labels.identity.now) t.metrics) };
+
+    fn fmt<W: fmt::Write>(&self, f: &mut fmt::Formatter<W>) -> fmt::Result {
+        let Summaries { labels, metrics } = *self;
+        let head = Head {
+            name: "wfhost_task_seconds",
+            kind: "summary",
+            help: "How long tasks took, from the poll to the acknowledged answer.",
+        };
+        let workflow = Summary {
+            labels,
+            more: WORKFLOW,
+            times: metrics.workflow_times,
+        };
+        let activity = Summary {
+            labels,
+            more: ACTIVITY,
+            times: metrics.activity_times,
+        };
+        write!(f, "{head}{workflow}{activity}")
+    }
+}
+
+/// How long the longest task of each kind took.
+#[derive(Clone, Copy)]
+struct Longest<'a> {
+    labels: WorkerLabels<'a>,
+    metrics: Metrics,
+}
+
+impl fmt::Display for Longest<'_> {
+    ghost output = { λ t. Some (longest_text
+        (labels_text t.labels.namespace.now t.labels.task_queue.now t.labels.identity.now) t.metrics) };
+
+    fn fmt<W: fmt::Write>(&self, f: &mut fmt::Formatter<W>) -> fmt::Result {
+        let Longest { labels, metrics } = *self;
+        let name = "wfhost_task_longest_seconds";
+        let head = Head {
+            name,
+            kind: "gauge",
+            help: "How long the longest task took.",
+        };
+        let workflow = SecondsSample {
+            name,
+            labels,
+            more: WORKFLOW,
+            microseconds: metrics.workflow_times.longest,
+        };
+        let activity = SecondsSample {
+            name,
+            labels,
+            more: ACTIVITY,
+            microseconds: metrics.activity_times.longest,
+        };
+        write!(f, "{head}{workflow}{activity}")
+    }
+}
+
+/// How long tasks took, and the longest of them.
+#[derive(Clone, Copy)]
+struct Times<'a> {
+    labels: WorkerLabels<'a>,
+    metrics: Metrics,
+}
+
+impl fmt::Display for Times<'_> {
+    ghost output = { λ t. Some (times_text
+        (labels_text t.labels.namespace.now t.labels.task_queue.now t.labels.identity.now) t.metrics) };
+
+    fn fmt<W: fmt::Write>(&self, f: &mut fmt::Formatter<W>) -> fmt::Result {
+        let Times { labels, metrics } = *self;
+        let summaries = Summaries { labels, metrics };
+        let longest = Longest { labels, metrics };
+        write!(f, "{summaries}{longest}")
+    }
+}
+
 /// What the cache holds.
 #[derive(Clone, Copy)]
 struct Cached<'a> {
@@ -272,7 +425,7 @@ impl fmt::Display for Cached<'_> {
         let events = gauge(
             self.labels,
             "wfhost_sticky_cache_events",
-            "Events that the cached runs hold together.",
+            "Weight of the cached runs: one for each event and each whole KiB of a run's input.",
             self.held.cached_events,
         );
         write!(f, "{runs}{events}")
@@ -322,9 +475,9 @@ impl fmt::Display for SlotUse<'_> {
                 help: "Task slots that a task has, or a poll.",
             },
             labels: self.labels,
-            first: ",worker_type=\"WorkflowWorker\"",
+            first: WORKFLOW,
             one: self.held.workflow.used,
-            second: ",worker_type=\"ActivityWorker\"",
+            second: ACTIVITY,
             other: self.held.activity.used,
         };
         let available = Pair {
@@ -334,9 +487,9 @@ impl fmt::Display for SlotUse<'_> {
                 help: "Task slots that are free.",
             },
             labels: self.labels,
-            first: ",worker_type=\"WorkflowWorker\"",
+            first: WORKFLOW,
             one: self.held.workflow.available,
-            second: ",worker_type=\"ActivityWorker\"",
+            second: ACTIVITY,
             other: self.held.activity.available,
         };
         write!(f, "{used}{available}")
@@ -387,10 +540,11 @@ impl fmt::Display for Exposition<'_> {
         let hits = Hits { labels, metrics };
         let polls = Polls { labels, metrics };
         let answers = Answers { labels, metrics };
+        let times = Times { labels, metrics };
         let holdings = Holdings {
             labels,
             held: metrics.held,
         };
-        write!(f, "{tasks}{hits}{polls}{answers}{holdings}")
+        write!(f, "{tasks}{hits}{polls}{answers}{times}{holdings}")
     }
 }

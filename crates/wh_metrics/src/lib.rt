@@ -6,8 +6,9 @@ mod exposition;
 mod labels;
 mod lines;
 mod metrics;
+mod times;
 
 pub use exposition::Exposition;
 pub use labels::WorkerLabels;
 pub use lines::{CountsLine, JsonLine};
-pub use metrics::{Held, Metrics, Slots};
+pub use metrics::{Held, Metrics, Slots, TaskTimes};

@@ -1,9 +1,11 @@
 //! Counts as a line.
 
 ghost use Rattle.std.specs.Prelude.{Some};
-ghost use Rattle.wh_metrics.specs.Lines.{counts_text, held_json, held_text, json_text, slots_json};
+ghost use Rattle.wh_metrics.specs.Lines.{counts_text, held_json, held_text, json_text, kinds_json};
+ghost use Rattle.wh_metrics.specs.Lines.{kinds_text, slots_json, times_json, times_text};
 
-use crate::metrics::{Held, Metrics, Slots};
+use crate::metrics::{Held, Metrics, Slots, TaskTimes};
+use crate::times::Milliseconds;
 use std::fmt;
 
 /// What the host holds, in words, with a comma behind it; nothing where that is not known.
@@ -30,8 +32,38 @@ impl fmt::Display for HeldText {
     }
 }
 
+/// How long tasks of a kind took, in words.
+#[derive(Clone, Copy)]
+struct TimesText(TaskTimes);
+
+impl fmt::Display for TimesText {
+    ghost output = { λ t. Some (times_text t.0) };
+
+    fn fmt<W: fmt::Write>(&self, f: &mut fmt::Formatter<W>) -> fmt::Result {
+        let count = self.0.count;
+        let sum = Milliseconds(self.0.sum);
+        let longest = Milliseconds(self.0.longest);
+        write!(f, "{count} in {sum} ms, longest {longest} ms")
+    }
+}
+
+/// How long the tasks of each kind took, in words, with a comma before each.
+#[derive(Clone, Copy)]
+struct KindsText(Metrics);
+
+impl fmt::Display for KindsText {
+    ghost output = { λ t. Some (kinds_text t.0) };
+
+    fn fmt<W: fmt::Write>(&self, f: &mut fmt::Formatter<W>) -> fmt::Result {
+        let workflow = TimesText(self.0.workflow_times);
+        let activity = TimesText(self.0.activity_times);
+        write!(f, ", workflow tasks {workflow}, activity tasks {activity}")
+    }
+}
+
 /// Counts in words: the tasks by their outcome, what the host holds where that is known, workflow
-/// tasks with a cached run and without one, and how many tasks were answered a second.
+/// tasks with a cached run and without one, how many tasks were answered a second, and how long the
+/// tasks of each kind took.
 #[derive(Clone, Copy, Debug)]
 pub struct CountsLine {
     /// The counts.
@@ -52,10 +84,11 @@ impl fmt::Display for CountsLine {
             ..
         } = self.metrics;
         let held = HeldText(self.metrics.held);
+        let kinds = KindsText(self.metrics);
         let rate = self.rate;
         write!(
             f,
-            "completed {completed}, failed {failed}, {held}hits {hits}, misses {misses}, {rate} tasks a second"
+            "completed {completed}, failed {failed}, {held}hits {hits}, misses {misses}, {rate} tasks a second{kinds}"
         )
     }
 }
@@ -100,6 +133,41 @@ impl fmt::Display for HeldJson {
     }
 }
 
+/// How long tasks of a kind took, as an object of JSON.
+#[derive(Clone, Copy)]
+struct TimesJson(TaskTimes);
+
+impl fmt::Display for TimesJson {
+    ghost output = { λ t. Some (times_json t.0) };
+
+    fn fmt<W: fmt::Write>(&self, f: &mut fmt::Formatter<W>) -> fmt::Result {
+        let count = self.0.count;
+        let sum = Milliseconds(self.0.sum);
+        let longest = Milliseconds(self.0.longest);
+        write!(
+            f,
+            "{{\"count\":{count},\"milliseconds\":{sum},\"longestMilliseconds\":{longest}}}"
+        )
+    }
+}
+
+/// How long the tasks of each kind took, as members of an object of JSON, each with a comma before it.
+#[derive(Clone, Copy)]
+struct KindsJson(Metrics);
+
+impl fmt::Display for KindsJson {
+    ghost output = { λ t. Some (kinds_json t.0) };
+
+    fn fmt<W: fmt::Write>(&self, f: &mut fmt::Formatter<W>) -> fmt::Result {
+        let workflow = TimesJson(self.0.workflow_times);
+        let activity = TimesJson(self.0.activity_times);
+        write!(
+            f,
+            ",\"workflowTasks\":{workflow},\"activityTasks\":{activity}"
+        )
+    }
+}
+
 /// The same counts, and those of polls and answers, as an object of JSON.
 #[derive(Clone, Copy, Debug)]
 pub struct JsonLine {
@@ -125,6 +193,7 @@ impl fmt::Display for JsonLine {
             ..
         } = self.metrics;
         let held = HeldJson(self.metrics.held);
+        let kinds = KindsJson(self.metrics);
         let rate = self.rate;
         write!(
             f,
@@ -132,7 +201,7 @@ impl fmt::Display for JsonLine {
         )?;
         write!(
             f,
-            "\"polls\":{polls},\"emptyPolls\":{empty_polls},\"answersNotFound\":{not_found},\"answersRefused\":{refused},\"tasksPerSecond\":{rate}}}"
+            "\"polls\":{polls},\"emptyPolls\":{empty_polls},\"answersNotFound\":{not_found},\"answersRefused\":{refused},\"tasksPerSecond\":{rate}{kinds}}}"
         )
     }
 }

@@ -9,6 +9,18 @@ pub struct Slots {
     pub available: u64,
 }
 
+/// How long tasks of a kind took, each from the response to the poll that gave it until the server
+/// had acknowledged its answer.
+#[derive(Clone, Copy, PartialEq, Eq, Debug)]
+pub struct TaskTimes {
+    /// How many tasks.
+    pub count: u64,
+    /// All of them together, in microseconds.
+    pub sum: u64,
+    /// The longest of them, in microseconds.
+    pub longest: u64,
+}
+
 /// What a host holds now.
 #[derive(Clone, Copy, PartialEq, Eq, Debug)]
 pub struct Held {
@@ -16,7 +28,7 @@ pub struct Held {
     pub in_hand: u64,
     /// Runs in the sticky cache.
     pub cached: u64,
-    /// Events that the cached runs hold together.
+    /// Weight of the cached runs: one for each event and each whole KiB of a run's input.
     pub cached_events: u64,
     /// The slots of workflow tasks.
     pub workflow: Slots,
@@ -45,4 +57,8 @@ pub struct Metrics {
     pub not_found: u64,
     /// Answers that the server refused as invalid.
     pub refused: u64,
+    /// How long workflow tasks took.
+    pub workflow_times: TaskTimes,
+    /// How long activity tasks took.
+    pub activity_times: TaskTimes,
 }

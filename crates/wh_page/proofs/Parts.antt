@@ -1,9 +1,8 @@
 -- A page has its parts, and a task the line of its fault.
-use Rattle.std.proofs.Common.{◌≡◌, ◌<◌, ◌≤◌, ℕ, suc, zero, ◌+◌, ◌-◌, true, List, [], ◌∷◌, ◌++◌, length, get_or, take, min, refl, sym, ap, ◌∙◌, append_assoc, append-nil, arith}
-use Rattle.std.specs.Prelude.{unwrap_or}
-use Rattle.std.specs.List.{All, list_any, position}
+use Rattle.std.proofs.Common.{◌≡◌, ◌<◌, ℕ, suc, zero, true, List, [], ◌∷◌, ◌++◌, length, get_or, sym, ap, ◌∙◌, append_assoc, append-nil, arith}
+use Rattle.std.specs.List.{list_any}
 use Rattle.std.proofs.lemmas.List.{length-take}
-use Rattle.wh_html.specs.Html.{Html, nothing, ◌⊕◌, bytes, each}
+use Rattle.wh_html.specs.Html.{Html, ◌⊕◌, bytes, each}
 use Rattle.wh_timeline.specs.declared.axis.Stop.{Stop}
 use Rattle.wh_timeline.specs.declared.page.Line.{Line}
 use Rattle.wh_timeline.specs.declared.page.Page.{Page}
@@ -12,8 +11,8 @@ use Rattle.wh_timeline.proofs.Shown.{any-taken, any-below, position-any}
 use Rattle.wh_page.specs.Frames.{verdict_html, frame_html}
 use Rattle.wh_page.specs.Tables.{row_html, table_html}
 use Rattle.wh_page.specs.TaskTexts.{is_fault, left_before, shown_lines, task_html, tasks_html}
-use Rattle.wh_page.specs.Pages.{page_html}
-use Rattle.wh_page.specs.Laws.{StandsIn, HasParts, ShowsItsParts, FaultHasALine}
+use Rattle.wh_page.specs.Pages.{body_html, page_html}
+use Rattle.wh_page.specs.Laws.{StandsIn, ShowsItsParts, FaultHasALine}
 
 -- a template is a part of another
 data IsPart : Html → Html → Type 0 where
@@ -49,25 +48,26 @@ module _ {A : Type 0} where
   each-part f (x ∷ xs) zero d h = left (f x) (each f xs) (f x) (here (f x))
   each-part f (x ∷ xs) (suc k) d h = right (f x) (each f xs) (f (get_or xs k d)) (each-part f xs k d (omega arith))
 
-verdict-part : (stops : List Stop) (page : Page) → IsPart (verdict_html page) (page_html stops page)
-unfolding page_html frame_html
+verdict-part : (stops : List Stop) (page : Page) → IsPart (verdict_html page) (body_html stops page)
+unfolding body_html frame_html
 verdict-part stops page = left _ _ _ (right _ _ _ (left _ _ _ (here _)))
 
-row-part : (stops : List Stop) (page : Page) (part : Html) → IsPart part (each (row_html page.fault) (shown_lanes page)) → IsPart part (page_html stops page)
-unfolding page_html table_html
+row-part : (stops : List Stop) (page : Page) (part : Html) → IsPart part (each (row_html page.fault) (shown_lanes page)) → IsPart part (body_html stops page)
+unfolding body_html table_html
 row-part stops page part h = right _ _ _ (right _ _ _ (right _ _ _ (left _ _ _ (right _ _ _ (right _ _ _ (right _ _ _ (left _ _ _ h)))))))
 
-task-part : (stops : List Stop) (page : Page) (part : Html) → IsPart part (each task_html (shown_tasks page)) → IsPart part (page_html stops page)
-unfolding page_html tasks_html
-task-part stops page part h = right _ _ _ (right _ _ _ (right _ _ _ (right _ _ _ (left _ _ _ (right _ _ _ (right _ _ _ (left _ _ _ h)))))))
+task-part : (stops : List Stop) (page : Page) (part : Html) → IsPart part (each task_html (shown_tasks page)) → IsPart part (body_html stops page)
+unfolding body_html tasks_html
+task-part stops page part h = right _ _ _ (right _ _ _ (right _ _ _ (right _ _ _ (right _ _ _ (right _ _ _ (left _ _ _ h))))))
 
 pub shows_its_parts : ShowsItsParts
-shows_its_parts stops page =
-    let whole = page_html stops page in
+shows_its_parts stops page more =
+    let whole = page_html stops page more in
+    let within : (part : Html) → IsPart part (body_html stops page) → IsPart part whole = λ part h. left _ _ _ h in
     record {
-      verdict = stands whole (verdict_html page) (verdict-part stops page);
-      things = λ k d h. stands whole (row_html page.fault (get_or (shown_lanes page) k d)) (row-part stops page _ (each-part (row_html page.fault) (shown_lanes page) k d h));
-      tasks = λ k d h. stands whole (task_html (get_or (shown_tasks page) k d)) (task-part stops page _ (each-part task_html (shown_tasks page) k d h));
+      verdict = stands whole (verdict_html page) (within _ (verdict-part stops page));
+      things = λ k d h. stands whole (row_html page.fault (get_or (shown_lanes page) k d)) (within _ (row-part stops page _ (each-part (row_html page.fault) (shown_lanes page) k d h)));
+      tasks = λ k d h. stands whole (task_html (get_or (shown_tasks page) k d)) (within _ (task-part stops page _ (each-part task_html (shown_tasks page) k d h)));
     }
 
 -- the line of the fault

@@ -1,14 +1,13 @@
 -- The tags of a page are those of the page without its texts.
-use Rattle.std.proofs.Common.{◌≡◌, ◌+◌, ◌-◌, ◌/◌, ℕ, Bool, true, false, cond, Option, Some, None, List, [], ◌∷◌, ◌++◌, ◌∙◌, map, take, drop, length, refl, ap, subst, append-nil, sym}
+use Rattle.std.proofs.Common.{◌≡◌, ◌+◌, ℕ, Bool, true, false, cond, Option, Some, None, List, [], ◌∷◌, ◌∙◌, map, drop, length, refl, ap, subst, append-nil, sym}
 use Rattle.std.proofs.lemmas.List.{length-map, take-map, drop-map}
-use Rattle.std.specs.Prelude.{◌==◌, nat_le, nat_lt, min, not, count_by, codes, decimal}
+use Rattle.std.specs.Prelude.{◌==◌, not, codes}
 use Rattle.std.specs.Option.{option_map}
 use Rattle.std.specs.List.{list_all, position_or_len}
-use Rattle.wh_html.specs.Html.{Html, nothing, markup, plain, hole, ◌⊕◌, bytes, number, stamp, span, each}
+use Rattle.wh_html.specs.Html.{bytes, each}
 use Rattle.wh_html.specs.Tags.{tags}
-use Rattle.wh_html.proofs.Alike.{Alike, is_inner, last, words, texts, both, none, mark, word, text, num, each-alike, each-same, decimal-inner}
-use Rattle.wh_html.proofs.Inner.{time, lapse, last-time, last-lapse}
-use Rattle.wh_timeline.specs.declared.axis.Gap.{Gap}
+use Rattle.wh_html.proofs.Alike.{Alike, is_inner, last, words, both, none, mark, word, text, num, each-alike, decimal-inner}
+use Rattle.wh_html.proofs.Inner.{time, lapse}
 use Rattle.wh_timeline.specs.declared.axis.Stop.{Stop}
 use Rattle.wh_timeline.specs.declared.page.Difference.{Difference}
 use Rattle.wh_timeline.specs.declared.page.Fact.{Fact}
@@ -17,18 +16,14 @@ use Rattle.wh_timeline.specs.declared.page.Line.{Line}
 use Rattle.wh_timeline.specs.declared.page.Moment.{Moment}
 use Rattle.wh_timeline.specs.declared.page.Page.{Page}
 use Rattle.wh_timeline.specs.declared.page.Task.{Task}
-use Rattle.wh_timeline.specs.Axes.{place_of}
-use Rattle.wh_timeline.specs.Views.{left_out, shown, middle, shown_lanes, shown_tasks}
-use Rattle.wh_timeline.specs.Words.{kind_word, outcome_class, side_word}
+use Rattle.wh_timeline.specs.Views.{shown, shown_lanes, shown_tasks}
 use Rattle.wh_timeline.specs.Without.{without_fact, without_difference, without_lane, without_line, without_task, without_texts}
-use Rattle.wh_timeline.specs.Lanes.{is_hit, hit_class, event_html, after_html, title_html, bar_html, end_of, bars_html, dot_html, is_at_once, sign_html, below, classes_html, said_html, lane_html, lanes_html}
-use Rattle.wh_timeline.specs.Pictures.{bottom_of, opening_html, gap_word_html, gap_html, mark_html, mark_at_html, before_html, stop_html, first_time, tick_html, fault_html, closing_html, picture_html}
-use Rattle.wh_timeline.proofs.WordsInner.{kind-inner, outcome-inner, side-inner, hit-inner}
+use Rattle.wh_timeline.proofs.WordsInner.{kind-inner, side-inner}
 use Rattle.wh_timeline.proofs.Drawn.{IsClosed, choose, classes-alike, picture-alike, lanes-shown, tasks-shown}
 use Rattle.wh_page.specs.Frames.{head_html, verdict_class, verdict_html, fact_html, at_html, sides_html, difference_html, frame_html}
 use Rattle.wh_page.specs.Tables.{count_html, moment_html, took_html, type_html, attempts_html, row_head_html, row_html, table_html}
 use Rattle.wh_page.specs.TaskTexts.{number_html, line_html, left_html, is_fault, left_before, shown_lines, left_after, lines_html, open_words, task_html, tasks_html, note_html, notes_html}
-use Rattle.wh_page.specs.Pages.{page_html}
+use Rattle.wh_page.specs.Pages.{body_html, page_html}
 use Rattle.wh_page.specs.Laws.{TextsAreNoTags}
 
 pub verdict-inner : (good : Option Bool) → list_all is_inner (verdict_class good) ≡ true
@@ -176,16 +171,18 @@ unfolding frame_html without_texts
 frame-alike page =
     both (head-alike page) (both (verdict-alike page) (mark _ (both (facts-alike page.facts) (mark _ (difference-alike page.difference)))))
 
-page-alike : (stops : List Stop) (page : Page) → Alike false false (page_html stops page) (page_html stops (without_texts page))
-unfolding page_html without_texts
-page-alike stops page =
+body-alike : (stops : List Stop) (page : Page) → Alike false false (body_html stops page) (body_html stops (without_texts page))
+unfolding body_html without_texts
+body-alike stops page =
     rw (lanes-shown page, tasks-shown page, length-map page.lanes without_lane, length-map page.tasks without_task)
     (both (frame-alike page) (both (notes-alike page.notes) (both (picture-alike page.fault stops (shown_lanes page) (length page.lanes) (shown_tasks page))
-    (both (table-alike page.fault (shown_lanes page) (length page.lanes)) (both (tasks-alike (shown_tasks page) (length page.tasks)) (last _))))))
+    (both (table-alike page.fault (shown_lanes page) (length page.lanes)) (tasks-alike (shown_tasks page) (length page.tasks))))))
 
 pub texts_are_no_tags : TextsAreNoTags
-texts_are_no_tags stops page =
-    let alike = (page-alike stops page).same [] [] refl in
-    let plain_bytes = append-nil (bytes (page_html stops page)) in
-    let without_bytes = append-nil (bytes (page_html stops (without_texts page))) in
-    ap tags (sym plain_bytes) ∙ alike ∙ ap tags without_bytes
+texts_are_no_tags stops page more other same =
+    let alike : Alike false false more other = record { same = same } in
+    let whole : Alike false false (page_html stops page more) (page_html stops (without_texts page) other) =
+    both (body-alike stops page) (both alike (last _)) in
+    let plain_bytes = append-nil (bytes (page_html stops page more)) in
+    let without_bytes = append-nil (bytes (page_html stops (without_texts page) other)) in
+    ap tags (sym plain_bytes) ∙ whole.same [] [] refl ∙ ap tags without_bytes

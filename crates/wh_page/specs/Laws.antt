@@ -13,10 +13,16 @@ use Rattle.wh_page.specs.Tables.{row_html}
 use Rattle.wh_page.specs.TaskTexts.{is_fault, shown_lines, task_html}
 use Rattle.wh_page.specs.Pages.{page_html}
 
--- the tags of a page are those of the page without its texts: no text has a part in them
+-- two templates have the same tags wherever they stand between tags, and stand between tags
+abbrev pub HaveSameTags : Html → Html → Type 0
+HaveSameTags one other =
+    (after behind : List ℕ) → tags after ≡ tags behind → tags (bytes one ++ after) ≡ tags (bytes other ++ behind)
+
+-- the tags of a page are those of the page without its texts, with more that has the same tags: no text has a part in them
 abbrev pub TextsAreNoTags : Type 0
 TextsAreNoTags =
-    (stops : List Stop) (page : Page) → tags (bytes (page_html stops page)) ≡ tags (bytes (page_html stops (without_texts page)))
+    (stops : List Stop) (page : Page) (more other : Html) → HaveSameTags more other
+    → tags (bytes (page_html stops page more)) ≡ tags (bytes (page_html stops (without_texts page) other))
 
 -- a task shows 40 lines at most, and that of the fault where there is one
 abbrev pub FaultHasALine : Type 0
@@ -37,4 +43,4 @@ pub record HasParts (page : Page) (html : List ℕ) : Type 0 where
   pub tasks : All (λ task. StandsIn html (bytes (task_html task))) (shown_tasks page)
 
 abbrev pub ShowsItsParts : Type 0
-ShowsItsParts = (stops : List Stop) (page : Page) → HasParts page (bytes (page_html stops page))
+ShowsItsParts = (stops : List Stop) (page : Page) (more : Html) → HasParts page (bytes (page_html stops page more))

@@ -1,5 +1,5 @@
 -- The whole page.
-use Rattle.std.specs.Prelude.{ℕ, List, codes, length}
+use Rattle.std.specs.Prelude.{List, codes, length}
 use Rattle.wh_timeline.specs.declared.page.Page.{Page}
 use Rattle.wh_timeline.specs.declared.axis.Stop.{Stop}
 use Rattle.wh_html.specs.Html.{Html, markup, ◌⊕◌}
@@ -9,12 +9,19 @@ use Rattle.wh_page.specs.Tables.{table_html}
 use Rattle.wh_page.specs.TaskTexts.{tasks_html, notes_html}
 use Rattle.wh_timeline.specs.Views.{shown_lanes, shown_tasks}
 
--- the page with times at these stops
-unfoldable pub page_html : List Stop → Page → Html
-page_html stops page =
+-- the page with times at these stops, but for its end
+unfoldable pub body_html : List Stop → Page → Html
+body_html stops page =
     frame_html page
     ⊕ notes_html page.notes
     ⊕ picture_html page.fault stops (shown_lanes page) (length page.lanes) (shown_tasks page)
     ⊕ table_html page.fault (shown_lanes page) (length page.lanes)
     ⊕ tasks_html (shown_tasks page) (length page.tasks)
-    ⊕ markup (codes "</main>\n<footer class=\"soft\"><p>Times are in UTC.</p></footer>\n</body>\n</html>\n")
+
+-- its end
+abbrev pub end_html : Html
+end_html = markup (codes "</main>\n<footer class=\"soft\"><p>Times are in UTC.</p></footer>\n</body>\n</html>\n")
+
+-- the page, with more before its end
+abbrev pub page_html : List Stop → Page → (more : Html) → Html
+page_html stops page more = body_html stops page ⊕ more ⊕ end_html

@@ -1,8 +1,8 @@
 //! What holds of every page, each law as the contract of a function that does nothing.
 ghost use Rattle.wh_page.specs.Laws.{TextsAreNoTags, FaultHasALine, ShowsItsParts};
 
-/// The tags of a page are those of the page with an empty text in place of each: no text that a
-/// history holds has a part in them.
+/// The tags of a page are those of the page with an empty text in place of each, and with more that
+/// has the same tags: no text that a history holds has a part in them.
 pub fn texts_are_no_tags()
     ensures { TextsAreNoTags }
 {}

@@ -15,4 +15,4 @@ mod writing;
 pub use wh_timeline::{
     Axis, Difference, Fact, Kind, Lane, Line, Moment, Outcome, Page, Side, Task, axis_of,
 };
-pub use writing::write_page;
+pub use writing::{write_body, write_end};

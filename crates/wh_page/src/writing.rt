@@ -4,7 +4,7 @@ ghost use Rattle.std.specs.Prelude.{OnOk};
 ghost use Rattle.std.specs.Io.KnownBytes.{Appends};
 ghost use Rattle.wh_html.specs.Html.{bytes};
 ghost use Rattle.wh_timeline.specs.Views.{IsAxisOf};
-ghost use Rattle.wh_page.specs.Pages.{page_html};
+ghost use Rattle.wh_page.specs.Pages.{body_html, end_html};
 
 use crate::frame::Frame;
 use crate::table::Table;
@@ -14,9 +14,9 @@ use std::io::Write;
 use wh_timeline::{Axis, Page, Picture, shown_lanes, shown_tasks};
 
 /// Writes a page with its times where the stops of an axis have them.
-#[tactic(auto, unfolding(crate::specs::Pages::page_html))]
+#[tactic(auto, unfolding(crate::specs::Pages::body_html))]
 fn write_parts<W: Write>(page: &Page, axis: &Axis, writer: &mut W) -> io::Result<()>
-    ensures { let html = page_html axis.now.stops page.now in
+    ensures { let html = body_html axis.now.stops page.now in
         OnOk result (Appends (W.contents writer.old) (W.contents writer.new) (bytes html)) }
 {
     let frame = Frame(page);
@@ -38,18 +38,26 @@ fn write_parts<W: Write>(page: &Page, axis: &Axis, writer: &mut W) -> io::Result
         tasks: shown_tasks(page),
         total: page.tasks.get().len(),
     };
-    write!(
-        writer,
-        "{frame}{notes}{picture}{table}{tasks}</main>\n<footer class=\"soft\"><p>Times are in UTC.</p></footer>\n</body>\n</html>\n"
-    )
+    write!(writer, "{frame}{notes}{picture}{table}{tasks}")
 }
 
-/// Writes a page as one HTML file, with its times where its axis has them, which `axis_of` gives.
-/// After an error some of it may have been written.
-pub fn write_page<W: Write>(page: &Page, axis: &Axis, writer: &mut W) -> io::Result<()>
+/// Writes a page as one HTML file but for its end, with its times where its axis has them, which
+/// `axis_of` gives. More sections may follow, and then `write_end`. After an error some of it may
+/// have been written.
+pub fn write_body<W: Write>(page: &Page, axis: &Axis, writer: &mut W) -> io::Result<()>
     requires { IsAxisOf page.now axis.now.stops }
-    ensures { let html = page_html axis.now.stops page.now in
+    ensures { let html = body_html axis.now.stops page.now in
         OnOk result (Appends (W.contents writer.old) (W.contents writer.new) (bytes html)) }
 {
     write_parts(page, axis, writer)
+}
+
+/// Writes the end of a page. After an error some of it may have been written.
+pub fn write_end<W: Write>(writer: &mut W) -> io::Result<()>
+    ensures { OnOk result (Appends (W.contents writer.old) (W.contents writer.new) (bytes end_html)) }
+{
+    write!(
+        writer,
+        "</main>\n<footer class=\"soft\"><p>Times are in UTC.</p></footer>\n</body>\n</html>\n"
+    )
 }

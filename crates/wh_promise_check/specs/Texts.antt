@@ -1,5 +1,5 @@
 -- What is written of promises.
-use Rattle.std.specs.Prelude.{ℕ, ◌+◌, List, [], ◌∷◌, ◌++◌, codes, decimal}
+use Rattle.std.specs.Prelude.{ℕ, ◌+◌, Bool, true, false, List, [], ◌∷◌, ◌++◌, codes, decimal}
 use Rattle.std.specs.List.{flat_map}
 use Rattle.wh_tester.specs.Json.{escaped}
 use Rattle.wh_tester.specs.Report.{shown}
@@ -30,10 +30,15 @@ abbrev pub doubt_text : Doubt → List ℕ
 doubt_text doubts.TooMany = codes "more than 200000 configurations"
 doubt_text doubts.ByName = codes "it may depend on the name of the run"
 
+-- that a promise is broken, and whether fewer jobs may do it too
+abbrev pub broken_text : Bool → List ℕ
+broken_text true = codes "broken by: "
+broken_text false = codes "broken, perhaps by fewer jobs too, by: "
+
 -- what is said of a verdict
 abbrev pub verdict_text : Verdict → List ℕ
 verdict_text verdicts.Kept = codes "kept"
-verdict_text (verdicts.Broken way) = codes "broken by: " ++ jobs_text way.items
+verdict_text (verdicts.Broken breach) = broken_text breach.is_shortest ++ jobs_text breach.way.items
 verdict_text (verdicts.NotDecided doubt) = codes "not decided: " ++ doubt_text doubt
 
 -- what is said of a phrase
@@ -57,7 +62,7 @@ step_lines way = flat_map step_line way
 
 -- the scenario below the line of a promise, if it is broken
 abbrev pub way_lines : Outcome → List ℕ
-way_lines (outcomes.Decided (verdicts.Broken way)) = step_lines way.items
+way_lines (outcomes.Decided (verdicts.Broken breach)) = step_lines breach.way.items
 way_lines _ = []
 
 -- the lines of a promise
@@ -96,11 +101,17 @@ abbrev pub steps_json : List WayStep → List ℕ
 steps_json [] = []
 steps_json (first ∷ others) = step_json first ++ later_steps others
 
+-- whether a scenario is a shortest one
+abbrev pub shortest_json : Bool → List ℕ
+shortest_json true = codes "true"
+shortest_json false = codes "false"
+
 -- the members that say a verdict
 abbrev pub verdict_members : Verdict → List ℕ
 verdict_members verdicts.Kept = codes "\"verdict\":\"kept\""
-verdict_members (verdicts.Broken way) =
-    codes "\"verdict\":\"broken\",\"scenario\":[" ++ (steps_json way.items ++ codes "]")
+verdict_members (verdicts.Broken breach) =
+    codes "\"verdict\":\"broken\",\"shortest\":" ++ (shortest_json breach.is_shortest ++ (codes ",\"scenario\":["
+    ++ (steps_json breach.way.items ++ codes "]")))
 verdict_members (verdicts.NotDecided doubt) =
     codes "\"verdict\":\"not decided\",\"reason\":\"" ++ (doubt_text doubt ++ codes "\"")
 

@@ -1,8 +1,8 @@
 //! What is found of promises, as text and as JSON.
 ghost use Rattle.std.specs.Prelude.{◌≡◌, IfOk, string_bytes};
-ghost use Rattle.wh_promise_check.specs.Texts.{later_jobs, jobs_text, doubt_text, verdict_text, outcome_text, finding_line};
+ghost use Rattle.wh_promise_check.specs.Texts.{later_jobs, jobs_text, doubt_text, broken_text, verdict_text, outcome_text, finding_line};
 ghost use Rattle.wh_promise_check.specs.Texts.{step_line, step_lines, way_lines, finding_lines, each_text, findings_text};
-ghost use Rattle.wh_promise_check.specs.Texts.{step_json, later_step, later_steps, steps_json, verdict_members, outcome_members};
+ghost use Rattle.wh_promise_check.specs.Texts.{step_json, later_step, later_steps, steps_json, shortest_json, verdict_members, outcome_members};
 ghost use Rattle.wh_promise_check.specs.Texts.{finding_json, later_finding, later_findings, each_json, findings_json};
 
 use crate::findings::{Outcome, PromiseFinding, PromiseFindings};
@@ -44,15 +44,27 @@ fn doubt_text(doubt: Doubt) -> &'static str
     }
 }
 
+/// That a promise is broken, and whether fewer jobs may do it too.
+fn broken_text(is_shortest: bool) -> &'static str
+    ensures { result.now ≡ broken_text is_shortest }
+{
+    if is_shortest {
+        "broken by: "
+    } else {
+        "broken, perhaps by fewer jobs too, by: "
+    }
+}
+
 /// What is said of a verdict.
 fn verdict_text(alloc: Global, verdict: &Verdict) -> Result<String, AllocError>
     ensures { IfOk result (λ text. string_bytes text ≡ verdict_text verdict.now) }
 {
     match verdict {
         Verdict::Kept => String::from_str(alloc, "kept"),
-        Verdict::Broken(way) => {
-            let jobs = jobs_text(alloc, way.as_slice())?;
-            format!(in alloc; "broken by: {jobs}")
+        Verdict::Broken(breach) => {
+            let broken = broken_text(breach.is_shortest);
+            let jobs = jobs_text(alloc, breach.way.as_slice())?;
+            format!(in alloc; "{broken}{jobs}")
         }
         Verdict::NotDecided(doubt) => {
             let doubt = doubt_text(*doubt);
@@ -110,7 +122,7 @@ fn way_lines(alloc: Global, outcome: &Outcome) -> Result<String, AllocError>
     ensures { IfOk result (λ text. string_bytes text ≡ way_lines outcome.now) }
 {
     match outcome {
-        Outcome::Decided(Verdict::Broken(way)) => step_lines(alloc, way.as_slice()),
+        Outcome::Decided(Verdict::Broken(breach)) => step_lines(alloc, breach.way.as_slice()),
         _ => Ok(String::new(alloc)),
     }
 }
@@ -141,7 +153,8 @@ fn each_text(alloc: Global, list: &[PromiseFinding]) -> Result<String, AllocErro
 }
 
 /// What is found of the promises of a table, as text: a line for each, and below a broken one a
-/// scenario that breaks it. `AllocError` where there was no memory for it.
+/// scenario that breaks it. Where a shorter one may break it too, the line says so. `AllocError`
+/// where there was no memory for it.
 pub fn findings_text(alloc: Global, found: &PromiseFindings) -> Result<String, AllocError>
     ensures { IfOk result (λ text. string_bytes text ≡ findings_text found.now) }
 {
@@ -196,15 +209,25 @@ fn steps_json(alloc: Global, way: &[WayStep]) -> Result<String, AllocError>
     format!(in alloc; "{own}{later}")
 }
 
+/// Whether a scenario is a shortest one, as JSON.
+fn shortest_json(is_shortest: bool) -> &'static str
+    ensures { result.now ≡ shortest_json is_shortest }
+{
+    if is_shortest { "true" } else { "false" }
+}
+
 /// The members that say a verdict.
 fn verdict_members(alloc: Global, verdict: &Verdict) -> Result<String, AllocError>
     ensures { IfOk result (λ text. string_bytes text ≡ verdict_members verdict.now) }
 {
     match verdict {
         Verdict::Kept => String::from_str(alloc, "\"verdict\":\"kept\""),
-        Verdict::Broken(way) => {
-            let steps = steps_json(alloc, way.as_slice())?;
-            format!(in alloc; "\"verdict\":\"broken\",\"scenario\":[{steps}]")
+        Verdict::Broken(breach) => {
+            let shortest = shortest_json(breach.is_shortest);
+            let steps = steps_json(alloc, breach.way.as_slice())?;
+            format!(in alloc;
+                "\"verdict\":\"broken\",\"shortest\":{shortest},\"scenario\":[{steps}]"
+            )
         }
         Verdict::NotDecided(doubt) => {
             let doubt = doubt_text(*doubt);

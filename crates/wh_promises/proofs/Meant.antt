@@ -3,8 +3,8 @@ use Rattle.std.proofs.Common.{◌≡◌, ℕ, ◌+◌, ◌≤◌, Bool, true, fa
 use Rattle.wh_rows.specs.Tables.{Definition}
 use Rattle.wh_rows.specs.Rows.{initial}
 use Rattle.wh_promises.specs.Courses.{Happening, Entry, is_at, times, happens, course}
-use Rattle.wh_promises.specs.Watches.{Turn, Standing, moved, watched, Keeps}
-use Rattle.wh_promises.specs.Promises.{Promise, at_most, only_after, never_after, between, keeps_watch, Promises, watch_of}
+use Rattle.wh_promises.specs.Watches.{Turn, Standing, moved, new_standing, watched, Keeps}
+use Rattle.wh_promises.specs.Promises.{Promise, at_most, only_after, never_after, between, keeps_watch, Promises, watch_of, KeptIn}
 use Rattle.wh_promises.proofs.Turns.{grows}
 
 -- a turn, if there is one
@@ -165,25 +165,28 @@ module _ (first last what : Happening) where
       by true none few next_one = cc
       by false none few next_one = next_one none few
 
+-- where its watch keeps to its budget the promise is kept
+pub means_in : (promise : Promise) (entries : List Entry)
+    → (watched (watch_of promise).turns new_standing entries).spent ≤ (watch_of promise).budget → KeptIn promise entries
+means_in (at_most most what) entries few =
+    let sum : (watched (watch_of (at_most most what)).turns (record { at = 1; spent = 0 }) entries).spent ≡ 0 + times what entries =
+    counted what 0 entries in
+    let most_times : times what entries ≤ most = omega (arith, sum, few) in
+    most_times
+means_in (only_after first what) entries few = λ earlier entry later split is.
+    first_before first what 0 earlier entry later
+    (subst (λ entries. (watched (watch_of (only_after first what)).turns (record { at = 1; spent = 0 }) entries).spent ≤ 0) split few)
+    is
+means_in (never_after first what) entries few = λ earlier entry later split is.
+    none_after first what 0 earlier entry later
+    (subst (λ entries. (watched (watch_of (never_after first what)).turns (record { at = 1; spent = 0 }) entries).spent ≤ 0) split few)
+    is
+means_in (between first last what) entries few = λ earlier one middle other later split none is ends.
+    all_answered first last what 0 earlier one middle other later
+    (subst (λ entries. (watched (watch_of (between first last what)).turns (record { at = 1; spent = 0 }) entries).spent ≤ 0) split few)
+    none is ends
+means_in (keeps_watch watch) entries few = few
+
 -- a table whose watch keeps to its budget keeps the promise
 pub means : (table : Definition) (promise : Promise) → Keeps table (watch_of promise) → Promises table promise
-means table (at_most most what) keeps = λ list start.
-    let sum : (watched (watch_of (at_most most what)).turns (record { at = 1; spent = 0 }) (course table (initial table) list)).spent
-    ≡ 0 + times what (course table (initial table) list) =
-    counted what 0 (course table (initial table) list) in
-    let few = keeps list start in
-    let most_times : times what (course table (initial table) list) ≤ most = omega (arith, sum, few) in
-    most_times
-means table (only_after first what) keeps = λ list start earlier entry later split is.
-    first_before first what 0 earlier entry later
-    (subst (λ entries. (watched (watch_of (only_after first what)).turns (record { at = 1; spent = 0 }) entries).spent ≤ 0) split (keeps list start))
-    is
-means table (never_after first what) keeps = λ list start earlier entry later split is.
-    none_after first what 0 earlier entry later
-    (subst (λ entries. (watched (watch_of (never_after first what)).turns (record { at = 1; spent = 0 }) entries).spent ≤ 0) split (keeps list start))
-    is
-means table (between first last what) keeps = λ list start earlier one middle other later split none is ends.
-    all_answered first last what 0 earlier one middle other later
-    (subst (λ entries. (watched (watch_of (between first last what)).turns (record { at = 1; spent = 0 }) entries).spent ≤ 0) split (keeps list start))
-    none is ends
-means table (keeps_watch watch) keeps = keeps
+means table promise keeps = λ list start. means_in promise (course table (initial table) list) (keeps list start)

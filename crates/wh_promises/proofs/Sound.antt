@@ -1,5 +1,5 @@
 -- A table without a fault keeps what it promises, whatever jobs come.
-use Rattle.std.proofs.Common.{◌≡◌, ℕ, suc, ◌+◌, ◌-◌, ◌≤◌, ℤ, Bool, true, false, not, cond, ◌&&◌, ◌||◌, List, [], ◌∷◌, ◌++◌, length, refl, ap, ap₂, sym, subst, ◌∙◌, arith, Option, Some, None}
+use Rattle.std.proofs.Common.{◌≡◌, ℕ, zero, suc, ◌+◌, ◌-◌, ◌<◌, ◌≤◌, ℤ, Bool, true, false, not, cond, ◌&&◌, ◌||◌, List, [], ◌∷◌, ◌++◌, length, refl, ap, ap₂, sym, subst, ◌∙◌, arith, Option, Some, None}
 use Rattle.std.specs.Prelude.{leb, ltb, nat_eq, bytes_eq, codes, if◌then◌else◌}
 use Rattle.std.proofs.lemmas.Bool.{and_parts, leb-true, eqb-true, not-true, and_from, not_from_false}
 use Rattle.wh_events.specs.declared.event.Payload.{Payload}
@@ -260,80 +260,100 @@ module _ (table : Definition) (tops : Counts) (turns : List Turn) (fine : Cuts t
         config_same other one.state one.closed one.counts one.watch.at (one.watch.spent + (other.watch.spent - one.watch.spent)) (sym p) q c (sym w) sum,
       )
 
-  module _ (budget : ℕ) (known : Config → Bool)
-      (under : (one : Config) → known one ≡ true → (other : Config) × (covered one other ≡ true) × IsGood budget known other)
-      (fit : all_within (length table.rows) tops (lines table.rows table.rows) ≡ true) where
-    -- a run stands at a configuration that is known, or has spent less
-    abbrev Holds : RowsState → Standing → Type 0
-    Holds state now = (more : ℕ) × (known (stand_at state (ahead more now)) ≡ true)
+  -- a run stands at a configuration that is known, or has spent less
+  abbrev Holds : (Config → Bool) → RowsState → Standing → Type 0
+  Holds known state now = (more : ℕ) × (known (stand_at state (ahead more now)) ≡ true)
 
-    ahead_twice : (first second : ℕ) (now : Standing) → ahead second (ahead first now) ≡ ahead (first + second) now
-    ahead_twice first second now =
-        let sum : (now.spent + first) + second ≡ now.spent + (first + second) = omega arith in
-        ap (λ (n : ℕ). let there : Standing = record { at = now.at; spent = n } in there) sum
+  -- from known configurations on, so many jobs but one keep to the budget
+  abbrev pub KeepsOn : ℕ → (Config → Bool) → ℕ → Type 0
+  KeepsOn budget known many =
+      (state : RowsState) (now : Standing) (later : List Job) → goes_on later ≡ true → length later < many
+      → Holds known state now → (watched turns now (course table state later)).spent ≤ budget
 
-    -- so at a good one
-    good_at : (state : RowsState) (now : Standing) → Holds state now → (more : ℕ) × IsGood budget known (stand_at state (ahead more now))
-    good_at state now holds =
-        let here : Config = stand_at state (ahead holds.0 now) in
-        let found : (other : Config) × (covered here other ≡ true) × IsGood budget known other = under here holds.1 in
-        let more : (more : ℕ) × (found.0 ≡ stand_at state (ahead more (ahead holds.0 now))) = covering here found.0 found.1 in
-        (holds.0 + more.0, subst (IsGood budget known) (more.1 ∙ ap (stand_at state) (ahead_twice holds.0 more.0 now)) found.2)
+  ahead_twice : (first second : ℕ) (now : Standing) → ahead second (ahead first now) ≡ ahead (first + second) now
+  ahead_twice first second now =
+      let sum : (now.spent + first) + second ≡ now.spent + (first + second) = omega arith in
+      ap (λ (n : ℕ). let there : Standing = record { at = now.at; spent = n } in there) sum
 
-    -- where the watch stands after a job and its commands
-    abbrev through : RowsState → Job → Standing → Standing
-    through state job now = watched turns (told (seen_by table state job) job now) (gave (gives table state job))
+  -- where the watch stands after a job and its commands
+  abbrev through : RowsState → Job → Standing → Standing
+  through state job now = watched turns (told (seen_by table state job) job now) (gave (gives table state job))
 
-    through_ahead : (state : RowsState) (job : Job) (more : ℕ) (now : Standing) → through state job (ahead more now) ≡ ahead more (through state job now)
-    through_ahead state job more now =
-        watched_ahead turns more now (Came (seen_by table state job) job ∷ gave (gives table state job))
+  through_ahead : (state : RowsState) (job : Job) (more : ℕ) (now : Standing) → through state job (ahead more now) ≡ ahead more (through state job now)
+  through_ahead state job more now =
+      watched_ahead turns more now (Came (seen_by table state job) job ∷ gave (gives table state job))
 
-    goes : (state : RowsState) (now : Standing) (job : Job) → is_start job ≡ false → Holds state now
-        → Holds (after table state job) (through state job now)
-    goes state now job other holds =
-        let good : (more : ℕ) × IsGood budget known (stand_at state (ahead more now)) = good_at state now holds in
-        let led_to : each (known) (steps tops turns (lines table.rows table.rows) (stand_at (seen_by table state job) (ahead good.0 now))) ≡ true =
-        subst (λ one. each (known) (steps tops turns (lines table.rows table.rows) one) ≡ true) (seen_stands state job (ahead good.0 now)) good.1.1 in
-        let there : known (stand_at (after table state job) (through state job (ahead good.0 now))) ≡ true =
-        leads_sound (known) table.rows (patterns.Start ∷ []) (seen_by table state job) job (ahead good.0 now) fit
-        (and_from (not (is_start job)) true (not_from_false (is_start job) other) refl) led_to in
-        (good.0, subst (λ standing. known (stand_at (after table state job) standing) ≡ true) (through_ahead state job good.0 now) there)
+  -- what a job and its commands do, and then what comes later
+  course_splits : (state : RowsState) (now : Standing) (job : Job) (later : List Job)
+      → watched turns now (course table state (job ∷ later)) ≡ watched turns (through state job now) (course table (after table state job) later)
+  course_splits state now job later =
+      watched_append turns (told (seen_by table state job) job now) (gave (gives table state job)) (course table (after table state job) later)
 
-    keeps_here : (state : RowsState) (now : Standing) → Holds state now → now.spent ≤ budget
-    keeps_here state now holds =
-        let good : (more : ℕ) × IsGood budget known (stand_at state (ahead more now)) = good_at state now holds in
-        let few : now.spent + good.0 ≤ budget = leb-true (now.spent + good.0) budget good.1.0 in
-        omega (arith, few)
+  module _ (budget : ℕ) (fit : all_within (length table.rows) tops (lines table.rows table.rows) ≡ true) where
+    module _ (known next : Config → Bool)
+        (under : (one : Config) → known one ≡ true → (other : Config) × (covered one other ≡ true) × IsGood budget next other) where
+      -- so at a good one
+      good_at : (state : RowsState) (now : Standing) → Holds known state now → (more : ℕ) × IsGood budget next (stand_at state (ahead more now))
+      good_at state now holds =
+          let here : Config = stand_at state (ahead holds.0 now) in
+          let found : (other : Config) × (covered here other ≡ true) × IsGood budget next other = under here holds.1 in
+          let more : (more : ℕ) × (found.0 ≡ stand_at state (ahead more (ahead holds.0 now))) = covering here found.0 found.1 in
+          (holds.0 + more.0, subst (IsGood budget next) (more.1 ∙ ap (stand_at state) (ahead_twice holds.0 more.0 now)) found.2)
 
-    -- what a job and its commands do, and then what comes later
-    course_splits : (state : RowsState) (now : Standing) (job : Job) (later : List Job)
-        → watched turns now (course table state (job ∷ later)) ≡ watched turns (through state job now) (course table (after table state job) later)
-    course_splits state now job later =
-        watched_append turns (told (seen_by table state job) job now) (gave (gives table state job)) (course table (after table state job) later)
+      goes : (state : RowsState) (now : Standing) (job : Job) → is_start job ≡ false → Holds known state now
+          → Holds next (after table state job) (through state job now)
+      goes state now job other holds =
+          let good : (more : ℕ) × IsGood budget next (stand_at state (ahead more now)) = good_at state now holds in
+          let led_to : each next (steps tops turns (lines table.rows table.rows) (stand_at (seen_by table state job) (ahead good.0 now))) ≡ true =
+          subst (λ one. each next (steps tops turns (lines table.rows table.rows) one) ≡ true) (seen_stands state job (ahead good.0 now)) good.1.1 in
+          let there : next (stand_at (after table state job) (through state job (ahead good.0 now))) ≡ true =
+          leads_sound next table.rows (patterns.Start ∷ []) (seen_by table state job) job (ahead good.0 now) fit
+          (and_from (not (is_start job)) true (not_from_false (is_start job) other) refl) led_to in
+          (good.0, subst (λ standing. next (stand_at (after table state job) standing) ≡ true) (through_ahead state job good.0 now) there)
 
-    -- however it goes on, it keeps to the budget
-    on_and_on : (state : RowsState) (now : Standing) (later : List Job) → goes_on later ≡ true → Holds state now
-        → (watched turns now (course table state later)).spent ≤ budget
-    on_and_on state now [] start holds = keeps_here state now holds
-    on_and_on state now (job ∷ later) start holds =
-        let parts : (not (is_start job) ≡ true) × (goes_on later ≡ true) = and_parts (not (is_start job)) (goes_on later) start in
-        subst (λ (standing : Standing). standing.spent ≤ budget) (sym (course_splits state now job later))
-        (on_and_on (after table state job) (through state job now) later parts.1 (goes state now job (not-true (is_start job) parts.0) holds))
+      keeps_here : (state : RowsState) (now : Standing) → Holds known state now → now.spent ≤ budget
+      keeps_here state now holds =
+          let good : (more : ℕ) × IsGood budget next (stand_at state (ahead more now)) = good_at state now holds in
+          let few : now.spent + good.0 ≤ budget = leb-true (now.spent + good.0) budget good.1.0 in
+          omega (arith, few)
 
-    -- also after the start
-    begin : (state : RowsState) (now : Standing) (workflow : List ℕ) (input : List Payload) (later : List Job) → goes_on later ≡ true
-        → each (known) (starts tops turns (lines table.rows table.rows) (stand_at state now)) ≡ true
-        → (watched turns now (course table state (jobs.Start workflow input ∷ later))).spent ≤ budget
-    begin state now workflow input later start first =
-        let job : Job = jobs.Start workflow input in
-        let there : known (stand_at (after table state job) (through state job now)) ≡ true =
-        starts_sound (known) table.rows (seen_by table state job) workflow input now fit first in
-        let none : through state job now ≡ ahead 0 (through state job now) =
-        let sum : (through state job now).spent ≡ (through state job now).spent + 0 = omega arith in
-        ap (λ (n : ℕ). let standing : Standing = record { at = (through state job now).at; spent = n } in standing) sum in
-        subst (λ (standing : Standing). standing.spent ≤ budget) (sym (course_splits state now job later))
-        (on_and_on (after table state job) (through state job now) later start
-        (0, subst (λ standing. known (stand_at (after table state job) standing) ≡ true) none there))
+      -- where known configurations are good, and from those that they lead to on so many jobs keep to the budget, one more does
+      pub keeps_on : (many : ℕ) → KeepsOn budget next many → KeepsOn budget known (suc many)
+      keeps_on many later_on state now [] start few holds = keeps_here state now holds
+      keeps_on many later_on state now (job ∷ later) start few holds =
+          let parts : (not (is_start job) ≡ true) × (goes_on later ≡ true) = and_parts (not (is_start job)) (goes_on later) start in
+          let fewer : length later < many = omega (arith, few) in
+          subst (λ (standing : Standing). standing.spent ≤ budget) (sym (course_splits state now job later))
+          (later_on (after table state job) (through state job now) later parts.1 fewer
+          (goes state now job (not-true (is_start job) parts.0) holds))
+
+    module _ (known : Config → Bool) where
+      -- no jobs keep to it
+      pub keeps_none : KeepsOn budget known 0
+      keeps_none state now later start few holds = omega (arith, few)
+
+      -- however it goes on, where known configurations lead to known ones
+      keeps_ever : ((one : Config) → known one ≡ true → (other : Config) × (covered one other ≡ true) × IsGood budget known other)
+          → (many : ℕ) → KeepsOn budget known many
+      keeps_ever under zero = keeps_none
+      keeps_ever under (suc many) = keeps_on known known under many (keeps_ever under many)
+
+      -- also after the start
+      begin : (state : RowsState) (now : Standing) (workflow : List ℕ) (input : List Payload) (later : List Job) → goes_on later ≡ true
+          → each known (starts tops turns (lines table.rows table.rows) (stand_at state now)) ≡ true
+          → KeepsOn budget known (suc (length later))
+          → (watched turns now (course table state (jobs.Start workflow input ∷ later))).spent ≤ budget
+      begin state now workflow input later start first keeps =
+          let job : Job = jobs.Start workflow input in
+          let there : known (stand_at (after table state job) (through state job now)) ≡ true =
+          starts_sound known table.rows (seen_by table state job) workflow input now fit first in
+          let none : through state job now ≡ ahead 0 (through state job now) =
+          let sum : (through state job now).spent ≡ (through state job now).spent + 0 = omega arith in
+          ap (λ (n : ℕ). let standing : Standing = record { at = (through state job now).at; spent = n } in standing) sum in
+          let fewer : length later < suc (length later) = omega arith in
+          subst (λ (standing : Standing). standing.spent ≤ budget) (sym (course_splits state now job later))
+          (keeps (after table state job) (through state job now) later start fewer
+          (0, subst (λ standing. known (stand_at (after table state job) standing) ≡ true) none there))
 
 time_is_none : (one : JobPattern) (state : RowsState) (time : ℤ) → is_for_job one state (jobs.Time time) ≡ false
 time_is_none patterns.Start state time = refl
@@ -419,26 +439,34 @@ cut_nothing : (table : Definition) (tops : Counts) → begun (place table.first 
 cut_nothing table tops = sym (rw (zero_cut tops.a, zero_cut tops.b, zero_cut tops.c, zero_cut tops.d) refl)
 
 module _ (table : Definition) (watch : Watch) (tops : Counts) (fine : Cuts table.bounds tops) (known : Config → Bool)
-    (under : (one : Config) → known one ≡ true
-    → (other : Config) × (covered one other ≡ true) × IsGood table tops watch.turns fine watch.budget known other)
     (fit : all_within (length table.rows) tops (lines table.rows table.rows) ≡ true)
     (first : each known (starts tops watch.turns (lines table.rows table.rows) (begun (place table.first table.rows))) ≡ true) where
-  from_start : (workflow : List ℕ) (input : List Payload) (later : List Job) → goes_on later ≡ true
-      → (watched watch.turns new_standing (course table (initial table) (jobs.Start workflow input ∷ later))).spent ≤ watch.budget
-  from_start workflow input later start =
-      begin table tops watch.turns fine watch.budget known under fit
+  -- where known configurations are those of the start, and from them on so many jobs but one keep to the budget, so many jobs do
+  pub keeps_before : (many : ℕ) → KeepsOn table tops watch.turns fine watch.budget known many
+      → (list : List Job) → begins list ≡ true → length list ≤ many
+      → (watched watch.turns new_standing (course table (initial table) list)).spent ≤ watch.budget
+  keeps_before many keeps [] start few = omega arith
+  keeps_before many keeps (jobs.Start workflow input ∷ later) start few =
+      begin table tops watch.turns fine watch.budget fit known
       (initial table) new_standing workflow input later start
       (subst (λ one. each known (starts tops watch.turns (lines table.rows table.rows) one) ≡ true) (cut_nothing table tops) first)
+      (λ state now behind on fewer holds.
+      let below : length behind < many = omega (arith, few, fewer) in
+      keeps state now behind on below holds)
+  keeps_before many keeps (jobs.Time time ∷ later) start few =
+      let fewer : length later ≤ many = omega (arith, few) in
+      subst (λ (standing : Standing). standing.spent ≤ watch.budget)
+      (sym (time_stays table watch.turns (initial table) new_standing time later)) (keeps_before many keeps later start fewer)
+  keeps_before many keeps _ start few = cc
 
   -- known configurations, each of which leads to known ones, show that a watch keeps to its budget
-  pub keeps_all : (list : List Job) → begins list ≡ true
+  pub keeps_all : ((one : Config) → known one ≡ true
+      → (other : Config) × (covered one other ≡ true) × IsGood table tops watch.turns fine watch.budget known other)
+      → (list : List Job) → begins list ≡ true
       → (watched watch.turns new_standing (course table (initial table) list)).spent ≤ watch.budget
-  keeps_all [] start = omega arith
-  keeps_all (jobs.Start workflow input ∷ later) start = from_start workflow input later start
-  keeps_all (jobs.Time time ∷ later) start =
-      subst (λ (standing : Standing). standing.spent ≤ watch.budget)
-      (sym (time_stays table watch.turns (initial table) new_standing time later)) (keeps_all later start)
-  keeps_all _ start = cc
+  keeps_all under list start =
+      let all : length list ≤ length list = omega arith in
+      keeps_before (length list) (keeps_ever table tops watch.turns fine watch.budget fit known under (length list)) list start all
 
 -- a tree that shows it shows it
 keeps_shown : (table : Definition) (watch : Watch) (tops : Counts) (all : Tree) → shows (case_of table) tops watch all ≡ true
@@ -452,8 +480,8 @@ keeps_shown table watch tops all good =
     let trees : (each (has all) (starts tops watch.turns (lines table.rows table.rows) (begun (place table.first table.rows))) ≡ true)
     × (is_closed tops watch (lines table.rows table.rows) all all ≡ true) = and_parts _ _ halves.1 in
     let fine : Cuts table.bounds tops = cuts_from table.bounds tops cuts.0 in
-    keeps_all table watch tops fine (has all)
-    (λ one there. under_key table tops watch.turns fine watch.budget all (key_of one) one all there trees.1) cuts.1 trees.0
+    keeps_all table watch tops fine (has all) cuts.1 trees.0
+    (λ one there. under_key table tops watch.turns fine watch.budget all (key_of one) one all there trees.1)
 
 -- a watch without a fault keeps to its budget
 keeps_one : (table : Definition) (number : ℕ) (watch : Watch) (tops : Counts)

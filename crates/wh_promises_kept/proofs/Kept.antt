@@ -7,39 +7,32 @@ use Rattle.wh_events.specs.declared.place.PlaceFault.{PlaceFault}
 use Rattle.wh_events.specs.Cuts.{is_cut}
 use Rattle.wh_events.specs.Places.{is_start, history_fault}
 use Rattle.wh_workflow.specs.declared.job.Job.{Job}
+use Rattle.wh_workflow.specs.declared.job.Job.TheVariants as jobs
 use Rattle.wh_workflow.specs.declared.command.Command.{Command}
 use Rattle.wh_workflow.specs.declared.fault.WorkflowFault.{WorkflowFault}
 use Rattle.wh_workflow.specs.declared.fault.Mismatch.{Mismatch}
-use Rattle.wh_workflow.specs.Law.{IsLawful}
+use Rattle.wh_workflow.specs.Law.{Program, IsLawful}
 use Rattle.wh_workflow.specs.Jobs.{jobs_of}
 use Rattle.wh_workflow.specs.Names.{mismatch}
 use Rattle.wh_workflow.specs.Scripts.{ActivationContext, reduced}
 use Rattle.wh_workflow.specs.Activations.{and_then, Progress, activate}
 use Rattle.wh_replay.specs.declared.fault.Fault.{Fault}
-use Rattle.wh_replay.specs.Replays.{ReplayResult, Replayed, context_at, begin_at, unless_mismatch, close_task, task_after, task, reached, replay_after, start, workflow_of, replay_known, replay_placed, replay_tasks, with_machines, replay}
+use Rattle.wh_replay.specs.Replays.{ReplayResult, Replayed, context_at, begin_at, unless_mismatch, close_task, task_after, task, reached, replay_after, start, workflow_kind, workflow_of, replay_known, replay_placed, replay_tasks, with_machines, replay}
 use Rattle.wh_events.specs.Machines.{machines_of}
 use Rattle.wh_rows.specs.declared.row.RowsState.{RowsState}
 use Rattle.wh_rows.specs.Tables.{Definition}
-use Rattle.wh_rows.specs.Rows.{program, initial, gives, after}
+use Rattle.wh_rows.specs.Rows.{program, initial, gives, after, row_gives}
 use Rattle.wh_rows.specs.Laws.{after_all}
-use Rattle.wh_rows.specs.Properties.{given_to_all}
 use Rattle.wh_promises.specs.Courses.{Entry, gave, course, goes_on, begins}
-use Rattle.wh_promises.specs.Promises.{Promise, Promises, PromisesAll, KeptIn, KeptAllIn}
-use Rattle.wh_promises_kept.specs.Kept.{without_markers, commands_in, HasIssued, ended, passed, ran, Interleaved, Told, told_end, told_on, told_cut, HistoriesAreCourses, HistoriesKeep}
-use Rattle.wh_promises_kept.proofs.Stepped.{plain_append, Activated, activate_does, after_append, given_append}
-use Rattle.wh_promises_kept.proofs.Started.{goes_append, no_cut, no_starts, no_starts_append, StartsOnce, starts_once, cut_goes, cut_begins, interleaved_goes}
+use Rattle.wh_promises.specs.Promises.{Promise, PromisesAll, KeptAllIn}
+use Rattle.wh_promises.proofs.Sound.{no_row_at}
+use Rattle.wh_promises_kept.specs.Kept.{without_markers, commands_in, HasIssued, ended, passed, ran, Interleaved, Told, told_end, told_on, told_cut, input_in, input_of, HistoriesAreCourses, HistoriesKeep}
+use Rattle.wh_promises_kept.proofs.Stepped.{plain_append, left_by, given_by, left_append, given_append, TimeGivesNothing, Activated, activate_does}
+use Rattle.wh_promises_kept.proofs.Started.{goes_append, no_cut, no_starts, no_starts_append, StartsOnce, starts_once, cut_goes, BeginsWith, not_begun, begins_by, cut_begins, interleaved_goes}
 
 gave_first : (first : List Command) (rest : List Entry) → commands_in (gave first ++ rest) ≡ first ++ commands_in rest
 gave_first [] rest = refl
 gave_first (command ∷ first) rest = ap (λ l. command ∷ l) (gave_first first rest)
-
--- the commands of a course are those that the jobs are given
-course_commands : (table : Definition) (state : RowsState) (list : List Job)
-    → commands_in (course table state list) ≡ given_to_all table state list
-course_commands table state [] = refl
-course_commands table state (job ∷ later) =
-    gave_first (gives table state job) (course table (after table state job) later)
-    ∙ ap (λ l. gives table state job ++ l) (course_commands table (after table state job) later)
 
 no_starts_one : (between : List Event) (event : Event) (rest : List Event) → no_starts between ≡ true → no_starts (event ∷ rest) ≡ true
     → (no_starts (between ++ event ∷ []) ≡ true) × (no_starts rest ≡ true)
@@ -60,10 +53,11 @@ told_goes before between rest list (told_cut b t event later here l cut told nex
     (interleaved_goes (jobs_of (before ++ event ∷ []) between event) here told (cut_goes (before ++ event ∷ []) between event first))
     (told_goes (before ++ event ∷ []) [] later l next refl parts.1)
 
--- where the first event that no task has seen begins the run, the jobs begin with one start
+-- where the first event that no task has seen begins the run, the jobs begin with its start
 told_begins : (before : List Event) (first : Event) (between rest : List Event) (list : List Job) → Told before (first ∷ between) rest list
-    → is_start first ≡ true → no_starts between ≡ true → no_starts rest ≡ true → begins list ≡ true
-told_begins before first between rest list (told_end b t) starts none later = refl
+    → is_start first ≡ true → no_starts between ≡ true → no_starts rest ≡ true
+    → BeginsWith (workflow_kind first.body) (input_in first.body) list
+told_begins before first between rest list (told_end b t) starts none later = not_begun
 told_begins before first between rest list (told_on b t event behind l cut told) starts none later =
     let parts = no_starts_one between event behind none later in
     told_begins (before ++ event ∷ []) first (between ++ event ∷ []) behind list told starts parts.0 parts.1
@@ -74,43 +68,51 @@ told_begins before first between rest list (told_cut b t event behind here l cut
 
 -- from the first event on
 told_first : (first : Event) (rest : List Event) (list : List Job) → Told [] [] (first ∷ rest) list → is_start first ≡ true
-    → no_starts rest ≡ true → begins list ≡ true
+    → no_starts rest ≡ true → BeginsWith (workflow_kind first.body) (input_in first.body) list
 told_first first rest list (told_on b t event later l cut told) starts none = told_begins (first ∷ []) first [] rest list told starts refl none
 told_first first rest list (told_cut b t event later here l cut told next) starts none = absurd (no_cut first rest starts cut)
 
-begun_once : (events : List Event) → StartsOnce events → (list : List Job) → Told [] [] events list → begins list ≡ true
+begun_once : (events : List Event) → StartsOnce events → (list : List Job) → Told [] [] events list
+    → BeginsWith (workflow_of events) (input_of events) list
 begun_once events once list told =
-    told_first once.first once.rest list (subst (λ events. Told [] [] events list) once.are told) once.starts once.later
+    subst (λ events. BeginsWith (workflow_of events) (input_of events) list) (sym once.are)
+    (told_first once.first once.rest list (subst (λ events. Told [] [] events list) once.are told) once.starts once.later)
 
-module _ (table : Definition) (lawful : IsLawful (program table)) where
+-- what a table promises holds of jobs that begin with one start
+pub all_kept : (table : Definition) (promises : List Promise) → PromisesAll table promises → (list : List Job) → begins list ≡ true
+    → KeptAllIn promises (course table (initial table) list)
+all_kept table [] kept list begun = tt
+all_kept table (promise ∷ rest) kept list begun = (kept.0 list begun, all_kept table rest kept.1 list begun)
+
+module _ {S : Type 0} (program : Program S) (lawful : IsLawful program) (still : TimeGivesNothing program) where
   -- what the tasks of the rest of a history do
-  record Done (before between rest : List Event) (current left : ReplayResult RowsState) : Type 0 where
+  record Done (before between rest : List Event) (current left : ReplayResult S) : Type 0 where
     issued : List Command
-    has : HasIssued (program table) before between rest current issued
+    has : HasIssued program before between rest current issued
     list : List Job
     told : Told before between rest list
-    plain : without_markers issued ≡ given_to_all table current.state list
-    state : left.state ≡ after_all table current.state list
+    plain : without_markers issued ≡ given_by program current.state list
+    state : left.state ≡ left_by program current.state list
 
   -- a task that comes to an end leaves the state of its activation
   closed_state : (history : List Event) (context : ActivationContext) (at : ℕ) (recorded : Option (List Event))
-      (progress : Progress RowsState) (left : ReplayResult RowsState)
+      (progress : Progress S) (left : ReplayResult S)
       → close_task history context at recorded progress ≡ Ok left → left.state ≡ progress.state
   closed_state history context at None progress left ok =
       let e : reached progress (reduced context progress.script.issued) ≡ left = cc in
-      ap (λ (r : ReplayResult RowsState). r.state) (sym e)
+      ap (λ (r : ReplayResult S). r.state) (sym e)
   closed_state history context at (Some events) progress left ok =
       by (mismatch history (reduced context progress.script.issued) events) ok
     where
       by : (found : Option Mismatch) → unless_mismatch at found (reached progress []) ≡ Ok left → left.state ≡ progress.state
-      by None ok = let e : reached progress [] ≡ left = cc in ap (λ (r : ReplayResult RowsState). r.state) (sym e)
+      by None ok = let e : reached progress [] ≡ left = cc in ap (λ (r : ReplayResult S). r.state) (sym e)
       by (Some difference) ok = cc
 
-  done_cut : (before between : List Event) (event : Event) (rest : List Event) (current now left : ReplayResult RowsState)
-      → is_cut event rest ≡ true → task (program table) before between event rest current ≡ Ok now
+  done_cut : (before between : List Event) (event : Event) (rest : List Event) (current now left : ReplayResult S)
+      → is_cut event rest ≡ true → task program before between event rest current ≡ Ok now
       → Done (before ++ event ∷ []) [] rest now left → Done before between (event ∷ rest) current left
   done_cut before between event rest current now left cut ok later =
-      by (activate (program table) context given (begin_at current)) refl ok
+      by (activate program context given (begin_at current)) refl ok
     where
       context : ActivationContext
       context = context_at before between event rest
@@ -118,13 +120,13 @@ module _ (table : Definition) (lawful : IsLawful (program table)) where
       given : List Job
       given = jobs_of (before ++ event ∷ []) between event
 
-      by : (result : Result (Progress RowsState) WorkflowFault) → activate (program table) context given (begin_at current) ≡ result
+      by : (result : Result (Progress S) WorkflowFault) → activate program context given (begin_at current) ≡ result
           → task_after (before ++ event ∷ rest) context event.number result ≡ Ok now
           → Done before between (event ∷ rest) current left
       by (Err fault) is ended_so = cc
       by (Ok progress) is ended_so =
-          let done : Activated table lawful context given (begin_at current) progress = activate_does table lawful context given (begin_at current) progress is in
-          let left_is : now.state ≡ after_all table current.state done.list =
+          let done : Activated program lawful still context given (begin_at current) progress = activate_does program lawful still context given (begin_at current) progress is in
+          let left_is : now.state ≡ left_by program current.state done.list =
           closed_state (before ++ event ∷ rest) context event.number context.recorded progress now ended_so ∙ done.steps.state in record {
             issued = progress.script.issued ++ later.issued;
             has = ran before between event rest current now progress later.issued cut is ok later.has;
@@ -133,16 +135,16 @@ module _ (table : Definition) (lawful : IsLawful (program table)) where
             plain =
                 plain_append progress.script.issued later.issued
                 ∙ ap (λ l. l ++ without_markers later.issued) done.steps.issued
-                ∙ ap (λ l. given_to_all table current.state done.list ++ l) later.plain
-                ∙ ap (λ state. given_to_all table current.state done.list ++ given_to_all table state later.list) left_is
-                ∙ sym (given_append table current.state done.list later.list);
+                ∙ ap (λ l. given_by program current.state done.list ++ l) later.plain
+                ∙ ap (λ state. given_by program current.state done.list ++ given_by program state later.list) left_is
+                ∙ sym (given_append program current.state done.list later.list);
             state =
-                later.state ∙ ap (λ state. after_all table state later.list) left_is
-                ∙ sym (after_append table current.state done.list later.list);
+                later.state ∙ ap (λ state. left_by program state later.list) left_is
+                ∙ sym (left_append program current.state done.list later.list);
           }
 
-  done_after : (rest before between : List Event) (current left : ReplayResult RowsState)
-      → replay_after (program table) before between rest current ≡ Ok left → Done before between rest current left
+  done_after : (rest before between : List Event) (current left : ReplayResult S)
+      → replay_after program before between rest current ≡ Ok left → Done before between rest current left
   done_after [] before between current left ok =
       let e : current ≡ left = cc in
       record {
@@ -151,21 +153,21 @@ module _ (table : Definition) (lawful : IsLawful (program table)) where
         list = [];
         told = told_end before between;
         plain = refl;
-        state = ap (λ (r : ReplayResult RowsState). r.state) (sym e);
+        state = ap (λ (r : ReplayResult S). r.state) (sym e);
       }
   done_after (event ∷ rest) before between current left ok =
-      by (is_cut event rest) refl (task (program table) before between event rest current) refl ok
+      by (is_cut event rest) refl (task program before between event rest current) refl ok
       (λ between current ok. done_after rest (before ++ event ∷ []) between current left ok)
     where
       Later : Type 0
-      Later = (between : List Event) (current : ReplayResult RowsState)
-          → replay_after (program table) (before ++ event ∷ []) between rest current ≡ Ok left → Done (before ++ event ∷ []) between rest current left
+      Later = (between : List Event) (current : ReplayResult S)
+          → replay_after program (before ++ event ∷ []) between rest current ≡ Ok left → Done (before ++ event ∷ []) between rest current left
 
-      by : (cut : Bool) → is_cut event rest ≡ cut → (result : Result (ReplayResult RowsState) Fault)
-          → task (program table) before between event rest current ≡ result
+      by : (cut : Bool) → is_cut event rest ≡ cut → (result : Result (ReplayResult S) Fault)
+          → task program before between event rest current ≡ result
           → (if cut
-          then and_then result (replay_after (program table) (before ++ event ∷ []) [] rest)
-          else replay_after (program table) (before ++ event ∷ []) (between ++ event ∷ []) rest current) ≡ Ok left
+          then and_then result (replay_after program (before ++ event ∷ []) [] rest)
+          else replay_after program (before ++ event ∷ []) (between ++ event ∷ []) rest current) ≡ Ok left
           → Later → Done before between (event ∷ rest) current left
       by true is (Ok now) ran_so ok later = done_cut before between event rest current now left is ran_so (later [] now ok)
       by true is (Err fault) ran_so ok later = cc
@@ -179,59 +181,92 @@ module _ (table : Definition) (lawful : IsLawful (program table)) where
             state = behind.state;
           }
 
-  -- from the first event on
-  pub histories_are_courses : HistoriesAreCourses table
-  unfolding replay_tasks
-  histories_are_courses events left ok =
-      by (history_fault events) refl ((program table).knows (workflow_of events))
-      (replay_after (program table) [] [] events (start (program table) (workflow_of events) 0)) refl ok
-    where
-      Whole : Type 0
-      Whole = (issued : List Command) × HasIssued (program table) [] [] events (start (program table) (workflow_of events) 0) issued
-          × (list : List Job) × Told [] [] events list × (begins list ≡ true)
-          × (without_markers issued ≡ commands_in (course table (initial table) list))
-          × (left.state ≡ after_all table (initial table) list)
+  -- what replay does to a history that it accepts, from the first event on
+  pub record Whole (events : List Event) (left : Replayed S) : Type 0 where
+    pub issued : List Command
+    pub has : HasIssued program [] [] events (start program (workflow_of events) 0) issued
+    pub list : List Job
+    pub told : Told [] [] events list
+    pub starts : BeginsWith (workflow_of events) (input_of events) list
+    pub plain : without_markers issued ≡ given_by program (program.initial (workflow_of events)) list
+    pub state : left.state ≡ left_by program (program.initial (workflow_of events)) list
 
-      by : (fault : Option (ℕ × PlaceFault)) → history_fault events ≡ fault → (known : Bool) (result : Result (ReplayResult RowsState) Fault)
-          → replay_after (program table) [] [] events (start (program table) (workflow_of events) 0) ≡ result
+  pub whole : (events : List Event) (left : Replayed S) → replay program events 0 ≡ Ok left → Whole events left
+  unfolding replay_tasks
+  whole events left ok =
+      by (history_fault events) refl (program.knows (workflow_of events))
+      (replay_after program [] [] events (start program (workflow_of events) 0)) refl ok
+    where
+      by : (fault : Option (ℕ × PlaceFault)) → history_fault events ≡ fault → (known : Bool) (result : Result (ReplayResult S) Fault)
+          → replay_after program [] [] events (start program (workflow_of events) 0) ≡ result
           → and_then (replay_placed fault (replay_known known result)) (λ left. Ok (with_machines (machines_of events) left)) ≡ Ok left
-          → Whole
+          → Whole events left
       by None placed true (Ok now) is ok =
           let e : with_machines (machines_of events) now ≡ left = cc in
-          let done : Done [] [] events (start (program table) (workflow_of events) 0) now = done_after events [] [] (start (program table) (workflow_of events) 0) now is in (
-            done.issued,
-            done.has,
-            done.list,
-            done.told,
-            begun_once events (starts_once events placed) done.list done.told,
-            done.plain ∙ sym (course_commands table (initial table) done.list),
-            ap (λ (r : Replayed RowsState). r.state) (sym e) ∙ done.state,
-          )
+          let done : Done [] [] events (start program (workflow_of events) 0) now = done_after events [] [] (start program (workflow_of events) 0) now is in
+          record {
+            issued = done.issued;
+            has = done.has;
+            list = done.list;
+            told = done.told;
+            starts = begun_once events (starts_once events placed) done.list done.told;
+            plain = done.plain;
+            state = ap (λ (r : Replayed S). r.state) (sym e) ∙ done.state;
+          }
       by None placed true (Err fault) is ok = cc
       by None placed false result is ok = cc
       by (Some fault) placed known result is ok = cc
 
   -- where replay accepts a history, its events are in place
-  in_place : (events : List Event) (left : Replayed RowsState) → replay (program table) events 0 ≡ Ok left
-      → history_fault events ≡ None
+  in_place : (events : List Event) (left : Replayed S) → replay program events 0 ≡ Ok left → history_fault events ≡ None
   unfolding replay_tasks
   in_place events left ok =
-      by (history_fault events) refl ((program table).knows (workflow_of events))
-      (replay_after (program table) [] [] events (start (program table) (workflow_of events) 0)) ok
+      by (history_fault events) refl (program.knows (workflow_of events))
+      (replay_after program [] [] events (start program (workflow_of events) 0)) ok
     where
-      by : (fault : Option (ℕ × PlaceFault)) → history_fault events ≡ fault → (known : Bool) (result : Result (ReplayResult RowsState) Fault)
+      by : (fault : Option (ℕ × PlaceFault)) → history_fault events ≡ fault → (known : Bool) (result : Result (ReplayResult S) Fault)
           → and_then (replay_placed fault (replay_known known result)) (λ left. Ok (with_machines (machines_of events) left)) ≡ Ok left
           → history_fault events ≡ None
       by None placed known result ok = placed
       by (Some fault) placed known result ok = cc
 
-  -- what a table promises holds of the jobs of a run
-  all_kept : (promises : List Promise) → PromisesAll table promises → (list : List Job) → begins list ≡ true
-      → KeptAllIn promises (course table (initial table) list)
-  all_kept [] kept list begun = tt
-  all_kept (promise ∷ rest) kept list begun = (kept.0 list begun, all_kept rest kept.1 list begun)
+  -- so its jobs begin with the start of its first event
+  pub told_starts : (events : List Event) (left : Replayed S) → replay program events 0 ≡ Ok left
+      → (list : List Job) → Told [] [] events list → BeginsWith (workflow_of events) (input_of events) list
+  told_starts events left ok list told = begun_once events (starts_once events (in_place events left ok)) list told
 
-  -- so of the jobs of a history
+module _ (table : Definition) (lawful : IsLawful (program table)) where
+  -- the time is given nothing
+  time_gives : TimeGivesNothing (program table)
+  time_gives state (jobs.Time time) is = ap (λ row. row_gives row state (jobs.Time time)) (no_row_at table.rows state time)
+  time_gives state _ is = cc
+
+  left_same : (state : RowsState) (list : List Job) → left_by (program table) state list ≡ after_all table state list
+  left_same state [] = refl
+  left_same state (job ∷ later) = left_same (after table state job) later
+
+  -- the commands of a course are those that the jobs are given
+  pub course_commands : (state : RowsState) (list : List Job)
+      → commands_in (course table state list) ≡ given_by (program table) state list
+  course_commands state [] = refl
+  course_commands state (job ∷ later) =
+      gave_first (gives table state job) (course table (after table state job) later)
+      ∙ ap (λ l. gives table state job ++ l) (course_commands (after table state job) later)
+
+  pub histories_are_courses : HistoriesAreCourses table
+  histories_are_courses events left ok =
+      let all : Whole (program table) lawful time_gives events left = whole (program table) lawful time_gives events left ok in (
+        all.issued,
+        all.has,
+        all.list,
+        all.told,
+        begins_by (workflow_of events) (input_of events) all.list all.starts,
+        all.plain ∙ sym (course_commands (initial table) all.list),
+        all.state ∙ left_same (initial table) all.list,
+      )
+
+  -- what a table promises holds of the jobs of a history
   pub histories_keep : (promises : List Promise) → PromisesAll table promises → HistoriesKeep table promises
   histories_keep promises kept events left ok list told =
-      all_kept promises kept list (begun_once events (starts_once events (in_place events left ok)) list told)
+      all_kept table promises kept list
+      (begins_by (workflow_of events) (input_of events) list (told_starts (program table) lawful time_gives events left ok list told))

@@ -1,4 +1,4 @@
-mod Stepped
-mod Started
-mod Kept
+pub mod Stepped
+pub mod Started
+pub mod Kept
 mod Runs

@@ -17,7 +17,8 @@ use Rattle.wh_workflow.specs.declared.job.Job.TheVariants as jobs
 use Rattle.wh_workflow.specs.Jobs.{start_job, signal_job, outside_job, jobs_by, jobs_of}
 use Rattle.wh_rows.specs.Rows.{is_start as starts_run}
 use Rattle.wh_promises.specs.Courses.{goes_on, begins}
-use Rattle.wh_promises_kept.specs.Kept.{all_versions, Interleaved, no_jobs, next_job}
+use Rattle.wh_replay.specs.Replays.{workflow_kind}
+use Rattle.wh_promises_kept.specs.Kept.{all_versions, Interleaved, no_jobs, next_job, input_in}
 
 -- none of the events begins a run
 abbrev pub no_starts : List Event → Bool
@@ -128,10 +129,10 @@ no_start_job (kinds.WorkflowExecutionStarted workflow input) is = cc
 no_start_job _ is = refl
 
 -- the job of an event that begins a run
-one_start_job : (kind : EventKind) → is_start_class (class_of kind) ≡ true
-    → (workflow : List ℕ) × (input : List Payload) × (start_job kind ≡ jobs.Start workflow input ∷ [])
-one_start_job (kinds.WorkflowExecutionStarted workflow input) is = (workflow, input, refl)
-one_start_job _ is = cc
+start_is : (kind : EventKind) → is_start_class (class_of kind) ≡ true
+    → start_job kind ≡ jobs.Start (workflow_kind kind) (input_in kind) ∷ []
+start_is (kinds.WorkflowExecutionStarted workflow input) is = refl
+start_is _ is = cc
 
 no_start_jobs : (events : List Event) → no_starts events ≡ true → jobs_by start_job events ≡ []
 no_start_jobs [] none = refl
@@ -165,27 +166,40 @@ interleaved_goes given list (next_job job versions rest behind are quiet later) 
     and_from (not (starts_run job)) (goes_on (versions ++ behind)) parts.0
     (goes_append versions behind (versions_go versions are) (interleaved_goes rest behind later parts.1))
 
+-- jobs begin with this start, with nothing but the time before it, and then none starts a run
+pub data BeginsWith (workflow : List ℕ) (input : List Payload) : List Job → Type 0 where
+  not_begun : BeginsWith workflow input []
+  with_start : (later : List Job) → goes_on later ≡ true → BeginsWith workflow input (jobs.Start workflow input ∷ later)
+  with_time : (time : ℤ) (later : List Job) → BeginsWith workflow input later → BeginsWith workflow input (jobs.Time time ∷ later)
+
+pub begins_by : (workflow : List ℕ) (input : List Payload) (list : List Job) → BeginsWith workflow input list → begins list ≡ true
+begins_by workflow input list not_begun = refl
+begins_by workflow input list (with_start later on) = on
+begins_by workflow input list (with_time time later next) = begins_by workflow input later next
+
 -- behind a start, with nothing but the time before it
 starts_then : (workflow : List ℕ) (input : List Payload) (rest list later : List Job)
-    → Interleaved (jobs.Start workflow input ∷ rest) list → goes_on rest ≡ true → goes_on later ≡ true → begins (list ++ later) ≡ true
+    → Interleaved (jobs.Start workflow input ∷ rest) list → goes_on rest ≡ true → goes_on later ≡ true
+    → BeginsWith workflow input (list ++ later)
 starts_then workflow input rest list later (next_job job versions left behind are quiet next) go on =
-    goes_append (versions ++ behind) later
-    (goes_append versions behind (versions_go versions are) (interleaved_goes rest behind next go)) on
+    with_start ((versions ++ behind) ++ later)
+    (goes_append (versions ++ behind) later
+    (goes_append versions behind (versions_go versions are) (interleaved_goes rest behind next go)) on)
 
 begins_then : (time : ℤ) (workflow : List ℕ) (input : List Payload) (rest list later : List Job)
     → Interleaved (jobs.Time time ∷ jobs.Start workflow input ∷ rest) list → goes_on rest ≡ true → goes_on later ≡ true
-    → begins (list ++ later) ≡ true
+    → BeginsWith workflow input (list ++ later)
 begins_then time workflow input rest list later (next_job job versions left behind are quiet next) go on =
-    subst (λ versions. begins ((jobs.Time time ∷ (versions ++ behind)) ++ later) ≡ true) (sym (quiet refl))
-    (starts_then workflow input rest behind later next go on)
+    subst (λ versions. BeginsWith workflow input ((jobs.Time time ∷ (versions ++ behind)) ++ later)) (sym (quiet refl))
+    (with_time time (behind ++ later) (starts_then workflow input rest behind later next go on))
 
--- where the first event between the cuts begins the run, and no other does, the jobs of the cut begin with one start
+-- where the first event between the cuts begins the run, and no other does, the jobs of the cut begin with its start
 pub cut_begins : (seen : List Event) (first : Event) (between : List Event) (cut : Event) (list later : List Job)
     → is_start first ≡ true → no_starts between ≡ true → Interleaved (jobs_of seen (first ∷ between) cut) list
-    → goes_on later ≡ true → begins (list ++ later) ≡ true
+    → goes_on later ≡ true → BeginsWith (workflow_kind first.body) (input_in first.body) (list ++ later)
 cut_begins seen first between cut list later starts none told on =
-    let start = one_start_job first.body starts in
-    let alone : jobs_of seen (first ∷ between) cut ≡ jobs.Time cut.time ∷ jobs.Start start.0 start.1 ∷ others seen (first ∷ between) =
-    rw (start.2, no_start_jobs between none) refl in
-    begins_then cut.time start.0 start.1 (others seen (first ∷ between)) list later
+    let alone : jobs_of seen (first ∷ between) cut
+    ≡ jobs.Time cut.time ∷ jobs.Start (workflow_kind first.body) (input_in first.body) ∷ others seen (first ∷ between) =
+    rw (start_is first.body starts, no_start_jobs between none) refl in
+    begins_then cut.time (workflow_kind first.body) (input_in first.body) (others seen (first ∷ between)) list later
     (subst (λ given. Interleaved given list) alone told) (others_go seen (first ∷ between)) on

@@ -1,4 +1,4 @@
--- An activation steps a table by its jobs, with versions behind some, and issues what these are given.
+-- An activation steps a program by its jobs, with versions behind some, and issues what these are given.
 use Rattle.std.proofs.Common.{◌≡◌, ℕ, zero, suc, Bool, true, false, not, cond, ◌&&◌, List, [], ◌∷◌, ◌++◌, Option, Some, None, Result, Ok, Err, ℤ, refl, ap, sym, subst, ◌∙◌, append_assoc}
 use Rattle.std.proofs.lemmas.List.{append-nil}
 use Rattle.std.proofs.lemmas.Bool.{and_parts, and_from, not-true}
@@ -7,16 +7,10 @@ use Rattle.wh_workflow.specs.declared.job.Job.TheVariants as jobs
 use Rattle.wh_workflow.specs.declared.command.Command.{Command}
 use Rattle.wh_workflow.specs.declared.fault.WorkflowFault.{WorkflowFault}
 use Rattle.wh_workflow.specs.Counting.{ticked}
-use Rattle.wh_workflow.specs.Law.{IsLawful, records_none, is_marker}
+use Rattle.wh_workflow.specs.Law.{Program, IsLawful, records_none, is_marker}
 use Rattle.wh_workflow.specs.Scripts.{ActivationContext, Choice, choice_of, command_fault}
 use Rattle.wh_workflow.specs.Activations.{and_then, follow, unless_fault, Script, Question, question_of, marker_if, Reply, reply, issue_all, Progress, Turn, turn, settle, room, activate}
 use Rattle.wh_workflow.specs.ActivationScripts.{is_version}
-use Rattle.wh_rows.specs.declared.row.RowsState.{RowsState}
-use Rattle.wh_rows.specs.Tables.{Definition}
-use Rattle.wh_rows.specs.Rows.{program, gives, after, row_gives}
-use Rattle.wh_rows.specs.Laws.{after_all}
-use Rattle.wh_rows.specs.Properties.{given_to_all}
-use Rattle.wh_promises.proofs.Sound.{no_row_at}
 use Rattle.wh_promises_kept.specs.Kept.{without_markers, all_versions, is_time, Interleaved, no_jobs, next_job}
 
 pub plain_append : (xs ys : List Command) → without_markers (xs ++ ys) ≡ without_markers xs ++ without_markers ys
@@ -61,47 +55,56 @@ abbrev IsVersion : Option Job → Type 0
 IsVersion None = Unit {0}
 IsVersion (Some job) = is_version job ≡ true
 
-pub after_append : (table : Definition) (state : RowsState) (first second : List Job)
-    → after_all table state (first ++ second) ≡ after_all table (after_all table state first) second
-after_append table state [] second = refl
-after_append table state (job ∷ rest) second = after_append table (after table state job) rest second
+-- what jobs leave, one after another
+abbrev pub left_by : {S : Type 0} → Program S → S → List Job → S
+left_by program state [] = state
+left_by program state (job ∷ later) = left_by program (program.after state job) later
 
-pub given_append : (table : Definition) (state : RowsState) (first second : List Job)
-    → given_to_all table state (first ++ second) ≡ given_to_all table state first ++ given_to_all table (after_all table state first) second
-given_append table state [] second = refl
-given_append table state (job ∷ rest) second =
-    ap (λ l. gives table state job ++ l) (given_append table (after table state job) rest second)
-    ∙ sym (append_assoc (gives table state job) (given_to_all table (after table state job) rest)
-    (given_to_all table (after_all table (after table state job) rest) second))
+-- all commands that they are given
+abbrev pub given_by : {S : Type 0} → Program S → S → List Job → List Command
+given_by program state [] = []
+given_by program state (job ∷ later) = program.gives state job ++ given_by program (program.after state job) later
+
+pub left_append : {S : Type 0} → (program : Program S) (state : S) (first second : List Job)
+    → left_by program state (first ++ second) ≡ left_by program (left_by program state first) second
+left_append program state [] second = refl
+left_append program state (job ∷ rest) second = left_append program (program.after state job) rest second
+
+pub given_append : {S : Type 0} → (program : Program S) (state : S) (first second : List Job)
+    → given_by program state (first ++ second) ≡ given_by program state first ++ given_by program (left_by program state first) second
+given_append program state [] second = refl
+given_append program state (job ∷ rest) second =
+    ap (λ l. program.gives state job ++ l) (given_append program (program.after state job) rest second)
+    ∙ sym (append_assoc (program.gives state job) (given_by program (program.after state job) rest)
+    (given_by program (left_by program (program.after state job) rest) second))
 
 -- the time is given nothing
-time_gives : (table : Definition) (state : RowsState) (job : Job) → is_time job ≡ true → gives table state job ≡ []
-time_gives table state (jobs.Time time) is = ap (λ row. row_gives row state (jobs.Time time)) (no_row_at table.rows state time)
-time_gives table state _ is = cc
+abbrev pub TimeGivesNothing : {S : Type 0} → Program S → Type 0
+TimeGivesNothing {S} program = (state : S) (job : Job) → is_time job ≡ true → program.gives state job ≡ []
 
-module _ (table : Definition) (lawful : IsLawful (program table)) (context : ActivationContext) where
-  -- from one progress to another a table is stepped by these jobs
-  pub record Steps (first last : Progress RowsState) (list : List Job) : Type 0 where
-    pub state : last.state ≡ after_all table first.state list
-    pub issued : without_markers last.script.issued ≡ without_markers first.script.issued ++ given_to_all table first.state list
+module _ {S : Type 0} (program : Program S) (lawful : IsLawful program) (still : TimeGivesNothing program) (context : ActivationContext) where
+  -- from one progress to another a program is stepped by these jobs
+  pub record Steps (first last : Progress S) (list : List Job) : Type 0 where
+    pub state : last.state ≡ left_by program first.state list
+    pub issued : without_markers last.script.issued ≡ without_markers first.script.issued ++ given_by program first.state list
 
   -- one turn
-  record Turned (job : Job) (first : Progress RowsState) (last : Turn RowsState) : Type 0 where
-    state : last.progress.state ≡ after table first.state job
-    issued : without_markers last.progress.script.issued ≡ without_markers first.script.issued ++ gives table first.state job
+  record Turned (job : Job) (first : Progress S) (last : Turn S) : Type 0 where
+    state : last.progress.state ≡ program.after first.state job
+    issued : without_markers last.progress.script.issued ≡ without_markers first.script.issued ++ program.gives first.state job
     next : IsVersion last.next
-    quiet : gives table first.state job ≡ [] → last.next ≡ None
+    quiet : program.gives first.state job ≡ [] → last.next ≡ None
 
-  turn_does : (job : Job) (first : Progress RowsState) (last : Turn RowsState)
-      → turn (program table) context job first ≡ Ok last → Turned job first last
+  turn_does : (job : Job) (first : Progress S) (last : Turn S)
+      → turn program context job first ≡ Ok last → Turned job first last
   turn_does job first last ok = by (issue_all context first.script commands) refl ok
     where
       commands : List Command
-      commands = gives table first.state job
+      commands = program.gives first.state job
 
-      made : Reply → Turn RowsState
+      made : Reply → Turn S
       made answer = record {
-        progress = record { state = after table first.state job; script = answer.script; meter = ticked first.meter };
+        progress = record { state = program.after first.state job; script = answer.script; meter = ticked first.meter };
         next = answer.next;
       }
 
@@ -151,24 +154,24 @@ module _ (table : Definition) (lawful : IsLawful (program table)) (context : Act
       by (Err fault) is ok = cc
 
   -- a job, and the versions that it leads to
-  record Settled (job : Job) (first last : Progress RowsState) : Type 0 where
+  record Settled (job : Job) (first last : Progress S) : Type 0 where
     versions : List Job
     are : all_versions versions ≡ true
-    quiet : gives table first.state job ≡ [] → versions ≡ []
+    quiet : program.gives first.state job ≡ [] → versions ≡ []
     steps : Steps first last (job ∷ versions)
 
-  settle_does : (fuel : ℕ) (job : Job) (first last : Progress RowsState)
-      → settle (program table) context fuel job first ≡ Ok last → Settled job first last
+  settle_does : (fuel : ℕ) (job : Job) (first last : Progress S)
+      → settle program context fuel job first ≡ Ok last → Settled job first last
   unfolding settle
   settle_does zero job first last ok = cc
   settle_does (suc fuel) job first last ok =
-      by (turn (program table) context job first) refl ok (λ version now ok. settle_does fuel version now last ok)
+      by (turn program context job first) refl ok (λ version now ok. settle_does fuel version now last ok)
     where
       Later : Type 0
-      Later = (version : Job) (now : Progress RowsState) → settle (program table) context fuel version now ≡ Ok last → Settled version now last
+      Later = (version : Job) (now : Progress S) → settle program context fuel version now ≡ Ok last → Settled version now last
 
-      by_next : (found : Turn RowsState) → Turned job first found → (next : Option Job) → found.next ≡ next
-          → follow next (Ok found.progress) (λ version. settle (program table) context fuel version found.progress) ≡ Ok last
+      by_next : (found : Turn S) → Turned job first found → (next : Option Job) → found.next ≡ next
+          → follow next (Ok found.progress) (λ version. settle program context fuel version found.progress) ≡ Ok last
           → Later → Settled job first last
       by_next found turned None is ok later =
           let e : found.progress ≡ last = cc in record {
@@ -177,7 +180,7 @@ module _ (table : Definition) (lawful : IsLawful (program table)) (context : Act
             quiet = λ none. refl;
             steps = subst (λ last. Steps first last (job ∷ [])) e (record {
               state = turned.state;
-              issued = turned.issued ∙ ap (λ l. without_markers first.script.issued ++ l) (sym (append-nil (gives table first.state job)));
+              issued = turned.issued ∙ ap (λ l. without_markers first.script.issued ++ l) (sym (append-nil (program.gives first.state job)));
             });
           }
       by_next found turned (Some version) is ok later =
@@ -186,33 +189,33 @@ module _ (table : Definition) (lawful : IsLawful (program table)) (context : Act
             are = and_from (is_version version) (all_versions behind.versions) (subst IsVersion is turned.next) behind.are;
             quiet = λ none. absurd (no_next (sym is ∙ turned.quiet none));
             steps = record {
-              state = behind.steps.state ∙ ap (λ state. after_all table state (version ∷ behind.versions)) turned.state;
+              state = behind.steps.state ∙ ap (λ state. left_by program state (version ∷ behind.versions)) turned.state;
               issued =
                   behind.steps.issued
-                  ∙ ap (λ l. l ++ given_to_all table found.progress.state (version ∷ behind.versions)) turned.issued
-                  ∙ append_assoc (without_markers first.script.issued) (gives table first.state job)
-                  (given_to_all table found.progress.state (version ∷ behind.versions))
-                  ∙ ap (λ state. without_markers first.script.issued ++ (gives table first.state job ++ given_to_all table state (version ∷ behind.versions))) turned.state;
+                  ∙ ap (λ l. l ++ given_by program found.progress.state (version ∷ behind.versions)) turned.issued
+                  ∙ append_assoc (without_markers first.script.issued) (program.gives first.state job)
+                  (given_by program found.progress.state (version ∷ behind.versions))
+                  ∙ ap (λ state. without_markers first.script.issued ++ (program.gives first.state job ++ given_by program state (version ∷ behind.versions))) turned.state;
             };
           }
         where
           no_next : ◌≡◌ {A = Option Job} (Some version) None → ⊥
           no_next e = cc
 
-      by : (result : Result (Turn RowsState) WorkflowFault) → turn (program table) context job first ≡ result
-          → and_then result (λ next. follow next.next (Ok next.progress) (λ version. settle (program table) context fuel version next.progress)) ≡ Ok last
+      by : (result : Result (Turn S) WorkflowFault) → turn program context job first ≡ result
+          → and_then result (λ next. follow next.next (Ok next.progress) (λ version. settle program context fuel version next.progress)) ≡ Ok last
           → Later → Settled job first last
       by (Ok found) is ok later = by_next found (turn_does job first found is) found.next refl ok later
       by (Err fault) is ok later = cc
 
   -- an activation
-  pub record Activated (given : List Job) (first last : Progress RowsState) : Type 0 where
+  pub record Activated (given : List Job) (first last : Progress S) : Type 0 where
     pub list : List Job
     pub are : Interleaved given list
     pub steps : Steps first last list
 
-  pub activate_does : (given : List Job) (first last : Progress RowsState)
-      → activate (program table) context given first ≡ Ok last → Activated given first last
+  pub activate_does : (given : List Job) (first last : Progress S)
+      → activate program context given first ≡ Ok last → Activated given first last
   activate_does [] first last ok =
       let e : first ≡ last = cc in record {
         list = [];
@@ -220,27 +223,27 @@ module _ (table : Definition) (lawful : IsLawful (program table)) (context : Act
         steps = subst (λ last. Steps first last []) e (record { state = refl; issued = sym (append-nil (without_markers first.script.issued)) });
       }
   activate_does (job ∷ rest) first last ok =
-      by (settle (program table) context (room first) job first) refl ok (λ now ok. activate_does rest now last ok)
+      by (settle program context (room first) job first) refl ok (λ now ok. activate_does rest now last ok)
     where
-      by : (result : Result (Progress RowsState) WorkflowFault) → settle (program table) context (room first) job first ≡ result
-          → and_then result (activate (program table) context rest) ≡ Ok last
-          → ((now : Progress RowsState) → activate (program table) context rest now ≡ Ok last → Activated rest now last)
+      by : (result : Result (Progress S) WorkflowFault) → settle program context (room first) job first ≡ result
+          → and_then result (activate program context rest) ≡ Ok last
+          → ((now : Progress S) → activate program context rest now ≡ Ok last → Activated rest now last)
           → Activated (job ∷ rest) first last
       by (Ok now) is ok later =
           let here : Settled job first now = settle_does (room first) job first now is in
           let behind : Activated rest now last = later now ok in record {
             list = job ∷ (here.versions ++ behind.list);
-            are = next_job job here.versions rest behind.list here.are (λ time. here.quiet (time_gives table first.state job time)) behind.are;
+            are = next_job job here.versions rest behind.list here.are (λ time. here.quiet (still first.state job time)) behind.are;
             steps = record {
               state =
-                  behind.steps.state ∙ ap (λ state. after_all table state behind.list) here.steps.state
-                  ∙ sym (after_append table first.state (job ∷ here.versions) behind.list);
+                  behind.steps.state ∙ ap (λ state. left_by program state behind.list) here.steps.state
+                  ∙ sym (left_append program first.state (job ∷ here.versions) behind.list);
               issued =
                   behind.steps.issued
-                  ∙ ap (λ l. l ++ given_to_all table now.state behind.list) here.steps.issued
-                  ∙ append_assoc (without_markers first.script.issued) (given_to_all table first.state (job ∷ here.versions)) (given_to_all table now.state behind.list)
-                  ∙ ap (λ state. without_markers first.script.issued ++ (given_to_all table first.state (job ∷ here.versions) ++ given_to_all table state behind.list)) here.steps.state
-                  ∙ ap (λ l. without_markers first.script.issued ++ l) (sym (given_append table first.state (job ∷ here.versions) behind.list));
+                  ∙ ap (λ l. l ++ given_by program now.state behind.list) here.steps.issued
+                  ∙ append_assoc (without_markers first.script.issued) (given_by program first.state (job ∷ here.versions)) (given_by program now.state behind.list)
+                  ∙ ap (λ state. without_markers first.script.issued ++ (given_by program first.state (job ∷ here.versions) ++ given_by program state behind.list)) here.steps.state
+                  ∙ ap (λ l. without_markers first.script.issued ++ l) (sym (given_append program first.state (job ∷ here.versions) behind.list));
             };
           }
       by (Err fault) is ok later = cc

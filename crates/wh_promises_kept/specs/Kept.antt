@@ -1,6 +1,9 @@
 -- A history that replay accepts is that of a run: its jobs make a course that keeps each promise and has its commands.
 use Rattle.std.specs.Prelude.{◌≡◌, Bool, true, false, ◌&&◌, cond, List, [], ◌∷◌, ◌++◌, Ok, IsTrue}
 use Rattle.wh_events.specs.declared.event.Event.{Event}
+use Rattle.wh_events.specs.declared.event.Payload.{Payload}
+use Rattle.wh_events.specs.declared.kind.EventKind.{EventKind}
+use Rattle.wh_events.specs.declared.kind.EventKind.TheVariants.{WorkflowExecutionStarted}
 use Rattle.wh_events.specs.Cuts.{is_cut}
 use Rattle.wh_workflow.specs.declared.job.Job.{Job}
 use Rattle.wh_workflow.specs.declared.job.Job.TheVariants as jobs
@@ -75,6 +78,16 @@ pub data Told : List Event → List Event → List Event → List Job → Type 0
       → Interleaved (jobs_of (before ++ event ∷ []) between event) here
       → Told (before ++ event ∷ []) [] rest list
       → Told before between (event ∷ rest) (here ++ list)
+
+-- the input that an event starts a run with
+abbrev pub input_in : EventKind → List Payload
+input_in (WorkflowExecutionStarted _ input) = input
+input_in _ = []
+
+-- the input that a history starts its run with
+abbrev pub input_of : List Event → List Payload
+input_of [] = []
+input_of (event ∷ _) = input_in event.body
 
 -- where replay accepts a history, the jobs of its tasks, with versions behind some of them, begin with one start; the
 -- commands that its activations issue, but for the markers of versions, are those that a run is given at these jobs;

@@ -44,5 +44,5 @@ module _ {S : Type 0} where
   -- the record of the file, and what the query gives at its history
   pub record IsQueried (program : Program S) (queries : Queries S) (file : File) (query : Query)
       (queried : Queried) : Type 0 where
-    pub own : IsRecordOf program file queried.own
+    pub own : IsRecordOf false program file queried.own
     pub given : queried.given ≡ file_result program queries file.1.items query

@@ -74,6 +74,6 @@ pub fn query_file<W: Queryable>(
     ensures { IfOk result (IsQueried W.program W.queries file query.now) }
 {
     let given = query_bytes::<W>(alloc, file.1.as_slice(), query)?;
-    let own = record_of::<W>(alloc, file);
+    let own = record_of::<W>(alloc, false, file);
     Ok(Queried { own, given })
 }

@@ -7,7 +7,6 @@ use Rattle.wh_explain.specs.Explaining.{unknown_in}
 use Rattle.wh_fault_details.specs.Details.{has_detail}
 use Rattle.wh_file_faults.specs.Faults.{File, IsCauseIn, IsCauseOf, IsNotJson, IsUnreadCause}
 use Rattle.wh_file_faults.specs.declared.file_faults.Cause.{Cause}
-use Rattle.wh_file_faults.specs.declared.file_faults.Cause.TheVariants.{NotJson, NoCode}
 use Rattle.wh_file_faults.proofs.Faults.{json_cause}
 use Rattle.wh_file_faults.proofs.Unread.{no_json_read, unread_within}
 use Rattle.wh_json.specs.Events.{history, longest}
@@ -19,7 +18,7 @@ use Rattle.wh_replay.specs.declared.fault.Fault.{Fault}
 use Rattle.wh_tester.proofs.Reading.{read_within}
 use Rattle.wh_tester.specs.Verdicts.{IsVerdict, judged, read_and_judged, verdict_on}
 use Rattle.wh_tester.specs.declared.line.Verdict.{Verdict}
-use Rattle.wh_tester.specs.declared.line.Verdict.TheVariants.{Faulty, Good, OutOfMemory, Unreadable}
+use Rattle.wh_tester.specs.declared.line.Verdict.TheVariants.{Faulty, OutOfMemory, Unreadable}
 use Rattle.wh_workflow.specs.Law.{Program}
 use Rattle.wh_report.specs.declared.records.Record.{Record}
 use Rattle.wh_report.specs.Records.{IsRecordOf}
@@ -94,8 +93,8 @@ detail_is_within program bytes (Faulty fault) own has = replayed_within program 
 detail_is_within program bytes verdict own has = absurd (cc)
 
 -- the record of a file for which there was no memory
-pub no_memory_is : {S : Type 0} (program : Program S) (file : File) (own : Record) → own.line ≡ record { name = string_bytes file.0; verdict = OutOfMemory } → own.cause ≡ None → length file.1.items ≤ longest → IsRecordOf program file own
-no_memory_is program file own line none within =
+pub no_memory_is : {S : Type 0} (strict : Bool) (program : Program S) (file : File) (own : Record) → own.line ≡ record { name = string_bytes file.0; verdict = OutOfMemory } → own.cause ≡ None → length file.1.items ≤ longest → IsRecordOf strict program file own
+no_memory_is strict program file own line none within =
     let ends : own.line.verdict ≡ OutOfMemory = ap (λ l. l.verdict) line in
     record {
       line = record {
@@ -110,4 +109,5 @@ no_memory_is program file own line none within =
       cause = λ known. absurd (known ends);
       detail = λ known. absurd (known ends);
       difference = λ known. absurd (known ends);
+      warnings = λ known. absurd (known ends);
     }

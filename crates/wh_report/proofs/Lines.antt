@@ -1,5 +1,5 @@
 -- The lines of records.
-use Rattle.std.proofs.Common.{◌≡◌, ◌∙◌, ℕ, ◌+◌, Bool, cond, List, [], ◌∷◌, ◌++◌, ap, map, sym, codes, append_assoc}
+use Rattle.std.proofs.Common.{◌≡◌, ◌∙◌, ℕ, ◌+◌, Bool, cond, List, ◌∷◌, ◌++◌, ap, map, sym, codes, append_assoc, append-nil}
 use Rattle.std.specs.Prelude.{count_by, length}
 use Rattle.std.specs.List.{flat_map, list_all}
 use Rattle.std.proofs.lemmas.Grind.{flat_map-append}
@@ -12,7 +12,9 @@ use Rattle.wh_report.specs.declared.records.Record.{Record}
 use Rattle.wh_fault_details.specs.Texts.{detail_members}
 use Rattle.wh_explain_report.proofs.Lines.{open_and_closed as closed}
 use Rattle.wh_explain_report.specs.Json.{difference_members}
-use Rattle.wh_report.specs.Reports.{cause_members, json_record, lines_of, members_after}
+use Rattle.wh_values.specs.Texts.{value_object}
+use Rattle.wh_values.specs.declared.comparing.OtherValue.{OtherValue}
+use Rattle.wh_report.specs.Reports.{cause_members, json_record, lines_of, members_after, object_after, warning_members}
 
 -- how many values pass, of what is made of others
 pub count_by_map : {A B : Type 0} (p : B → Bool) (f : A → B) (xs : List A) → count_by p (map f xs) ≡ count_by (λ x. p (f x)) xs
@@ -26,17 +28,33 @@ all_of_map p f xs = list_all-map p f xs
 both_follow : (first second : List (List ℕ)) → following first ++ following second ≡ following (first ++ second)
 both_follow first second = sym (flat_map-append (λ member. codes "," ++ member) first second)
 
--- the members of a record are written in three parts
-pub open_and_closed : (own : Record) → open_line own.line ++ (following (cause_members own.cause) ++ (following (detail_members own.detail) ++ (following (difference_members own.difference) ++ codes "}\n"))) ≡ json_record own
-open_and_closed own =
+-- the member of warnings is written one part after another
+pub warnings_written : (first : OtherValue) (others : List OtherValue) → ((codes ",\"warnings\":[" ++ value_object first) ++ flat_map object_after others) ++ codes "]" ≡ following (warning_members (first ∷ others))
+warnings_written first others =
+    let rest = flat_map object_after others in
+    let own = codes "\"warnings\":[" ++ (value_object first ++ (rest ++ codes "]")) in
+    append_assoc (codes ",\"warnings\":[" ++ value_object first) rest (codes "]")
+    ∙ append_assoc (codes ",\"warnings\":[") (value_object first) (rest ++ codes "]")
+    ∙ sym (append-nil (codes "," ++ own))
+
+-- the members of a record are written one part after another
+pub members_written : (own : Record) → (following (cause_members own.cause) ++ (following (detail_members own.detail) ++ following (difference_members own.difference))) ++ following (warning_members own.warnings) ≡ following (members_after own)
+members_written own =
     let first = cause_members own.cause in
     let second = detail_members own.detail in
     let third = difference_members own.difference in
-    ap (λ l. open_line own.line ++ (following first ++ l))
-    (sym (append_assoc (following second) (following third) (codes "}\n")) ∙ ap (λ l. l ++ codes "}\n") (both_follow second third))
-    ∙ ap (λ l. open_line own.line ++ l)
-    (sym (append_assoc (following first) (following (second ++ third)) (codes "}\n")) ∙ ap (λ l. l ++ codes "}\n") (both_follow first (second ++ third)))
-    ∙ closed own.line (members_after own)
+    let fourth = warning_members own.warnings in
+    append_assoc (following first) (following second ++ following third) (following fourth)
+    ∙ ap (λ l. following first ++ l)
+    (append_assoc (following second) (following third) (following fourth)
+    ∙ ap (λ l. following second ++ l) (both_follow third fourth)
+    ∙ both_follow second (third ++ fourth))
+    ∙ both_follow first (second ++ (third ++ fourth))
+
+-- the object of a record is closed after them
+pub object_written : (own : Record) → (open_line own.line ++ following (members_after own)) ++ codes "}\n" ≡ json_record own
+object_written own =
+    append_assoc (open_line own.line) (following (members_after own)) (codes "}\n") ∙ closed own.line (members_after own)
 
 -- the texts of the lines, and then the totals
 pub text_of_lines : (records : List Record) (good : ℕ) → good ≡ good_count (lines_of records) → flat_map (λ own. line_text own.line) records ++ totals_line (length records) good ≡ report (lines_of records)

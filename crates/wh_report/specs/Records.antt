@@ -1,33 +1,43 @@
 -- The records of files.
-use Rattle.std.specs.Prelude.{◌≡◌, ◌≢◌, List, IfSome}
+use Rattle.std.specs.Prelude.{◌≡◌, ◌≢◌, ℕ, Bool, true, false, List, [], IfSome}
 use Rattle.std.specs.List.{AllZip}
 use Rattle.wh_workflow.specs.Law.{Program}
+use Rattle.wh_tester.specs.declared.line.Verdict.{Verdict}
 use Rattle.wh_tester.specs.declared.line.Verdict.TheVariants.{OutOfMemory}
 use Rattle.wh_tester.specs.Verdicts.{IsLineOf}
 use Rattle.wh_explain.specs.Differences.{IsDifferenceIn}
 use Rattle.wh_fault_details.specs.Details.{detail_of}
 use Rattle.wh_file_faults.specs.Faults.{File, IsCauseIn, IsCauseOf}
+use Rattle.wh_values.specs.Checked.{AreOtherValues}
+use Rattle.wh_values.specs.declared.comparing.OtherValue.{OtherValue}
 use Rattle.wh_report.specs.declared.records.Record.{Record}
 
--- the record of a file: its line, its cause, if it has one, what its fault leaves out, and the difference that its
--- replay stops at, if there is one; where memory ran out nothing is known of the rest but that a cause is one
-pub record IsRecordOf {S : Type 0} (program : Program S) (file : File) (own : Record) : Type 0 where
+-- the warnings of a file with this verdict: where values are strict, those that differ, and else none
+abbrev pub AreWarnings : {S : Type 0} → (strict : Bool) → Program S → (bytes : List ℕ) → Verdict → List OtherValue → Type 0
+AreWarnings true program bytes verdict warnings = AreOtherValues program bytes verdict warnings
+AreWarnings false program bytes verdict warnings = warnings ≡ []
+
+-- the record of a file: its line, its cause, if it has one, what its fault leaves out, the difference that its replay
+-- stops at, if there is one, and its warnings; where memory ran out nothing is known of the rest but that a cause is one
+pub record IsRecordOf {S : Type 0} (strict : Bool) (program : Program S) (file : File) (own : Record) : Type 0 where
   pub line : IsLineOf program file own.line
   pub known : IfSome own.cause (IsCauseOf program file.1.items)
   pub cause : own.line.verdict ≢ OutOfMemory → IsCauseIn program file.1.items own.cause
   pub detail : own.line.verdict ≢ OutOfMemory → own.detail ≡ detail_of own.line.verdict file.1.items
   pub difference : own.line.verdict ≢ OutOfMemory → IsDifferenceIn program file.1.items own.difference
+  pub warnings : own.line.verdict ≢ OutOfMemory
+      → AreWarnings strict program file.1.items own.line.verdict own.warnings
 
 -- the record of an input, which was read as a file
-pub record IsRecordOfInput {S T : Type 0} (program : Program S) (Reads : T → File → Type 0) (input : T)
+pub record IsRecordOfInput {S T : Type 0} (strict : Bool) (program : Program S) (Reads : T → File → Type 0) (input : T)
     (own : Record) : Type 0 where
   pub file : File
   pub read : Reads input file
-  pub found : IsRecordOf program file own
+  pub found : IsRecordOf strict program file own
 
 -- the records of inputs, in their order, each of which was read as a file
-pub record AreRecordsOf {S T : Type 0} (program : Program S) (Reads : T → File → Type 0) (inputs : List T)
-    (records : List Record) : Type 0 where
+pub record AreRecordsOf {S T : Type 0} (strict : Bool) (program : Program S) (Reads : T → File → Type 0)
+    (inputs : List T) (records : List Record) : Type 0 where
   pub files : List File
   pub read : AllZip Reads inputs files
-  pub found : AllZip (IsRecordOf program) files records
+  pub found : AllZip (IsRecordOf strict program) files records

@@ -1,6 +1,6 @@
 -- The report of records, and the status that it gives.
-use Rattle.std.specs.Prelude.{ℕ, List, [], ◌∷◌, ◌++◌, map, codes, decimal, Option, Some, None, if◌then◌else◌}
-use Rattle.std.specs.List.{flat_map}
+use Rattle.std.specs.Prelude.{ℕ, List, [], ◌∷◌, ◌++◌, map, codes, decimal, Bool, true, false, Option, Some, None, if◌then◌else◌}
+use Rattle.std.specs.List.{flat_map, list_any}
 use Rattle.wh_tester.specs.Json.{json_totals, plain_member, text_member}
 use Rattle.wh_tester.specs.Report.{all_good, report, shown}
 use Rattle.wh_tester.specs.declared.line.Line.{Line}
@@ -11,6 +11,8 @@ use Rattle.wh_file_faults.specs.declared.file_faults.Cause.TheVariants.{NotJson,
 use Rattle.wh_file_faults.specs.declared.file_faults.FileFault.{FileFault}
 use Rattle.wh_console.specs.declared.format.Format.{Format}
 use Rattle.wh_console.specs.declared.format.Format.TheVariants.{Text, Json}
+use Rattle.wh_values.specs.Texts.{value_object}
+use Rattle.wh_values.specs.declared.comparing.OtherValue.{OtherValue}
 use Rattle.wh_report.specs.declared.records.Record.{Record}
 
 -- the members of a cause: `"line":LINE` and `"column":COLUMN` of a file that is no JSON, or `"workflowType":"TYPE"`
@@ -20,10 +22,21 @@ cause_members (Some (NotJson position mark)) =
     plain_member (codes "line") (decimal position.line) ∷ plain_member (codes "column") (decimal position.column) ∷ []
 cause_members (Some (NoCode kind)) = text_member (codes "workflowType") (shown kind) ∷ []
 
+-- the object of a value that differs, after others
+abbrev pub object_after : OtherValue → List ℕ
+object_after value = codes "," ++ value_object value
+
+-- the member of warnings: `"warnings":[WARNING,..]`, where there are any
+abbrev pub warning_members : List OtherValue → List (List ℕ)
+warning_members [] = []
+warning_members (first ∷ others) =
+    (codes "\"warnings\":[" ++ (value_object first ++ (flat_map object_after others ++ codes "]"))) ∷ []
+
 -- what the object of a file has after the text of its fault
 abbrev pub members_after : Record → List (List ℕ)
 members_after own =
-    cause_members own.cause ++ (detail_members own.detail ++ difference_members own.difference)
+    cause_members own.cause ++ (detail_members own.detail
+    ++ (difference_members own.difference ++ warning_members own.warnings))
 
 -- the line of a file as JSON
 abbrev pub json_record : Record → List ℕ
@@ -41,6 +54,16 @@ report_as Text records = report (lines_of records)
 -- 0 where each file is good, and else 1
 abbrev pub status_of : List Line → ℕ
 status_of lines = if all_good lines then 0 else 1
+
+-- values of a file differ
+abbrev pub some_value : List OtherValue → Bool
+some_value [] = false
+some_value (first ∷ others) = true
+
+-- 1 where a file is not good, and else 3 where values of one differ, and 0 where none do
+abbrev pub records_status : List Record → ℕ
+records_status records =
+    if all_good (lines_of records) then (if list_any (λ own. some_value own.warnings) records then 3 else 0) else 1
 
 -- why a file is named beside the report, if it is
 abbrev pub fault_of : Record → Option Cause → List FileFault

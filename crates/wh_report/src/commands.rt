@@ -1,11 +1,11 @@
 //! The commands `replay` and `explain` over files that are there already.
 
-ghost use Rattle.std.specs.Prelude.{◌≡◌, Err, IfOk, List, Ok, string_bytes};
+ghost use Rattle.std.specs.Prelude.{◌≡◌, Err, IfOk, List, Ok, false, string_bytes};
 ghost use Rattle.std.specs.List.{AllZip};
 ghost use Rattle.std.specs.Io.KnownBytes.{Appends};
 ghost use Rattle.wh_report.specs.Commands.{IsExplained};
 ghost use Rattle.wh_report.specs.Records.{IsRecordOf};
-ghost use Rattle.wh_report.specs.Reports.{lines_of, report_as, status_of};
+ghost use Rattle.wh_report.specs.Reports.{records_status, report_as};
 ghost use Rattle.wh_report.specs.declared.records.Record.{Record as RecordView};
 
 use crate::explained::explain_file;
@@ -30,15 +30,16 @@ pub fn replay_command<W: Workflow + Send, R: Threads + Sync, O: Write>(
     writer: &mut O,
 ) -> Result<u8, CommandFault>
     ensures reported { IfOk result (λ status. (records : List RecordView)
-        × AllZip (IsRecordOf W.program) files.items records
+        × AllZip (IsRecordOf false W.program) files.items records
         × Appends (O.contents writer.old) (O.contents writer.new) (report_as format records)
-        × (status ≡ status_of (lines_of records))) }
+        × (status ≡ records_status records)) }
     ensures unwritten { result ≡ Err CommandFault.OutOfMemory → writer.new ≡ writer.old }
 {
     let Ok(records) = check_all::<W, _, _, _>(
         rt,
         alloc,
         files,
+        false,
         |file: (String, Vec<u8>)| -> Result<(String, Vec<u8>), InputFault>
             ensures { IfOk result (λ own. own ≡ file) }
         { Ok(file) },

@@ -5,19 +5,21 @@ ghost use Rattle.wh_fault_details.specs.Details.{detail_of};
 ghost use Rattle.wh_file_faults.specs.Faults.{IsCauseIn, IsCauseOf};
 ghost use Rattle.wh_file_faults.specs.Made.{IsFaultIn};
 ghost use Rattle.wh_json.specs.Events.{history, longest};
+ghost use Rattle.wh_explain.specs.Differences.{IsDifferenceIn};
 ghost use Rattle.wh_explain.specs.Explaining.{unknown_in};
-ghost use Rattle.wh_report.specs.Records.{AreRecordsOf, IsRecordOf, IsRecordOfInput};
+ghost use Rattle.wh_report.specs.Records.{AreRecordsOf, AreWarnings, IsRecordOf, IsRecordOfInput};
 ghost use Rattle.wh_tester.specs.Verdicts.{IsVerdict};
 
 use rayon::prelude::*;
 use std::alloc::Global;
 use std::thread::Threads;
-use wh_events::{OutOfMemory, Text};
+use wh_events::{Items, OutOfMemory, Text};
 use wh_explain::{Finding, Pairing, check_file};
 use wh_fault_details::{FaultDetail, detail_of};
 use wh_file_faults::{Cause, unread_cause};
 use wh_files::InputFault;
 use wh_tester::{Line, Verdict};
+use wh_values::{OtherValue, check_values};
 use wh_workflow::Workflow;
 
 /// What came of a history file.
@@ -32,6 +34,8 @@ pub struct Record {
     pub detail: Option<FaultDetail>,
     /// What is sent and what is recorded, where the replay stops since they differ.
     pub difference: Option<Pairing>,
+    /// The values that differ from what is recorded, where these are asked for and the file is good.
+    pub warnings: Items<OtherValue>,
 }
 
 /// Why a file with this verdict and these bytes is named beside the report: there is no code for a
@@ -83,8 +87,27 @@ fn notes_of<W: Workflow>(
     }
 }
 
+/// What the replay of a file finds, and its warnings: where values are strict, those that differ from
+/// what is recorded, and else none. It is parsed once and its history is replayed once.
+fn found_in<W: Workflow>(alloc: Global, strict: bool, bytes: &[u8]) -> (Finding, Vec<OtherValue>)
+    ensures verdict { IsVerdict W.program bytes.now result.0.verdict }
+    ensures unknown { result.0.verdict ≢ Verdict.OutOfMemory
+        → result.0.unknown ≡ unknown_in W.program (history bytes.now) }
+    ensures named { IfSome result.0.unknown (λ kind. unknown_in W.program (history bytes.now) ≡ Some kind) }
+    ensures difference { result.0.verdict ≢ Verdict.OutOfMemory
+        → IsDifferenceIn W.program bytes.now result.0.difference }
+    ensures warnings { result.0.verdict ≢ Verdict.OutOfMemory
+        → AreWarnings strict W.program bytes.now result.0.verdict result.1.items }
+{
+    if strict {
+        check_values::<W>(alloc, bytes)
+    } else {
+        (check_file::<W>(alloc, bytes), Vec::new(alloc))
+    }
+}
+
 /// The record of a file for which there was no memory.
-fn no_memory(name: Text) -> Record
+fn no_memory(alloc: Global, name: Text) -> Record
     ensures line { result.line ≡ record { name = name; verdict = Verdict.OutOfMemory } }
     ensures cause { result.cause ≡ None }
 {
@@ -96,21 +119,24 @@ fn no_memory(name: Text) -> Record
         cause: None,
         detail: None,
         difference: None,
+        warnings: Items::new(Vec::new(alloc)),
     }
 }
 
-/// The record of a file, whose bytes are kept no longer. Its verdict is `OutOfMemory` also where there
-/// was no memory to read the bytes once more for what stands beside a fault.
+/// The record of a file, whose bytes are kept no longer, with warnings where values are strict. Its
+/// verdict is `OutOfMemory` also where there was no memory to read the bytes once more for what
+/// stands beside a fault.
 #[tactic(auto, using(crate::proofs::Causes::no_memory_is))]
-pub fn record_of<W: Workflow>(alloc: Global, file: (String, Vec<u8>)) -> Record
-    ensures { IsRecordOf W.program file result }
+pub fn record_of<W: Workflow>(alloc: Global, strict: bool, file: (String, Vec<u8>)) -> Record
+    ensures { IsRecordOf strict W.program file result }
 {
     let (name, bytes) = file;
+    let (finding, warnings) = found_in::<W>(alloc, strict, bytes.as_slice());
     let Finding {
         verdict,
         unknown,
         difference,
-    } = check_file::<W>(alloc, bytes.as_slice());
+    } = finding;
     let notes = notes_of::<W>(alloc, unknown, &verdict, bytes.as_slice());
     let name = Text::new(name);
     match notes {
@@ -119,15 +145,16 @@ pub fn record_of<W: Workflow>(alloc: Global, file: (String, Vec<u8>)) -> Record
             cause,
             detail,
             difference,
+            warnings: Items::new(warnings),
         },
-        Err(OutOfMemory) => no_memory(name),
+        Err(OutOfMemory) => no_memory(alloc, name),
     }
 }
 
 /// Replays inputs with the code of `W`, and gives their records in their order, whichever is done
-/// first. `read` gives the name and the bytes of an input. Each is read in the thread that replays
-/// it: so the bytes of no more files are there at once than there are threads. `rayon` spreads the
-/// inputs over threads, down to one each.
+/// first, with warnings where values are strict. `read` gives the name and the bytes of an input.
+/// Each is read in the thread that replays it: so the bytes of no more files are there at once than
+/// there are threads. `rayon` spreads the inputs over threads, down to one each.
 ///
 /// Out of memory within a file's replay is that file's verdict. The fault is that of an input that
 /// can't be read, as `read` gives it, or `InputFault::OutOfMemory` where there is no memory for the
@@ -137,10 +164,10 @@ pub fn check_all<
     R: Threads + Sync,
     T: Send + Drop,
     F: Fn(T) -> Result<(String, Vec<u8>), InputFault> + Copy + Send + Sync,
->(rt: &R, alloc: Global, inputs: Vec<T>, read: F) -> Result<Vec<Record>, InputFault>
+>(rt: &R, alloc: Global, inputs: Vec<T>, strict: bool, read: F) -> Result<Vec<Record>, InputFault>
     requires { F.IsAlwaysCallable read }
     ensures records { IfOk result (λ records.
-        AreRecordsOf W.program (λ input file. F.post read input (Ok file)) inputs.items records.items) }
+        AreRecordsOf strict W.program (λ input file. F.post read input (Ok file)) inputs.items records.items) }
     ensures fault { IfErr result (IsFaultIn (λ input fault. F.post read input (Err fault)) inputs.items) }
 {
     let Ok(records) = inputs
@@ -150,11 +177,11 @@ pub fn check_all<
             |input: T| -> Result<Record, InputFault>
                 requires { F.IsAlwaysCallable read }
                 ensures { MatchResult result
-                    (IsRecordOfInput W.program (λ input file. F.post read input (Ok file)) input)
+                    (IsRecordOfInput strict W.program (λ input file. F.post read input (Ok file)) input)
                     (λ fault. F.post read input (Err fault)) }
             {
                 let file = read(input)?;
-                Ok(record_of::<W>(alloc, file))
+                Ok(record_of::<W>(alloc, strict, file))
             },
         )
         .collect::<Result<Vec<Record>, InputFault>>(rt, alloc)

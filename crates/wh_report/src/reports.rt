@@ -1,12 +1,16 @@
 //! The report of records, as text or as JSON.
 
-ghost use Rattle.std.specs.Prelude.{◌≡◌, ◌≢◌, ◌++◌, ◌∷◌, [], Err, IfOk, OnOk, Some};
-ghost use Rattle.std.specs.List.{flat_map, list_all};
+ghost use Rattle.std.specs.Prelude.{◌≡◌, ◌≢◌, ◌++◌, ◌∷◌, [], Err, IfOk, OnOk, Some, codes};
+ghost use Rattle.std.specs.List.{flat_map, list_all, list_any};
 ghost use Rattle.std.specs.Io.KnownBytes.{Appends};
+ghost use Rattle.wh_explain_report.specs.Json.{difference_members};
+ghost use Rattle.wh_fault_details.specs.Texts.{detail_members};
 ghost use Rattle.wh_tester.specs.Json.{following};
+ghost use Rattle.wh_values.specs.Texts.{value_object};
 ghost use Rattle.wh_tester.specs.Report.{all_good, good_count, is_good, line_text};
-ghost use Rattle.wh_report.specs.Reports.{cause_members, json_record, lines_of};
-ghost use Rattle.wh_report.specs.Reports.{report_as, status_of};
+ghost use Rattle.wh_report.specs.Reports.{cause_members, json_record, lines_of, members_after};
+ghost use Rattle.wh_report.specs.Reports.{object_after};
+ghost use Rattle.wh_report.specs.Reports.{records_status, report_as, some_value, status_of, warning_members};
 
 use crate::records::Record;
 use std::io::Write;
@@ -18,6 +22,7 @@ use wh_file_faults::{Cause, CommandFault, Position};
 use wh_tester::{
     EscapedName, Line, is_good, write_json_totals, write_line, write_open_json_line, write_totals,
 };
+use wh_values::{OtherValue, OtherValueObject};
 
 /// The members of a cause, each after another one.
 #[derive(Drop)]
@@ -65,12 +70,33 @@ fn are_good(records: &[Record]) -> bool
     records.iter().all(|own| is_good_file(own))
 }
 
-/// The status of a report: 0 where each file is good, and else 1.
+/// Whether values of a file differ.
+fn has_warnings(own: &Record) -> bool
+    ensures { result ≡ some_value own.now.warnings }
+{
+    !own.warnings.get().is_empty()
+}
+
+/// Whether values of files differ.
+fn have_warnings(records: &[Record]) -> bool
+    ensures { result ≡ list_any (λ own. some_value own.warnings) records.now }
+{
+    records.iter().any(|own| has_warnings(own))
+}
+
+/// The status of a report: 1 where a file is not good, and else 3 where values of one differ, and 0
+/// where none do.
 #[tactic(auto, using(crate::proofs::Lines::all_of_map))]
 pub fn status_of(records: &[Record]) -> u8
-    ensures { result ≡ status_of (lines_of records.now) }
+    ensures { result ≡ records_status records.now }
 {
-    if are_good(records) { 0 } else { 1 }
+    if !are_good(records) {
+        1
+    } else if have_warnings(records) {
+        3
+    } else {
+        0
+    }
 }
 
 /// The status of the report of one file with this line.
@@ -91,17 +117,85 @@ fn write_lines<O: Write>(records: &[Record], writer: &mut O) -> io::Result<()>
     Ok(())
 }
 
+/// Writes the object of a value that differs, after others.
+fn write_object_after<O: Write>(value: &OtherValue, writer: &mut O) -> io::Result<()>
+    ensures { OnOk result (Appends (O.contents writer.old) (O.contents writer.new) (object_after value.now)) }
+{
+    let value = OtherValueObject(value);
+    write!(writer, ",{value}")
+}
+
+/// Writes the objects of values that differ, each after others.
+fn write_after<O: Write>(values: &[OtherValue], writer: &mut O) -> io::Result<()>
+    ensures { OnOk result (Appends (O.contents writer.old) (O.contents writer.new) (flat_map object_after values.now)) }
+{
+    for value in values {
+        write_object_after(value, writer)?;
+    }
+    Ok(())
+}
+
+/// Writes the beginning of the member of the values that differ, with the first of them.
+fn write_first<O: Write>(first: &OtherValue, writer: &mut O) -> io::Result<()>
+    ensures { let text = codes ",\"warnings\":[" ++ value_object first.now in
+        OnOk result (Appends (O.contents writer.old) (O.contents writer.new) text) }
+{
+    let first = OtherValueObject(first);
+    write!(writer, ",\"warnings\":[{first}")
+}
+
+/// Writes the member of the values that differ, the first of them and the others.
+fn write_some<O: Write>(first: &OtherValue, others: &[OtherValue], writer: &mut O) -> io::Result<()>
+    ensures { OnOk result
+        (Appends (O.contents writer.old) (O.contents writer.new) (following (warning_members (first.now ∷ others.now)))) }
+{
+    write_first(first, writer)?;
+    write_after(others, writer)?;
+    write!(writer, "]")
+}
+
+/// Writes the member of the values that differ, if some do.
+fn write_warnings<O: Write>(values: &[OtherValue], writer: &mut O) -> io::Result<()>
+    ensures { OnOk result
+        (Appends (O.contents writer.old) (O.contents writer.new) (following (warning_members values.now))) }
+{
+    match values {
+        [] => Ok(()),
+        [first, others @ ..] => write_some(first, others, writer),
+    }
+}
+
+/// Writes the members of a file that stand after the text of its fault, but for its warnings.
+fn write_notes<O: Write>(own: &Record, writer: &mut O) -> io::Result<()>
+    ensures { let cause = following (cause_members own.now.cause) in
+        let detail = following (detail_members own.now.detail) in
+        let difference = following (difference_members own.now.difference) in
+        OnOk result (Appends (O.contents writer.old) (O.contents writer.new) (cause ++ (detail ++ difference))) }
+{
+    let cause = CauseMembers(&own.cause);
+    let detail = DetailMembers(own.detail.as_ref());
+    let difference = DifferenceMembers(own.difference.as_ref());
+    write!(writer, "{cause}{detail}{difference}")
+}
+
+/// Writes the members of a file that stand after the text of its fault.
+fn write_members<O: Write>(own: &Record, writer: &mut O) -> io::Result<()>
+    ensures { OnOk result
+        (Appends (O.contents writer.old) (O.contents writer.new) (following (members_after own.now))) }
+{
+    write_notes(own, writer)?;
+    write_warnings(own.warnings.get(), writer)
+}
+
 /// Writes the object of a file, as the report as JSON has it. After an error some of it may have been
 /// written.
-#[tactic(auto, using(crate::proofs::Lines::open_and_closed))]
+#[tactic(auto, using(crate::proofs::Lines::object_written))]
 pub fn write_json_record<O: Write>(own: &Record, writer: &mut O) -> io::Result<()>
     ensures { OnOk result (Appends (O.contents writer.old) (O.contents writer.new) (json_record own.now)) }
 {
     write_open_json_line(&own.line, writer)?;
-    let cause = CauseMembers(&own.cause);
-    let detail = DetailMembers(own.detail.as_ref());
-    let difference = DifferenceMembers(own.difference.as_ref());
-    write!(writer, "{cause}{detail}{difference}}}\n")
+    write_members(own, writer)?;
+    write!(writer, "}}\n")
 }
 
 /// Writes the objects of files.
@@ -119,7 +213,8 @@ fn write_objects<O: Write>(records: &[Record], writer: &mut O) -> io::Result<()>
 /// `wh_tester::write_json_line` writes it, and that of the totals with `files` and `ok`. The object of
 /// a file has after the text of its fault: `line` and `column`, where it is no JSON; `workflowType`,
 /// where there is no code for that; what its fault leaves out, as `wh_fault_details::DetailMembers`
-/// writes it; and what is sent and what is recorded, where they differ. Each
+/// writes it; what is sent and what is recorded, where they differ; and `warnings`, the list of its
+/// values that differ, each with `event`, `kind`, `sent` and `recorded`, where there are some. Each
 /// line goes to the writer as it is made. After an error some of the report may have been written.
 pub fn write_report<O: Write>(records: &[Record], format: Format, writer: &mut O) -> io::Result<()>
     ensures { OnOk result (Appends (O.contents writer.old) (O.contents writer.new) (report_as format records.now)) }
@@ -138,7 +233,8 @@ pub fn write_report<O: Write>(records: &[Record], format: Format, writer: &mut O
     }
 }
 
-/// Writes the report of records, and gives its status: 0 where each file is good, and else 1.
+/// Writes the report of records, and gives its status: 1 where a file is not good, and else 3 where
+/// values of one differ, and 0 where none do.
 pub fn report<O: Write>(
     records: &[Record],
     format: Format,
@@ -146,7 +242,7 @@ pub fn report<O: Write>(
 ) -> Result<u8, CommandFault>
     ensures written { OnOk result
         (Appends (O.contents writer.old) (O.contents writer.new) (report_as format records.now)) }
-    ensures status { IfOk result (λ status. status ≡ status_of (lines_of records.now)) }
+    ensures status { IfOk result (λ status. status ≡ records_status records.now) }
     ensures output { result ≢ Err CommandFault.OutOfMemory }
 {
     let Ok(()) = write_report(records, format, writer) else {

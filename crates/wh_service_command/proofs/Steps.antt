@@ -35,30 +35,32 @@ served_kept Reads program hosts config inputs old mid new end h kept = record {
 }
 
 -- inputs were served, and then the rest was reported
-pub served_all : {S : Type 0} (gives : Gives) (program : Program S) (hosts : HostsBy) (config sizes : Config) (inputs : List Input) (lacks : Bool) (old first new : ConsoleView) (end : ServiceEnd) (result : Result ℕ Failure)
+pub served_all : {S : Type 0} (gives : Gives) (program : Program S) (types : List ℕ) (hosts : HostsBy) (config sizes : Config) (inputs : List Input) (lacks : Bool) (old first new : ConsoleView) (end : ServiceEnd) (result : Result ℕ Failure)
     → config ≡ sizes
     → IsQuiet old first
     → IsServiceEndOver (IsReadAs gives) program hosts config inputs old.output first.output end
-    → IfOk result (HasEnded end lacks first new)
-    → IfOk result (HasServedAll gives program hosts sizes inputs lacks old new)
-served_all gives program hosts config sizes inputs lacks old first new end (Ok status) same quiet report ended = record {
+    → IfOk result (HasEnded types end lacks first new)
+    → IfOk result (HasServedAll gives program types hosts sizes inputs lacks old new)
+served_all gives program types hosts config sizes inputs lacks old first new end (Ok status) same quiet report ended = record {
   end = end;
   between = ended.between;
+  ended = ended.ended;
   quiet = quiet_twice old first ended.between quiet ended.quiet;
   served = subst (λ c. IsServiceEndOver (IsReadAs gives) program hosts c inputs old.output ended.between.output end) same
       (served_kept (IsReadAs gives) program hosts config inputs old.output first.output ended.between.output end report ended.kept);
   reported = ended.reported;
+  known = ended.known;
   ends = ended.ends;
 }
-served_all gives program hosts config sizes inputs lacks old first new end (Err failure) same quiet report ended = tt
+served_all gives program types hosts config sizes inputs lacks old first new end (Err failure) same quiet report ended = tt
 
 -- the files of a folder were served by a host that runs the program
-pub served_folder : {S : Type 0} (program : Program S) (dir : List ℕ) (config : Config) (required left_out lacks : Bool) (inputs : List Input) (old between new : ConsoleView) (answer : Result ℕ Failure)
+pub served_folder : {S : Type 0} (program : Program S) (types dir : List ℕ) (config : Config) (required left_out lacks : Bool) (inputs : List Input) (old between new : ConsoleView) (answer : Result ℕ Failure)
     → IsListed false dir inputs left_out old between
     → lacks ≡ lacks_files left_out required inputs
-    → IfOk answer (HasServedAll IsReadFrom program (by_closure (IsHosted program)) config inputs lacks between new)
-    → IfOk answer (HasServedFolder program dir config required old new)
-served_folder program dir config required left_out lacks inputs old between new (Ok status) listed same h =
+    → IfOk answer (HasServedAll IsReadFrom program types (by_closure (IsHosted program)) config inputs lacks between new)
+    → IfOk answer (HasServedFolder program types dir config required old new)
+served_folder program types dir config required left_out lacks inputs old between new (Ok status) listed same h =
     record {
       inputs = inputs;
       left_out = left_out;
@@ -67,6 +69,7 @@ served_folder program dir config required left_out lacks inputs old between new 
       served = record {
         end = h.end;
         between = h.between;
+        ended = h.ended;
         quiet = h.quiet;
         served = record {
           files = h.served.files;
@@ -75,7 +78,8 @@ served_folder program dir config required left_out lacks inputs old between new 
           faults = h.served.faults;
         };
         reported = h.reported;
+        known = h.known;
         ends = subst (λ l. status ≡ status_with l h.end.status) same h.ends;
       };
     }
-served_folder program dir config required left_out lacks inputs old between new (Err failure) listed same h = tt
+served_folder program types dir config required left_out lacks inputs old between new (Err failure) listed same h = tt

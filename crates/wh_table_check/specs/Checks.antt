@@ -14,7 +14,7 @@ use Rattle.wh_table_check.specs.Warnings.{warnings}
 
 -- nothing more is found
 abbrev pub nothing : More
-nothing = record { good = true; text = []; members = [] }
+nothing = record { good = true; text = []; members = []; paths = [] }
 
 -- the faults of a text as a table
 abbrev pub faults_found : List ℕ → List Finding

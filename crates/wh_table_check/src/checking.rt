@@ -9,6 +9,15 @@ use std::alloc::Global;
 use wh_events::{Items, OutOfMemory, Text};
 use wh_table_text::{TableFault, list_faults, read_table};
 
+/// Rows that a run takes, which a picture of the table marks.
+#[derive(Drop)]
+pub struct RowPath {
+    /// What the marks tell.
+    pub text: Text,
+    /// The numbers of the rows, counted from 1, in the order in which they are taken.
+    pub rows: Items<usize>,
+}
+
 /// What else is found of a table that breaks no rule.
 #[derive(Drop)]
 pub struct More {
@@ -18,6 +27,8 @@ pub struct More {
     pub text: Text,
     /// Members of a JSON object (RFC 8259), each with a comma in front.
     pub members: Text,
+    /// Rows that a picture marks.
+    pub paths: Items<RowPath>,
 }
 
 /// What else is decided of a table that breaks no rule.
@@ -45,6 +56,7 @@ fn nothing(alloc: Global) -> Result<More, OutOfMemory>
         good: true,
         text: Text::new(String::new(alloc)),
         members: Text::new(String::new(alloc)),
+        paths: Items::new(Vec::new(alloc)),
     })
 }
 

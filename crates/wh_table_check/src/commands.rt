@@ -26,7 +26,13 @@ pub struct TableFile {
 fn good_count(files: &[Checked]) -> usize
     ensures { result ≡ good_count files.now }
 {
-    files.iter().filter(|own| is_good(own)).count()
+    let mut count = 0;
+    for own in files {
+        if is_good(own) {
+            count += 1;
+        }
+    }
+    count
 }
 
 /// Whether each table is good.

@@ -7,7 +7,7 @@ mod finding;
 mod texts;
 mod warning;
 
-pub use checking::{Checked, More, MoreFindings, NoMore, check_table};
+pub use checking::{Checked, More, MoreFindings, NoMore, RowPath, check_table};
 pub use commands::{TableFile, check_command, status_of, write_checked};
 pub use finding::Finding;
 pub use texts::{is_good, verdict_word};

@@ -44,10 +44,14 @@ abbrev pub table_rows : Result OwnedTable TableFault → List Row
 table_rows (Ok table) = table.rows
 table_rows (Err fault) = []
 
+-- the rows of the table that a text is
+abbrev pub table_lines : (bytes : List ℕ) → List Line
+table_lines bytes = lines_by (table_rows (table_of bytes)) (document_within bytes)
+
 -- what the page of the table in a file shows, beside what is found of it
 abbrev pub drawing_of : TableFile → Checked → Drawing
 drawing_of file checked = record {
   checked = checked;
   title = title_by (document_within file.bytes);
-  lines = lines_by (table_rows (table_of file.bytes)) (document_within file.bytes);
+  lines = table_lines file.bytes;
 }

@@ -1,10 +1,11 @@
 -- Where the rows of a table stand in its picture, and where they lead to.
-use Rattle.std.specs.Prelude.{ℕ, zero, suc, ◌+◌, Bool, ◌||◌, List, [], ◌∷◌, length, nat_eq, bytes_eq, codes, slice_get, Option, Some, None, if◌then◌else◌}
+use Rattle.std.specs.Prelude.{ℕ, ◌+◌, false, ◌||◌, List, [], ◌∷◌, length, nat_eq, bytes_eq, codes, slice_get, Option, Some, None, if◌then◌else◌}
 use Rattle.serde_json.specs.Data.{Data}
 use Rattle.wh_rows.specs.Tables.{Row}
 use Rattle.wh_rows.specs.Rows.{some_closes}
 use Rattle.wh_table_text.specs.Numbered.{numbered}
 use Rattle.wh_table_picture.specs.declared.layout.Line.{Line}
+use Rattle.wh_table_picture.specs.declared.layout.StateMark.TheVariants.{Unmarked}
 use Rattle.wh_table_picture.specs.Cells.{words_at}
 
 -- the place of the first row for the state, where the first of these has that place, or their end
@@ -36,6 +37,8 @@ line_of rows place row d = record {
   next = words_at 4 d;
   marks = words_at 5 d;
   way = leads_to rows row;
+  taken = false;
+  mark = Unmarked;
 }
 
 -- the row at a place, if there is one

@@ -2,13 +2,14 @@
 use Rattle.std.specs.Prelude.{ℕ, if◌then◌else◌, List, length, nat_eq, codes}
 use Rattle.wh_html.specs.Html.{Html, nothing, markup, plain, hole, ◌⊕◌, number, each}
 use Rattle.wh_table_check.specs.declared.checking.Checked.{Checked}
+use Rattle.wh_table_check.specs.declared.checking.RowPath.{RowPath}
 use Rattle.wh_table_check.specs.declared.finding.Finding.{Finding}
 use Rattle.wh_table_check.specs.Checks.{is_good}
 use Rattle.wh_table_check.specs.Texts.{verdict_word}
 use Rattle.wh_table_picture.specs.declared.drawing.Drawing.{Drawing}
 use Rattle.wh_table_picture.specs.declared.layout.Line.{Line}
-use Rattle.wh_table_picture.specs.declared.style.TheConstants.{STYLE}
-use Rattle.wh_table_picture.specs.Pictures.{picture_html}
+use Rattle.wh_table_picture.specs.declared.style.TheConstants.{STYLE_OF_PAGE, STYLE_OF_ROWS, STYLE_OF_PRINT}
+use Rattle.wh_table_picture.specs.Pictures.{legend_html, picture_html}
 
 -- how a verdict stands: that of a good table, or of another one
 abbrev pub verdict_class : Checked → List ℕ
@@ -20,7 +21,9 @@ head_html drawing =
     markup (codes "<!doctype html>\n<html lang=\"en\">\n<head>\n<meta charset=\"utf-8\">\n<meta name=\"viewport\" content=\"width=device-width, initial-scale=1\">\n<meta name=\"color-scheme\" content=\"light dark\">\n<meta http-equiv=\"Content-Security-Policy\" content=\"default-src 'none'; style-src 'unsafe-inline'\">\n<title>")
     ⊕ hole 300 drawing.checked.name
     ⊕ markup (codes "</title>\n<style>\n")
-    ⊕ markup STYLE.now
+    ⊕ markup STYLE_OF_PAGE.now
+    ⊕ markup STYLE_OF_ROWS.now
+    ⊕ markup STYLE_OF_PRINT.now
     ⊕ markup (codes "</style>\n</head>\n<body>\n")
 
 -- the name of the file, and the verdict
@@ -79,9 +82,9 @@ table_html lines =
     ⊕ each table_row_html lines
     ⊕ markup (codes "</tbody>\n</table>\n</div>\n</section>\n")
 
--- the picture and the rows, if there are some
-abbrev pub states_html : List Line → Html
-states_html lines = if nat_eq (length lines) 0 then nothing else picture_html lines ⊕ table_html lines
+-- what is marked, the picture and the rows, if there are some
+abbrev pub states_html : List RowPath → List Line → Html
+states_html paths lines = if nat_eq (length lines) 0 then nothing else legend_html paths ⊕ picture_html paths lines ⊕ table_html lines
 
 -- the page
 unfoldable pub page_html : Drawing → Html
@@ -90,5 +93,5 @@ page_html drawing =
     ⊕ items_html (codes "Faults") drawing.checked.faults
     ⊕ items_html (codes "Warnings") drawing.checked.warnings
     ⊕ more_html drawing.checked.more.text
-    ⊕ states_html drawing.lines
+    ⊕ states_html drawing.checked.more.paths drawing.lines
     ⊕ markup (codes "</main>\n</body>\n</html>\n")

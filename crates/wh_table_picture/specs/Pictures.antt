@@ -1,7 +1,11 @@
 -- The picture: the rows of a table by their states, and where each leads to.
-use Rattle.std.specs.Prelude.{ℕ, ◌+◌, ◌*◌, ◌%◌, min, Bool, if◌then◌else◌, Option, Some, None, List, length, nat_eq, codes}
+use Rattle.std.specs.Prelude.{ℕ, ◌+◌, ◌*◌, ◌%◌, min, Bool, false, ◌||◌, if◌then◌else◌, Option, Some, None, List, [], ◌∷◌, length, nat_eq, codes}
 use Rattle.wh_html.specs.Html.{Html, nothing, markup, plain, hole, ◌⊕◌, number, each}
+use Rattle.wh_table_check.specs.declared.checking.RowPath.{RowPath}
 use Rattle.wh_table_picture.specs.declared.layout.Line.{Line}
+use Rattle.wh_table_picture.specs.declared.layout.StateMark.{StateMark}
+use Rattle.wh_table_picture.specs.declared.layout.StateMark.TheVariants.{Unmarked, Passed, Last}
+use Rattle.wh_table_picture.specs.declared.style.TheConstants.{STYLE_OF_ROWS, STYLE_OF_MARKS}
 
 -- where a row begins, from above
 abbrev pub top_of : (place : ℕ) → ℕ
@@ -11,9 +15,33 @@ top_of place = 10 + 46 * min place 400
 abbrev pub lane_of : (place : ℕ) → ℕ
 lane_of place = 710 + 11 * min place 24
 
--- how the name of a state stands at a row: the first of the state, or a later one
-abbrev pub name_class : Bool → List ℕ
-name_class begins = if begins then codes "name" else codes "name again"
+-- how the name of a state stands that is marked so
+abbrev pub mark_class : StateMark → List ℕ
+mark_class Unmarked = codes "name"
+mark_class Passed = codes "name passed"
+mark_class Last = codes "name last"
+
+-- how the name of a state stands at a row: at the first of the state as it is marked, and at a later one
+abbrev pub name_class : Bool → StateMark → List ℕ
+name_class begins mark = if begins then mark_class mark else codes "name again"
+
+-- how the box of the end stands, also where that is the last
+abbrev pub end_class : Bool → List ℕ
+end_class ended = if ended then codes "end last" else codes "end"
+
+-- one of these is the row of this number
+abbrev pub has_row : List ℕ → ℕ → Bool
+has_row [] number = false
+has_row (row ∷ rows) number = nat_eq row number || has_row rows number
+
+-- one of the paths takes the row of this number
+abbrev pub is_taken : List RowPath → ℕ → Bool
+is_taken [] number = false
+is_taken (path ∷ paths) number = has_row path.rows number || is_taken paths number
+
+-- how a row stands that a path takes, or another one
+abbrev pub row_class : Bool → List ℕ
+row_class taken = if taken then codes "row taken" else codes "row"
 
 -- the conditions of a row
 abbrev pub conditions_html : List ℕ → Html
@@ -62,7 +90,7 @@ way_html place (Some target) = way_to_html place target
 abbrev pub state_html : Line → Html
 state_html line =
     markup (codes "<rect class=\"box\" x=\"10\" y=\"") ⊕ number (top_of line.place)
-    ⊕ markup (codes "\" width=\"680\" height=\"46\"/><text class=\"") ⊕ plain (name_class line.begins)
+    ⊕ markup (codes "\" width=\"680\" height=\"46\"/><text class=\"") ⊕ plain (name_class line.begins line.mark)
     ⊕ markup (codes "\" x=\"24\" y=\"") ⊕ number (top_of line.place + 20) ⊕ markup (codes "\">") ⊕ hole 20 line.state
     ⊕ markup (codes "</text>")
 
@@ -78,23 +106,61 @@ commands_html line =
     markup (codes "<text class=\"gives\" x=\"180\" y=\"") ⊕ number (top_of line.place + 37) ⊕ markup (codes "\">")
     ⊕ gives_html line.gives ⊕ marks_html line.marks ⊕ markup (codes "</text>")
 
--- a row of the picture
-abbrev pub row_html : Line → Html
-row_html line =
-    markup (codes "<g>") ⊕ state_html line ⊕ job_html line ⊕ commands_html line ⊕ edge_html line.place line.begins
+-- a row of the picture, marked where it was taken, and where a path takes it
+abbrev pub row_html : List RowPath → Line → Html
+row_html paths line =
+    markup (codes "<g class=\"") ⊕ plain (row_class (line.taken || is_taken paths line.number)) ⊕ markup (codes "\">")
+    ⊕ state_html line ⊕ job_html line ⊕ commands_html line ⊕ edge_html line.place line.begins
     ⊕ way_html line.place line.way ⊕ markup (codes "</g>\n")
 
+-- the number of a row that a path takes
+abbrev pub taken_html : ℕ → Html
+taken_html row = markup (codes " ") ⊕ number row
+
+-- a path: what it tells, and its rows
+abbrev pub path_html : RowPath → Html
+path_html path =
+    markup (codes "<li>") ⊕ hole 600 path.text ⊕ markup (codes ": rows") ⊕ each taken_html path.rows ⊕ markup (codes "</li>\n")
+
+-- what the marks tell, if there are some
+abbrev pub legend_html : List RowPath → Html
+legend_html paths =
+    if nat_eq (length paths) 0 then nothing
+    else markup (codes "<section>\n<h2>Marked</h2>\n<p>The rows of each way that breaks a promise are marked.</p>\n<ul class=\"legend\">\n")
+    ⊕ each path_html paths ⊕ markup (codes "</ul>\n</section>\n")
+
+-- the rows of a picture and the end, which may be the last
+abbrev pub drawn_html : List RowPath → List Line → (ended : Bool) → Html
+drawn_html paths lines ended =
+    each (row_html paths) lines
+    ⊕ markup (codes "<rect class=\"")
+    ⊕ plain (end_class ended)
+    ⊕ markup (codes "\" x=\"10\" y=\"")
+    ⊕ number (top_of (length lines) + 6)
+    ⊕ markup (codes "\" width=\"680\" height=\"34\"/><text class=\"name\" x=\"24\" y=\"")
+    ⊕ number (top_of (length lines) + 28)
+    ⊕ markup (codes "\">closed</text>\n</svg>\n</div>\n")
+
 -- the picture of rows
-unfoldable pub picture_html : List Line → Html
-picture_html lines =
+unfoldable pub picture_html : List RowPath → List Line → Html
+picture_html paths lines =
     markup (codes "<section>\n<h2 id=\"states\">States</h2>\n<div class=\"scroll picture\" tabindex=\"0\" role=\"region\" aria-labelledby=\"states\">\n<svg viewBox=\"0 0 1000 ")
     ⊕ number (top_of (length lines) + 54)
     ⊕ markup (codes "\" role=\"img\" aria-labelledby=\"states\" aria-describedby=\"states-words\">\n<desc id=\"states-words\">The rows of ")
     ⊕ number (length lines)
     ⊕ markup (codes " by their states, and where each leads to. The table below says the same.</desc>\n")
-    ⊕ each row_html lines
-    ⊕ markup (codes "<rect class=\"end\" x=\"10\" y=\"")
-    ⊕ number (top_of (length lines) + 6)
-    ⊕ markup (codes "\" width=\"680\" height=\"34\"/><text class=\"name\" x=\"24\" y=\"")
-    ⊕ number (top_of (length lines) + 28)
-    ⊕ markup (codes "\">closed</text>\n</svg>\n</div>\n</section>\n")
+    ⊕ drawn_html paths lines false
+    ⊕ markup (codes "</section>\n")
+
+-- the picture of rows some of which are marked, for the heading `way` of another page
+unfoldable pub marked_html : List Line → (ended : Bool) → Html
+marked_html lines ended =
+    markup (codes "<div class=\"scroll picture\" tabindex=\"0\" role=\"region\" aria-labelledby=\"way\">\n<svg class=\"marked\" viewBox=\"0 0 1000 ")
+    ⊕ number (top_of (length lines) + 54)
+    ⊕ markup (codes "\" role=\"img\" aria-labelledby=\"way\" aria-describedby=\"way-words\">\n<desc id=\"way-words\">The rows of ")
+    ⊕ number (length lines)
+    ⊕ markup (codes " by their states, and where each leads to. Those that were taken are marked, with the states that were passed.</desc>\n<style>\n")
+    ⊕ markup STYLE_OF_ROWS.now
+    ⊕ markup STYLE_OF_MARKS.now
+    ⊕ markup (codes "</style>\n")
+    ⊕ drawn_html [] lines ended

@@ -2,8 +2,7 @@
 ghost use Rattle.std.specs.Prelude.{◌≡◌, IfOk, map};
 ghost use Rattle.serde_json.specs.View.{view};
 ghost use Rattle.wh_json.specs.Events.{document_within};
-ghost use Rattle.wh_table_text.specs.Reading.{table_of};
-ghost use Rattle.wh_table_picture.specs.Drawings.{row_values, lines_by, title_by, table_rows, drawing_of};
+ghost use Rattle.wh_table_picture.specs.Drawings.{row_values, lines_by, title_by, table_lines, drawing_of};
 ghost use Rattle.wh_table_check.specs.Checks.{IsChecked};
 
 use crate::cells::title_of;
@@ -30,9 +29,9 @@ pub struct Drawing {
 
 /// The title and the rows of a table.
 #[derive(Drop)]
-struct Words {
-    title: Text,
-    lines: Vec<Line>,
+pub(crate) struct Words {
+    pub(crate) title: Text,
+    pub(crate) lines: Vec<Line>,
 }
 
 /// The list of rows of a value.
@@ -67,10 +66,10 @@ fn words_of(alloc: Global, rows: &[OwnedRow], bytes: &[u8]) -> Result<Words, Out
 }
 
 /// The title and the rows of a text that is a table, or its title.
-fn table_words(alloc: Global, bytes: &[u8]) -> Result<Words, OutOfMemory>
+pub(crate) fn table_words(alloc: Global, bytes: &[u8]) -> Result<Words, OutOfMemory>
     ensures title { IfOk result (λ own. own.title ≡ title_by (document_within bytes.now)) }
     ensures lines { IfOk result (λ own.
-        own.lines.items ≡ lines_by (table_rows (table_of bytes.now)) (document_within bytes.now)) }
+        own.lines.items ≡ table_lines bytes.now) }
 {
     match read_table(alloc, bytes) {
         Ok(table) => words_of(alloc, table.rows.get(), bytes),

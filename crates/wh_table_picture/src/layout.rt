@@ -11,6 +11,17 @@ use std::alloc::Global;
 use wh_events::{OutOfMemory, Text};
 use wh_row_rules::{OwnedRow, some_closes, text_eq};
 
+/// How a state is marked in a picture.
+#[derive(Clone, Copy)]
+pub enum StateMark {
+    /// It is not.
+    Unmarked,
+    /// It was passed.
+    Passed,
+    /// It is the last one.
+    Last,
+}
+
 /// A row of a table as its picture has it.
 #[derive(Drop)]
 pub struct Line {
@@ -35,6 +46,10 @@ pub struct Line {
     /// The place of the first row of the state that it leads to, or the number of rows where it
     /// closes the run. `None` where it stays in its state.
     pub way: Option<usize>,
+    /// Whether the row is marked as one that was taken.
+    pub taken: bool,
+    /// How its state is marked.
+    pub mark: StateMark,
 }
 
 /// The place of the first row for the state, or the number of rows where there is none.
@@ -93,6 +108,8 @@ fn line_of(
         next: text_at(alloc, value, 4)?,
         marks: text_at(alloc, value, 5)?,
         way: leads_to(rows, row),
+        taken: false,
+        mark: StateMark::Unmarked,
     })
 }
 

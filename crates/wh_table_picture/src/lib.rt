@@ -5,11 +5,15 @@ mod cells;
 mod commands;
 mod drawing;
 mod layout;
+mod legend;
+mod marks;
 mod page;
 mod picture;
 mod style;
 
 pub use commands::picture_command;
 pub use drawing::{Drawing, drawing_of};
-pub use layout::Line;
+pub use layout::{Line, StateMark};
+pub use marks::{Marks, marked_table};
 pub use page::write_page;
+pub use picture::MarkedPicture;

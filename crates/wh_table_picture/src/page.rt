@@ -8,13 +8,14 @@ ghost use Rattle.wh_table_picture.specs.Pages.{items_html, more_html, states_htm
 
 use crate::drawing::Drawing;
 use crate::layout::Line;
+use crate::legend::Legend;
 use crate::picture::Picture;
-use crate::style::STYLE;
+use crate::style::{STYLE_OF_PAGE, STYLE_OF_PRINT, STYLE_OF_ROWS};
 use std::io::Write;
 use std::{fmt, io};
 use wh_events::Text;
 use wh_html::Escaped;
-use wh_table_check::{Checked, Finding, is_good, verdict_word};
+use wh_table_check::{Checked, Finding, RowPath, is_good, verdict_word};
 
 /// The most characters of a name that a page shows.
 const NAME: usize = 300;
@@ -44,7 +45,7 @@ impl fmt::Display for Head<'_> {
         };
         write!(
             f,
-            "<!doctype html>\n<html lang=\"en\">\n<head>\n<meta charset=\"utf-8\">\n<meta name=\"viewport\" content=\"width=device-width, initial-scale=1\">\n<meta name=\"color-scheme\" content=\"light dark\">\n<meta http-equiv=\"Content-Security-Policy\" content=\"default-src 'none'; style-src 'unsafe-inline'\">\n<title>{name}</title>\n<style>\n{STYLE}</style>\n</head>\n<body>\n"
+            "<!doctype html>\n<html lang=\"en\">\n<head>\n<meta charset=\"utf-8\">\n<meta name=\"viewport\" content=\"width=device-width, initial-scale=1\">\n<meta name=\"color-scheme\" content=\"light dark\">\n<meta http-equiv=\"Content-Security-Policy\" content=\"default-src 'none'; style-src 'unsafe-inline'\">\n<title>{name}</title>\n<style>\n{STYLE_OF_PAGE}{STYLE_OF_ROWS}{STYLE_OF_PRINT}</style>\n</head>\n<body>\n"
         )
     }
 }
@@ -246,26 +247,34 @@ impl fmt::Display for Table<'_> {
     }
 }
 
-/// The picture and the rows, if there are some.
+/// What is marked, the picture and the rows, if there are some.
 #[derive(Drop)]
-struct States<'a>(&'a [Line]);
+struct States<'a> {
+    paths: &'a [RowPath],
+    lines: &'a [Line],
+}
 
 impl fmt::Display for States<'_> {
-    ghost output = { λ own. Some (bytes (states_html own.0.now)) };
+    ghost output = { λ own. Some (bytes (states_html own.paths.now own.lines.now)) };
 
     fn fmt<W: fmt::Write>(&self, f: &mut fmt::Formatter<W>) -> fmt::Result {
-        if self.0.is_empty() {
+        if self.lines.is_empty() {
             return Ok(());
         }
-        let picture = Picture(self.0);
-        let table = Table(self.0);
-        write!(f, "{picture}{table}")
+        let legend = Legend(self.paths);
+        let picture = Picture {
+            paths: self.paths,
+            lines: self.lines,
+        };
+        let table = Table(self.lines);
+        write!(f, "{legend}{picture}{table}")
     }
 }
 
 /// Writes the page of a table as one HTML file: the verdict, its faults and warnings, a picture of
-/// its states (inline SVG, no script), and its rows as a table. Whatever the table holds stands
-/// there as text. After an error some of it may have been written.
+/// its states (inline SVG, no script), in which the rows of each way that breaks a promise are
+/// marked, and its rows as a table. Whatever the table holds stands there as text. After an error
+/// some of it may have been written.
 #[tactic(auto, unfolding(crate::specs::Pages::page_html))]
 pub fn write_page<W: Write>(drawing: &Drawing, writer: &mut W) -> io::Result<()>
     ensures { OnOk result (Appends (W.contents writer.old) (W.contents writer.new) (bytes (page_html drawing.now))) }
@@ -280,7 +289,10 @@ pub fn write_page<W: Write>(drawing: &Drawing, writer: &mut W) -> io::Result<()>
         list: drawing.checked.warnings.get(),
     };
     let more = MorePart(&drawing.checked.more.text);
-    let states = States(drawing.lines.get());
+    let states = States {
+        paths: drawing.checked.more.paths.get(),
+        lines: drawing.lines.get(),
+    };
     write!(
         writer,
         "{front}{faults}{warnings}{more}{states}</main>\n</body>\n</html>\n"

@@ -2,13 +2,16 @@
 ghost use Rattle.std.specs.Prelude.{◌≡◌, Some};
 ghost use Rattle.wh_html.specs.Html.{bytes, each};
 ghost use Rattle.wh_table_picture.specs.Pictures.{top_of, lane_of, name_class, conditions_html, gives_html, marks_html, edge_html};
+ghost use Rattle.wh_table_picture.specs.Pictures.{has_row, is_taken, row_class};
 ghost use Rattle.wh_table_picture.specs.Pictures.{tip_html, way_to_html, way_html, state_html, job_html, commands_html};
-ghost use Rattle.wh_table_picture.specs.Pictures.{row_html, picture_html};
+ghost use Rattle.wh_table_picture.specs.Pictures.{mark_class, end_class, row_html, drawn_html, picture_html, marked_html};
 
-use crate::layout::Line;
+use crate::layout::{Line, StateMark};
+use crate::style::{STYLE_OF_MARKS, STYLE_OF_ROWS};
 use std::fmt;
 use wh_events::Text;
 use wh_html::Escaped;
+use wh_table_check::RowPath;
 
 /// Where a row begins, from above.
 fn top_of(place: usize) -> u64
@@ -24,11 +27,65 @@ fn lane_of(place: usize) -> u64
     710 + 11 * (place.min(24) as u64)
 }
 
-/// How the name of a state stands at a row: the first of the state, or a later one.
-fn name_class(begins: bool) -> &'static str
-    ensures { result.now ≡ name_class begins }
+/// How the name of a state stands that is marked so.
+fn mark_class(mark: StateMark) -> &'static str
+    ensures { result.now ≡ mark_class mark }
 {
-    if begins { "name" } else { "name again" }
+    match mark {
+        StateMark::Unmarked => "name",
+        StateMark::Passed => "name passed",
+        StateMark::Last => "name last",
+    }
+}
+
+/// How the name of a state stands at a row: at the first of the state as it is marked, and at a
+/// later one.
+fn name_class(begins: bool, mark: StateMark) -> &'static str
+    ensures { result.now ≡ name_class begins mark }
+{
+    if begins {
+        mark_class(mark)
+    } else {
+        "name again"
+    }
+}
+
+/// How the box of the end stands, also where that is the last.
+fn end_class(ended: bool) -> &'static str
+    ensures { result.now ≡ end_class ended }
+{
+    if ended { "end last" } else { "end" }
+}
+
+/// Whether one of these is the row of this number.
+fn has_row(rows: &[usize], number: usize) -> bool
+    ensures { result ≡ has_row rows.now number }
+{
+    for row in rows {
+        if *row == number {
+            return true;
+        }
+    }
+    false
+}
+
+/// Whether one of the paths takes the row of this number.
+fn is_taken(paths: &[RowPath], number: usize) -> bool
+    ensures { result ≡ is_taken paths.now number }
+{
+    for path in paths {
+        if has_row(path.rows.get(), number) {
+            return true;
+        }
+    }
+    false
+}
+
+/// How a row stands that a path takes, or another one.
+fn row_class(taken: bool) -> &'static str
+    ensures { result.now ≡ row_class taken }
+{
+    if taken { "row taken" } else { "row" }
 }
 
 /// The conditions of a row, if it has some.
@@ -185,7 +242,7 @@ impl fmt::Display for StateName<'_> {
     fn fmt<W: fmt::Write>(&self, f: &mut fmt::Formatter<W>) -> fmt::Result {
         let top = top_of(self.0.place);
         let middle = top_of(self.0.place) + 20;
-        let class = name_class(self.0.begins);
+        let class = name_class(self.0.begins, self.0.mark);
         let state = Escaped {
             text: &self.0.state,
             most: 20,
@@ -236,62 +293,135 @@ impl fmt::Display for CommandWords<'_> {
     }
 }
 
-/// A row of the picture.
+/// A row of the picture, marked where a path takes it.
 #[derive(Drop)]
-struct RowPart<'a>(&'a Line);
+struct RowPart<'a> {
+    paths: &'a [RowPath],
+    line: &'a Line,
+}
 
 impl fmt::Display for RowPart<'_> {
-    ghost output = { λ own. Some (bytes (row_html own.0.now)) };
+    ghost output = { λ own. Some (bytes (row_html own.paths.now own.line.now)) };
 
     fn fmt<W: fmt::Write>(&self, f: &mut fmt::Formatter<W>) -> fmt::Result {
-        let state = StateName(self.0);
-        let job = JobWords(self.0);
-        let commands = CommandWords(self.0);
+        let class = row_class(self.line.taken || is_taken(self.paths, self.line.number));
+        let state = StateName(self.line);
+        let job = JobWords(self.line);
+        let commands = CommandWords(self.line);
         let edge = Edge {
-            place: self.0.place,
-            begins: self.0.begins,
+            place: self.line.place,
+            begins: self.line.begins,
         };
         let way = WayPart {
-            place: self.0.place,
-            target: self.0.way,
+            place: self.line.place,
+            target: self.line.way,
         };
-        write!(f, "<g>{state}{job}{commands}{edge}{way}</g>\n")
+        write!(
+            f,
+            "<g class=\"{class}\">{state}{job}{commands}{edge}{way}</g>\n"
+        )
     }
 }
 
 /// The rows of the picture.
 #[derive(Drop)]
-struct RowParts<'a>(&'a [Line]);
+struct RowParts<'a> {
+    paths: &'a [RowPath],
+    lines: &'a [Line],
+}
 
 impl fmt::Display for RowParts<'_> {
-    ghost output = { λ own. Some (bytes (each row_html own.0.now)) };
+    ghost output = { λ own. Some (bytes (each (row_html own.paths.now) own.lines.now)) };
 
     fn fmt<W: fmt::Write>(&self, f: &mut fmt::Formatter<W>) -> fmt::Result {
-        for line in self.0 {
-            let row = RowPart(line);
+        for line in self.lines {
+            let row = RowPart {
+                paths: self.paths,
+                line,
+            };
             write!(f, "{row}")?;
         }
         Ok(())
     }
 }
 
-/// The picture of rows.
+/// The rows of a picture and the end, which may be the last.
 #[derive(Drop)]
-pub(crate) struct Picture<'a>(pub(crate) &'a [Line]);
+struct Drawn<'a> {
+    paths: &'a [RowPath],
+    lines: &'a [Line],
+    ended: bool,
+}
+
+impl fmt::Display for Drawn<'_> {
+    ghost output = { λ own. Some (bytes (drawn_html own.paths.now own.lines.now own.ended)) };
+
+    fn fmt<W: fmt::Write>(&self, f: &mut fmt::Formatter<W>) -> fmt::Result {
+        let rows = RowParts {
+            paths: self.paths,
+            lines: self.lines,
+        };
+        let class = end_class(self.ended);
+        let end = top_of(self.lines.len()) + 6;
+        let word = top_of(self.lines.len()) + 28;
+        write!(
+            f,
+            "{rows}<rect class=\"{class}\" x=\"10\" y=\"{end}\" width=\"680\" height=\"34\"/><text class=\"name\" x=\"24\" y=\"{word}\">closed</text>\n</svg>\n</div>\n"
+        )
+    }
+}
+
+/// The picture of rows, of which those are marked that paths take.
+#[derive(Drop)]
+pub(crate) struct Picture<'a> {
+    pub paths: &'a [RowPath],
+    pub lines: &'a [Line],
+}
 
 impl fmt::Display for Picture<'_> {
-    ghost output = { λ own. Some (bytes (picture_html own.0.now)) };
+    ghost output = { λ own. Some (bytes (picture_html own.paths.now own.lines.now)) };
 
     #[tactic(auto, unfolding(crate::specs::Pictures::picture_html))]
     fn fmt<W: fmt::Write>(&self, f: &mut fmt::Formatter<W>) -> fmt::Result {
-        let count = self.0.len();
+        let count = self.lines.len();
         let height = top_of(count) + 54;
-        let end = top_of(count) + 6;
-        let word = top_of(count) + 28;
-        let rows = RowParts(self.0);
+        let drawn = Drawn {
+            paths: self.paths,
+            lines: self.lines,
+            ended: false,
+        };
         write!(
             f,
-            "<section>\n<h2 id=\"states\">States</h2>\n<div class=\"scroll picture\" tabindex=\"0\" role=\"region\" aria-labelledby=\"states\">\n<svg viewBox=\"0 0 1000 {height}\" role=\"img\" aria-labelledby=\"states\" aria-describedby=\"states-words\">\n<desc id=\"states-words\">The rows of {count} by their states, and where each leads to. The table below says the same.</desc>\n{rows}<rect class=\"end\" x=\"10\" y=\"{end}\" width=\"680\" height=\"34\"/><text class=\"name\" x=\"24\" y=\"{word}\">closed</text>\n</svg>\n</div>\n</section>\n"
+            "<section>\n<h2 id=\"states\">States</h2>\n<div class=\"scroll picture\" tabindex=\"0\" role=\"region\" aria-labelledby=\"states\">\n<svg viewBox=\"0 0 1000 {height}\" role=\"img\" aria-labelledby=\"states\" aria-describedby=\"states-words\">\n<desc id=\"states-words\">The rows of {count} by their states, and where each leads to. The table below says the same.</desc>\n{drawn}</section>\n"
+        )
+    }
+}
+
+/// The picture of rows some of which are marked, in its box, for the heading whose id is `way` on
+/// another page, which has the colours of a page of a run.
+#[derive(Drop)]
+pub struct MarkedPicture<'a> {
+    /// The rows.
+    pub lines: &'a [Line],
+    /// Whether the end is the last.
+    pub ended: bool,
+}
+
+impl fmt::Display for MarkedPicture<'_> {
+    ghost output = { λ own. Some (bytes (marked_html own.lines.now own.ended)) };
+
+    #[tactic(auto, unfolding(crate::specs::Pictures::marked_html))]
+    fn fmt<W: fmt::Write>(&self, f: &mut fmt::Formatter<W>) -> fmt::Result {
+        let count = self.lines.len();
+        let height = top_of(count) + 54;
+        let drawn = Drawn {
+            paths: &[],
+            lines: self.lines,
+            ended: self.ended,
+        };
+        write!(
+            f,
+            "<div class=\"scroll picture\" tabindex=\"0\" role=\"region\" aria-labelledby=\"way\">\n<svg class=\"marked\" viewBox=\"0 0 1000 {height}\" role=\"img\" aria-labelledby=\"way\" aria-describedby=\"way-words\">\n<desc id=\"way-words\">The rows of {count} by their states, and where each leads to. Those that were taken are marked, with the states that were passed.</desc>\n<style>\n{STYLE_OF_ROWS}{STYLE_OF_MARKS}</style>\n{drawn}"
         )
     }
 }

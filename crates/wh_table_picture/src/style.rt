@@ -1,7 +1,7 @@
 //! How the page looks.
 
-/// The style sheet.
-pub const STYLE: &str =
+/// The page, before its picture.
+pub const STYLE_OF_PAGE: &str =
     ":root{color-scheme:light dark;--bg:#fff;--fg:#1a1f26;--soft:#57606a;--line:#d5dbe1;--panel:#f7f9fb;--bad:#cf222e;--badbg:#ffebe9;--ok:#116329;--okbg:#dafbe1;--c0:#1f6feb;--c1:#9a6700;--c2:#8250df;--c3:#1a7f37;--c4:#0a7ea4}
 @media (prefers-color-scheme:dark){:root{--bg:#0e1116;--fg:#e6edf3;--soft:#9aa5b1;--line:#30363d;--panel:#161b22;--bad:#ff7b72;--badbg:#3d1418;--ok:#56d364;--okbg:#12301b;--c0:#58a6ff;--c1:#d29922;--c2:#bc8cff;--c3:#3fb950;--c4:#39c5cf}}
 *{box-sizing:border-box}
@@ -24,7 +24,10 @@ tbody th{font-weight:400;color:var(--soft)}
 .picture{border:1px solid var(--line);border-radius:6px;background:var(--panel)}
 svg{display:block;min-width:54rem;width:100%;height:auto;font:13px system-ui,-apple-system,'Segoe UI',sans-serif}
 svg text{fill:var(--fg);unicode-bidi:isolate}
-svg .soft{fill:var(--soft);font-weight:400}
+";
+
+/// The rows of a picture.
+pub const STYLE_OF_ROWS: &str = "svg .soft{fill:var(--soft);font-weight:400}
 svg .name{font-weight:600}
 svg .again{font-weight:400;fill:var(--soft);opacity:.7}
 svg .job{font-weight:600}
@@ -36,10 +39,31 @@ svg g:hover .box{fill:var(--panel)}
 svg .way{fill:none;stroke:var(--c);stroke-width:1.5}
 svg .tip{fill:var(--c)}
 svg g:hover .way{stroke-width:3}
+svg .taken .box{fill:var(--badbg);stroke:var(--bad);stroke-width:1.5}
+svg .taken .way{stroke:var(--bad);stroke-width:3}
+svg .taken .tip{fill:var(--bad)}
+.legend{margin:0 0 .8rem}
+.legend li::marker{color:var(--bad)}
 svg .to0{--c:var(--c0)}
 svg .to1{--c:var(--c1)}
 svg .to2{--c:var(--c2)}
 svg .to3{--c:var(--c3)}
 svg .to4{--c:var(--c4)}
-@media print{body{max-width:none;padding:0;font-size:12px}.scroll{overflow:visible}svg{min-width:0}tr{break-inside:avoid}.verdict,svg *{print-color-adjust:exact;-webkit-print-color-adjust:exact}}
+";
+
+/// The page in print.
+pub const STYLE_OF_PRINT: &str =
+    "@media print{body{max-width:none;padding:0;font-size:12px}.scroll{overflow:visible}svg{min-width:0}tr{break-inside:avoid}.verdict,svg *{print-color-adjust:exact;-webkit-print-color-adjust:exact}}
+";
+
+/// The marks of a picture on the page of a run, by its colours.
+pub const STYLE_OF_MARKS: &str =
+    ".marked{font-size:13px;--c0:var(--activity);--c1:var(--timer);--c2:var(--child);--c3:var(--signal);--c4:var(--request)}
+.marked .way,.marked .tip{opacity:.3}
+.marked .taken .box{fill:var(--okbg);stroke:none}
+.marked .taken .way{opacity:1;stroke:var(--c);stroke-width:3.5}
+.marked .taken .tip{opacity:1;fill:var(--c)}
+.marked .passed{fill:var(--ok)}
+.marked .last{fill:var(--ok);font-weight:800;text-decoration:underline}
+.marked .end.last{fill:var(--okbg);stroke:var(--ok);stroke-width:3}
 ";

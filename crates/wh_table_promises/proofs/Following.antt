@@ -1,5 +1,6 @@
 -- What happens in a run as it is followed.
-use Rattle.std.proofs.Common.{◌≡◌, ℕ, ◌+◌, ◌<◌, ◌≤◌, List, [], ◌∷◌, ◌++◌, length, get_or, drop, map, refl, ap, sym, ◌∙◌, append_assoc, arith}
+use Rattle.std.proofs.Common.{◌≡◌, ℕ, ◌+◌, ◌<◌, ◌≤◌, List, [], ◌∷◌, ◌++◌, length, get_or, drop, map, refl, ap, sym, ◌∙◌, append_assoc, arith, Option}
+use Rattle.std.proofs.lemmas.List.{map-append}
 use Rattle.wh_workflow.specs.declared.job.Job.{Job}
 use Rattle.wh_workflow.specs.declared.command.Command.{Command}
 use Rattle.wh_rows.specs.declared.row.RowsState.{RowsState}
@@ -10,7 +11,7 @@ use Rattle.wh_promises.specs.Watches.{Turn, Standing, watched}
 use Rattle.wh_promises.specs.Promises.{Promise, KeptIn, watch_of}
 use Rattle.wh_promises.proofs.Turns.{watched_append}
 use Rattle.wh_promises.proofs.Spent.{kept_spends}
-use Rattle.wh_table_promises.specs.Ways.{text_given, texts_given, job_read}
+use Rattle.wh_table_promises.specs.Ways.{text_given, texts_given, row_taken, rows_taken, job_read}
 use Rattle.wh_table_promises.specs.declared.ways.WayStep.{WayStep}
 use Rattle.wh_table_promises.specs.Private.Told.{told_by, given_by, through, spends}
 use Rattle.wh_table_promises.proofs.Leading.{front}
@@ -40,6 +41,20 @@ pub texts_on : (table : Definition) (state : RowsState) (texts : List (List ℕ)
 texts_on table state texts jobs i job within is =
     append_assoc texts (text_given table state job ∷ []) (texts_given table (after table state job) (drop (i + 1) jobs))
     ∙ ap (λ list. texts ++ texts_given table state list) (sym (front jobs i job within is))
+
+-- the rows of a job, and then those of the jobs behind it
+pub rows_on : (table : Definition) (state : RowsState) (rows : List (Option ℕ)) (jobs : List Job) (i : ℕ) (job : Job)
+    → i < length jobs → job ≡ get_or jobs i job
+    → (rows ++ row_taken table state job ∷ []) ++ rows_taken table (after table state job) (drop (i + 1) jobs)
+    ≡ rows ++ rows_taken table state (drop i jobs)
+rows_on table state rows jobs i job within is =
+    append_assoc rows (row_taken table state job ∷ []) (rows_taken table (after table state job) (drop (i + 1) jobs))
+    ∙ ap (λ list. rows ++ rows_taken table state list) (sym (front jobs i job within is))
+
+-- what is said of a list with one more
+pub one_more : {A B : Type 0} → (f : A → B) (held new : List A) (one : A) → new ≡ held ++ one ∷ []
+    → map f new ≡ map f held ++ f one ∷ []
+one_more f held new one is = ap (map f) is ∙ map-append f held (one ∷ [])
 
 -- a run in which the watch spends more than the budget does not keep the promise
 pub spends_breaks : (table : Definition) (promise : Promise) (jobs : List Job)

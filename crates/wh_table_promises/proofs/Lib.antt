@@ -1,3 +1,4 @@
 pub mod Leading
 pub mod Showing
 pub mod Following
+pub mod Fewer

@@ -1,6 +1,6 @@
 -- Configurations that were found show what the definitions do.
-use Rattle.std.proofs.Common.{◌≡◌, ℕ, zero, suc, ◌+◌, ◌<◌, ◌≤◌, Bool, true, false, ◌&&◌, ◌||◌, List, [], ◌∷◌, length, get_or, map, refl, inl, inr, ap, sym, ◌∙◌, arith}
-use Rattle.std.specs.Prelude.{leb, ltb, IsTrue}
+use Rattle.std.proofs.Common.{◌≡◌, ℕ, zero, suc, ◌<◌, Bool, true, false, ◌&&◌, ◌||◌, List, [], ◌∷◌, length, get_or, map, refl, inl, inr, arith}
+use Rattle.std.specs.Prelude.{leb}
 use Rattle.std.proofs.lemmas.Bool.{and_parts, or_cases}
 use Rattle.wh_rows.specs.declared.row.Counts.{Counts}
 use Rattle.wh_rows.specs.Tables.{Definition}
@@ -36,14 +36,14 @@ in_at (first ∷ rest) (suc i) other one within is =
     or_right (covered one (config_seen first)) (is_in (map config_seen rest) one) (in_at rest i other one below is)
 
 module _ (table : Definition) (promise : Promise) (tops : Counts) (all : List Config) where
-  abbrev rows : List Line
+  abbrev pub rows : List Line
   rows = lines table.rows table.rows
 
-  abbrev turns : List Turn
+  abbrev pub turns : List Turn
   turns = (watch_of promise).turns
 
   -- what covers a configuration among these is good
-  under : (fine : Cuts table.bounds tops) (list : List Config) (one : Config) → is_in list one ≡ true
+  pub under : (fine : Cuts table.bounds tops) (list : List Config) (one : Config) → is_in list one ≡ true
       → each (is_good tops turns (watch_of promise).budget rows all) list ≡ true
       → (other : Config) × (covered one other ≡ true) × IsGood table tops turns fine (watch_of promise).budget (is_in all) other
   under fine [] one is good = cc
@@ -67,4 +67,4 @@ module _ (table : Definition) (promise : Promise) (tops : Counts) (all : List Co
       × (each (is_good tops turns (watch_of promise).budget rows all) all ≡ true) = and_parts _ _ halves.1 in
       let fine : Cuts table.bounds tops = cuts_from table.bounds tops cuts.0 in
       means table promise
-      (keeps_all table (watch_of promise) tops fine (is_in all) (λ one there. under fine all one there lists.1) cuts.1 lists.0)
+      (keeps_all table (watch_of promise) tops fine (is_in all) cuts.1 lists.0 (λ one there. under fine all one there lists.1))

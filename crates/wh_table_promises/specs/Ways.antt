@@ -1,14 +1,15 @@
 -- A way that breaks a promise: jobs in words, and what each is given.
-use Rattle.std.specs.Prelude.{◌≡◌, ℕ, List, [], ◌∷◌, map, Option, Some, IsTrue, codes}
+use Rattle.std.specs.Prelude.{◌≡◌, ◌<◌, ℕ, ◌+◌, true, List, [], ◌∷◌, length, map, Option, Some, None, IsTrue, codes, if◌then◌else◌}
 use Rattle.wh_workflow.specs.declared.job.Job.{Job}
 use Rattle.wh_rows.specs.declared.row.RowsState.{RowsState}
-use Rattle.wh_rows.specs.Tables.{Definition}
-use Rattle.wh_rows.specs.Rows.{gives, after, initial}
+use Rattle.wh_rows.specs.Tables.{Row, Definition}
+use Rattle.wh_rows.specs.Rows.{fits, seen_by, gives, after, initial}
 use Rattle.wh_promises.specs.Courses.{course, begins}
 use Rattle.wh_promises.specs.Promises.{Promise, KeptIn, Promises}
 use Rattle.wh_scenarios.specs.JobTexts.{job_of}
 use Rattle.wh_scenarios.specs.CommandTexts.{commands_text}
 use Rattle.wh_table_promises.specs.declared.ways.WayStep.{WayStep}
+use Rattle.wh_table_promises.specs.declared.ways.Breach.{Breach}
 use Rattle.wh_table_promises.specs.declared.deciding.Verdict.{Verdict}
 use Rattle.wh_table_promises.specs.declared.deciding.Verdict.TheVariants as verdicts
 
@@ -21,24 +22,51 @@ abbrev pub texts_given : Definition → RowsState → List Job → List (List �
 texts_given table state [] = []
 texts_given table state (job ∷ later) = text_given table state job ∷ texts_given table (after table state job) later
 
+-- the number of the first row that fits, where the first of these has that number
+abbrev pub row_from : ℕ → List Row → RowsState → Job → Option ℕ
+row_from number [] state job = None
+row_from number (row ∷ rest) state job =
+    if fits row state job then Some number else row_from (number + 1) rest state job
+
+-- the number of the row that counts at a job, counted from 1; None where no row fits
+abbrev pub row_taken : Definition → RowsState → Job → Option ℕ
+row_taken table state job = row_from 1 table.rows (seen_by table state job) job
+
+-- that of each job, one after another
+abbrev pub rows_taken : Definition → RowsState → List Job → List (Option ℕ)
+rows_taken table state [] = []
+rows_taken table state (job ∷ later) = row_taken table state job ∷ rows_taken table (after table state job) later
+
 -- the job that words are in a scenario of a run of the type `Table`
 abbrev pub job_read : List ℕ → Option Job
 job_read words = job_of (codes "Table") words
 
--- a way of these jobs: scenarios read its words as them; they begin with one start; each is given what the way says; and
--- what happens in a run at them does not keep the promise
+-- a way of these jobs: scenarios read its words as them; they begin with one start; each is given what the way says, by
+-- the row that it says; and what happens in a run at them does not keep the promise
 pub record IsWayOf (table : Definition) (promise : Promise) (way : List WayStep) (jobs : List Job) : Type 0 where
   pub read : map (λ step. job_read step.job) way ≡ map (λ job. Some job) jobs
   pub begins : IsTrue (begins jobs)
   pub given : map (λ step. step.gives) way ≡ texts_given table (initial table) jobs
+  pub rows : map (λ step. step.row) way ≡ rows_taken table (initial table) jobs
   pub breaks : KeptIn promise (course table (initial table) jobs) → ⊥
 
 -- a way that breaks the promise
 abbrev pub IsWay : Definition → Promise → List WayStep → Type 0
 IsWay table promise way = (jobs : List Job) × IsWayOf table promise way jobs
 
+-- no way of fewer jobs than this breaks the promise
+abbrev pub IsKeptBefore : ℕ → Definition → Promise → Type 0
+IsKeptBefore many table promise =
+    (list : List Job) → IsTrue (begins list) → length list < many → KeptIn promise (course table (initial table) list)
+
+-- a way that breaks the promise, and is a shortest one where that is said
+abbrev pub IsBreach : Definition → Promise → Breach → Type 0
+IsBreach table promise breach =
+    IsWay table promise breach.way.items
+    × (breach.is_shortest ≡ true → IsKeptBefore (length breach.way.items) table promise)
+
 -- a verdict is right: what is kept is kept whatever jobs come, and a way breaks the promise
 abbrev pub IsRight : Definition → Promise → Verdict → Type 0
 IsRight table promise verdicts.Kept = Promises table promise
-IsRight table promise (verdicts.Broken way) = IsWay table promise way.items
+IsRight table promise (verdicts.Broken breach) = IsBreach table promise breach
 IsRight table promise (verdicts.NotDecided _) = Unit {0}

@@ -4,9 +4,9 @@ ghost use Rattle.wh_row_rules.specs.Broken.{definition};
 ghost use Rattle.wh_promises.specs.Deciding.{case_of};
 ghost use Rattle.wh_promises.specs.Promises.{Promises, watch_of};
 ghost use Rattle.wh_table_promises.specs.Promised.{promise_of};
-ghost use Rattle.wh_table_promises.specs.Ways.{IsRight, IsWay, job_read};
+ghost use Rattle.wh_table_promises.specs.Ways.{IsRight, IsWay, IsBreach, IsKeptBefore, job_read};
 ghost use Rattle.wh_table_promises.specs.Private.Seen.{turn_seen, line_seen, config_seen};
-ghost use Rattle.wh_table_promises.specs.Private.Found.{shows_all};
+ghost use Rattle.wh_table_promises.specs.Private.Found.{shows_all, is_within_case, LeadsFrom};
 
 use crate::candidates::{Candidate, candidates_of};
 use crate::config::{Rules, begun, starts};
@@ -15,8 +15,9 @@ use crate::found::{Found, all_within, are_good, are_known};
 use crate::lines::{lines_of, place};
 use crate::promise::TablePromise;
 use crate::search::{Search, SearchEnd, begin_search, search_all, search_way};
+use crate::shortest::keep_from_start;
 use crate::watch::{Turn, budget_of, turns_of};
-use crate::ways::{WayStep, follow_jobs, steps_of};
+use crate::ways::{Breach, WayStep, follow_jobs, steps_of};
 use std::alloc::Global;
 use wh_events::{OutOfMemory, Text};
 use wh_row_rules::OwnedTable;
@@ -42,8 +43,8 @@ pub enum Doubt {
 pub enum Verdict {
     /// It is, whatever jobs come.
     Kept,
-    /// It is broken in this way: a scenario.
-    Broken(Vec<WayStep>),
+    /// It is broken in this way.
+    Broken(Breach),
     /// It is not told.
     NotDecided(Doubt),
 }
@@ -72,7 +73,7 @@ fn shows(
     if !are_known(configs, slots, first.as_slice()) {
         return Ok(false);
     }
-    are_good(alloc, rules, budget, configs, slots)
+    are_good(alloc, rules, budget, configs, slots, configs)
 }
 
 /// The words of a way's jobs.
@@ -133,20 +134,85 @@ fn way_of(
     Ok(Some(way))
 }
 
+/// Whether configurations show that a run keeps to the budget at so many jobs.
+fn shows_at(
+    alloc: Global,
+    table: &OwnedTable,
+    rules: &Rules,
+    budget: u64,
+    jobs: usize,
+) -> Result<bool, OutOfMemory>
+    requires budget { budget < 2 ^ 62 }
+    requires lines { map line_seen rules.now.lines.now ≡ (case_of (definition table.now)).rows }
+    ensures within { IfOk result (λ shown. shown ≡ true
+        → is_within_case (case_of (definition table.now)) rules.now.tops ≡ true) }
+    ensures leads { IfOk result (λ shown. shown ≡ true
+        → LeadsFrom rules.now.tops (map turn_seen rules.now.turns.now) budget
+        (case_of (definition table.now)).rows (case_of (definition table.now)).first jobs) }
+{
+    let rows = table.rows.get();
+    if !are_cuts(table.bounds, rules.tops) || !all_within(rows.len(), rules.tops, rules.lines) {
+        return Ok(false);
+    }
+    keep_from_start(alloc, rules, budget, place(&table.first, rows), jobs)
+}
+
+/// Whether it is shown that no way of fewer jobs than this breaks the promise.
+fn keeps_before(
+    alloc: Global,
+    table: &OwnedTable,
+    promise: &TablePromise,
+    rules: &Rules,
+    jobs: usize,
+) -> Result<bool, OutOfMemory>
+    requires turns { map turn_seen rules.now.turns.now ≡ (watch_of (promise_of promise.now)).turns }
+    requires lines { map line_seen rules.now.lines.now ≡ (case_of (definition table.now)).rows }
+    requires budget { (watch_of (promise_of promise.now)).budget < 2 ^ 62 }
+    ensures { IfOk result (λ shown. shown ≡ true → IsKeptBefore jobs (definition table.now) (promise_of promise.now)) }
+{
+    let earlier = jobs.saturating_sub(1);
+    if shows_at(alloc, table, rules, budget_of(promise), earlier)? {
+        return Ok(true);
+    }
+    Ok(false)
+}
+
+/// How the promise is broken by this way.
+fn breach_of(
+    alloc: Global,
+    table: &OwnedTable,
+    promise: &TablePromise,
+    rules: &Rules,
+    way: Vec<WayStep>,
+) -> Result<Breach, OutOfMemory>
+    requires turns { map turn_seen rules.now.turns.now ≡ (watch_of (promise_of promise.now)).turns }
+    requires lines { map line_seen rules.now.lines.now ≡ (case_of (definition table.now)).rows }
+    requires budget { (watch_of (promise_of promise.now)).budget < 2 ^ 62 }
+    requires way { IsWay (definition table.now) (promise_of promise.now) way.items }
+    ensures { IfOk result (λ breach. IsBreach (definition table.now) (promise_of promise.now) breach) }
+{
+    let is_shortest = keeps_before(alloc, table, promise, rules, way.len())?;
+    Ok(Breach { way, is_shortest })
+}
+
 /// The verdict where a search found a way.
 fn by_way(
     alloc: Global,
     table: &OwnedTable,
     promise: &TablePromise,
-    turns: &[Turn],
+    rules: &Rules,
     words: Vec<Text>,
 ) -> Result<Verdict, OutOfMemory>
-    requires turns { map turn_seen turns.now ≡ (watch_of (promise_of promise.now)).turns }
+    requires turns { map turn_seen rules.now.turns.now ≡ (watch_of (promise_of promise.now)).turns }
+    requires lines { map line_seen rules.now.lines.now ≡ (case_of (definition table.now)).rows }
     requires budget { (watch_of (promise_of promise.now)).budget < 2 ^ 62 }
     ensures { IfOk result (λ verdict. IsRight (definition table.now) (promise_of promise.now) verdict) }
 {
-    match way_of(alloc, table, promise, turns, words)? {
-        Some(way) => Ok(Verdict::Broken(way)),
+    match way_of(alloc, table, promise, rules.turns, words)? {
+        Some(way) => {
+            let breach = breach_of(alloc, table, promise, rules, way)?;
+            Ok(Verdict::Broken(breach))
+        }
         None => Ok(Verdict::NotDecided(Doubt::ByName)),
     }
 }
@@ -216,15 +282,16 @@ fn by_search(
         SearchEnd::TooMany => Ok(Verdict::NotDecided(Doubt::TooMany)),
         SearchEnd::Breaks(path) => {
             let words = words_of(alloc, candidates.as_slice(), path.as_slice())?;
-            by_way(alloc, table, promise, rules.turns, words)
+            by_way(alloc, table, promise, rules, words)
         }
     }
 }
 
-/// Whether a table keeps a promise. `Kept` says that it is kept whatever jobs come, in whatever order
-/// and number, after the one start; a way is a scenario of a run that breaks it. Where neither is
-/// found the verdict says why. A promise that may be broken so often as 2^62 times is not decided.
-/// `OutOfMemory` where an allocation was refused; nothing is left then.
+/// Whether a table keeps a promise. `Kept` says that it is kept whatever jobs come, in whatever
+/// order and number, after the one start; a way is a scenario of a run that breaks it, and it is
+/// said where none of fewer jobs does. Where neither is found the verdict says why. A promise that
+/// may be broken so often as 2^62 times is not decided. `OutOfMemory` where an allocation was
+/// refused; nothing is left then.
 pub fn decide(
     alloc: Global,
     table: &OwnedTable,

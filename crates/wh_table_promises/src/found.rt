@@ -1,8 +1,8 @@
 //! Configurations that were found, and whether they show a promise.
-ghost use Rattle.std.specs.Prelude.{◌≡◌, ◌<◌, ◌^◌, true, IfOk, length, map};
+ghost use Rattle.std.specs.Prelude.{◌≡◌, ◌<◌, ◌^◌, true, IfOk, OnOk, length, map};
 ghost use Rattle.wh_promises.specs.Deciding.{same_counts, covered, each, all_within};
 ghost use Rattle.wh_table_promises.specs.Private.Seen.{turn_seen, line_seen, config_seen};
-ghost use Rattle.wh_table_promises.specs.Private.Found.{is_in, is_good, is_line_within};
+ghost use Rattle.wh_table_promises.specs.Private.Found.{is_in, is_good, is_line_within, GoesOn};
 
 use crate::config::{Config, Rules, steps};
 use crate::counters::asks_within;
@@ -11,6 +11,9 @@ use std::alloc::Global;
 use wh_events::OutOfMemory;
 use wh_rows::Counts;
 
+/// The most configurations that a search looks at.
+pub const MOST_CONFIGURATIONS: usize = 200_000;
+
 /// Configurations, with a table to look them up by where they stand.
 #[derive(Drop)]
 pub(crate) struct Found {
@@ -18,6 +21,14 @@ pub(crate) struct Found {
     pub configs: Vec<Config>,
     /// One more than the number of a configuration, or 0 where the slot is empty.
     pub slots: Vec<usize>,
+}
+
+/// No configuration is found yet.
+pub(crate) fn none_found(alloc: Global) -> Result<Found, OutOfMemory> {
+    Ok(Found {
+        configs: Vec::new(alloc),
+        slots: vec![in alloc; 0; 2 * MOST_CONFIGURATIONS]?,
+    })
 }
 
 /// Whether both are the same numbers.
@@ -78,6 +89,21 @@ pub(crate) fn slot_of(configs: &[Config], slots: &[usize], one: &Config) -> usiz
     slot
 }
 
+/// Adds a configuration, unless one is found that covers it. Says whether it was added.
+pub(crate) fn add(found: &mut Found, one: Config) -> Result<bool, OutOfMemory>
+    ensures { OnOk result (GoesOn (map config_seen found.old.configs.items) (map config_seen found.new.configs.items)) }
+{
+    if is_known(found.configs.as_slice(), found.slots.as_slice(), &one) {
+        return Ok(false);
+    }
+    found.configs.push(one)?;
+    if !found.slots.is_empty() {
+        let slot = slot_of(found.configs.as_slice(), found.slots.as_slice(), &one);
+        found.slots[slot] = found.configs.len();
+    }
+    Ok(true)
+}
+
 /// Whether one of the configurations is found that covers this one.
 fn is_known(configs: &[Config], slots: &[usize], one: &Config) -> bool
     ensures { result ≡ true → is_in (map config_seen configs.now) (config_seen one.now) ≡ true }
@@ -125,19 +151,20 @@ fn is_good(
     Ok(are_known(configs, slots, next.as_slice()))
 }
 
-/// Whether each of them does.
+/// Whether each of these does.
 pub(crate) fn are_good(
     alloc: Global,
     rules: &Rules,
     budget: u64,
     configs: &[Config],
     slots: &[usize],
+    list: &[Config],
 ) -> Result<bool, OutOfMemory>
     requires { budget < 2 ^ 62 }
     ensures { IfOk result (λ good. good ≡ true → each (is_good rules.now.tops (map turn_seen rules.now.turns.now) budget
-        (map line_seen rules.now.lines.now) (map config_seen configs.now)) (map config_seen configs.now) ≡ true) }
+        (map line_seen rules.now.lines.now) (map config_seen configs.now)) (map config_seen list.now) ≡ true) }
 {
-    for one in configs {
+    for one in list {
         if !is_good(alloc, rules, budget, configs, slots, one)? {
             return Ok(false);
         }

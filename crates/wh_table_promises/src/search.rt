@@ -4,7 +4,7 @@ ghost use Rattle.std.specs.Prelude.{◌≡◌, ◌≤◌, ◌<◌, ◌+◌, ◌^
 
 use crate::candidates::Candidate;
 use crate::config::{Config, Rules, begun, is_ready, stand, started, steps};
-use crate::found::{Found, covered, slot_of};
+use crate::found::{Found, MOST_CONFIGURATIONS, add, none_found};
 use crate::lines::Line;
 use crate::promise::Happening;
 use crate::watch::{Standing, Turn, took};
@@ -12,9 +12,6 @@ use std::alloc::Global;
 use wh_events::{OutOfMemory, Text};
 use wh_row_rules::covers;
 use wh_rows::JobPattern;
-
-/// The most configurations that a search looks at.
-pub const MOST_CONFIGURATIONS: usize = 200_000;
 
 /// How a configuration was reached.
 #[derive(Clone, Copy)]
@@ -101,28 +98,16 @@ fn after_start(rules: &Rules, first: usize) -> Config {
 /// A search that has reached nothing.
 fn new_search(alloc: Global) -> Result<Search, OutOfMemory> {
     Ok(Search {
-        found: Found {
-            configs: Vec::new(alloc),
-            slots: vec![in alloc; 0; 2 * MOST_CONFIGURATIONS]?,
-        },
+        found: none_found(alloc)?,
         origins: Vec::new(alloc),
     })
 }
 
 /// Adds a configuration, unless one is found that covers it.
 fn reach(search: &mut Search, one: Config, origin: Origin) -> Result<(), OutOfMemory> {
-    let found = &mut search.found;
-    if found.slots.is_empty() {
-        return Ok(());
+    if add(&mut search.found, one)? {
+        search.origins.push(origin)?;
     }
-    let slot = slot_of(found.configs.as_slice(), found.slots.as_slice(), &one);
-    let held = found.slots[slot];
-    if 0 < held && held <= found.configs.len() && covered(&one, &found.configs[held - 1]) {
-        return Ok(());
-    }
-    found.configs.push(one)?;
-    found.slots[slot] = found.configs.len();
-    search.origins.push(origin)?;
     Ok(())
 }
 

@@ -1,12 +1,12 @@
 //! A way that breaks a promise, followed job by job.
 ghost use Rattle.std.specs.Prelude.{◌≡◌, ◌≤◌, ◌<◌, ◌+◌, ◌-◌, ◌^◌, true, IfOk, IfSome, OnOk, length, map};
-ghost use Rattle.wh_rows.specs.Rows.{after, initial, seen_by, rows_give, after_rows};
+ghost use Rattle.wh_rows.specs.Rows.{fits, after, initial, seen_by, rows_give, after_rows};
 ghost use Rattle.wh_row_rules.specs.Broken.{definition};
 ghost use Rattle.wh_promises.specs.Courses.{begins, goes_on, comes, is_given, gave};
 ghost use Rattle.wh_promises.specs.Watches.{watched};
 ghost use Rattle.wh_scenarios.specs.CommandTexts.{commands_text};
 ghost use Rattle.wh_table_promises.specs.Promised.{happening_of};
-ghost use Rattle.wh_table_promises.specs.Ways.{text_given, texts_given};
+ghost use Rattle.wh_table_promises.specs.Ways.{text_given, texts_given, row_from, row_taken, rows_taken};
 ghost use Rattle.wh_table_promises.specs.Private.Seen.{turn_seen, standing_seen};
 ghost use Rattle.wh_table_promises.specs.Private.Told.{told_by, given_by, through, spends};
 
@@ -14,8 +14,8 @@ use crate::promise::Happening;
 use crate::watch::{Standing, Turn, new_standing, took};
 use std::alloc::{AllocError, Global};
 use wh_events::{Items, OutOfMemory, Text};
-use wh_row_rules::OwnedTable;
-use wh_rows::{Counts, RowsState, StateName, answer, is_for_job, take_start};
+use wh_row_rules::{OwnedRow, OwnedTable};
+use wh_rows::{Counts, RowsState, StateName, all_hold, answer, is_for_job, take_start};
 use wh_scenarios::commands_text;
 use wh_workflow::{Command, Job, no_payloads, text_of};
 
@@ -26,6 +26,17 @@ pub struct WayStep {
     pub job: Text,
     /// The commands, as scenarios write them.
     pub gives: Text,
+    /// The number of the row that counts, counted from 1. `None` where no row fits.
+    pub row: Option<usize>,
+}
+
+/// How a promise is broken.
+#[derive(Drop)]
+pub struct Breach {
+    /// A scenario that breaks it.
+    pub way: Vec<WayStep>,
+    /// Whether it is shown that none of fewer jobs does.
+    pub is_shortest: bool,
 }
 
 /// Whether this happens by the job that comes.
@@ -151,6 +162,15 @@ fn first_run(alloc: Global, table: &OwnedTable) -> Result<RowsState, OutOfMemory
     })
 }
 
+/// What a job is given.
+#[derive(Drop)]
+pub(crate) struct Given {
+    /// The commands, as scenarios write them.
+    pub text: Text,
+    /// The number of the row that counts, if one fits.
+    pub row: Option<usize>,
+}
+
 /// What a run has come to.
 #[derive(Drop)]
 struct Followed {
@@ -170,6 +190,28 @@ fn see_job(
     ensures { OnOk result (run.new ≡ seen_by (definition table.now) run.old job.now) }
 {
     take_start(alloc, &table.name, run, job)
+}
+
+/// Whether a row fits.
+fn fits(row: &OwnedRow, run: &RowsState, job: &Job) -> bool
+    ensures { result ≡ fits row.now run.now job.now }
+{
+    let state = row.state.get();
+    (!run.closed && (state == "any" || state == run.at.get()))
+        && is_for_job(&row.job, run, job)
+        && all_hold(row.conditions.get(), run.counts)
+}
+
+/// The number of the first row that fits, counted from 1, if one does.
+fn row_of(rows: &[OwnedRow], run: &RowsState, job: &Job) -> Option<usize>
+    ensures { result ≡ row_from 1 rows.now run.now job.now }
+{
+    for (place, row) in rows.iter().enumerate() {
+        if fits(row, run, job) {
+            return Some(place + 1);
+        }
+    }
+    None
 }
 
 /// The commands that rows give to a job that the run has seen, and what it leaves of the run.
@@ -199,18 +241,21 @@ fn follow_job(
     turns: &[Turn],
     now: &mut Followed,
     job: &Job,
-) -> Result<Text, OutOfMemory>
+) -> Result<Given, OutOfMemory>
     requires { now.old.watch.spent < 2 ^ 62 }
-    ensures text { IfOk result (λ text. text ≡ text_given (definition table.now) now.old.run job.now) }
+    ensures text { IfOk result (λ given. given.text ≡ text_given (definition table.now) now.old.run job.now) }
+    ensures row { IfOk result (λ given. given.row ≡ row_taken (definition table.now) now.old.run job.now) }
     ensures run { OnOk result (now.new.run ≡ after (definition table.now) now.old.run job.now) }
     ensures watch { OnOk result (standing_seen now.new.watch
         ≡ through (definition table.now) (map turn_seen turns.now) now.old.run job.now (standing_seen now.old.watch)) }
 {
     see_job(alloc, table, &mut now.run, job)?;
+    let row = row_of(table.rows.get(), &now.run, job);
     let watch = told(turns, &now.run, job, now.watch);
     let commands = answer_job(alloc, table, &mut now.run, job)?;
     now.watch = all_given(turns, commands.as_slice(), watch);
-    text_of_all(alloc, commands.as_slice())
+    let text = text_of_all(alloc, commands.as_slice())?;
+    Ok(Given { text, row })
 }
 
 /// Follows jobs, and says what each is given. `None` where the watch keeps to the budget, or has
@@ -221,12 +266,14 @@ pub(crate) fn follow_jobs(
     turns: &[Turn],
     budget: u64,
     jobs: &[Job],
-) -> Result<Option<Vec<Text>>, OutOfMemory>
+) -> Result<Option<Vec<Given>>, OutOfMemory>
     requires { budget < 2 ^ 62 }
-    ensures texts { IfOk result (λ found. IfSome found (λ texts.
-        texts.items ≡ texts_given (definition table.now) (initial (definition table.now)) jobs.now)) }
-    ensures begins { IfOk result (λ found. IfSome found (λ texts. begins jobs.now ≡ true)) }
-    ensures spends { IfOk result (λ found. IfSome found (λ texts.
+    ensures texts { IfOk result (λ found. IfSome found (λ all. map (λ given. given.text) all.items
+        ≡ texts_given (definition table.now) (initial (definition table.now)) jobs.now)) }
+    ensures rows { IfOk result (λ found. IfSome found (λ all. map (λ given. given.row) all.items
+        ≡ rows_taken (definition table.now) (initial (definition table.now)) jobs.now)) }
+    ensures begins { IfOk result (λ found. IfSome found (λ all. begins jobs.now ≡ true)) }
+    ensures spends { IfOk result (λ found. IfSome found (λ all.
         budget < spends (definition table.now) (map turn_seen turns.now) jobs.now)) }
 {
     if !begins(jobs) {
@@ -236,16 +283,16 @@ pub(crate) fn follow_jobs(
         run: first_run(alloc, table)?,
         watch: new_standing(),
     };
-    let mut texts = Vec::new(alloc);
+    let mut all = Vec::new(alloc);
     for job in jobs {
         if budget < now.watch.spent {
             return Ok(None);
         }
-        let text = follow_job(alloc, table, turns, &mut now, job)?;
-        texts.push(text)?;
+        let given = follow_job(alloc, table, turns, &mut now, job)?;
+        all.push(given)?;
     }
     if budget < now.watch.spent {
-        Ok(Some(texts))
+        Ok(Some(all))
     } else {
         Ok(None)
     }
@@ -255,17 +302,19 @@ pub(crate) fn follow_jobs(
 pub(crate) fn steps_of(
     alloc: Global,
     words: &[Text],
-    gives: &[Text],
+    all: &[Given],
 ) -> Result<Vec<WayStep>, OutOfMemory>
-    requires { length words.now ≡ length gives.now }
+    requires { length words.now ≡ length all.now }
     ensures jobs { IfOk result (λ way. map (λ step. step.job) way.items ≡ words.now) }
-    ensures given { IfOk result (λ way. map (λ step. step.gives) way.items ≡ gives.now) }
+    ensures given { IfOk result (λ way. map (λ step. step.gives) way.items ≡ map (λ given. given.text) all.now) }
+    ensures rows { IfOk result (λ way. map (λ step. step.row) way.items ≡ map (λ given. given.row) all.now) }
 {
     let mut way = Vec::new(alloc);
     for (index, job) in words.iter().enumerate() {
         let job = job.try_copy()?;
-        let gives = gives[index].try_copy()?;
-        way.push(WayStep { job, gives })?;
+        let gives = all[index].text.try_copy()?;
+        let row = all[index].row;
+        way.push(WayStep { job, gives, row })?;
     }
     Ok(way)
 }

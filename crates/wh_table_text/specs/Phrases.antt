@@ -46,7 +46,7 @@ pattern_of job.ChildStarted p = option_map patterns.ChildStarted (name_of p)
 pattern_of job.ChildDone p = option_map patterns.ChildDone (name_of p)
 pattern_of job.ChildCanceled p = option_map patterns.ChildCanceled (name_of p)
 pattern_of job.ChildFailed p = option_map patterns.ChildNotDone (name_of p)
-pattern_of job.Version p = if has_two p then option_map (patterns.Version p.first) (version_in p.second)
+pattern_of job.Version p = if has_pair p then option_map (patterns.Version p.first) (version_in p.second)
     else option_map patterns.AnyVersion (name_of p)
 
 -- the command that a phrase names

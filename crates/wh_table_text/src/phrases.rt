@@ -38,7 +38,7 @@ pub(crate) fn pattern_of<'a>(verb: JobVerb, phrase: &Phrase<'a>) -> Option<JobPa
         JobVerb::ChildCanceled => Some(JobPattern::ChildCanceled(phrase.name()?)),
         JobVerb::ChildFailed => Some(JobPattern::ChildNotDone(phrase.name()?)),
         JobVerb::Version => {
-            if phrase.has_two() {
+            if phrase.has_pair() {
                 Some(JobPattern::Version(phrase.first, version_in(phrase.second)?))
             } else {
                 Some(JobPattern::AnyVersion(phrase.name()?))

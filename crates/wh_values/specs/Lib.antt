@@ -1,4 +1,6 @@
+pub mod Sides
 pub mod Values
 pub mod Gathered
 pub mod Checked
 pub mod Texts
+pub mod Private

@@ -1,13 +1,14 @@
 //! Compares the values of a command with what its event records.
 
-ghost use Rattle.std.specs.Prelude.{◌≡◌, IfOk, option_map};
+ghost use Rattle.std.specs.Prelude.{◌≡◌, IfOk, Ok, option_map, string_bytes};
 ghost use Rattle.std.specs.Cmp.Lexicographic.{pointwise};
 ghost use Rattle.serde_json.specs.View.{view};
 ghost use Rattle.wh_values.specs.Values as values;
 
+use crate::sides::side_text;
 use serde_json::Value;
 use std::alloc::Global;
-use wh_events::{EventNo, OutOfMemory, Payload};
+use wh_events::{EventNo, OutOfMemory, Payload, Text};
 use wh_json::{ReadFault, field, payloads_at, text_of};
 use wh_workflow::Command;
 
@@ -24,13 +25,19 @@ pub enum ValueKind {
     Failure,
 }
 
-/// A value of a command that differs from what its event records.
-#[derive(Clone, Copy, Debug)]
+/// A value of a command that differs from what its event records. Payloads stand in it with commas
+/// between them, each by its content where that is a text in UTF-8, and else by its content in base64
+/// (RFC 4648); `nothing` stands for no payload.
+#[derive(Drop)]
 pub struct OtherValue {
     /// The number of the event.
     pub event: EventNo,
     /// Which value it is.
     pub kind: ValueKind,
+    /// What is sent.
+    pub sent: Text,
+    /// What is recorded.
+    pub recorded: Text,
 }
 
 /// Whether two payloads have the same encoding and the same content.
@@ -55,24 +62,6 @@ fn same_payloads(one: &[Payload], other: &[Payload]) -> bool
     true
 }
 
-/// Whether the payloads are those that attributes have under a name. Such as can't be read are not
-/// compared.
-fn are_recorded(
-    alloc: Global,
-    sent: &[Payload],
-    name: &str,
-    attributes: Option<&Value>,
-) -> Result<bool, OutOfMemory>
-    ensures { IfOk result (λ same. same
-        ≡ values.are_recorded sent.now name.now (option_map (λ v. view v.now) attributes.entry)) }
-{
-    match payloads_at(alloc, 0, field(attributes, name)) {
-        Ok(recorded) => Ok(same_payloads(sent, recorded.as_slice())),
-        Err(ReadFault::OutOfMemory) => Err(OutOfMemory),
-        Err(_) => Ok(true),
-    }
-}
-
 /// Whether a text is the recorded one, if there is one.
 fn is_recorded(sent: &str, recorded: &str) -> bool
     ensures { result ≡ values.is_recorded sent.now recorded.now }
@@ -80,87 +69,142 @@ fn is_recorded(sent: &str, recorded: &str) -> bool
     recorded.is_empty() || sent == recorded
 }
 
-/// Whether a timer of so many seconds is to take as long as is recorded, if that is.
-fn is_duration(alloc: Global, seconds: u64, recorded: &str) -> Result<bool, OutOfMemory>
-    ensures { IfOk result (λ same. same ≡ values.is_recorded (values.seconds_text seconds) recorded.now) }
-{
-    let sent = format!(in alloc; "{seconds}s")?;
-    Ok(is_recorded(sent.as_str(), recorded))
-}
-
-/// That kind of value, unless it is as it is recorded.
-fn unless_same(same: bool, kind: ValueKind) -> Option<ValueKind>
-    ensures { result ≡ values.unless_same same kind }
-{
-    if same { None } else { Some(kind) }
-}
-
-/// Whether the payloads are not those that attributes have under a name.
-fn other_payloads(
+/// The payloads, unless they are those that were read.
+fn read_value(
     alloc: Global,
+    number: EventNo,
+    kind: ValueKind,
+    sent: &[Payload],
+    recorded: &[Payload],
+) -> Result<Option<OtherValue>, OutOfMemory>
+    ensures { IfOk result (λ value. value ≡ values.read_value number kind sent.now (Ok recorded.now)) }
+{
+    if same_payloads(sent, recorded) {
+        return Ok(None);
+    }
+    let sent = side_text(alloc, sent)?;
+    let recorded = side_text(alloc, recorded)?;
+    Ok(Some(OtherValue {
+        event: number,
+        kind,
+        sent,
+        recorded,
+    }))
+}
+
+/// The payloads, unless attributes have them under a name. Such as can't be read are not compared.
+fn payloads_value(
+    alloc: Global,
+    number: EventNo,
+    kind: ValueKind,
     sent: &[Payload],
     name: &str,
     attributes: Option<&Value>,
-    kind: ValueKind,
-) -> Result<Option<ValueKind>, OutOfMemory>
+) -> Result<Option<OtherValue>, OutOfMemory>
     ensures { let recorded = option_map (λ v. view v.now) attributes.entry in
-        IfOk result (λ value. value ≡ values.unless_same (values.are_recorded sent.now name.now recorded) kind) }
+        IfOk result (λ value. value ≡ values.payloads_value number kind sent.now name.now recorded) }
 {
-    Ok(unless_same(are_recorded(alloc, sent, name, attributes)?, kind))
+    match payloads_at(alloc, 0, field(attributes, name)) {
+        Ok(recorded) => read_value(alloc, number, kind, sent, recorded.as_slice()),
+        Err(ReadFault::OutOfMemory) => Err(OutOfMemory),
+        Err(_) => Ok(None),
+    }
+}
+
+/// A text, unless it is the recorded one or none is recorded.
+fn text_value(
+    alloc: Global,
+    number: EventNo,
+    kind: ValueKind,
+    sent: &str,
+    recorded: &str,
+) -> Result<Option<OtherValue>, OutOfMemory>
+    ensures { IfOk result (λ value. value ≡ values.text_value number kind sent.now recorded.now) }
+{
+    if is_recorded(sent, recorded) {
+        return Ok(None);
+    }
+    let sent = Text::new(String::from_str(alloc, sent)?);
+    let recorded = Text::new(String::from_str(alloc, recorded)?);
+    Ok(Some(OtherValue {
+        event: number,
+        kind,
+        sent,
+        recorded,
+    }))
+}
+
+/// How long a timer of so many seconds is to take, as a history writes it.
+fn seconds_text(alloc: Global, seconds: u64) -> Result<String, OutOfMemory>
+    ensures { IfOk result (λ text. string_bytes text ≡ values.seconds_text seconds) }
+{
+    Ok(format!(in alloc; "{seconds}s")?)
 }
 
 /// The duration, unless a timer of so many seconds is to take as long as attributes have it.
-fn other_duration(
+fn duration_value(
     alloc: Global,
+    number: EventNo,
     seconds: u64,
     attributes: Option<&Value>,
-) -> Result<Option<ValueKind>, OutOfMemory>
+) -> Result<Option<OtherValue>, OutOfMemory>
     ensures { let recorded = option_map (λ v. view v.now) attributes.entry in
-        IfOk result (λ value. value ≡ values.duration_value seconds recorded) }
+        IfOk result (λ value. value ≡ values.duration_value number seconds recorded) }
 {
+    let sent = seconds_text(alloc, seconds)?;
     let recorded = text_of(field(attributes, "startToFireTimeout"));
-    let same = is_duration(alloc, seconds, recorded)?;
-    Ok(unless_same(same, ValueKind::Duration))
+    text_value(alloc, number, ValueKind::Duration, sent.as_str(), recorded)
 }
 
 /// The failure, unless attributes have this message of it.
-fn other_failure(message: &str, attributes: Option<&Value>) -> Option<ValueKind>
-    ensures { result ≡ values.failure_value message.now (option_map (λ v. view v.now) attributes.entry) }
+fn failure_value(
+    alloc: Global,
+    number: EventNo,
+    message: &str,
+    attributes: Option<&Value>,
+) -> Result<Option<OtherValue>, OutOfMemory>
+    ensures { let recorded = option_map (λ v. view v.now) attributes.entry in
+        IfOk result (λ value. value ≡ values.failure_value number message.now recorded) }
 {
     let recorded = text_of(field(field(attributes, "failure"), "message"));
-    let same = is_recorded(message, recorded);
-    unless_same(same, ValueKind::Failure)
+    text_value(alloc, number, ValueKind::Failure, message, recorded)
 }
 
-/// The value of a command that differs from what the attributes of its event record, if there is one.
+/// The value of a command that differs from what the attributes of its event, of this number,
+/// record, if there is one.
 pub(crate) fn value_of(
     alloc: Global,
+    number: EventNo,
     command: &Command,
     attributes: Option<&Value>,
-) -> Result<Option<ValueKind>, OutOfMemory>
+) -> Result<Option<OtherValue>, OutOfMemory>
     ensures { IfOk result (λ value. value
-        ≡ values.value_of command.now (option_map (λ v. view v.now) attributes.entry)) }
+        ≡ values.value_of number command.now (option_map (λ v. view v.now) attributes.entry)) }
 {
     match command {
         Command::StartActivity { input, .. }
         | Command::StartChild { input, .. }
         | Command::SignalExternal { input, .. }
-        | Command::ContinueAsNew { input, .. } => other_payloads(
+        | Command::ContinueAsNew { input, .. } => payloads_value(
             alloc,
+            number,
+            ValueKind::Input,
             input.get(),
             "input",
             attributes,
-            ValueKind::Input,
         ),
-        Command::Complete { result } => other_payloads(
+        Command::Complete { result } => payloads_value(
             alloc,
+            number,
+            ValueKind::Result,
             result.get(),
             "result",
             attributes,
-            ValueKind::Result,
         ),
-        Command::StartTimer { id: _, seconds } => other_duration(alloc, *seconds, attributes),
-        Command::Fail { message } => Ok(other_failure(message.get(), attributes)),
+        Command::StartTimer { id: _, seconds } => {
+            duration_value(alloc, number, *seconds, attributes)
+        }
+        Command::Fail { message } => failure_value(alloc, number, message.get(), attributes),
         Command::CancelActivity { .. }
         | Command::CancelTimer { .. }
         | Command::CancelChild { .. }

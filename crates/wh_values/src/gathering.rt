@@ -31,13 +31,7 @@ fn pairing_value(
         return Ok(None);
     };
     let number = event.number;
-    match value_of(alloc, command, attributes_at(members, number))? {
-        Some(kind) => Ok(Some(OtherValue {
-            event: number,
-            kind,
-        })),
-        None => Ok(None),
-    }
+    value_of(alloc, number, command, attributes_at(members, number))
 }
 
 /// Adds a value, if there is one.

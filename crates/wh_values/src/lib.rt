@@ -5,8 +5,9 @@
 mod checking;
 mod comparing;
 mod gathering;
+mod sides;
 mod texts;
 
-pub use checking::other_values;
+pub use checking::check_values;
 pub use comparing::{OtherValue, ValueKind};
-pub use texts::OtherValueText;
+pub use texts::{OtherValueObject, OtherValueText};

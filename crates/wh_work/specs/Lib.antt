@@ -1,4 +1,5 @@
 pub mod Plans
 pub mod Policies
 pub mod Reports
+pub mod Times
 pub mod Progress

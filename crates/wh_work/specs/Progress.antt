@@ -1,5 +1,5 @@
 -- What is counted of the turns and the calls of workers, and what is told of it.
-use Rattle.std.specs.Prelude.{ℕ, ◌==◌, length, ◌*◌, ◌/◌, ◌-◌, ◌^◌, min, max, Bool, true, false, ◌&&◌, not, nat_eq, bytes_eq, Option, Some, None, Result, Ok, Err, List, ◌++◌, codes}
+use Rattle.std.specs.Prelude.{ℕ, ◌==◌, length, ◌*◌, ◌/◌, ◌-◌, ◌^◌, min, max, Bool, true, false, ◌&&◌, ◌||◌, not, nat_eq, bytes_eq, Option, Some, None, Result, Ok, Err, List, ◌++◌, codes}
 use Rattle.std.specs.List.{starts_with}
 use Rattle.serde_json.specs.Data.{Data}
 use Rattle.wh_client.specs.Codes.{refused_answer}
@@ -21,7 +21,10 @@ use Rattle.wh_metrics.specs.declared.metrics.Slots.{Slots}
 use Rattle.wh_poll.specs.declared.serve.Served.{Served}
 use Rattle.wh_poll.specs.declared.serve.Served.TheVariants.{Workflow, Activity}
 use Rattle.wh_slots.specs.declared.SlotCount.{SlotCount}
+use Rattle.wh_slots.specs.declared.SlotKind.{SlotKind}
+use Rattle.wh_slots.specs.declared.SlotKind.TheVariants as slot
 use Rattle.wh_tasks.specs.declared.source.SourceFault.{SourceFault}
+use Rattle.wh_work.specs.Times.{no_times}
 
 -- nothing is counted
 abbrev pub nothing : Metrics
@@ -35,6 +38,8 @@ nothing = record {
   empty_polls = 0;
   not_found = 0;
   refused = 0;
+  workflow_times = no_times;
+  activity_times = no_times;
 }
 
 -- a task more that ended so
@@ -58,9 +63,13 @@ abbrev pub with_poll : Bool → Metrics → Metrics
 with_poll true metrics = record metrics { polls = together metrics.polls 1; empty_polls = together metrics.empty_polls 1 }
 with_poll false metrics = record metrics { polls = together metrics.polls 1 }
 
+-- the token of the task that a result or a request names, empty where there is none
+abbrev pub token_of : Data → List ℕ
+token_of named = text_of (field (codes "taskToken") (Some named))
+
 -- the result of a poll has no task: there is no token, or an empty one
 abbrev pub has_no_task : Data → Bool
-has_no_task result = length (text_of (field (codes "taskToken") (Some result))) == 0
+has_no_task result = length (token_of result) == 0
 
 -- an answer more of which this became
 abbrev pub with_receipt : Receipt → Metrics → Metrics
@@ -76,6 +85,27 @@ with_refusal status metrics = with_receipt (refused_answer status) metrics
 abbrev pub is_answer : List ℕ → Bool
 is_answer method =
     starts_with nat_eq method (codes "Respond") && not (bytes_eq method (codes "RespondQueryTaskCompleted"))
+
+-- the method answers a workflow task
+abbrev pub answers_workflow_task : List ℕ → Bool
+answers_workflow_task method =
+    bytes_eq method (codes "RespondWorkflowTaskCompleted") || bytes_eq method (codes "RespondWorkflowTaskFailed")
+
+-- the method answers an activity task
+abbrev pub answers_activity_task : List ℕ → Bool
+answers_activity_task method =
+    bytes_eq method (codes "RespondActivityTaskCompleted") || bytes_eq method (codes "RespondActivityTaskFailed")
+    || bytes_eq method (codes "RespondActivityTaskCanceled")
+
+-- the kind of a task, by whether it is of the one or of the other
+abbrev pub kind_by : (workflow activity : Bool) → Option SlotKind
+kind_by true activity = Some slot.Workflow
+kind_by false true = Some slot.Activity
+kind_by false false = None
+
+-- the kind of the task that the method answers, if it answers one
+abbrev pub kind_of : List ℕ → Option SlotKind
+kind_of method = kind_by (answers_workflow_task method) (answers_activity_task method)
 
 -- slots by their use: a poll has those that are reserved
 abbrev pub slots_of : SlotCount → Slots
@@ -109,7 +139,7 @@ abbrev pub line_as : Format → Metrics → (rate : ℕ) → List ℕ
 line_as formats.Text metrics rate = counts_text metrics rate
 line_as formats.Json metrics rate = json_text metrics rate
 
--- what was counted in all: the totals of the host, what the sources counted, and which runs were cached
+-- what was counted in all: the totals of the host, what the sources counted, which runs were cached, and how long tasks took
 abbrev pub end_metrics : Metrics → LiveEnd → Metrics
 end_metrics metrics end = record {
   completed = end.totals.completed;
@@ -121,4 +151,6 @@ end_metrics metrics end = record {
   empty_polls = end.tally.empty;
   not_found = end.tally.not_found;
   refused = end.tally.refused;
+  workflow_times = metrics.workflow_times;
+  activity_times = metrics.activity_times;
 }

@@ -2,14 +2,16 @@
 
 ghost use Rattle.std.specs.List.{starts_with};
 ghost use Rattle.std.specs.Prelude.{◌≡◌, ◌≤◌, ◌-◌, bytes_eq, codes, max, nat_eq};
-ghost use Rattle.wh_work.specs.Progress.{answered, ended, found, held_of, is_answer, metrics_now, nothing};
+ghost use Rattle.wh_work.specs.Progress.{answered, answers_activity_task, answers_workflow_task, ended, found};
+ghost use Rattle.wh_work.specs.Progress.{held_of, is_answer, kind_of, metrics_now, nothing};
 ghost use Rattle.wh_work.specs.Progress.{rate_of, slots_of, with_poll, with_refusal, with_turn};
 
+use crate::task_times::no_times;
 use wh_client::{Receipt, Status, refused_answer};
 use wh_host::{Counts, Outcome};
 use wh_metrics::{Held, Metrics, Slots};
 use wh_poll::{Served, SourceFault};
-use wh_slots::SlotCount;
+use wh_slots::{SlotCount, SlotKind};
 
 /// Nothing is counted.
 pub(crate) fn nothing() -> Metrics
@@ -25,6 +27,8 @@ pub(crate) fn nothing() -> Metrics
         empty_polls: 0,
         not_found: 0,
         refused: 0,
+        workflow_times: no_times(),
+        activity_times: no_times(),
     }
 }
 
@@ -85,7 +89,7 @@ pub(crate) fn add_refusal(metrics: &mut Metrics, status: Status)
 }
 
 /// Whether a call of this method answers a task or a query.
-fn responds(method: &str) -> bool
+pub(crate) fn responds(method: &str) -> bool
     ensures { result ≡ starts_with nat_eq method.now (codes "Respond") }
 {
     method.starts_with("Respond")
@@ -103,6 +107,33 @@ pub(crate) fn is_answer(method: &str) -> bool
     ensures { result ≡ is_answer method.now }
 {
     responds(method) && !answers_query(method)
+}
+
+/// Whether a call of this method answers a workflow task.
+fn answers_workflow_task(method: &str) -> bool
+    ensures { result ≡ answers_workflow_task method.now }
+{
+    method == "RespondWorkflowTaskCompleted" || method == "RespondWorkflowTaskFailed"
+}
+
+/// Whether a call of this method answers an activity task.
+fn answers_activity_task(method: &str) -> bool
+    ensures { result ≡ answers_activity_task method.now }
+{
+    method == "RespondActivityTaskCompleted"
+        || method == "RespondActivityTaskFailed"
+        || method == "RespondActivityTaskCanceled"
+}
+
+/// Of which kind the task is that a call of this method answers, if it answers one.
+pub(crate) fn kind_of(method: &str) -> Option<SlotKind>
+    ensures { result ≡ kind_of method.now }
+{
+    match (answers_workflow_task(method), answers_activity_task(method)) {
+        (true, _) => Some(SlotKind::Workflow),
+        (false, true) => Some(SlotKind::Activity),
+        (false, false) => None,
+    }
 }
 
 /// The slots of a kind.

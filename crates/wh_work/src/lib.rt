@@ -11,6 +11,7 @@ mod plan;
 mod policies;
 mod progress;
 mod report;
+mod task_times;
 mod watch;
 mod workers;
 

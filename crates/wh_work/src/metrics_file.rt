@@ -33,7 +33,7 @@ fn exposed(alloc: Global, labels: WorkerLabels<'_>, metrics: Metrics) -> Result<
 }
 
 /// What all workers have counted in the end: the totals of the host, what their calls have counted,
-/// and which runs were cached. The host holds nothing then.
+/// which runs were cached, and how long tasks took. The host holds nothing then.
 pub(crate) fn end_metrics(metrics: &Metrics, end: &LiveEnd) -> Metrics
     ensures { result ≡ end_metrics metrics.now end.now }
 {
@@ -48,6 +48,8 @@ pub(crate) fn end_metrics(metrics: &Metrics, end: &LiveEnd) -> Metrics
         empty_polls: tally.empty,
         not_found: tally.not_found,
         refused: tally.refused,
+        workflow_times: metrics.workflow_times,
+        activity_times: metrics.activity_times,
     }
 }
 

@@ -5,6 +5,8 @@ ghost use Rattle.wh_work.specs.Progress.{answered, line_as, metrics_now, rate_of
 
 use crate::counting::{add_poll, add_refusal, add_turn, answered, metrics_now, nothing, rate_of};
 use crate::metrics_file::{FileReplacer, MetricsFile, end_metrics};
+use crate::task_times::{BegunTask, BegunTasks, add_time};
+use std::alloc::Global;
 use std::fmt;
 use std::fmt::{Display, Formatter};
 use std::sync::{Mutex, Wait};
@@ -13,9 +15,11 @@ use wh_client::Status;
 use wh_companion::{Companion, EndSignal};
 use wh_console::Format;
 use wh_crew::LiveEnd;
+use wh_events::Text;
 use wh_host::Counts;
 use wh_metrics::{CountsLine, JsonLine, Metrics};
 use wh_poll::{Served, SourceFault};
+use wh_slots::SlotKind;
 use wh_tester::Shown;
 
 /// How long it is from one time to the next at which counts are kept, where they are not reported.
@@ -66,12 +70,17 @@ impl Display for ReportLine {
     }
 }
 
-/// The time in whole milliseconds of a clock that never goes back, 0 where there is none.
-fn milliseconds<R: Clock>(rt: &R) -> u64 {
+/// The time in whole microseconds of a clock that never goes back, 0 where there is none.
+fn microseconds<R: Clock>(rt: &R) -> u64 {
     match rt.monotonic() {
-        Ok(time) => u64::try_from(time.as_millis()).unwrap_or(u64::MAX),
+        Ok(time) => u64::try_from(time.as_micros()).unwrap_or(u64::MAX),
         Err(_) => 0,
     }
+}
+
+/// The same in milliseconds.
+fn milliseconds<R: Clock>(rt: &R) -> u64 {
+    microseconds(rt) / 1000
 }
 
 impl Turns {
@@ -113,6 +122,8 @@ pub(crate) struct Progress<'a, R> {
     /// Where the counts are kept, if they are.
     file: Option<MetricsFile<'a>>,
     turns: Mutex<Turns>,
+    /// The tasks that polls gave, each until its answer is acknowledged.
+    begun: Mutex<BegunTasks>,
 }
 
 impl<'a, R: Wait + Clock> Progress<'a, R> {
@@ -120,6 +131,7 @@ impl<'a, R: Wait + Clock> Progress<'a, R> {
     /// if it does, and keeps the counts in the file, if there is one.
     pub(crate) fn new(
         rt: &'a R,
+        alloc: Global,
         name: &'a str,
         seconds: Option<u64>,
         format: Format,
@@ -142,11 +154,40 @@ impl<'a, R: Wait + Clock> Progress<'a, R> {
             },
             file,
             turns: Mutex::new(turns),
+            begun: Mutex::new(BegunTasks::new(alloc)),
         }
     }
 }
 
+impl<R: Wait + Clock> Progress<'_, R> {
+    /// Notes that a poll has given the task of this token now. Where there is no memory to note it, it
+    /// is not timed.
+    pub(crate) fn begin_task(&self, alloc: Global, token: &str) {
+        let since = microseconds(self.rt);
+        if let Ok(token) = String::from_str(alloc, token) {
+            let token = Text::new(token);
+            self.put_back(BegunTask { token, since });
+        }
+    }
+
+    /// Counts how long a task of a kind took, whose answer is acknowledged now.
+    pub(crate) fn count_time(&self, kind: SlotKind, task: &BegunTask) {
+        let microseconds = microseconds(self.rt).saturating_sub(task.since);
+        add_time(&mut self.turns.lock(self.rt).metrics, kind, microseconds);
+    }
+}
+
 impl<R: Wait> Progress<'_, R> {
+    /// The task of this token, if one is noted, as [`BegunTasks::take`] says.
+    pub(crate) fn take_task(&self, token: &str) -> Option<BegunTask> {
+        self.begun.lock(self.rt).take(token)
+    }
+
+    /// Notes a task whose answer is not acknowledged.
+    pub(crate) fn put_back(&self, task: BegunTask) {
+        let _ = self.begun.lock(self.rt).begin(task);
+    }
+
     /// Counts a turn.
     pub(crate) fn count(&self, turn: Result<Served, SourceFault>) {
         add_turn(&mut self.turns.lock(self.rt).metrics, turn);

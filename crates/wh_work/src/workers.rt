@@ -1,6 +1,6 @@
 //! The workers of live tasks.
 
-ghost use Rattle.std.specs.Prelude.{◌≡◌, ◌+◌, IfOk, vec_len};
+ghost use Rattle.std.specs.Prelude.{◌≡◌, ◌+◌, IfOk, length, vec_len};
 ghost use Rattle.wh_crew.specs.Serving.{AreServed};
 ghost use Rattle.wh_host.specs.Machine.{IsConfig};
 
@@ -10,31 +10,55 @@ use crate::plan::LivePlan;
 use crate::progress::Progress;
 use crate::watch::Watch;
 use std::alloc::Global;
-use std::sync::Wait;
+use std::sync::{Arc, Wait};
 use std::thread::Threads;
 use std::time::Clock;
+use wh_activities::{Beating, BeatingHandler};
 use wh_commands::WorkerNames;
 use wh_console::Format;
-use wh_crew::{LiveEnd, serve_live};
+use wh_crew::{LiveEnd, LiveHeartbeat, serve_live};
 use wh_events::{OutOfMemory, Text};
+use wh_heartbeat::ActivityCell;
 use wh_host::OpenFault;
-use wh_poll::ActivityHandler;
 use wh_queryable::Queryable;
 use wh_rpc::Caller;
 
-/// A handler and a watch for each worker.
-fn crew_of<'a, R, A: Drop, M: Fn() -> A>(
+/// A handler with its heartbeat, as a live worker runs activities by.
+type LiveHandler<'a, B, R, C> = Beating<B, LiveHeartbeat<'a, R, CountedCalls<'a, C, R>>>;
+
+/// A cell for each worker, in which its source and its heartbeat find the activity task that it runs.
+fn cells_of(alloc: Global, seats: usize) -> Result<Vec<Arc<ActivityCell>>, OutOfMemory>
+    ensures { IfOk result (λ cells. vec_len cells ≡ seats) }
+{
+    let mut cells = Vec::new(alloc);
+    for _seat in 0..seats {
+        let Ok(cell) = Arc::new(alloc, ActivityCell::new()) else {
+            return Err(OutOfMemory);
+        };
+        cells.push(cell)?;
+    }
+    Ok(cells)
+}
+
+/// A handler that beats over these calls under these names, and a watch, for the worker of each cell.
+fn crew_of<'a, R, C, B: Drop, M: Fn() -> B>(
+    rt: &'a R,
     alloc: Global,
+    calls: &'a CountedCalls<'a, C, R>,
+    names: &WorkerNames,
     make: &M,
-    seats: usize,
-    progress: Option<&'a Progress<'a, R>>,
-) -> Result<Vec<(A, Watch<'a, R>)>, OutOfMemory>
+    cells: &[Arc<ActivityCell>],
+) -> Result<Vec<(LiveHandler<'a, B, R, C>, Watch<'a, R>)>, OutOfMemory>
     requires { M.IsAlwaysCallable make.now }
-    ensures { IfOk result (λ crew. vec_len crew ≡ seats) }
+    ensures { IfOk result (λ crew. vec_len crew ≡ length cells.now) }
 {
     let mut crew = Vec::new(alloc);
-    for _seat in 0..seats {
-        crew.push((make(), Watch(progress)))?;
+    for cell in cells {
+        let cell = Arc::try_clone(cell)?;
+        let heartbeat = LiveHeartbeat::new(rt, calls, names.try_copy()?, cell);
+        let handler = make();
+        let member = (Beating { handler, heartbeat }, Watch(calls.progress));
+        crew.push(member)?;
     }
     Ok(crew)
 }
@@ -57,14 +81,14 @@ fn progress_of<'a, R: Wait + Clock>(
     if stats.is_none() && file.is_none() {
         return Ok(None);
     }
-    Ok(Some(Progress::new(rt, name, stats, format, file)))
+    Ok(Some(Progress::new(rt, alloc, name, stats, format, file)))
 }
 
 /// Starts to read what the bridge writes, by `listen`, which says whether it could, and serves the
 /// tasks that come by the calls until there are no more: by a host of the sizes of the plan, with a
-/// handler for each worker, which `make` makes. Lines on the standard error begin with the program's
-/// name. Counts are reported and kept as the plan says; where they can't be kept, that is reported, and
-/// the work goes on.
+/// handler for each worker, which `make` makes, and which beats over the same calls for the activity
+/// task that its worker runs. Lines on the standard error begin with the program's name. Counts are
+/// reported and kept as the plan says; where they can't be kept, that is reported, and the work goes on.
 ///
 /// `OutOfMemory` where there was no memory to begin with, or `listen` could not; no call is made then.
 pub fn serve_calls<
@@ -72,8 +96,8 @@ pub fn serve_calls<
     R: Threads + Wait + Clock + Eprint + FileReplacer + AllocGlobal + Sync,
     C: Caller + Sync,
     L: FnOnce() -> bool,
-    A: ActivityHandler + Send + Drop,
-    M: Fn() -> A,
+    B: BeatingHandler + Send + Drop,
+    M: Fn() -> B,
 >(
     rt: &R,
     name: &str,
@@ -102,15 +126,16 @@ where
     let alloc = calls.allocator();
     let progress = progress_of(rt, alloc, name, stats, format, &metrics, &options.names)?;
     let progress = progress.as_ref();
-    let crew = crew_of(alloc, make, config.seats, progress)?;
+    let calls = CountedCalls { calls, progress };
+    let cells = cells_of(alloc, config.seats)?;
+    let crew = crew_of(rt, alloc, &calls, &options.names, make, cells.as_slice())?;
     if let Some(progress) = progress {
         progress.begin();
     }
     if !listen() {
         return Err(OutOfMemory);
     }
-    let calls = CountedCalls { calls, progress };
-    let end = serve_live::<W, R, CountedCalls<C, R>, A, Watch<R>, Progress<R>>(
+    let end = serve_live::<W, R, CountedCalls<C, R>, LiveHandler<B, R, C>, Watch<R>, Progress<R>>(
         rt,
         alloc,
         name,
@@ -119,7 +144,7 @@ where
         &options,
         workers as usize,
         crew,
-        &[],
+        cells.as_slice(),
         progress,
     );
     match end {

@@ -52,6 +52,7 @@ pub(crate) fn check<R: Print + Threads + Sync>(rt: &R, alloc: Global, name: &str
         rt,
         alloc,
         files,
+        false,
         |file: (String, Vec<u8>)| -> Result<(String, Vec<u8>), InputFault> { Ok(file) },
     );
     match checked {

@@ -4,12 +4,13 @@ use std::alloc::Global;
 use std::process::Abort;
 use test_support::{Still, cut, next_number, row, same, shown};
 use wh_cache::{MOST_CACHED_EVENTS, MOST_RUNS, Put, Sticky};
+use wh_events::{Event, EventKind, Items, Payload};
 use wh_histories::{events_after, key};
 use wh_replay::Run;
 use wh_workflow::Meter;
 
-/// How many runs and events a cache may hold, and below it what is done with it, with its answers
-/// and how many events it then holds.
+/// How many runs and how much weight a cache may hold, and below it what is done with it, with its
+/// answers and how much weight it then holds. After `with` stand the sizes of a run's payloads.
 const CACHES: &str = "\
 10 10
 put a start:Still S T => kept, holds 3
@@ -38,13 +39,59 @@ peek a => Some(6), holds 6
 put a start:Still S*7 T => kept, holds 9
 
 0 10
-put a start:Still S T => off, holds 0";
+put a start:Still S T => off, holds 0
 
-/// A run by its name and its history.
+10 0
+put a start:Still S T with 1013 => kept, holds 3
+put b start:Still S T with 1014 => kept, holds 7
+put c start:Still S T with 500 504 => kept, holds 11
+put d start:Still S T with 2037 => kept, holds 15
+put e start:Still S T with 4096 => kept, holds 22
+take e => Some(3), holds 15
+evict a => true, holds 12
+put b start:Still S*2 T => kept, holds 12
+
+10 13
+put a start:Still S T with 4096 => kept, holds 7
+put b start:Still S T with 4096 => gone a, holds 7
+put c start:Still S T => kept, holds 10
+put d start:Still S T with 12288 => too large, holds 10
+put b start:Still S*2 T with 4096 => kept, holds 11
+put c start:Still S T with 4096 => shorter, holds 11
+peek b => Some(4), holds 11
+put e start:Still S T => gone c, holds 11";
+
+/// A payload with so many bytes in `json/plain`.
+fn payload(rt: &impl Abort, alloc: Global, size: &str) -> Payload {
+    let count = size.parse::<usize>().expect(rt, size);
+    let content = " ".repeat(alloc, count).expect(rt, "memory");
+    let encoding = String::from_str(alloc, "json/plain").expect(rt, "memory");
+    Payload {
+        encoding: Items::new(encoding.into_bytes()),
+        content: Items::new(content.into_bytes()),
+    }
+}
+
+/// Gives a run an input of payloads of these sizes.
+fn give_input(rt: &impl Abort, alloc: Global, events: &mut [Event], sizes: &str) {
+    let mut payloads = Vec::new(alloc);
+    for size in sizes.split_whitespace() {
+        payloads.push(payload(rt, alloc, size)).expect(rt, "memory");
+    }
+    if let Some(event) = events.first_mut()
+        && let EventKind::WorkflowExecutionStarted { input, .. } = &mut event.body
+    {
+        *input = Items::new(payloads);
+    }
+}
+
+/// A run by its name and its history, and the sizes of its payloads.
 pub(crate) fn run_of(rt: &impl Abort, alloc: Global, run: &'static str) -> Run<Still> {
     let mut history = run;
     let key = key(alloc, cut(&mut history, " ")).expect(rt, "memory");
-    let events = events_after(alloc, history, 0).expect(rt, history);
+    let (history, sizes) = history.split_once(" with ").unwrap_or((history, ""));
+    let mut events = events_after(alloc, history, 0).expect(rt, history);
+    give_input(rt, alloc, events.as_mut_slice(), sizes);
     Run::from_first(alloc, key, events, &mut Meter::new()).expect(rt, run)
 }
 
@@ -111,7 +158,7 @@ fn answered(
     }
 }
 
-/// Takes a step, and tells the answer and how many events the cache then holds.
+/// Takes a step, and tells the answer and how much weight the cache then holds.
 fn step_text(
     rt: &impl Abort,
     alloc: Global,

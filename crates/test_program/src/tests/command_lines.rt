@@ -19,6 +19,13 @@ replay --json d e => replay d e as JSON
 replay d -- --json => replay d --json
 replay d --require-files => replay d, which needs a history
 replay --require-files d e --json => replay d e as JSON, which needs a history
+replay d --progress => replay d, with progress
+replay --progress --progress d => bad line
+serve d --progress => bad line
+replay d --strict-values => replay d, with strict values
+replay --strict-values d --json --require-files => replay d as JSON, which needs a history, with strict values
+explain d/x.json --strict-values => bad line
+serve d --strict-values => bad line
 explain d/x.json => explain d/x.json
 explain - => explain -
 explain --json d/x.json => explain d/x.json as JSON
@@ -289,9 +296,19 @@ fn plan_text(rt: &impl Abort, alloc: Global, plan: &Plan) -> String {
             more,
             format,
             require_files,
+            strict_values,
+            progress,
         } => {
             let mut text = command_text(rt, alloc, "replay ", dir, more);
             add_flags(rt, &mut text, *format == Format::Json, *require_files);
+            let strict = if *strict_values {
+                ", with strict values"
+            } else {
+                ""
+            };
+            text.push_str(strict).expect(rt, "memory");
+            let told = if *progress { ", with progress" } else { "" };
+            text.push_str(told).expect(rt, "memory");
             text
         }
         Plan::Explain {
@@ -386,7 +403,7 @@ fn words_of(rt: &impl Abort, alloc: Global, line: &str) -> Vec<String> {
 
 /// The answer to words, in words.
 fn answer_text(rt: &impl Abort, alloc: Global, words: &[String]) -> String {
-    match parse(alloc, "wfhost", words) {
+    match parse(alloc, "wfhost", "", words) {
         Ok(plan) => plan_text(rt, alloc, &plan),
         Err(refusal) => refusal_text(rt, alloc, &refusal),
     }
@@ -406,7 +423,7 @@ fn answers(rt: &impl Abort, alloc: Global, line: &str, wanted: &str) {
 /// A line of a program under a name is answered by a text.
 fn says(rt: &impl Abort, alloc: Global, name: &str, line: &str, wanted: &str) {
     let words = words_of(rt, alloc, line);
-    match parse(alloc, name, words.as_slice()) {
+    match parse(alloc, name, "", words.as_slice()) {
         Ok(Plan::Help { text }) | Err(Refusal::BadLine { text }) => {
             same(alloc, text.get(), wanted).expect(rt, line);
         }

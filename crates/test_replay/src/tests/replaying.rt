@@ -4,17 +4,19 @@ use std::alloc::Global;
 use std::process::Abort;
 use std::slice;
 use test_support::{bytes_of, row, same, with_status};
+use wh_events::Items;
 use wh_report::{Format, Record, report};
 use wh_tester::{Line, verdict};
 use wh_workflow::{Workflow, text_of};
 
 /// The record of a file of which its line alone is known.
-pub(crate) fn record_with(line: Line) -> Record {
+pub(crate) fn record_with(alloc: Global, line: Line) -> Record {
     Record {
         line,
         cause: None,
         detail: None,
         difference: None,
+        warnings: Items::new(Vec::new(alloc)),
     }
 }
 
@@ -22,7 +24,7 @@ pub(crate) fn record_with(line: Line) -> Record {
 fn report_of<W: Workflow>(rt: &impl Abort, alloc: Global, bytes: &[u8]) -> String {
     let name = text_of(alloc, "x.json").expect(rt, "memory");
     let verdict = verdict::<W>(alloc, bytes);
-    let record = record_with(Line { name, verdict });
+    let record = record_with(alloc, Line { name, verdict });
     let records = slice::from_ref(&record);
     let mut out = Vec::new(alloc);
     let status = report(records, Format::Text, &mut out).expect(rt, "written");

@@ -122,7 +122,7 @@ a: ok, 2 tasks: out of memory
 
 fn add(rt: &impl Abort, alloc: Global, records: &mut Vec<Record>, name: &str, verdict: Verdict) {
     let name = text_of(alloc, name).expect(rt, "memory");
-    push(records, record_with(Line { name, verdict })).expect(rt, "memory");
+    push(records, record_with(alloc, Line { name, verdict })).expect(rt, "memory");
 }
 
 /// The report of these records.

@@ -4,43 +4,57 @@ use std::alloc::Global;
 use std::process::Abort;
 use test_support::{bytes_of, row};
 use wh_sample_workflows::All;
-use wh_values::{OtherValueText, other_values};
+use wh_values::{OtherValue, OtherValueText, check_values};
 
 /// Histories, each with the values that differ.
 const VALUES: &str = "\
 nap => none
 nap | 'timerId':'nap' -> 'timerId':'nap','startToFireTimeout':'60s' => none
-nap | 'timerId':'nap' -> 'timerId':'nap','startToFireTimeout':'61s' => event 5 has another duration
+nap | 'timerId':'nap' -> 'timerId':'nap','startToFireTimeout':'61s' => event 5: duration: sends 60s, recorded 61s
 greet | 'activityId':'1' -> 'activityId':'1','input':{'payloads':[]} => none
-greet | 'activityId':'1' -> 'activityId':'1','input':{'payloads':[{'data':'AQ=='}]} => event 5 has another input
+greet | 'activityId':'1' -> 'activityId':'1','input':{'payloads':[{'data':'QQ=='}]} => event 5: input: sends nothing, recorded A
+greet | 'activityId':'1' -> 'activityId':'1','input':{'payloads':[{'data':'AQ=='},{'data':'/w=='}]} => event 5: input: sends nothing, recorded ?, /w==
 greet | 'activityId':'1' -> 'activityId':'1','input':[1] => none
-greet | {'workflowType' -> {'input':{'payloads':[{'data':'AQ=='}]},'workflowType' => event 5 has another input
-greet | {'workflowType' -> {'input':{'payloads':[{'data':'AQ=='}]},'workflowType' | 'activityId':'1' -> 'activityId':'1','input':{'payloads':[{'data':'AQ=='}]} => none
-greet | {'workflowType' -> {'input':{'payloads':[{'data':'AQ=='}]},'workflowType' | 'activityId':'1' -> 'activityId':'1','input':{'payloads':[{'metadata':{'encoding':'anNvbi9wbGFpbg=='},'data':'AQ=='}]} => event 5 has another input
-nap | 'WorkflowExecutionCompleted' -> 'WorkflowExecutionCompleted','workflowExecutionCompletedEventAttributes':{'result':{'payloads':[{'data':'AQ=='}]}} => event 10 has another result
-nap | 'timerId':'nap' -> 'timerId':'nap','startToFireTimeout':'6s' | 'WorkflowExecutionCompleted' -> 'WorkflowExecutionCompleted','workflowExecutionCompletedEventAttributes':{'result':{'payloads':[{}]}} => event 5 has another duration, event 10 has another result
+greet | {'workflowType' -> {'input':{'payloads':[{'data':'QQ=='}]},'workflowType' => event 5: input: sends A, recorded nothing
+greet | {'workflowType' -> {'input':{'payloads':[{'data':'QQ=='}]},'workflowType' | 'activityId':'1' -> 'activityId':'1','input':{'payloads':[{'data':'QQ=='}]} => none
+greet | {'workflowType' -> {'input':{'payloads':[{'data':'QQ=='}]},'workflowType' | 'activityId':'1' -> 'activityId':'1','input':{'payloads':[{'data':'Qg=='}]} => event 5: input: sends A, recorded B
+greet | {'workflowType' -> {'input':{'payloads':[{'data':'QQ=='}]},'workflowType' | 'activityId':'1' -> 'activityId':'1','input':{'payloads':[{'metadata':{'encoding':'anNvbi9wbGFpbg=='},'data':'QQ=='}]} => event 5: input: sends A, recorded A
+nap | 'WorkflowExecutionCompleted' -> 'WorkflowExecutionCompleted','workflowExecutionCompletedEventAttributes':{'result':{'payloads':[{'data':'QQ=='}]}} => event 10: result: sends nothing, recorded A
+nap | 'timerId':'nap' -> 'timerId':'nap','startToFireTimeout':'6s' | 'WorkflowExecutionCompleted' -> 'WorkflowExecutionCompleted','workflowExecutionCompletedEventAttributes':{'result':{'payloads':[{},{'data':'QQ=='}]}} => event 5: duration: sends 60s, recorded 6s, event 10: result: sends nothing, recorded , A
 greet/5 activity_failed:5 S T C failed => none
 greet/5 activity_failed:5 S T C failed | 'WorkflowExecutionFailed' -> 'WorkflowExecutionFailed','workflowExecutionFailedEventAttributes':{'failure':{'message':'greet'}} => none
-greet/5 activity_failed:5 S T C failed | 'WorkflowExecutionFailed' -> 'WorkflowExecutionFailed','workflowExecutionFailedEventAttributes':{'failure':{'message':'x'}} => event 10 has another failure
+greet/5 activity_failed:5 S T C failed | 'WorkflowExecutionFailed' -> 'WorkflowExecutionFailed','workflowExecutionFailedEventAttributes':{'failure':{'message':'x'}} => event 10: failure: sends greet, recorded x
 nap | 'timerId':'nap' -> 'timerId':'x','startToFireTimeout':'61s' => none
+nap | 'timerId':'nap' -> 'timerId':'nap','startToFireTimeout':'61s' | 'WorkflowExecutionCompleted' -> 'WorkflowExecutionCanceled' => none
 start:Nope S T C => none
 ";
 
-/// The values that differ, with commas between.
-fn values(rt: &impl Abort, alloc: Global, history: &'static str) -> String {
-    let bytes = bytes_of(alloc, history).expect(rt, history);
-    let values = other_values::<All>(alloc, bytes.as_slice()).expect(rt, "memory");
-    if values.is_empty() {
-        return String::from_str(alloc, "none").expect(rt, "memory");
-    }
+/// A value that differs.
+fn value_text(rt: &impl Abort, alloc: Global, value: &OtherValue) -> String {
+    format!(in alloc; "{}", OtherValueText(value)).expect(rt, "memory")
+}
+
+/// Values that differ, with commas between.
+fn values_text(rt: &impl Abort, alloc: Global, values: &[OtherValue]) -> String {
     let mut text = String::new(alloc);
-    for (place, value) in values.iter().enumerate() {
-        text.push_str(if place == 0 { "" } else { ", " })
-            .expect(rt, "memory");
-        let one = format!(in alloc; "{}", OtherValueText(*value)).expect(rt, "memory");
+    for value in values {
+        if !text.is_empty() {
+            text.push_str(", ").expect(rt, "memory");
+        }
+        let one = value_text(rt, alloc, value);
         text.push_str(one.as_str()).expect(rt, "memory");
     }
     text
+}
+
+/// The values of a history that differ, with commas between, or `none`.
+fn values(rt: &impl Abort, alloc: Global, history: &'static str) -> String {
+    let bytes = bytes_of(alloc, history).expect(rt, history);
+    let (_finding, values) = check_values::<All>(alloc, bytes.as_slice());
+    if values.is_empty() {
+        return String::from_str(alloc, "none").expect(rt, "memory");
+    }
+    values_text(rt, alloc, values.as_slice())
 }
 
 #[test]

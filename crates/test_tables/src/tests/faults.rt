@@ -69,7 +69,7 @@ fn what_is_no_table_is_refused(rt: HostRuntime) -> Result<(), Fail> {
 }
 
 /// Rows that can't be read, and why.
-const ROWS: [(&str, &str); 22] = [
+const ROWS: [(&str, &str); 23] = [
     ("7", "a row is a list of at most six members"),
     (
         r#"["a","start","","","","",""]"#,
@@ -105,6 +105,7 @@ const ROWS: [(&str, &str); 22] = [
     (r#"["a","done"]"#, "no job is written so"),
     (r#"["a","done b c"]"#, "no job is written so"),
     (r#"["a","version b -2"]"#, "no job is written so"),
+    (r#"["a","version b 1 c"]"#, "no job is written so"),
     (
         r#"["a","start","tries < 2"]"#,
         "no condition is written so, or there is no such counter",

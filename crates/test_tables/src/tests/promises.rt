@@ -78,7 +78,7 @@ fn findings_are_written(rt: HostRuntime) -> Result<(), Fail> {
         alloc,
         r#"["at most 1 activity X","at most 0 child K","often"]"#,
         "promise 1, at most 1 activity X: kept\npromise 2, at most 0 child K: broken by: start; signal s\n  start => StartActivity x X\n  signal s => StartChild k K; SignalExternal o S\npromise 3, often: no promise is written so\n",
-        r#"[{"promise":1,"text":"at most 1 activity X","verdict":"kept"},{"promise":2,"text":"at most 0 child K","verdict":"broken","scenario":[{"job":"start","gives":"StartActivity x X"},{"job":"signal s","gives":"StartChild k K; SignalExternal o S"}]},{"promise":3,"text":"often","verdict":"no promise"}]"#,
+        r#"[{"promise":1,"text":"at most 1 activity X","verdict":"kept"},{"promise":2,"text":"at most 0 child K","verdict":"broken","shortest":true,"scenario":[{"job":"start","gives":"StartActivity x X"},{"job":"signal s","gives":"StartChild k K; SignalExternal o S"}]},{"promise":3,"text":"often","verdict":"no promise"}]"#,
     )
 }
 

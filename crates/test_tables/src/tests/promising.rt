@@ -69,7 +69,7 @@ pub(super) fn keeps_promises(alloc: Global, table: &str) -> Result<(), Fail> {
 /// The way of a finding, if it has one.
 fn way_in(finding: &PromiseFinding) -> &[WayStep] {
     match &finding.outcome {
-        Outcome::Decided(Verdict::Broken(way)) => way.as_slice(),
+        Outcome::Decided(Verdict::Broken(breach)) => breach.way.as_slice(),
         _ => &[],
     }
 }

@@ -17,7 +17,7 @@ overflow_sub-held g c =
     ] in
     let goes = one_goes c.args.key.now c.last.rest c.next_back.new.self _ c.args.room c.args.left c.last.count c.last.held c.in-Some.ensures.steps (sym c.eq.ensures ∙ c.if-eq.false) c.last.invariant.0 c.last.invariant.1 over in
     let less = goes.1 in
-    let len = c.len.ensures.len in
+    let len = c.weight-held.ensures.weight in
     omega (arith, less, len)
 
 pub last-preserved : goal.last-preserved
@@ -29,13 +29,13 @@ last-preserved g c =
     let goes = one_goes c.args.key.now c.last.rest c.next_back.new.self _ c.args.room c.args.left c.last.count c.last.held c.in-Some.ensures.steps (sym c.eq.ensures ∙ c.if-eq.false) c.last.invariant.0 c.last.invariant.1 over in
     let one = goes.0 in
     let less = goes.1 in
-    let len = c.len.ensures.len in
+    let len = c.weight-held.ensures.weight in
     let sum = c.last.invariant.2 in
     (omega (arith, one), omega (arith, less, len), omega (arith, one, sum), goes.2 ∙ c.last.invariant.3)
 
 pub last-preserved-then-eq : goal.last-preserved-then-eq
 last-preserved-then-eq g c =
-    let last : beside c.args.key.now c.last.rest ≡ beside c.args.key.now c.next_back.new.self = ap (beside c.args.key.now) c.in-Some.ensures.steps ∙ beside-last_same c.args.key.now c.next_back.new.self (c.in-Some.other.now, c.in-Some.history.now) (sym c.eq.ensures ∙ c.if-eq.true) in
+    let last : beside c.args.key.now c.last.rest ≡ beside c.args.key.now c.next_back.new.self = ap (beside c.args.key.now) c.in-Some.ensures.steps ∙ beside-last_same c.args.key.now c.next_back.new.self (c.in-Some.other.now, c.in-Some.weighed.now) (sym c.eq.ensures ∙ c.if-eq.true) in
     (c.last.invariant.0 ∙ ap length last, c.last.invariant.1 ∙ ap held_by last, c.last.invariant.2, ap (fitting c.args.room c.args.left) (sym last) ∙ c.last.invariant.3)
 
 pub returns : goal.returns

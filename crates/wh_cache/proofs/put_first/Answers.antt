@@ -1,8 +1,10 @@
-use Rattle.std.proofs.Common.{◌≡◌, ℕ, ◌+◌, ◌-◌, length, sym, ap, subst, ◌∙◌, arith}
+use Rattle.std.proofs.Common.{◌≡◌, ℕ, ◌+◌, ◌-◌, sym, ap, subst, ◌∙◌, arith}
 use Rattle.std.specs.Map.{remove_entry}
 use Rattle.wh_events.specs.declared.key.RunKey.{RunKey}
 use Rattle.wh_events.specs.Keys.{same_key}
+use Rattle.wh_replay.specs.Runs.{HistoryView}
 use Rattle.wh_cache.specs.Cache.{entry_of, held_by}
+use Rattle.wh_cache.specs.Weights.{weight_of}
 use Rattle.wh_cache.proofs.Runs.{put_entries-first}
 use Rattle.wh_cache.proofs.put_first.Goals as goal
 
@@ -12,12 +14,13 @@ held_after held before rest replaced added after h r a = omega arith
 pub returns-in-Ok-clause-runs : goal.returns-in-Ok-clause-runs
 returns-in-Ok-clause-runs g c =
     let first = put_entries-first c.args.runs.now (entry_of c.args.run) c.requires.room in
-    rw (c.in-Ok.ensures.entries, c.into_parts-key.ensures.key, c.into_parts-key.ensures.history) first
+    rw (c.in-Ok.ensures.entries, c.of-key.ensures.key, c.of-key.ensures.history) first
 
 pub returns-in-Ok-clause-held : goal.returns-in-Ok-clause-held
 returns-in-Ok-clause-held g c =
     let first = ap held_by (put_entries-first c.args.runs.now (entry_of c.args.run) c.requires.room) in
-    let after : held_by c.push.new.self.entries ≡ length c.args.run.events + held_by (remove_entry (same_key c.args.run.key) c.args.runs.now.entries) =
-    rw (c.in-Ok.ensures.entries, c.into_parts-key.ensures.key, c.into_parts-key.ensures.history) first in
-    let less = subst (λ (k : RunKey). held_by (remove_entry (same_key k) c.args.runs.now.entries) + c.replaced_len-replaced.result ≡ held_by c.args.runs.now.entries) c.key.ensures c.replaced_len-replaced.ensures.held in
-    held_after c.args.held.now _ _ c.replaced_len-replaced.result c.held_len-added.result _ c.requires.held.0 less (after ∙ ap (λ n. n + held_by (remove_entry (same_key c.args.run.key) c.args.runs.now.entries)) (sym c.held_len-added.ensures.len))
+    let after : held_by c.push.new.self.entries ≡ weight_of c.args.run.events + held_by (remove_entry (same_key c.args.run.key) c.args.runs.now.entries) =
+    rw (c.in-Ok.ensures.entries, c.of-key.ensures.key, c.of-key.ensures.history) first in
+    let less = subst (λ (k : RunKey). held_by (remove_entry (same_key k) c.args.runs.now.entries) + c.replaced_weight-replaced.result ≡ held_by c.args.runs.now.entries) c.key.ensures c.replaced_weight-replaced.ensures.held in
+    let added = c.weight-added.ensures.weight ∙ ap (λ (h : HistoryView). weight_of h.events) c.of-key.ensures.history in
+    held_after c.args.held.now _ _ c.replaced_weight-replaced.result c.weight-added.result _ c.requires.held.0 less (after ∙ ap (λ n. n + held_by (remove_entry (same_key c.args.run.key) c.args.runs.now.entries)) (sym added))

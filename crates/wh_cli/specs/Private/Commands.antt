@@ -38,33 +38,33 @@ pub record HasWorked (lives : LivesBy) (options : WorkOptions) (old new : Consol
   pub ends : status ≡ live_status end
 
 -- what a plan asks for was done
-abbrev pub Obeys : {S : Type 0} → Program S → Queries S → LivesBy → Plan → (old new : ConsoleView) → (status : ℕ)
-    → Type 0
-Obeys program queries lives (Replay dir more format required) old new status =
-    HasReplayedPaths program dir more.items format required old new status
-Obeys program queries lives (Explain file selection format) old new status =
+abbrev pub Obeys : {S : Type 0} → Program S → Queries S → LivesBy → (types : List ℕ) → Plan → (old new : ConsoleView)
+    → (status : ℕ) → Type 0
+Obeys program queries lives types (Replay dir more format required strict progress) old new status =
+    HasReplayedPaths program types dir more.items format required strict progress old new status
+Obeys program queries lives types (Explain file selection format) old new status =
     HasExplainedPath program file selection format old new status
-Obeys program queries lives (Page file only_recorded) old new status =
+Obeys program queries lives types (Page file only_recorded) old new status =
     HasPagedPath program only_recorded file old new status
-Obeys program queries lives (View file selection format) old new status =
+Obeys program queries lives types (View file selection format) old new status =
     HasViewedPath file selection format old new status
-Obeys program queries lives (Query file query_type input format) old new status =
-    HasQueriedPath program queries file query_type input.items format old new status
-Obeys program queries lives (Check file more format) old new status =
+Obeys program queries lives types (Query file query_type input format) old new status =
+    HasQueriedPath program queries types file query_type input.items format old new status
+Obeys program queries lives types (Check file more format) old new status =
     HasCheckedPaths Finds file more.items format old new status
-Obeys program queries lives (Picture file) old new status = HasDrawnPath Finds file old new status
-Obeys program queries lives (Try file scenario) old new status = HasTriedPath file scenario old new status
-Obeys program queries lives (Serve dir options required) old new status =
-    HasServedFolder program dir (sizes_of options) required old new status
-Obeys program queries lives (Work options) old new status = HasWorked lives options old new status
-Obeys program queries lives (Help text) old new status = HasPrinted text old new status
+Obeys program queries lives types (Picture file) old new status = HasDrawnPath Finds file old new status
+Obeys program queries lives types (Try file scenario) old new status = HasTriedPath file scenario old new status
+Obeys program queries lives types (Serve dir options required) old new status =
+    HasServedFolder program types dir (sizes_of options) required old new status
+Obeys program queries lives types (Work options) old new status = HasWorked lives options old new status
+Obeys program queries lives types (Help text) old new status = HasPrinted text old new status
 
 -- the words ask for a plan, and what that asks for was done
 pub record ObeysWords {S : Type 0} (program : Program S) (queries : Queries S) (lives : LivesBy)
-    (words : List (List ℕ)) (old new : ConsoleView) (status : ℕ) : Type 0 where
+    (types : List ℕ) (words : List (List ℕ)) (old new : ConsoleView) (status : ℕ) : Type 0 where
   pub plan : Plan
   pub asked : IsAskedBy words plan
-  pub obeys : Obeys program queries lives plan old new status
+  pub obeys : Obeys program queries lives types plan old new status
 
 -- what a program at a path is called: the last part of the path, or `wfhost` where there is none
 abbrev pub name_of : List ℕ → List ℕ
@@ -92,7 +92,7 @@ pub record HasFailed (new : ConsoleView) (status : ℕ) : Type 0 where
   pub ends : status ≡ 2
 
 -- what the words ask for was done, or there is no full report
-abbrev pub Answers : {S : Type 0} → Program S → Queries S → LivesBy → List (List ℕ) → (old new : ConsoleView)
-    → (status : ℕ) → Type 0
-Answers program queries lives words old new status =
-    ObeysWords program queries lives words old new status ⊎ HasFailed new status
+abbrev pub Answers : {S : Type 0} → Program S → Queries S → LivesBy → (types : List ℕ) → List (List ℕ)
+    → (old new : ConsoleView) → (status : ℕ) → Type 0
+Answers program queries lives types words old new status =
+    ObeysWords program queries lives types words old new status ⊎ HasFailed new status

@@ -18,7 +18,7 @@ overflow_sub-self g c =
     let found = sym c.pop_entry.ensures.value ∙ c.in_ok-key.was in
     let less = held_by-remove t _ _ found in
     let held = c.self.invariant.1 in
-    let len = c.len.ensures.len in
+    let len = c.weight.ensures.weight in
     omega (arith, less, held, len)
 
 pub invariant_of-self-2 : goal.invariant_of-self-2
@@ -27,6 +27,6 @@ invariant_of-self-2 g c =
     let found = sym c.pop_entry.ensures.value ∙ c.in_ok-key.was in
     let less = held_by-remove t _ _ found in
     let held = c.self.invariant.1 in
-    let len = c.len.ensures.len in
+    let len = c.weight.ensures.weight in
     let sound = IsSound-remove t _ _ _ _ c.self.invariant.2 in
     rw c.pop_entry.ensures.entries (c.self.invariant.0, omega (arith, less, held, len), sound)

@@ -1,5 +1,7 @@
-use Rattle.std.proofs.Common.{refl}
+use Rattle.std.proofs.Common.{refl, subst}
 use Rattle.std.specs.Prelude.{Ok}
+use Rattle.wh_console.specs.Consoles.{Reported}
+use Rattle.wh_known_types.specs.Types.{known_types_text}
 use Rattle.wh_file_commands.proofs.Steps.{query_ended}
 use Rattle.wh_file_commands.proofs.query.query_file.Goals as goal
 
@@ -7,7 +9,7 @@ use Rattle.wh_file_commands.proofs.query.query_file.Goals as goal
 pub returns : goal.returns
 returns g c =
     let own = c.in-Ok in
-    query_ended g.W.Workflow.program g.W.Queryable.queries c.args.file c.args.query.now c.args.format
-    c.args.console.now c.print_query.new.console c.flushed-2.new.console c.report.new.self own.queried (Ok c.status_of.result) c.status_of.result c.in_ok-status.status
+    query_ended g.W.Workflow.program g.W.Queryable.queries c.args.types.now c.args.file c.args.query.now c.args.format
+    c.args.console.now c.print_query.new.console c.flushed-2.new.console c.report.new.self c.report-2.new.self own.queried (Ok c.status_of.result) c.status_of.result c.in_ok-status.status
     own.ensures.queried own.ensures.printed c.in_ok-status.ensures.quiet c.in_ok-status.ensures.kept
-    c.report.ensures c.status_of.ensures refl c.in_ok-status.ensures.status
+    c.report.ensures (subst (λ lacking. Reported c.report.new.self c.report-2.new.self (known_types_text c.args.types.now lacking)) c.lacks_code-lacking.ensures.lacks c.report-2.ensures) c.status_of.ensures refl c.in_ok-status.ensures.status

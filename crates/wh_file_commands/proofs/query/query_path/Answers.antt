@@ -7,7 +7,7 @@ returns g c =
     let input = c.in_ok-input in
     record {
       queried =
-          queried_path g.W.Workflow.program g.W.Queryable.queries c.args.path c.args.query_type c.args.words.items c.in_ok-query.query input.input c.args.format
+          queried_path g.W.Workflow.program g.W.Queryable.queries c.args.types.now c.args.path c.args.query_type c.args.words.items c.in_ok-query.query input.input c.args.format
           c.args.console.now c.query_input.new.console c.query_input.result
           c.in_ok-query.ensures input.ensures.called input.ensures.from input.ensures.single c.query_input.ensures;
     }

@@ -8,7 +8,7 @@ returns g c =
     let listed = c.in_ok-listed.listed in
     record {
       served =
-          served_folder g.W.Workflow.program c.args.dir (sizes_of c.args.options) c.args.require_files listed.left_out c.lacks_files-lacks.result listed.inputs.items
+          served_folder g.W.Workflow.program c.args.types.now c.args.dir (sizes_of c.args.options) c.args.require_files listed.left_out c.lacks_files-lacks.result listed.inputs.items
           c.args.console.now c.folder_of.new.console c.serve.new.console c.serve.result
           c.in_ok-listed.ensures.listed c.lacks_files-lacks.ensures.lacks c.serve.ensures;
     }

@@ -1,4 +1,4 @@
-use Rattle.std.proofs.Common.{◌≡◌, ◌≤◌, drop, length}
+use Rattle.std.proofs.Common.{◌≡◌, drop}
 use Rattle.wh_table_picture.specs.Layout.{first_from}
 use Rattle.wh_table_picture.proofs.layout.first_of.Given as goal
 

@@ -8,6 +8,6 @@ use Rattle.wh_table_promises.proofs.found.are_good.Given as goal
 abbrev pub invariant-loop-one : goal.invariant-loop-one
 invariant-loop-one l =
     each (is_good l.rules.tops (map turn_seen l.rules.turns.now) l.budget (map line_seen l.rules.lines.now) (map config_seen l.configs))
-    (map config_seen (drop l.one-index l.configs)) ≡ true
+    (map config_seen (drop l.one-index l.list)) ≡ true
     → each (is_good l.rules.tops (map turn_seen l.rules.turns.now) l.budget (map line_seen l.rules.lines.now) (map config_seen l.configs))
-    (map config_seen l.configs) ≡ true
+    (map config_seen l.list) ≡ true

@@ -1,5 +1,5 @@
 use Rattle.std.proofs.Common.{◌≡◌, vec_len}
 use Rattle.wh_work.proofs.workers.crew_of.Given as goal
 
-abbrev pub invariant-loop-seat : goal.invariant-loop-seat
-invariant-loop-seat g l = vec_len l.crew ≡ l._seat
+abbrev pub invariant-loop-cell : goal.invariant-loop-cell
+invariant-loop-cell g l = vec_len l.crew ≡ l.cell-index

@@ -4,4 +4,4 @@ use Rattle.wh_table_picture.proofs.picture.PictureDisplay.fmt.Goals as goal
 -- with the places in it
 pub returns-clause-writes : goal.returns-clause-writes
 unfolding picture_html
-returns-clause-writes g c = λ plain ok. rw (c.top_of.ensures, c.top_of-2.ensures, c.top_of-3.ensures) at (c.write.ensures.writes plain ok)
+returns-clause-writes g c = λ plain ok. rw c.top_of.ensures at (c.write.ensures.writes plain ok)

@@ -7,5 +7,5 @@ use Rattle.wh_table_picture.proofs.picture.RowPartsDisplay.fmt.Goals as goal
 pub loop-line-preserved : goal.loop-line-preserved
 loop-line-preserved g c = λ plain.
     has_written_of_eq _ _ _ _ _
-    (each_more row_html c.args.self.now.0.now c.loop-line.line-index c.line-item.result c.loop-line-test.true c.line-item.is)
+    (each_more (row_html c.args.self.now.paths.now) c.args.self.now.lines.now c.loop-line.line-index c.line-item.result c.loop-line-test.true c.line-item.is)
     (has_written_append _ _ _ _ _ _ (c.loop-line.invariant plain) (search rules))

@@ -7,4 +7,4 @@ use Rattle.wh_table_picture.proofs.picture.RowPartsDisplay.fmt.Given as goal
 -- the rows so far have been written
 abbrev pub invariant-loop-line : goal.invariant-loop-line
 invariant-loop-line g l =
-    IsPlainFormatter l.initial.f → HasWritten g.W.Write.write_str_gives l.initial.f (bytes (each row_html (take l.line-index l.line-items))) l.f
+    IsPlainFormatter l.initial.f → HasWritten g.W.Write.write_str_gives l.initial.f (bytes (each (row_html l.self.paths.now) (take l.line-index l.line-items))) l.f

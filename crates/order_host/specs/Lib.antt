@@ -1,0 +1,4 @@
+pub mod Inbox
+pub mod Labels
+pub mod Payloads
+pub mod Till

@@ -1,0 +1,7 @@
+-- Payloads of orders.
+use Rattle.std.specs.Prelude.{ℕ, List, codes}
+use Rattle.wh_events.specs.declared.event.Payload.{Payload}
+
+-- the payload of a JSON text
+abbrev pub json : List ℕ → Payload
+json text = record { encoding = codes "json/plain"; content = text }

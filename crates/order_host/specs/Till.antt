@@ -1,0 +1,27 @@
+-- What a till answers.
+use Rattle.std.specs.Prelude.{◌≡◌, Bool, true, false, List, Option, Some, None, bytes_eq, codes, length}
+use Rattle.wh_activities.specs.Beating.{Brings}
+use Rattle.wh_events.specs.declared.event.Payload.{Payload}
+use Rattle.wh_tasks.specs.declared.source.ActivityTask.{ActivityTask}
+use Rattle.wh_tasks.specs.declared.source.ActivityAnswer.{ActivityAnswer}
+use Rattle.wh_tasks.specs.declared.source.ActivityAnswer.TheVariants.{Completed, Failed}
+use Rattle.order.specs.Charging.{receipt}
+use Rattle.order_host.specs.Labels.{IsLabelsAnswer}
+
+-- the activity is completed with its result; without one there is no such activity
+abbrev pub ending : Option (List Payload) → ActivityAnswer
+ending (Some result) = Completed result
+ending None = Failed (codes "no such activity")
+
+-- the receipt of a charged card; there are no other activities that do not beat
+abbrev pub till_answer : ActivityTask → ActivityAnswer
+till_answer task = ending (receipt task.activity task.input)
+
+-- the answer to a task that asks for labels, a payload for each, or to another one
+abbrev pub Answers : (asks_for_labels : Bool) → Brings → ActivityTask → ActivityAnswer → Type 0
+Answers true brings task answer = IsLabelsAnswer brings (length task.input) answer
+Answers false brings task answer = answer ≡ till_answer task
+
+-- a till may answer so
+abbrev pub MayAnswer : Brings → ActivityTask → ActivityAnswer → Type 0
+MayAnswer brings task answer = Answers (bytes_eq task.activity (codes "PrintLabels")) brings task answer

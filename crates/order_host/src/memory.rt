@@ -1,0 +1,102 @@
+//! Orders in memory: two workers share a host, each with a source of their tasks.
+
+use crate::inbox::Inbox;
+use crate::orders::add_order;
+use crate::till::Till;
+use order::Order;
+use std::alloc::Global;
+use std::io;
+use std::io::Print;
+use std::process::ExitCode;
+use std::sync::Wait;
+use std::thread::Threads;
+use wh_activities::Beating;
+use wh_events::OutOfMemory;
+use wh_heartbeat::NoHeartbeat;
+use wh_host::{Config, OpenFault};
+use wh_poll::{HostEnd, NoObserver, OpenGate, WorkerSetup, run_host};
+
+/// How many workers there are, each with a thread.
+const WORKERS: usize = 2;
+
+/// How many orders there are.
+const ORDERS: u64 = 6;
+
+/// What a worker of orders begins with.
+type OrderSetup = WorkerSetup<Inbox, Beating<Till, NoHeartbeat>, NoObserver>;
+
+/// What a host of orders leaves.
+type OrderEnd = HostEnd<Inbox, Beating<Till, NoHeartbeat>, NoObserver>;
+
+/// What the worker of a place begins with: every second order is for it.
+fn setup_at(alloc: Global, place: usize) -> Result<OrderSetup, OutOfMemory> {
+    let mut source = Inbox::new(alloc);
+    for order in 1..=ORDERS {
+        if order % WORKERS as u64 == place as u64 {
+            add_order(&mut source, alloc, order)?;
+        }
+    }
+    let turns = source.turns();
+    Ok(WorkerSetup {
+        source,
+        handler: Beating {
+            handler: Till { alloc },
+            heartbeat: NoHeartbeat,
+        },
+        observer: NoObserver,
+        turns,
+    })
+}
+
+/// What each worker begins with.
+fn setups(alloc: Global) -> Result<Vec<OrderSetup>, OutOfMemory> {
+    let mut setups = Vec::new(alloc);
+    for place in 0..WORKERS {
+        setups.push(setup_at(alloc, place)?)?;
+    }
+    Ok(setups)
+}
+
+/// Serves all orders.
+fn serve<R: Threads + Wait + Sync>(rt: &R, alloc: Global) -> Result<OrderEnd, OpenFault> {
+    let config = Config {
+        workflow_slots: 10,
+        activity_slots: 10,
+        cache: 100,
+        cache_events: 0,
+        seats: WORKERS,
+    };
+    let setups = setups(alloc)?;
+    run_host::<Order, R, Inbox, Beating<Till, NoHeartbeat>, NoObserver, OpenGate>(
+        rt, alloc, config, setups, &OpenGate,
+    )
+}
+
+/// Prints what each worker and what the host has done.
+fn print<R: Print>(rt: &R, end: &OrderEnd) -> io::Result<()> {
+    for (place, worker) in end.workers.iter().enumerate() {
+        let tasks = worker.counted.taken;
+        let answers = worker.source.count_answers();
+        println!(rt; "worker {place}: {tasks} tasks, {answers} answers")?;
+    }
+    let (taken, completed) = (end.totals.taken, end.totals.completed);
+    let (failed, in_hand) = (end.totals.failed, end.totals.in_hand);
+    println!(rt; "taken {taken}, completed {completed}, failed {failed}, in hand {in_hand}")
+}
+
+/// Serves six orders in memory, and prints how that ended. The status is 0 where it could be printed.
+pub fn serve_from_memory<R: Threads + Wait + Print + Eprint + AllocGlobal + Sync>(
+    rt: &R,
+) -> ExitCode {
+    let end = match serve(rt, rt.alloc()) {
+        Ok(end) => end,
+        Err(fault) => {
+            let _ = eprintln!(rt; "order_worker: {fault:?}");
+            return ExitCode::from(1);
+        }
+    };
+    match print(rt, &end) {
+        Ok(()) => ExitCode::from(0),
+        Err(_) => ExitCode::from(1),
+    }
+}

@@ -1,0 +1,69 @@
+//! The activities of orders.
+
+ghost use Rattle.std.specs.Prelude.{◌≡◌, IfOk, length};
+ghost use Rattle.order_host.specs.Labels.{IsLabelsAnswer};
+ghost use Rattle.order_host.specs.Till.{till_answer};
+
+use crate::labels::{LabelsEnd, count_payload, print_labels};
+use order::receipt;
+use std::alloc::Global;
+use wh_activities::BeatingHandler;
+use wh_events::{Items, OutOfMemory, Payload};
+use wh_heartbeat::Heartbeat;
+use wh_poll::{ActivityAnswer, ActivityTask};
+use wh_workflow::text_of;
+
+/// Charges cards, and gives their receipts; and prints labels of parcels, and gives how many.
+#[derive(Drop)]
+pub struct Till {
+    /// Where reasons are made.
+    pub alloc: Global,
+}
+
+/// Prints a label for each payload, and beats after each.
+fn run_labels<H: Heartbeat>(
+    alloc: Global,
+    input: &Items<Payload>,
+    heartbeat: &mut H,
+) -> Result<ActivityAnswer, OutOfMemory>
+    ensures { IfOk result (IsLabelsAnswer H.brings (length input.now)) }
+{
+    let labels = input.get().len();
+    let printing = print_labels(alloc, labels, heartbeat)?;
+    match printing.end {
+        LabelsEnd::Done => {
+            let count = count_payload(alloc, labels)?;
+            let result = Items::new(vec![in alloc; count]?);
+            Ok(ActivityAnswer::Completed(result))
+        }
+        LabelsEnd::CalledOff => Ok(ActivityAnswer::Failed(text_of(alloc, "called off")?)),
+    }
+}
+
+/// Runs an activity that does not beat.
+fn run_charge(alloc: Global, task: &ActivityTask) -> Result<ActivityAnswer, OutOfMemory>
+    ensures { IfOk result (λ answer. answer ≡ till_answer task.now) }
+{
+    match receipt(task.activity.get(), &task.input)? {
+        Some(result) => Ok(ActivityAnswer::Completed(result)),
+        None => Ok(ActivityAnswer::Failed(text_of(alloc, "no such activity")?)),
+    }
+}
+
+impl BeatingHandler for Till {
+    ghost use Rattle.order_host.specs.Till.{MayAnswer};
+
+    ghost may = { λ till. MayAnswer };
+
+    fn run<H: Heartbeat>(
+        &mut self,
+        task: &ActivityTask,
+        heartbeat: &mut H,
+    ) -> Result<ActivityAnswer, OutOfMemory> {
+        if task.activity.get() == "PrintLabels" {
+            run_labels(self.alloc, &task.input, heartbeat)
+        } else {
+            run_charge(self.alloc, task)
+        }
+    }
+}

@@ -1,0 +1,29 @@
+-- What is explained of a file by what was read of it.
+use Rattle.std.specs.Prelude.{◌≡◌, ◌≤◌, ℕ, List, length, Result, IfErr, Vec}
+use Rattle.std.specs.declared.alloc.Global.{Global}
+use Rattle.wh_events.specs.declared.event.Event.{Event}
+use Rattle.wh_json.specs.Events.{history, longest}
+use Rattle.wh_json.specs.Outcome.{Gives}
+use Rattle.wh_json.specs.declared.fault.ReadFault.{ReadFault}
+use Rattle.wh_json.specs.declared.fault.ReadFault.TheVariants.{OutOfMemory}
+use Rattle.wh_workflow.specs.Law.{Program}
+use Rattle.wh_tester.specs.Verdicts.{IsVerdict}
+use Rattle.wh_explain.specs.declared.explanation.ExplainedTask.{ExplainedTask}
+use Rattle.wh_explain.specs.declared.findings.Finding.{Finding}
+use Rattle.wh_explain.specs.Differences.{last_difference}
+use Rattle.wh_explain.specs.Explaining.{AreTasksIn, unknown_in}
+
+-- what reading the bytes of a file gave: its history, or the first fault, or that there was no memory, which is not said
+-- of a file that is too long
+pub record IsReadOf (bytes : List ℕ) (read : Result (Vec Event Global) ReadFault) : Type 0 where
+  pub exact : Gives (λ events. events.items) read (history bytes)
+  pub memory : IfErr read (λ fault. fault ≡ OutOfMemory → length bytes ≤ longest)
+
+-- what the replay of a file finds, and its tasks: its verdict, the workflow type that there is no code for, and the
+-- difference that the tasks end in
+pub record AreExplained {S : Type 0} (program : Program S) (bytes : List ℕ) (finding : Finding)
+    (tasks : List ExplainedTask) : Type 0 where
+  pub explained : AreTasksIn program (history bytes) tasks
+  pub unknown : finding.unknown ≡ unknown_in program (history bytes)
+  pub verdict : IsVerdict program bytes finding.verdict
+  pub difference : finding.difference ≡ last_difference tasks

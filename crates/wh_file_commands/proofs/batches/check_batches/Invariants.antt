@@ -1,0 +1,8 @@
+use Rattle.wh_inputs.specs.Readings.{IsReadAs}
+use Rattle.wh_file_commands.proofs.Batched.{AreBatched}
+use Rattle.wh_file_commands.proofs.batches.check_batches.Given as goal
+
+-- the batches so far were replayed, and told of
+abbrev pub invariant-loop-batch : goal.invariant-loop-batch
+invariant-loop-batch g l =
+    AreBatched l.strict g.W.Workflow.program (IsReadAs g.R.InputReader.gives) l.mode l.fn.inputs.items l._batch l.records.items l.left.items l.fn.console l.console

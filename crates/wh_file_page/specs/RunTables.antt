@@ -1,0 +1,73 @@
+-- The table of a run, with the way that the run took through its rows.
+use Rattle.std.specs.Prelude.{◌≡◌, ℕ, Bool, true, false, if◌then◌else◌, List, [], ◌∷◌, length, map, codes, Option, Some, None}
+use Rattle.std.specs.Option.{option_map}
+use Rattle.wh_events.specs.declared.event.Payload.{Payload}
+use Rattle.wh_html.specs.Html.{Html, nothing, markup, hole, ◌⊕◌, number}
+use Rattle.wh_run_way.specs.declared.way.Way.{Way}
+use Rattle.wh_run_way.specs.Ways.{IsWayOf}
+use Rattle.wh_table_picture.specs.declared.layout.Line.{Line}
+use Rattle.wh_table_picture.specs.declared.marks.Marks.{Marks}
+use Rattle.wh_table_picture.specs.Drawings.{table_lines}
+use Rattle.wh_table_picture.specs.Marking.{marked}
+use Rattle.wh_table_picture.specs.Pictures.{marked_html}
+use Rattle.wh_table_picture.specs.Without.{without_words}
+use Rattle.wh_file_page.specs.declared.run_table.RunTable.{RunTable}
+
+-- what is marked of a way: its rows and their states, and the state that it stands in
+abbrev pub marks_of : Way → Marks
+marks_of way = record {
+  rows = map (λ turn. turn.row) way.turns;
+  states = map (λ turn. turn.state) way.turns;
+  last = if way.left.run.closed then None else Some way.left.run.at;
+}
+
+-- the rows of the table that came in the first payload, with their marks
+abbrev pub lines_of : Marks → List Payload → List Line
+lines_of marks [] = []
+lines_of marks (first ∷ others) = marked marks (table_lines first.content)
+
+-- the table of a run with this way
+abbrev pub run_table : Way → RunTable
+run_table way = record {
+  lines = lines_of (marks_of way) way.left.payload;
+  taken = length way.turns;
+  state = way.left.run.at;
+  closed = way.left.run.closed;
+}
+
+-- that of the run of a history file, if it brought one
+pub record IsTableIn (bytes : List ℕ) (table : Option RunTable) : Type 0 where
+  pub way : Option Way
+  pub took : IsWayOf bytes way
+  pub is : table ≡ option_map run_table way
+
+-- the same, but none where nothing is replayed
+abbrev pub IsTableOf : (only_recorded : Bool) → (bytes : List ℕ) → Option RunTable → Type 0
+IsTableOf true bytes table = table ≡ None
+IsTableOf false bytes table = IsTableIn bytes table
+
+-- where a run stands
+abbrev pub standing_html : RunTable → Html
+standing_html table =
+    if table.closed then markup (codes "It is closed.")
+    else markup (codes "It stands in the state <strong>") ⊕ hole 100 table.state ⊕ markup (codes "</strong>.")
+
+-- the section of the table of a run
+abbrev pub section_html : RunTable → Html
+section_html table =
+    markup (codes "<section>\n<h2 id=\"way\">The table of this run</h2>\n<p>Jobs for which the run took a row: ")
+    ⊕ number table.taken
+    ⊕ markup (codes ". ")
+    ⊕ standing_html table
+    ⊕ markup (codes "</p>\n")
+    ⊕ marked_html table.lines table.closed
+    ⊕ markup (codes "</section>\n")
+
+-- the same, if there is one
+abbrev pub table_html : Option RunTable → Html
+table_html None = nothing
+table_html (Some table) = section_html table
+
+-- the table of a run without its words
+abbrev pub without_table_words : RunTable → RunTable
+without_table_words table = record table { lines = map without_words table.lines; state = [] }

@@ -1,0 +1,156 @@
+//! The table of a run, with the way that the run took through its rows.
+ghost use Rattle.std.specs.Prelude.{◌≡◌, IfOk, Some};
+ghost use Rattle.std.specs.Option.{option_map};
+ghost use Rattle.wh_html.specs.Html.{bytes};
+ghost use Rattle.wh_file_page.specs.RunTables.{IsTableIn, IsTableOf, lines_of, marks_of, run_table};
+ghost use Rattle.wh_file_page.specs.RunTables.{section_html, standing_html, table_html};
+
+use std::alloc::Global;
+use std::fmt;
+use wh_events::{Items, OutOfMemory, Payload, Text};
+use wh_html::Escaped;
+use wh_run_way::{Way, way_of};
+use wh_table_picture::{Line, MarkedPicture, Marks, marked_table};
+use wh_workflow::text_of;
+
+/// The table of a run, with the way that the run took through its rows.
+#[derive(Drop)]
+pub struct RunTable {
+    /// Its rows, with their marks.
+    pub(crate) lines: Items<Line>,
+    /// For how many jobs the run took a row.
+    pub(crate) taken: usize,
+    /// The state that it stands in.
+    pub(crate) state: Text,
+    /// Whether it is closed.
+    pub(crate) closed: bool,
+}
+
+/// What is marked of a way.
+fn marks_of(alloc: Global, way: &Way) -> Result<Marks, OutOfMemory>
+    ensures { IfOk result (λ marks. marks ≡ marks_of way.now) }
+{
+    let mut rows = Vec::new(alloc);
+    let mut states = Vec::new(alloc);
+    for turn in way.turns.get() {
+        let state = turn.state.try_copy()?;
+        rows.push(turn.row)?;
+        states.push(state)?;
+    }
+    let last = if way.left.run.closed {
+        None
+    } else {
+        Some(text_of(alloc, way.left.run.at.get())?)
+    };
+    Ok(Marks {
+        rows: Items::new(rows),
+        states: Items::new(states),
+        last,
+    })
+}
+
+/// The rows of the table that came in the first payload, with their marks.
+fn lines_of(alloc: Global, marks: &Marks, payloads: &[Payload]) -> Result<Items<Line>, OutOfMemory>
+    ensures { IfOk result (λ lines. lines ≡ lines_of marks.now payloads.now) }
+{
+    match payloads {
+        [first, ..] => marked_table(alloc, first.content.get(), marks),
+        [] => Ok(Items::new(Vec::new(alloc))),
+    }
+}
+
+/// The table of a run with this way.
+fn run_table(alloc: Global, way: &Way) -> Result<RunTable, OutOfMemory>
+    ensures { IfOk result (λ table. table ≡ run_table way.now) }
+{
+    let marks = marks_of(alloc, way)?;
+    Ok(RunTable {
+        lines: lines_of(alloc, &marks, way.left.payload.get())?,
+        taken: way.turns.get().len(),
+        state: text_of(alloc, way.left.run.at.get())?,
+        closed: way.left.run.closed,
+    })
+}
+
+/// The table of the run of a history file, if it brought one.
+fn table_in(alloc: Global, bytes: &[u8]) -> Result<Option<RunTable>, OutOfMemory>
+    ensures { IfOk result (IsTableIn bytes.now) }
+{
+    match way_of(alloc, bytes)? {
+        Some(way) => Ok(Some(run_table(alloc, &way)?)),
+        None => Ok(None),
+    }
+}
+
+/// The same, but none where only what is recorded is asked for.
+pub(crate) fn table_as(
+    alloc: Global,
+    bytes: &[u8],
+    only_recorded: bool,
+) -> Result<Option<RunTable>, OutOfMemory>
+    ensures { IfOk result (IsTableOf only_recorded bytes.now) }
+{
+    if only_recorded {
+        Ok(None)
+    } else {
+        table_in(alloc, bytes)
+    }
+}
+
+/// Where a run stands.
+#[derive(Drop)]
+struct Standing<'a>(&'a RunTable);
+
+impl fmt::Display for Standing<'_> {
+    ghost output = { λ own. Some (bytes (standing_html own.0.now)) };
+
+    fn fmt<W: fmt::Write>(&self, f: &mut fmt::Formatter<W>) -> fmt::Result {
+        if self.0.closed {
+            return write!(f, "It is closed.");
+        }
+        let state = Escaped {
+            text: &self.0.state,
+            most: 100,
+        };
+        write!(f, "It stands in the state <strong>{state}</strong>.")
+    }
+}
+
+/// The section of the table of a run.
+#[derive(Drop)]
+struct Section<'a>(&'a RunTable);
+
+impl fmt::Display for Section<'_> {
+    ghost output = { λ own. Some (bytes (section_html own.0.now)) };
+
+    fn fmt<W: fmt::Write>(&self, f: &mut fmt::Formatter<W>) -> fmt::Result {
+        let taken = self.0.taken;
+        let standing = Standing(self.0);
+        let picture = MarkedPicture {
+            lines: self.0.lines.get(),
+            ended: self.0.closed,
+        };
+        write!(
+            f,
+            "<section>\n<h2 id=\"way\">The table of this run</h2>\n<p>Jobs for which the run took a row: {taken}. {standing}</p>\n{picture}</section>\n"
+        )
+    }
+}
+
+/// The section of the table of a run, if there is one.
+#[derive(Drop)]
+pub(crate) struct TablePart<'a>(pub(crate) &'a Option<RunTable>);
+
+impl fmt::Display for TablePart<'_> {
+    ghost output = { λ own. Some (bytes (table_html own.0.now)) };
+
+    fn fmt<W: fmt::Write>(&self, f: &mut fmt::Formatter<W>) -> fmt::Result {
+        match self.0 {
+            Some(table) => {
+                let section = Section(table);
+                write!(f, "{section}")
+            }
+            None => Ok(()),
+        }
+    }
+}

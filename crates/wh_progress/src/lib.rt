@@ -1,0 +1,11 @@
+//! Progress of long work: how many files are done and how many of them have a fault, told on the
+//! standard error between batches of files.
+#![tactic(auto)]
+
+mod batches;
+mod lines;
+mod mode;
+
+pub use batches::{batch_size, told_batches};
+pub use lines::{Progress, ProgressEnd, ProgressLine};
+pub use mode::{ProgressMode, progress_mode};

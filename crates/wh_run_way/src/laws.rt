@@ -1,0 +1,7 @@
+//! What holds of each way, as the contract of a function that does nothing.
+ghost use Rattle.wh_run_way.specs.Laws.{TakesWhatIsFollowed};
+
+/// The row at the place that is taken is the one that a step of the workflow follows.
+pub fn takes_what_is_followed()
+    ensures { TakesWhatIsFollowed }
+{}

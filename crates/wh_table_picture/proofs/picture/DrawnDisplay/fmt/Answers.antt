@@ -1,0 +1,5 @@
+use Rattle.wh_table_picture.proofs.picture.DrawnDisplay.fmt.Goals as goal
+
+-- with the places in it
+pub returns-clause-writes : goal.returns-clause-writes
+returns-clause-writes g c = λ plain ok. rw (c.end_class-class.ensures, c.top_of.ensures, c.top_of-2.ensures) at (c.write.ensures.writes plain ok)

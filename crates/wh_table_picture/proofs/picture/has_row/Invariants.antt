@@ -1,0 +1,7 @@
+use Rattle.std.proofs.Common.{◌≡◌, drop}
+use Rattle.wh_table_picture.specs.Pictures.{has_row}
+use Rattle.wh_table_picture.proofs.picture.has_row.Given as goal
+
+-- none so far is
+abbrev pub invariant-loop-row : goal.invariant-loop-row
+invariant-loop-row l = has_row (drop l.row-index l.rows) l.number ≡ has_row l.rows l.number

@@ -1,0 +1,2 @@
+mod Brought
+mod Checked

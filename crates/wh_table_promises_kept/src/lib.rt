@@ -1,0 +1,4 @@
+//! What tables that come with their runs promise holds of histories.
+#![tactic(auto)]
+
+pub mod laws;
