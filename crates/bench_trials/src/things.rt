@@ -56,7 +56,7 @@ pub(crate) fn last_named(events: &[Event], thing: Thing, id: &str) -> Option<Eve
     last
 }
 
-/// Whether the event asks for the thing that the event of the number opened to be cancelled.
+/// Whether the event asks for the thing that the event of the number opened to be canceled.
 fn cancels(before: &[Event], number: u64, event: &Event) -> bool {
     match event.role() {
         Role::Refers {
@@ -75,7 +75,7 @@ fn cancels(before: &[Event], number: u64, event: &Event) -> bool {
 }
 
 /// Whether one of the events asks for the thing that the event of the number opened to be
-/// cancelled.
+/// canceled.
 pub(crate) fn is_cancelling(events: &[Event], number: u64) -> bool {
     for (place, event) in events.iter().enumerate() {
         if cancels(&events[..place], number, event) {

@@ -4,10 +4,10 @@ use Rattle.order_host.specs.declared.labels.LabelStep.{LabelStep}
 use Rattle.order_host.specs.declared.labels.LabelStep.TheVariants.{Heard, Printed}
 use Rattle.order_host.specs.declared.labels.LabelsEnd.{LabelsEnd}
 use Rattle.order_host.specs.declared.labels.LabelsEnd.TheVariants.{CalledOff, Done}
-use Rattle.wh_activities.specs.Beating.{Brings}
+use Rattle.wh_activities.specs.WithHeartbeat.{Brings}
 use Rattle.wh_events.specs.declared.event.Payload.{Payload}
-use Rattle.wh_heartbeat.specs.declared.heartbeat.Beat.{Beat}
-use Rattle.wh_heartbeat.specs.declared.heartbeat.Beat.TheVariants.{CancelRequested, Gone, GoOn, Unheard}
+use Rattle.wh_heartbeat.specs.declared.heartbeat.HeartbeatResponse.{HeartbeatResponse}
+use Rattle.wh_heartbeat.specs.declared.heartbeat.HeartbeatResponse.TheVariants.{CancelRequested, Gone, GoOn, Unheard}
 use Rattle.wh_tasks.specs.declared.source.ActivityAnswer.{ActivityAnswer}
 use Rattle.wh_tasks.specs.declared.source.ActivityAnswer.TheVariants.{Completed, Failed}
 use Rattle.order_host.specs.Payloads.{json}
@@ -17,34 +17,34 @@ abbrev pub count_payload : ℕ → Payload
 count_payload printed = json (decimal printed)
 
 -- nobody waits for labels more after such a beat
-abbrev pub stops : Beat → Bool
+abbrev pub stops : HeartbeatResponse → Bool
 stops GoOn = false
 stops CancelRequested = true
 stops Gone = true
 stops Unheard = false
 
 -- after this the label of a number was printed, and then a heartbeat told how many are printed, and brought this
-abbrev pub with_label : List LabelStep → ℕ → Beat → List LabelStep
-with_label before number beat = (before ++ Printed number ∷ []) ++ Heard beat ∷ []
+abbrev pub with_label : List LabelStep → ℕ → HeartbeatResponse → List LabelStep
+with_label before number response = (before ++ Printed number ∷ []) ++ Heard response ∷ []
 
 -- so many labels were printed, each followed by a heartbeat after which it went on, and nothing else was done
 abbrev pub WentOn : Brings → ℕ → List LabelStep → Type 0
 WentOn brings zero steps = steps ≡ []
 WentOn brings (suc number) steps =
-    (before : List LabelStep) × ((beat : Beat)
-    × (steps ≡ with_label before number beat) × (stops beat ≡ false) × brings (count_payload (number + 1) ∷ []) beat
+    (before : List LabelStep) × ((response : HeartbeatResponse)
+    × (steps ≡ with_label before number response) × (stops response ≡ false) × brings (count_payload (number + 1) ∷ []) response
     × WentOn brings number before)
 
 -- it went on until a heartbeat that stopped it, and nothing was done after that
 pub record IsCalledOff (brings : Brings) (labels : ℕ) (steps : List LabelStep) : Type 0 where
   pub number : ℕ
   pub before : List LabelStep
-  pub beat : Beat
+  pub response : HeartbeatResponse
   pub went_on : WentOn brings number before
   pub within : number < labels
-  pub last : steps ≡ with_label before number beat
-  pub stopped : stops beat ≡ true
-  pub brought : brings (count_payload (number + 1) ∷ []) beat
+  pub last : steps ≡ with_label before number response
+  pub stopped : stops response ≡ true
+  pub brought : brings (count_payload (number + 1) ∷ []) response
 
 -- so many labels were printed, or those up to the heartbeat that stopped it
 abbrev pub ArePrinted : Brings → ℕ → LabelsEnd → List LabelStep → Type 0

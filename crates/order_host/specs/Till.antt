@@ -1,6 +1,6 @@
 -- What a till answers.
 use Rattle.std.specs.Prelude.{◌≡◌, Bool, true, false, List, Option, Some, None, bytes_eq, codes, length}
-use Rattle.wh_activities.specs.Beating.{Brings}
+use Rattle.wh_activities.specs.WithHeartbeat.{Brings}
 use Rattle.wh_events.specs.declared.event.Payload.{Payload}
 use Rattle.wh_tasks.specs.declared.source.ActivityTask.{ActivityTask}
 use Rattle.wh_tasks.specs.declared.source.ActivityAnswer.{ActivityAnswer}

@@ -126,7 +126,7 @@ impl TaskSource for Inbox {
 
     ghost delivers = { λ inbox. Gives inbox.workflow_tasks.items inbox.activity_tasks.items };
 
-    ghost tells = { λ inbox key up_to history. history ≡ told key up_to inbox.workflow_tasks.items };
+    ghost fetches = { λ inbox key up_to history. history ≡ told key up_to inbox.workflow_tasks.items };
 
     ghost comes_from = { λ later first. Unit {0} };
 

@@ -8,7 +8,7 @@ use crate::orders::json;
 use std::alloc::Global;
 use wh_events::{OutOfMemory, Payload};
 use wh_ghost_list::GhostList;
-use wh_heartbeat::{Beat, Heartbeat};
+use wh_heartbeat::{HeartbeatResponse, Heartbeat};
 
 /// What is done for a task of labels.
 #[derive(Clone, Copy, PartialEq, Eq, Debug)]
@@ -16,7 +16,7 @@ pub(crate) enum LabelStep {
     /// The label of this number was printed, counted from 0.
     Printed(usize),
     /// A heartbeat brought this.
-    Heard(Beat),
+    Heard(HeartbeatResponse),
 }
 
 /// How a task of labels ends.
@@ -38,12 +38,12 @@ pub(crate) struct Printing {
 }
 
 /// Whether nobody waits for labels more after such a beat.
-fn stops(beat: Beat) -> bool
-    ensures { result ≡ stops beat }
+fn stops(response: HeartbeatResponse) -> bool
+    ensures { result ≡ stops response }
 {
-    match beat {
-        Beat::CancelRequested | Beat::Gone => true,
-        Beat::GoOn | Beat::Unheard => false,
+    match response {
+        HeartbeatResponse::CancelRequested | HeartbeatResponse::Gone => true,
+        HeartbeatResponse::GoOn | HeartbeatResponse::Unheard => false,
     }
 }
 
@@ -67,18 +67,18 @@ fn tell<H: Heartbeat>(
     printed: usize,
     heartbeat: &mut H,
     steps: &mut GhostList<LabelStep>,
-) -> Result<Beat, OutOfMemory>
+) -> Result<HeartbeatResponse, OutOfMemory>
     ensures brought { IfOk result (H.brings (count_payload printed ∷ [])) }
-    ensures told { IfOk result (λ beat. steps.new.items ≡ steps.old.items ++ Heard beat ∷ []) }
+    ensures told { IfOk result (λ response. steps.new.items ≡ steps.old.items ++ Heard response ∷ []) }
 {
     let details = [count_payload(alloc, printed)?];
-    let beat = heartbeat.beat(&details)?;
-    *steps = steps.with(&LabelStep::Heard(beat));
-    Ok(beat)
+    let response = heartbeat.send(&details)?;
+    *steps = steps.with(&LabelStep::Heard(response));
+    Ok(response)
 }
 
 /// Prints so many labels. Each is followed by a heartbeat, which tells how many are printed, and
-/// after one that brought that the activity is to be cancelled, or that its task is gone, none is
+/// after one that brought that the activity is to be canceled, or that its task is gone, none is
 /// printed more. `OutOfMemory` where there was no memory for a heartbeat: the labels before it are
 /// printed.
 pub(crate) fn print_labels<H: Heartbeat>(
@@ -91,8 +91,8 @@ pub(crate) fn print_labels<H: Heartbeat>(
     let mut steps = GhostList::new();
     for number in 0..labels {
         print_label(number, &mut steps);
-        let beat = tell(alloc, number + 1, heartbeat, &mut steps)?;
-        if stops(beat) {
+        let response = tell(alloc, number + 1, heartbeat, &mut steps)?;
+        if stops(response) {
             return Ok(Printing {
                 end: LabelsEnd::CalledOff,
                 steps,

@@ -10,7 +10,7 @@ use std::io::Print;
 use std::process::ExitCode;
 use std::sync::Wait;
 use std::thread::Threads;
-use wh_activities::Beating;
+use wh_activities::WithHeartbeat;
 use wh_events::OutOfMemory;
 use wh_heartbeat::NoHeartbeat;
 use wh_host::{Config, OpenFault};
@@ -23,10 +23,10 @@ const WORKERS: usize = 2;
 const ORDERS: u64 = 6;
 
 /// What a worker of orders begins with.
-type OrderSetup = WorkerSetup<Inbox, Beating<Till, NoHeartbeat>, NoObserver>;
+type OrderSetup = WorkerSetup<Inbox, WithHeartbeat<Till, NoHeartbeat>, NoObserver>;
 
 /// What a host of orders leaves.
-type OrderEnd = HostEnd<Inbox, Beating<Till, NoHeartbeat>, NoObserver>;
+type OrderEnd = HostEnd<Inbox, WithHeartbeat<Till, NoHeartbeat>, NoObserver>;
 
 /// What the worker of a place begins with: every second order is for it.
 fn setup_at(alloc: Global, place: usize) -> Result<OrderSetup, OutOfMemory> {
@@ -39,7 +39,7 @@ fn setup_at(alloc: Global, place: usize) -> Result<OrderSetup, OutOfMemory> {
     let turns = source.turns();
     Ok(WorkerSetup {
         source,
-        handler: Beating {
+        handler: WithHeartbeat {
             handler: Till { alloc },
             heartbeat: NoHeartbeat,
         },
@@ -67,7 +67,7 @@ fn serve<R: Threads + Wait + Sync>(rt: &R, alloc: Global) -> Result<OrderEnd, Op
         seats: WORKERS,
     };
     let setups = setups(alloc)?;
-    run_host::<Order, R, Inbox, Beating<Till, NoHeartbeat>, NoObserver, OpenGate>(
+    run_host::<Order, R, Inbox, WithHeartbeat<Till, NoHeartbeat>, NoObserver, OpenGate>(
         rt, alloc, config, setups, &OpenGate,
     )
 }

@@ -7,7 +7,7 @@ ghost use Rattle.order_host.specs.Till.{till_answer};
 use crate::labels::{LabelsEnd, count_payload, print_labels};
 use order::receipt;
 use std::alloc::Global;
-use wh_activities::BeatingHandler;
+use wh_activities::HeartbeatHandler;
 use wh_events::{Items, OutOfMemory, Payload};
 use wh_heartbeat::Heartbeat;
 use wh_poll::{ActivityAnswer, ActivityTask};
@@ -50,7 +50,7 @@ fn run_charge(alloc: Global, task: &ActivityTask) -> Result<ActivityAnswer, OutO
     }
 }
 
-impl BeatingHandler for Till {
+impl HeartbeatHandler for Till {
     ghost use Rattle.order_host.specs.Till.{MayAnswer};
 
     ghost may = { λ till. MayAnswer };

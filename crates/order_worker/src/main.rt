@@ -6,7 +6,7 @@ use order_host::{Till, serve_from_memory};
 use std::env::Env;
 use std::process::ExitCode;
 use std::{env, thread};
-use wh_cli::{calls_over, no_memory, read_input, run_beating};
+use wh_cli::{calls_over, no_memory, read_input, run_with_heartbeats};
 
 /// The workflow types that there is code for.
 const TYPES: &str = "Order";
@@ -30,7 +30,7 @@ fn main(rt: HostRuntime) -> ExitCode {
     let Ok((calls, theirs)) = calls_over(alloc, rt.stdout()) else {
         return no_memory(&rt);
     };
-    run_beating::<Order, _, _, _, _, _>(
+    run_with_heartbeats::<Order, _, _, _, _, _>(
         &rt,
         TYPES,
         &*calls,

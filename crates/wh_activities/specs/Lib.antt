@@ -1,1 +1,1 @@
-pub mod Beating
+pub mod WithHeartbeat

@@ -1,8 +1,8 @@
 //! Handlers of activities that beat while they work.
 #![tactic(auto)]
 
-mod beating;
-mod never_beats;
+mod with_heartbeat;
+mod without_heartbeat;
 
-pub use beating::{Beating, BeatingHandler};
-pub use never_beats::NeverBeats;
+pub use with_heartbeat::{WithHeartbeat, HeartbeatHandler};
+pub use without_heartbeat::WithoutHeartbeat;

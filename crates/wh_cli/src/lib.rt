@@ -7,6 +7,6 @@ mod listening;
 mod program;
 
 pub use listening::read_input;
-pub use program::{no_memory, run, run_beating, run_with_types};
+pub use program::{no_memory, run, run_with_heartbeats, run_with_types};
 pub use wh_poll::NoActivities;
 pub use wh_work::calls_over;

@@ -17,7 +17,7 @@ use std::rt::Runtime;
 use std::sync::Wait;
 use std::thread::Threads;
 use std::{env, io};
-use wh_activities::{BeatingHandler, NeverBeats};
+use wh_activities::{HeartbeatHandler, WithoutHeartbeat};
 use wh_command_line::{Plan, Refusal, parse};
 use wh_console::{Console, ErrorPrinter};
 use wh_crew::LiveEnd;
@@ -180,7 +180,7 @@ fn run_over<
     R: Runtime + AllocGlobal + FileReplacer + Threads + Wait + Sync,
     C: Caller + Sync,
     L: FnOnce() -> bool,
-    B: BeatingHandler + Send + Drop,
+    B: HeartbeatHandler + Send + Drop,
     M: Fn() -> B,
 >(rt: &R, types: &str, words: &[String], calls: &C, listen: L, make: M) -> u8
 where
@@ -214,12 +214,12 @@ where
 /// called, which has to start a thread that reads the other end by `read_input`, and says whether
 /// it could; that thread is not waited for. `make` makes the handler of each worker, which runs
 /// activities and may beat while it does.
-pub fn run_beating<
+pub fn run_with_heartbeats<
     W: Queryable + Send,
     R: Runtime + AllocGlobal + Threads + Wait + Sync,
     C: Caller + Sync,
     L: FnOnce() -> bool,
-    B: BeatingHandler + Send + Drop,
+    B: HeartbeatHandler + Send + Drop,
     M: Fn() -> B,
 >(rt: &R, types: &str, calls: &C, listen: L, make: M) -> ExitCode
 where
@@ -237,7 +237,7 @@ where
     ExitCode::from(run_over::<W, R, C, L, B, M>(rt, types, words.as_slice(), calls, listen, make))
 }
 
-/// Runs the program as `run_beating` does, with handlers that do not beat.
+/// Runs the program as `run_with_heartbeats` does, with handlers that do not beat.
 pub fn run_with_types<
     W: Queryable + Send,
     R: Runtime + AllocGlobal + Threads + Wait + Sync,
@@ -254,10 +254,10 @@ where
     requires listens { L.IsAlwaysCallable listen }
     requires makes { M.IsAlwaysCallable make }
 {
-    let make_silent = move || -> NeverBeats<A>
+    let make_silent = move || -> WithoutHeartbeat<A>
         requires { M.IsAlwaysCallable make }
-    { NeverBeats { handler: make() } };
-    run_beating::<W, R, C, L, NeverBeats<A>, _>(rt, types, calls, listen, make_silent)
+    { WithoutHeartbeat { handler: make() } };
+    run_with_heartbeats::<W, R, C, L, WithoutHeartbeat<A>, _>(rt, types, calls, listen, make_silent)
 }
 
 /// Runs the program as `run_with_types` does, with a help that lists no workflow types.

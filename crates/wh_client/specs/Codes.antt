@@ -17,7 +17,7 @@ HasCode status.Unauthenticated code = code ≡ pos 16
 HasCode status.Other code =
     (code ≢ pos 1) × (code ≢ pos 3) × (code ≢ pos 5) × (code ≢ pos 7) × (code ≢ pos 16)
 
--- a cancelled poll says that there are no more tasks; where what is polled is not there, or the worker may not poll
+-- a canceled poll says that there are no more tasks; where what is polled is not there, or the worker may not poll
 -- it, no later poll does better; else one may
 abbrev pub poll_end : Status → PollEnd
 poll_end status.Cancelled = poll.Closed
@@ -69,7 +69,7 @@ NoRunByCode = (of : Status) → keeps_run (refused_answer of) ≡ false
 abbrev pub KeepsOut : ℤ → Type 0
 KeepsOut code = (code ≡ pos 3) ⊎ ((code ≡ pos 5) ⊎ ((code ≡ pos 7) ⊎ (code ≡ pos 16)))
 
--- a poll that is refused ends the polls exactly where it was cancelled, and none is tried again exactly where no
+-- a poll that is refused ends the polls exactly where it was canceled, and none is tried again exactly where no
 -- worker gets in
 abbrev pub PollsByCode : Type 0
 PollsByCode = (of : Status) (code : ℤ) → HasCode of code

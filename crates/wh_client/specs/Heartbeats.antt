@@ -7,27 +7,27 @@ use Rattle.wh_client.specs.Requests.{IsRequest}
 use Rattle.wh_client.specs.declared.requests.Request.{Request}
 use Rattle.wh_commands.specs.ReadBack.{text_at}
 use Rattle.wh_commands.specs.declared.names.WorkerNames.{WorkerNames}
-use Rattle.wh_requests.specs.Heartbeats.{activity_cancelled, activity_heartbeat}
+use Rattle.wh_requests.specs.Heartbeats.{activity_canceled, activity_heartbeat}
 use Rattle.wh_requests.specs.Requests.{activity_failed}
 use Rattle.wh_responses.specs.Heartbeats.{is_cancel_requested}
 
--- the server gave a result for a heartbeat of the task of a token, which says whether the activity is to be cancelled
-pub record IsHeartbeat (gives : Gives) (names : WorkerNames) (token : List ℕ) (details : List Payload) (cancelled : Bool) : Type 0 where
+-- the server gave a result for a heartbeat of the task of a token, which says whether the activity is to be canceled
+pub record IsHeartbeat (gives : Gives) (names : WorkerNames) (token : List ℕ) (details : List Payload) (canceled : Bool) : Type 0 where
   pub result : Data
   pub given : gives (codes "RecordActivityTaskHeartbeat") (activity_heartbeat names token details) result
-  pub read : cancelled ≡ is_cancel_requested result
+  pub read : canceled ≡ is_cancel_requested result
 
--- the server said to a heartbeat of the task of a token that its activity is to be cancelled
-pub record WasCancelled (gives : Gives) (token : List ℕ) : Type 0 where
+-- the server said to a heartbeat of the task of a token that its activity is to be canceled
+pub record WasCanceled (gives : Gives) (token : List ℕ) : Type 0 where
   pub params : Data
   pub of_task : text_at (codes "taskToken") params ≡ Some token
   pub result : Data
   pub given : gives (codes "RecordActivityTaskHeartbeat") params result
   pub requested : is_cancel_requested result ≡ true
 
--- an activity that failed is answered for as cancelled where that was heard of, and else as failed
+-- an activity that failed is answered for as canceled where that was heard of, and else as failed
 abbrev pub IsFailedActivity : WorkerNames → List ℕ → List ℕ → Bool → Request → Type 0
 IsFailedActivity names token reason true request =
-    IsRequest request (codes "RespondActivityTaskCanceled") (activity_cancelled names token reason)
+    IsRequest request (codes "RespondActivityTaskCanceled") (activity_canceled names token reason)
 IsFailedActivity names token reason false request =
     IsRequest request (codes "RespondActivityTaskFailed") (activity_failed names token reason)

@@ -18,7 +18,7 @@ pub trait Connection {
     ghost use Rattle.serde_json.specs.Data.{Data};
     ghost use Rattle.serde_json.specs.View.{view};
     ghost use Rattle.wh_client.specs.Calls.{OnGiven};
-    ghost use Rattle.wh_client.specs.Heartbeats.{WasCancelled};
+    ghost use Rattle.wh_client.specs.Heartbeats.{WasCanceled};
     ghost use Rattle.wh_client.specs.Polls.{GivesQuery};
 
     /// Which results a request may get, by its method and its parameters.
@@ -52,9 +52,9 @@ pub trait Connection {
     fn begin_activity(&self, cell: &ActivityCell, token: &Text);
 
     /// Whether a heartbeat for the activity task of the token, as the worker's cell knows, was told that
-    /// the activity is to be cancelled.
-    fn was_cancelled(&self, cell: &ActivityCell, token: &Text) -> bool
-        ensures { result ≡ true → WasCancelled gives token.now };
+    /// the activity is to be canceled.
+    fn was_canceled(&self, cell: &ActivityCell, token: &Text) -> bool
+        ensures { result ≡ true → WasCanceled gives token.now };
 
     /// Waits so many milliseconds, and notes that in the list of pauses that were made.
     fn pause(&self, milliseconds: u64, pauses: &mut GhostList<u64>)

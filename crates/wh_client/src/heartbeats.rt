@@ -1,7 +1,7 @@
-//! Heartbeats of activities, and answers for activities that failed or were cancelled.
+//! Heartbeats of activities, and answers for activities that failed or were canceled.
 
 ghost use Rattle.std.specs.Prelude.{◌≡◌, true, IfOk};
-ghost use Rattle.wh_client.specs.Heartbeats.{IsFailedActivity, IsHeartbeat, WasCancelled};
+ghost use Rattle.wh_client.specs.Heartbeats.{IsFailedActivity, IsHeartbeat, WasCanceled};
 
 use crate::asking::{AskFault, ask};
 use crate::client::Client;
@@ -9,11 +9,11 @@ use crate::connection::Connection;
 use crate::requests::Request;
 use wh_commands::WorkerNames;
 use wh_events::{OutOfMemory, Payload, Text};
-use wh_requests::{activity_cancelled, activity_failed, activity_heartbeat};
+use wh_requests::{activity_canceled, activity_failed, activity_heartbeat};
 use wh_responses::is_cancel_requested;
 
 /// Tells the server that the activity of a task goes on, with details, and says whether it is to be
-/// cancelled (Temporal documentation, "Activity Heartbeat"). The fault says why that is not known:
+/// canceled (Temporal documentation, "Activity Heartbeat"). The fault says why that is not known:
 /// where it is `Refused` as `NotFound` the server has no such task more.
 pub fn record_heartbeat<L: Connection>(
     connection: &L,
@@ -38,32 +38,32 @@ impl<L: Connection> Client<'_, L> {
     }
 
     /// Whether a heartbeat for the activity task of the token was told that the activity is to be
-    /// cancelled.
-    pub fn was_cancelled(&self, token: &Text) -> bool
-        ensures { result ≡ true → WasCancelled L.gives token.now }
+    /// canceled.
+    pub fn was_canceled(&self, token: &Text) -> bool
+        ensures { result ≡ true → WasCanceled L.gives token.now }
     {
         match self.cell {
-            Some(cell) => self.connection.was_cancelled(cell, token),
+            Some(cell) => self.connection.was_canceled(cell, token),
             None => false,
         }
     }
 
-    /// Answers for the activity task of a token whose activity failed, with the reason: as cancelled
+    /// Answers for the activity task of a token whose activity failed, with the reason: as canceled
     /// where the handler had heard that it is to be, and has given up; else as failed. `OutOfMemory`
     /// where there was no memory for the request.
     pub fn activity_failed(
         &self,
         token: &Text,
         reason: &str,
-        was_cancelled: bool,
+        was_canceled: bool,
     ) -> Result<Request, OutOfMemory>
-        ensures { IfOk result (IsFailedActivity self.now.options.now.names token.now reason.now was_cancelled) }
+        ensures { IfOk result (IsFailedActivity self.now.options.now.names token.now reason.now was_canceled) }
     {
         let (alloc, names) = (self.allocator(), &self.options.names);
-        if was_cancelled {
+        if was_canceled {
             return Ok(Request {
                 method: "RespondActivityTaskCanceled",
-                params: activity_cancelled(alloc, names, token.get(), reason)?,
+                params: activity_canceled(alloc, names, token.get(), reason)?,
             });
         }
         Ok(Request {

@@ -1,7 +1,7 @@
 //! What the codes of refused calls mean, each law as the contract of a function that does nothing.
 ghost use Rattle.wh_client.specs.Codes.{AnswersByCode, NoRunByCode, PollsByCode, RunsByReceipt};
 
-/// Polls end for good where one is cancelled, and where no worker gets in; after any other code one
+/// Polls end for good where one is canceled, and where no worker gets in; after any other code one
 /// is tried again. An answer that is refused counts as taken where its task is over or was failed by
 /// the server, and its run is never cached: a run is cached exactly where the server acknowledged
 /// the answer.

@@ -106,7 +106,7 @@ continue_as_new_in d = do
 abbrev reader : List ℕ → List ℕ → (Data → Option Command) → Reader
 reader kind attributes read = record { kind = kind; attributes = attributes; read = read }
 
--- the readers of all types; an activity is cancelled by the number of the event that scheduled it
+-- the readers of all types; an activity is canceled by the number of the event that scheduled it
 abbrev pub readers : List Event → List Reader
 readers events =
     reader (codes "COMMAND_TYPE_SCHEDULE_ACTIVITY_TASK") (codes "scheduleActivityTaskCommandAttributes") start_activity_in

@@ -348,7 +348,7 @@ fn fail(alloc: Global, policy: &FailurePolicy, message: &Text) -> Result<Value, 
     )
 }
 
-/// Closes the run as cancelled.
+/// Closes the run as canceled.
 fn cancel(alloc: Global) -> Result<Value, RequestFault>
     ensures { Writes result (Ok spec.cancel) }
 {

@@ -8,7 +8,7 @@ use wh_events::{OutOfMemory, Text};
 pub enum RequestFault {
     /// The timer of this id runs longer than a duration of protobuf, 315,576,000,000 seconds.
     TooLong { timer_id: Text },
-    /// The activity of this id is to be cancelled, and none of the events has scheduled it.
+    /// The activity of this id is to be canceled, and none of the events has scheduled it.
     NotScheduled { activity_id: Text },
     /// The version of the change of this name is asked for. Asks are never sent.
     NeverSent { change_id: Text },

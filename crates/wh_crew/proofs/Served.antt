@@ -15,7 +15,7 @@ use Rattle.wh_poll.specs.Ends.{IsEndOf}
 use Rattle.wh_poll.specs.Turns.{Hears}
 use Rattle.wh_poll.specs.declared.setup.WorkerEnd.{WorkerEnd}
 use Rattle.wh_poll.specs.declared.setup.WorkerSetup.{WorkerSetup}
-use Rattle.wh_tasks.specs.Source.{Answerable, Answers, Delivers, Tells}
+use Rattle.wh_tasks.specs.Source.{Answerable, Answers, Delivers, MayFetch}
 use Rattle.wh_workflow.specs.Law.{Program}
 use Rattle.wh_crew.specs.Crews.{normal_workers, roles_of, sources_of}
 use Rattle.wh_crew.specs.Counts.{tallies_of}
@@ -30,11 +30,11 @@ none_sent : (names : WorkerNames) (roles : List Role) → sum_by (λ s. length s
 none_sent names [] = refl
 none_sent names (role ∷ roles) = none_sent names roles
 
-module _ {P A O : Type 0} (program : Program P) (tells : LiveView → Tells) (delivers : LiveView → Delivers)
+module _ {P A O : Type 0} (program : Program P) (fetches : LiveView → MayFetch) (delivers : LiveView → Delivers)
     (failures : LiveView → ℕ) (may : A → Answerable) (hears : Hears O) where
   -- each source comes from that of its setup
   origins : (setups : List (WorkerSetup LiveView A O)) (ends : List (WorkerEnd LiveView A O))
-      → AllZip (IsEndOf program tells delivers (λ s. s.answers) failures ComesFrom may hears no_shares) setups ends
+      → AllZip (IsEndOf program fetches delivers (λ s. s.answers) failures ComesFrom may hears no_shares) setups ends
       → AllZip (λ first later. ComesFrom later first) (map (λ s. s.source) setups) (map (λ e. e.source) ends)
   origins [] [] all = tt
   origins [] (e ∷ ends) all = all
@@ -44,7 +44,7 @@ module _ {P A O : Type 0} (program : Program P) (tells : LiveView → Tells) (de
 
   -- together they were sent no more answers more than tasks were taken
   sent : (setups : List (WorkerSetup LiveView A O)) (ends : List (WorkerEnd LiveView A O))
-      → AllZip (IsEndOf program tells delivers (λ s. s.answers) failures ComesFrom may hears no_shares) setups ends
+      → AllZip (IsEndOf program fetches delivers (λ s. s.answers) failures ComesFrom may hears no_shares) setups ends
       → sum_by (λ s. length s.answers) (map (λ e. e.source) ends)
       ≤ sum_by (λ s. length s.answers) (map (λ s. s.source) setups) + sum_by (λ c. c.taken) (map (λ e. e.counted) ends)
   sent [] [] all = omega arith

@@ -1,4 +1,4 @@
 pub mod Crews
 pub mod Counts
 pub mod Serving
-pub mod Beats
+pub mod HeartbeatResponses

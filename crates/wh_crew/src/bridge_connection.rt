@@ -67,8 +67,8 @@ impl<R: Wait + Clock + Eprint, C: Caller> Connection for BridgeConnection<'_, R,
         cell.begin(self.rt, token);
     }
 
-    fn was_cancelled(&self, cell: &ActivityCell, token: &Text) -> bool {
-        cell.was_cancelled(self.rt, token)
+    fn was_canceled(&self, cell: &ActivityCell, token: &Text) -> bool {
+        cell.was_canceled(self.rt, token)
     }
 
     fn pause(&self, milliseconds: u64, pauses: &mut GhostList<u64>) {

@@ -1,7 +1,7 @@
 //! Heartbeats over the calls of a bridge.
 
 ghost use Rattle.std.specs.Prelude.{◌≡◌, IfOk};
-ghost use Rattle.wh_crew.specs.Beats.{Means};
+ghost use Rattle.wh_crew.specs.HeartbeatResponses.{Means};
 
 use crate::bridge_connection::BridgeConnection;
 use std::sync::{Arc, Wait};
@@ -9,26 +9,26 @@ use std::time::Clock;
 use wh_client::{AskFault, Status, record_heartbeat};
 use wh_commands::WorkerNames;
 use wh_events::{OutOfMemory, Payload};
-use wh_heartbeat::{ActivityCell, Beat, Heartbeat};
+use wh_heartbeat::{ActivityCell, HeartbeatResponse, Heartbeat};
 use wh_query_desk::QueryQueue;
 use wh_rpc::Caller;
 
 /// What the outcome of a heartbeat's call means for the activity.
-fn beat_of(heard: Result<bool, AskFault>) -> Result<Beat, OutOfMemory>
+fn response_of(heard: Result<bool, AskFault>) -> Result<HeartbeatResponse, OutOfMemory>
     ensures { Means heard result }
 {
     match heard {
-        Ok(true) => Ok(Beat::CancelRequested),
-        Ok(false) => Ok(Beat::GoOn),
+        Ok(true) => Ok(HeartbeatResponse::CancelRequested),
+        Ok(false) => Ok(HeartbeatResponse::GoOn),
         Err(
             AskFault::Refused {
                 status: Status::NotFound,
                 ..
             },
-        ) => Ok(Beat::Gone),
-        Err(AskFault::Closed) => Ok(Beat::Gone),
+        ) => Ok(HeartbeatResponse::Gone),
+        Err(AskFault::Closed) => Ok(HeartbeatResponse::Gone),
         Err(AskFault::OutOfMemory) => Err(OutOfMemory),
-        Err(_) => Ok(Beat::Unheard),
+        Err(_) => Ok(HeartbeatResponse::Unheard),
     }
 }
 
@@ -61,11 +61,11 @@ impl<'a, R, C> LiveHeartbeat<'a, R, C> {
 }
 
 impl<R: Wait + Clock + Eprint, C: Caller> Heartbeat for LiveHeartbeat<'_, R, C> {
-    ghost brings = { λ details beat. Unit {0} };
+    ghost brings = { λ details response. Unit {0} };
 
-    fn beat(&mut self, details: &[Payload]) -> Result<Beat, OutOfMemory> {
+    fn send(&mut self, details: &[Payload]) -> Result<HeartbeatResponse, OutOfMemory> {
         let Some(token) = self.cell.token(self.rt)? else {
-            return Ok(Beat::Unheard);
+            return Ok(HeartbeatResponse::Unheard);
         };
         let connection = BridgeConnection {
             rt: self.rt,
@@ -74,10 +74,10 @@ impl<R: Wait + Clock + Eprint, C: Caller> Heartbeat for LiveHeartbeat<'_, R, C> 
             queries: QueryQueue::new(self.calls.allocator()),
         };
         let heard = record_heartbeat(&connection, &self.names, &token, details);
-        let beat = beat_of(heard)?;
-        if beat == Beat::CancelRequested {
+        let response = response_of(heard)?;
+        if response == HeartbeatResponse::CancelRequested {
             self.cell.note_cancel(self.rt, &token);
         }
-        Ok(beat)
+        Ok(response)
     }
 }

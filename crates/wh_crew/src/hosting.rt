@@ -47,7 +47,7 @@ pub(crate) fn run_host_answering<
     queries: &QueryQueue,
 ) -> Result<HostEnd<S, A, O>, OpenFault>
     ensures bad { (result ≡ Err OpenFault.BadConfig) ↔ (¬ (IsConfig config × (config.seats ≡ vec_len setups))) }
-    ensures end { IfOk result (IsHostEnd W.program S.tells S.delivers S.answers S.failures S.comes_from
+    ensures end { IfOk result (IsHostEnd W.program S.fetches S.delivers S.answers S.failures S.comes_from
         A.may O.hears config setups) }
 {
     if config.seats != setups.len() {
@@ -101,7 +101,7 @@ fn run_with<
         × (completed.parts ≡ config.seats) }
     requires failed { (failed.name ≡ F.name) × (failed.parts ≡ F.parts) × (failed.parts ≡ config.seats) }
     ensures bad { (result ≡ Err OpenFault.BadConfig) ↔ (¬ IsConfig config) }
-    ensures end { IfOk result (IsHostEnd W.program S.tells S.delivers S.answers S.failures S.comes_from
+    ensures end { IfOk result (IsHostEnd W.program S.fetches S.delivers S.answers S.failures S.comes_from
         A.may O.hears config setups) }
 {
     let (host, mut seats) = Host::<W, T, C, F>::open(alloc, config, taken, completed, failed)?;
@@ -153,7 +153,7 @@ fn run_answering<
     ensures room { IfOk result.1 (λ ended. vec_capacity ended.0 ≡ vec_capacity seats) }
     ensures count { IfOk result.1 (λ ended. vec_len ended.1 ≡ vec_len setups) }
     ensures counted { IfOk result.1 (λ ended. ended.0.items ≡ map (λ end. end.counted) ended.1.items) }
-    ensures ends { IfOk result.1 (λ ended. AreEnds W.program S.tells S.delivers S.answers S.failures S.comes_from
+    ensures ends { IfOk result.1 (λ ended. AreEnds W.program S.fetches S.delivers S.answers S.failures S.comes_from
         A.may O.hears seats.items setups.items ended.1.items) }
 {
     let ((), ended) = thread::join(
@@ -171,7 +171,7 @@ fn run_answering<
             ensures room { IfOk result.1 (λ ended. vec_capacity ended.0 ≡ vec_capacity seats) }
             ensures count { IfOk result.1 (λ ended. vec_len ended.1 ≡ vec_len setups) }
             ensures counted { IfOk result.1 (λ ended. ended.0.items ≡ map (λ end. end.counted) ended.1.items) }
-            ensures ends { IfOk result.1 (λ ended. AreEnds W.program S.tells S.delivers S.answers S.failures
+            ensures ends { IfOk result.1 (λ ended. AreEnds W.program S.fetches S.delivers S.answers S.failures
                 S.comes_from A.may O.hears seats.items setups.items ended.1.items) }
         {
             queries.begin(rt);

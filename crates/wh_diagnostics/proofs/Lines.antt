@@ -5,7 +5,7 @@ use Rattle.std.specs.Io.KnownBytes.{Appends}
 use Rattle.std.proofs.KnownBytes.{Appends-trans}
 use Rattle.std.proofs.lemmas.List.{append-nil}
 use Rattle.wh_diagnostics.specs.Diagnostics.{fault_line, fault_lines}
-use Rattle.wh_file_faults.specs.Faults.{told_of}
+use Rattle.wh_file_faults.specs.Faults.{reported_of}
 use Rattle.wh_file_faults.specs.declared.file_faults.FileFault.{FileFault}
 
 -- what is told after a line, and where nothing is
@@ -17,14 +17,14 @@ something_more (Ok x) a b c xs ys zs p q same = subst (λ l. Appends a c (xs ++ 
 something_more (Err e) a b c xs ys zs p q same = tt
 
 -- the line of what is told of a file, and that there is none where nothing is
-pub fault_told : {X E : Type 0} (answer : Result X E) (a b : Option (List ℕ)) (told : Option FileFault) (faults : List FileFault) (fault : FileFault) (name : List ℕ) → told_of told ≡ faults → told ≡ Some fault → OnOk answer (Appends a b (fault_line fault name)) → OnOk answer (Appends a b (fault_lines faults name))
-fault_told (Ok x) a b told faults fault name are is h =
-    subst (λ l. Appends a b (fault_lines l name)) (sym (ap told_of is) ∙ are) (subst (Appends a b) (sym (append-nil (fault_line fault name))) h)
-fault_told (Err e) a b told faults fault name are is h = tt
+pub fault_reported : {X E : Type 0} (answer : Result X E) (a b : Option (List ℕ)) (told : Option FileFault) (faults : List FileFault) (fault : FileFault) (name : List ℕ) → reported_of told ≡ faults → told ≡ Some fault → OnOk answer (Appends a b (fault_line fault name)) → OnOk answer (Appends a b (fault_lines faults name))
+fault_reported (Ok x) a b told faults fault name are is h =
+    subst (λ l. Appends a b (fault_lines l name)) (sym (ap reported_of is) ∙ are) (subst (Appends a b) (sym (append-nil (fault_line fault name))) h)
+fault_reported (Err e) a b told faults fault name are is h = tt
 
 pub nothing_added : (a : Option (List ℕ)) → Appends a a []
 nothing_added None = tt
 nothing_added (Some x) = sym (append-nil x)
 
-pub nothing_told_of : (a : Option (List ℕ)) (told : Option FileFault) (faults : List FileFault) (name : List ℕ) → told_of told ≡ faults → told ≡ None → Appends a a (fault_lines faults name)
-nothing_told_of a told faults name are is = subst (λ l. Appends a a (fault_lines l name)) (sym (ap told_of is) ∙ are) (nothing_added a)
+pub nothing_reported_of : (a : Option (List ℕ)) (told : Option FileFault) (faults : List FileFault) (name : List ℕ) → reported_of told ≡ faults → told ≡ None → Appends a a (fault_lines faults name)
+nothing_reported_of a told faults name are is = subst (λ l. Appends a a (fault_lines l name)) (sym (ap reported_of is) ∙ are) (nothing_added a)

@@ -7,7 +7,7 @@ ghost use Rattle.wh_diagnostics.specs.Diagnostics.{difference_lines, entry_line,
 ghost use Rattle.wh_diagnostics.specs.Diagnostics.{named_line, not_text_line, note_lines, path_line, reason_line};
 ghost use Rattle.wh_diagnostics.specs.Diagnostics.{record_lines, records_lines, unviewed_line, warning_line, warning_lines};
 ghost use Rattle.wh_diagnostics.specs.Policies.{bad_policies_line};
-ghost use Rattle.wh_file_faults.specs.Faults.{told_of};
+ghost use Rattle.wh_file_faults.specs.Faults.{reported_of};
 ghost use Rattle.wh_report.specs.Reports.{fault_of};
 
 use crate::failures::Failure;
@@ -109,7 +109,7 @@ pub fn write_faults<E: Write>(faults: Vec<FileFault>, name: &str, writer: &mut E
 
 /// Why a file is named beside the report, if it is.
 fn fault_of(own: Record) -> Option<FileFault>
-    ensures { told_of result ≡ fault_of own own.cause }
+    ensures { reported_of result ≡ fault_of own own.cause }
 {
     let Record {
         line,

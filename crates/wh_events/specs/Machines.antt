@@ -92,22 +92,22 @@ abbrev pub is_number : ℕ → Option ℕ → Bool
 is_number number None = false
 is_number number (Some other) = eqb number other
 
--- an event of the role, after those before it, asks for what the event of the number opened to be cancelled:
+-- an event of the role, after those before it, asks for what the event of the number opened to be canceled:
 -- by its number, or as the open child of a workflow id
 abbrev pub cancels_number : List Event → ℕ → Role → Bool
 cancels_number before number (Refers _ other Cancels) = eqb number other
 cancels_number before number (CancelsChild workflow_id) = is_number number (open_named before Child workflow_id)
 cancels_number before number _ = false
 
--- one of the events, of which the first follows those before, asks for the thing to be cancelled
-abbrev pub cancelled_after : List Event → ℕ → List Event → Bool
-cancelled_after before number [] = false
-cancelled_after before number (event ∷ rest) =
-    cancels_number before number (role_of event.body) || cancelled_after (before ++ event ∷ []) number rest
+-- one of the events, of which the first follows those before, asks for the thing to be canceled
+abbrev pub canceled_after : List Event → ℕ → List Event → Bool
+canceled_after before number [] = false
+canceled_after before number (event ∷ rest) =
+    cancels_number before number (role_of event.body) || canceled_after (before ++ event ∷ []) number rest
 
--- one of the events asks for what the event of the number opened to be cancelled
+-- one of the events asks for what the event of the number opened to be canceled
 abbrev pub is_cancelling : List Event → ℕ → Bool
-is_cancelling events number = cancelled_after [] number events
+is_cancelling events number = canceled_after [] number events
 
 -- one of the events says that what the event of the number opened has started
 abbrev pub is_started : List Event → ℕ → Bool

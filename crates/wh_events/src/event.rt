@@ -58,7 +58,7 @@ impl Event {
         self.body.class()
     }
 
-    /// Whether the run is over with this event: completed, failed, cancelled, continued as new,
+    /// Whether the run is over with this event: completed, failed, canceled, continued as new,
     /// timed out or terminated.
     pub fn closes_run(&self) -> bool
         ensures { result ≡ closes_run_of self.now.body }

@@ -69,7 +69,7 @@ impl<S: TaskSource> TaskSource for FaultySource<S> {
 
     ghost delivers = { λ source. S.delivers source.0 };
 
-    ghost tells = { λ source. S.tells source.0 };
+    ghost fetches = { λ source. S.fetches source.0 };
 
     ghost comes_from = { λ later first. S.comes_from later.0 first.0 };
 
@@ -83,7 +83,7 @@ impl<S: TaskSource> TaskSource for FaultySource<S> {
         ensures run { IfOk result (IfTask (λ task. S.caches self.new.0 task.name → CachesAll S.caches self.new.0)) }
         ensures answers { S.answers self.new.0 ≡ S.answers self.old.0 }
         ensures failures { FailsOnly result (failures_of S.failures self.old) (failures_of S.failures self.new) }
-        ensures keeps { KeepsSource S.delivers S.tells S.comes_from self.old.0 self.new.0 }
+        ensures keeps { KeepsSource S.delivers S.fetches S.comes_from self.old.0 self.new.0 }
     {
         if is_due(&mut self.left) {
             return Err(SourceFault::Source);
@@ -98,7 +98,7 @@ impl<S: TaskSource> TaskSource for FaultySource<S> {
         ensures task { IfOk result (IfTask (λ task. S.delivers self.old.0 (Delivery.Activity task))) }
         ensures answers { S.answers self.new.0 ≡ S.answers self.old.0 }
         ensures failures { FailsOnly result (failures_of S.failures self.old) (failures_of S.failures self.new) }
-        ensures keeps { KeepsSource S.delivers S.tells S.comes_from self.old.0 self.new.0 }
+        ensures keeps { KeepsSource S.delivers S.fetches S.comes_from self.old.0 self.new.0 }
     {
         if is_due(&mut self.left) {
             return Err(SourceFault::Source);
@@ -110,11 +110,11 @@ impl<S: TaskSource> TaskSource for FaultySource<S> {
         ensures counted { Counts self.old result self.new }
 
         // What every source ensures, of this one.
-        ensures told { IfOk result (λ history. S.tells self.old.0 key.now up_to history.items) }
+        ensures told { IfOk result (λ history. S.fetches self.old.0 key.now up_to history.items) }
         ensures runs { CachesNoMore S.caches self.old.0 self.new.0 }
         ensures answers { S.answers self.new.0 ≡ S.answers self.old.0 }
         ensures failures { FailsOnly result (failures_of S.failures self.old) (failures_of S.failures self.new) }
-        ensures keeps { KeepsSource S.delivers S.tells S.comes_from self.old.0 self.new.0 }
+        ensures keeps { KeepsSource S.delivers S.fetches S.comes_from self.old.0 self.new.0 }
     {
         if is_due(&mut self.left) {
             return Err(SourceFault::Source);
@@ -130,7 +130,7 @@ impl<S: TaskSource> TaskSource for FaultySource<S> {
             (S.answers self.new.0 ≡ S.answers self.old.0 ++ (name, Sent.Workflow answer.now) ∷ []) }
         ensures unsent { OnErr result (S.answers self.new.0 ≡ S.answers self.old.0) }
         ensures failures { FailsOnly result (failures_of S.failures self.old) (failures_of S.failures self.new) }
-        ensures keeps { KeepsSource S.delivers S.tells S.comes_from self.old.0 self.new.0 }
+        ensures keeps { KeepsSource S.delivers S.fetches S.comes_from self.old.0 self.new.0 }
     {
         if is_due(&mut self.left) {
             return Err(SourceFault::Source);
@@ -153,7 +153,7 @@ impl<S: TaskSource> TaskSource for FaultySource<S> {
         ensures unsent { OnErr result.sent (S.answers self.new.0 ≡ S.answers self.old.0) }
         ensures run { result.run ≡ RunUse.Cache → S.caches self.new.0 name }
         ensures failures { FailsOnly result.sent (failures_of S.failures self.old) (failures_of S.failures self.new) }
-        ensures keeps { KeepsSource S.delivers S.tells S.comes_from self.old.0 self.new.0 }
+        ensures keeps { KeepsSource S.delivers S.fetches S.comes_from self.old.0 self.new.0 }
     {
         if is_due(&mut self.left) {
             return Acceptance {
@@ -180,7 +180,7 @@ impl<S: TaskSource> TaskSource for FaultySource<S> {
             (S.answers self.new.0 ≡ S.answers self.old.0 ++ (name, Sent.Activity answer.now) ∷ []) }
         ensures unsent { OnErr result (S.answers self.new.0 ≡ S.answers self.old.0) }
         ensures failures { FailsOnly result (failures_of S.failures self.old) (failures_of S.failures self.new) }
-        ensures keeps { KeepsSource S.delivers S.tells S.comes_from self.old.0 self.new.0 }
+        ensures keeps { KeepsSource S.delivers S.fetches S.comes_from self.old.0 self.new.0 }
     {
         if is_due(&mut self.left) {
             return Err(SourceFault::Source);

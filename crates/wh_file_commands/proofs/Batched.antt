@@ -12,7 +12,7 @@ use Rattle.wh_file_commands.specs.Batches.{AddsRecords, faulty_of}
 use Rattle.wh_file_faults.specs.Faults.{File}
 use Rattle.wh_files.specs.declared.InputFault.{InputFault}
 use Rattle.wh_progress.proofs.Telling.{batch_fits, told_all, told_before_last, told_more}
-use Rattle.wh_progress.specs.Batches.{batch_size, told_after, told_batches, told_of}
+use Rattle.wh_progress.specs.Batches.{batch_size, reports_after, reported_batches, reports_of}
 use Rattle.wh_progress.specs.Lines.{end_text, line_text, progress_of}
 use Rattle.wh_progress.specs.declared.mode.ProgressMode.{ProgressMode}
 use Rattle.wh_report.specs.Records.{AreRecordsOf, IsRecordOf}
@@ -49,7 +49,7 @@ pub record AreBatched {S T : Type 0} (strict : Bool) (program : Program S) (Read
     (records : List Record) (left : List T) (old new : ConsoleView) : Type 0 where
   pub found : AreRecordsOf strict program Reads (take (batches * batch_size (length inputs)) inputs) records
   pub rest : left ≡ drop (batches * batch_size (length inputs)) inputs
-  pub told : Reported old new (told_after mode (length inputs) (faulty_of records) batches)
+  pub told : Reported old new (reports_after mode (length inputs) (faulty_of records) batches)
 
 -- none at first
 pub batched_none : {S T : Type 0} (strict : Bool) (program : Program S) (Reads : T → File → Type 0) (mode : ProgressMode) (inputs : List T) (console : ConsoleView)
@@ -65,7 +65,7 @@ batched_none strict program Reads mode inputs console =
 -- a batch lies within what is left
 pub batch_left : {S T : Type 0} (strict : Bool) (program : Program S) (Reads : T → File → Type 0) (mode : ProgressMode) (inputs : List T) (batches : ℕ)
     (records : List Record) (left : List T) (old new : ConsoleView)
-    → AreBatched strict program Reads mode inputs batches records left old new → batches < told_batches mode (length inputs)
+    → AreBatched strict program Reads mode inputs batches records left old new → batches < reported_batches mode (length inputs)
     → batch_size (length inputs) ≤ length left
 batch_left strict program Reads mode inputs batches records left old new are less =
     let fits = batch_fits mode (length inputs) batches less in
@@ -73,7 +73,7 @@ batch_left strict program Reads mode inputs batches records left old new are les
     omega (arith, fits, rest)
 
 -- the batches that are told of are within the files
-pub batches_fit : (mode : ProgressMode) (total batches : ℕ) → batches ≤ told_batches mode total → batches * batch_size total ≤ total
+pub batches_fit : (mode : ProgressMode) (total batches : ℕ) → batches ≤ reported_batches mode total → batches * batch_size total ≤ total
 batches_fit mode total zero few = omega arith
 batches_fit mode total (suc batches) few = batch_fits mode total batches (omega (arith, few))
 
@@ -95,7 +95,7 @@ fewer batches size total fits = omega arith
 -- one batch more was replayed, and told of
 pub batched_more : {S T : Type 0} (strict : Bool) (program : Program S) (Reads : T → File → Type 0) (mode : ProgressMode) (inputs : List T) (batches : ℕ)
     (records all : List Record) (left batch later : List T) (old between new : ConsoleView)
-    → batches < told_batches mode (length inputs)
+    → batches < reported_batches mode (length inputs)
     → AreBatched strict program Reads mode inputs batches records left old between
     → batch ≡ take (batch_size (length inputs)) left → later ≡ drop (batch_size (length inputs)) left
     → AddsRecords strict program Reads batch records all
@@ -120,7 +120,7 @@ batched_more strict program Reads mode inputs batches records all left batch lat
     record {
       found = found;
       rest = back ∙ ap (λ l. drop size l) are.rest ∙ one_less inputs batches size;
-      told = subst (λ l. Reported old new (told_after mode total l (suc batches))) faulty
+      told = subst (λ l. Reported old new (reports_after mode total l (suc batches))) faulty
           (told_more mode total (faulty_of records) (faulty_of adds.own) batches old between new before after are.told
           (subst (λ l. Reported between new (line_text mode (progress_of total l))) (sym faulty) line));
     }
@@ -131,7 +131,7 @@ pub batched_all : {S T : Type 0} (strict : Bool) (program : Program S) (Reads : 
     → batches * batch_size (length inputs) ≤ length inputs
     → AreBatched strict program Reads mode inputs batches records left old new
     → AddsRecords strict program Reads left records all
-    → AreRecordsOf strict program Reads inputs all × Reported old new (told_after mode (length inputs) (faulty_of all) batches)
+    → AreRecordsOf strict program Reads inputs all × Reported old new (reports_after mode (length inputs) (faulty_of all) batches)
 batched_all strict program Reads mode inputs batches records all left old new fits are adds =
     let total = length inputs in
     let size = batch_size total in
@@ -145,19 +145,19 @@ batched_all strict program Reads mode inputs batches records all left old new fi
     let before : length (faulty_of records) ≡ batches * size =
     as_many strict program Reads (take (batches * size) inputs) records are.found ∙ length-take-le (batches * size) inputs fits in (
       subst (λ l. AreRecordsOf strict program Reads inputs l) (sym adds.added) joined,
-      subst (λ l. Reported old new (told_after mode total l batches)) faulty
+      subst (λ l. Reported old new (reports_after mode total l batches)) faulty
           (told_before_last mode total (faulty_of records) (faulty_of adds.own) batches old new before are.told),
     )
 
 -- all that is told of files was told of those that were replayed
 pub told_in_all : {S T : Type 0} (strict : Bool) (program : Program S) (Reads : T → File → Type 0) (mode : ProgressMode) (inputs : List T) (count lines : ℕ)
     (a b c : ConsoleView) (answer : Result (Vec Record Global) InputFault)
-    → count ≡ length inputs → lines ≡ told_batches mode count
+    → count ≡ length inputs → lines ≡ reported_batches mode count
     → IfOk answer (λ records. AreRecordsOf strict program Reads inputs records.items)
-    → IfOk answer (λ records. Reported a b (told_after mode (length inputs) (faulty_of records.items) (told_batches mode (length inputs))))
+    → IfOk answer (λ records. Reported a b (reports_after mode (length inputs) (faulty_of records.items) (reported_batches mode (length inputs))))
     → Reported b c (end_text mode lines)
-    → IfOk answer (λ records. Reported a c (told_of mode (faulty_of records.items)))
+    → IfOk answer (λ records. Reported a c (reports_of mode (faulty_of records.items)))
 told_in_all strict program Reads mode inputs count lines a b c (Ok records) many same found told ended =
     told_all mode (length inputs) (faulty_of records.items) a b c (sym (as_many strict program Reads inputs records.items found)) told
-    (subst (λ n. Reported b c (end_text mode n)) (same ∙ ap (told_batches mode) many) ended)
+    (subst (λ n. Reported b c (end_text mode n)) (same ∙ ap (reported_batches mode) many) ended)
 told_in_all strict program Reads mode inputs count lines a b c (Err fault) many same found told ended = tt

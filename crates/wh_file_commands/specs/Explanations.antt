@@ -3,7 +3,7 @@ use Rattle.std.specs.Prelude.{◌≡◌, ℕ, List, false, Option, string_bytes}
 use Rattle.wh_console.specs.Consoles.{ConsoleView, IsQuiet, Reported}
 use Rattle.wh_console.specs.declared.format.Format.{Format}
 use Rattle.wh_diagnostics.specs.Diagnostics.{fault_lines}
-use Rattle.wh_file_faults.specs.Faults.{File, IsFaultOf, IsUnreadCause, told_of}
+use Rattle.wh_file_faults.specs.Faults.{File, IsFaultOf, IsUnreadCause, reports_of}
 use Rattle.wh_file_faults.specs.declared.file_faults.FileFault.{FileFault}
 use Rattle.wh_files.specs.Inputs.{IsCalled, IsOf, IsReadFrom, IsSingle}
 use Rattle.wh_files.specs.declared.Input.{Input}
@@ -18,7 +18,7 @@ use Rattle.wh_workflow.specs.Law.{Program}
 pub record HasReportedFault (name : List ℕ) (verdict : Verdict) (bytes : List ℕ) (old new : ConsoleView) : Type 0 where
   pub fault : Option FileFault
   pub own : IsFaultOf (IsUnreadCause verdict) name bytes fault
-  pub reported : Reported old new (fault_lines (told_of fault))
+  pub reported : Reported old new (fault_lines (reports_of fault))
 
 -- a file was explained, and then a line was reported of it where its verdict is that it is no JSON
 pub record HasExplained {S : Type 0} (program : Program S) (name bytes : List ℕ) (selection : Option Selection)

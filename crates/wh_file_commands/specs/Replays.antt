@@ -11,7 +11,7 @@ use Rattle.wh_file_commands.specs.Batches.{faulty_of}
 use Rattle.wh_inputs.specs.Listings.{AreListed, is_by_path, lacks_files}
 use Rattle.wh_inputs.specs.Readings.{Gives, IsReadAs}
 use Rattle.wh_known_types.specs.Types.{known_types_text, lacks_code}
-use Rattle.wh_progress.specs.Batches.{told_of}
+use Rattle.wh_progress.specs.Batches.{reports_of}
 use Rattle.wh_progress.specs.declared.mode.ProgressMode.{ProgressMode}
 use Rattle.wh_progress.specs.declared.mode.ProgressMode.TheVariants.{Hidden, Lines}
 use Rattle.wh_report.specs.Records.{AreRecordsOf}
@@ -38,7 +38,7 @@ pub record HasReplayed {S : Type 0} (gives : Gives) (strict : Bool) (program : P
   pub between : ConsoleView
   pub ended : ConsoleView
   pub found : AreRecordsOf strict program (IsReadAs gives) inputs records
-  pub told : Reported old between (told_of mode (faulty_of records))
+  pub told : Reported old between (reports_of mode (faulty_of records))
   pub reported : HasReported records format lacks between ended status
   pub known : Reported ended new (known_types_text types (list_any (λ own. lacks_code own.cause) records))
 

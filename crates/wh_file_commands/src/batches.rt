@@ -4,7 +4,7 @@ ghost use Rattle.std.specs.Prelude.{◌≡◌, IfOk, OnOk, count_by, length};
 ghost use Rattle.wh_console.specs.Consoles.{Reported};
 ghost use Rattle.wh_file_commands.specs.Batches.{AddsRecords, faulty_of};
 ghost use Rattle.wh_inputs.specs.Readings.{IsReadAs};
-ghost use Rattle.wh_progress.specs.Batches.{told_after, told_batches, told_of};
+ghost use Rattle.wh_progress.specs.Batches.{reports_after, reported_batches, reports_of};
 ghost use Rattle.wh_progress.specs.Lines.{progress_of};
 ghost use Rattle.wh_report.specs.Records.{AreRecordsOf};
 
@@ -13,7 +13,7 @@ use std::thread::Threads;
 use wh_console::Console;
 use wh_files::{Input, InputFault};
 use wh_inputs::{InputReader, file_from};
-use wh_progress::{Progress, ProgressEnd, ProgressLine, ProgressMode, batch_size, told_batches};
+use wh_progress::{Progress, ProgressEnd, ProgressLine, ProgressMode, batch_size, reported_batches};
 use wh_report::{Record, check_all};
 use wh_tester::is_good;
 use wh_workflow::Workflow;
@@ -81,13 +81,13 @@ fn check_batches<
     ensures found { IfOk result (λ records.
         AreRecordsOf strict W.program (IsReadAs R.gives) inputs.items records.items) }
     ensures told { let total = length inputs.items in IfOk result (λ records. Reported console.old console.new
-        (told_after mode total (faulty_of records.items) (told_batches mode total))) }
+        (reports_after mode total (faulty_of records.items) (reported_batches mode total))) }
 {
     let total = inputs.len();
     let size = batch_size(total);
     let mut records = Vec::new(rt.alloc());
     let mut left = inputs;
-    for _batch in 0..told_batches(mode, total) {
+    for _batch in 0..reported_batches(mode, total) {
         let Ok(later) = left.split_off(size) else {
             return Err(InputFault::OutOfMemory);
         };
@@ -117,9 +117,9 @@ pub(crate) fn check_in_batches<
     ensures found { IfOk result (λ records.
         AreRecordsOf strict W.program (IsReadAs R.gives) inputs.items records.items) }
     ensures told { IfOk result (λ records.
-        Reported console.old console.new (told_of mode (faulty_of records.items))) }
+        Reported console.old console.new (reports_of mode (faulty_of records.items))) }
 {
-    let lines = told_batches(mode, inputs.len());
+    let lines = reported_batches(mode, inputs.len());
     let records = check_batches::<W, R, O, E>(rt, inputs, strict, mode, console);
     console.report(ProgressEnd { mode, lines });
     records

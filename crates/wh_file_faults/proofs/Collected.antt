@@ -7,7 +7,7 @@ use Rattle.std.proofs.lemmas.Grind.{flat_map-append}
 use Rattle.std.proofs.lemmas.List.{append-nil, map-append}
 use Rattle.std.proofs.lemmas.List.Elements.{Contains-append_cases, Contains-append_left, Contains-append_right, Contains-push, Contains-push_cases}
 use Rattle.wh_file_faults.specs.declared.file_faults.FileFault.{FileFault}
-use Rattle.wh_file_faults.specs.Faults.{IsToldOf, told_of}
+use Rattle.wh_file_faults.specs.Faults.{IsReportedOf, reported_of}
 use Rattle.wh_file_faults.specs.Made.{AreMade, AreMadeOf, IsFaultIn, IsMadeOf, IsOfOne}
 use Rattle.wh_file_faults.specs.Faults.{File}
 use Rattle.wh_files.specs.declared.InputFault.{InputFault}
@@ -29,7 +29,7 @@ pub collected : {A U E : Type 0} (P : A → Result (U × Option FileFault) E →
     → MatchResult answer (λ all. (values : List (U × Option FileFault)) × (given ≡ map Ok values) × (all.items ≡ values)) (λ e. Contains given (Err e))
     → answer ≡ Ok both
     → ones ≡ map (λ one. one.0) both.items
-    → faults ≡ flat_map told_of (map (λ one. one.1) both.items)
+    → faults ≡ flat_map reported_of (map (λ one. one.1) both.items)
     → AreMade (λ input one. P input (Ok one)) inputs ones faults
 collected {A} {U} {E} P inputs given answer both ones faults zipped gives is apart told =
     let h = rw is at gives in
@@ -62,7 +62,7 @@ one_fault P (input ∷ inputs) [] fault zipped found = absurd zipped
 -- the files of inputs of which something was made
 files_of : {S A U : Type 0} (program : Program S) (Reads : A → File → Type 0) (Gives : File → U → Type 0) (inputs : List A) (both : List (U × Option FileFault))
     → AllZip (IsMadeOf program Reads Gives) inputs both
-    → (files : List File) × AllZip Reads inputs files × AllZip Gives files (map (λ one. one.0) both) × AllZip (IsToldOf program) files (map (λ one. one.1) both)
+    → (files : List File) × AllZip Reads inputs files × AllZip Gives files (map (λ one. one.0) both) × AllZip (IsReportedOf program) files (map (λ one. one.1) both)
 files_of program Reads Gives [] [] h = ([], tt, tt, tt)
 files_of program Reads Gives (input ∷ inputs) (one ∷ both) h =
     let rest = files_of program Reads Gives inputs both h.1 in
@@ -102,13 +102,13 @@ firsts_push {A} {B} pairs both old new added firsts =
     added ∙ ap (λ (l : List A). l ++ (both.0 ∷ [])) firsts ∙ sym (map-append first pairs (both ∷ []))
 
 -- what is told of one pair more stands after what is told of those before it
-pub told_push : {A : Type 0} (pairs : List (A × Option FileFault)) (both : A × Option FileFault) (old new : List FileFault) → new ≡ old ++ told_of both.1 → old ≡ flat_map told_of (map (λ one. one.1) pairs) → new ≡ flat_map told_of (map (λ one. one.1) (pairs ++ (both ∷ [])))
+pub told_push : {A : Type 0} (pairs : List (A × Option FileFault)) (both : A × Option FileFault) (old new : List FileFault) → new ≡ old ++ reported_of both.1 → old ≡ flat_map reported_of (map (λ one. one.1) pairs) → new ≡ flat_map reported_of (map (λ one. one.1) (pairs ++ (both ∷ [])))
 told_push {A} pairs both old new added told =
     let second : A × Option FileFault → Option FileFault = λ one. one.1 in
-    added ∙ ap (λ (l : List FileFault). l ++ told_of both.1) told
-    ∙ ap (λ (l : List FileFault). flat_map told_of (map second pairs) ++ l) (sym (append-nil (told_of both.1)))
-    ∙ sym (flat_map-append told_of (map second pairs) (both.1 ∷ []))
-    ∙ ap (λ (l : List (Option FileFault)). flat_map told_of l) (sym (map-append second pairs (both ∷ [])))
+    added ∙ ap (λ (l : List FileFault). l ++ reported_of both.1) told
+    ∙ ap (λ (l : List FileFault). flat_map reported_of (map second pairs) ++ l) (sym (append-nil (reported_of both.1)))
+    ∙ sym (flat_map-append reported_of (map second pairs) (both.1 ∷ []))
+    ∙ ap (λ (l : List (Option FileFault)). flat_map reported_of l) (sym (map-append second pairs (both ∷ [])))
 
 -- and of the fault
 pub all_err : {X E : Type 0} {P Q : E → Type 0} (r : Result X E) → ((e : E) → P e → Q e) → IfErr r P → IfErr r Q

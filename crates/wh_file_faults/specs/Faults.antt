@@ -79,16 +79,16 @@ pub record IsFaultOf (IsCause : List ℕ → Option Cause → Type 0) (name byte
   pub causes : IsCause bytes (option_map (λ one. one.cause) fault)
 
 -- what is told of a file: its fault, if it has one
-abbrev pub IsToldOf : {S : Type 0} → Program S → File → Option FileFault → Type 0
-IsToldOf program file told = IsFaultOf (IsCauseIn program) (string_bytes file.0) file.1.items told
+abbrev pub IsReportedOf : {S : Type 0} → Program S → File → Option FileFault → Type 0
+IsReportedOf program file told = IsFaultOf (IsCauseIn program) (string_bytes file.0) file.1.items told
 
 -- the fault that is told of a file, if one is
-abbrev pub told_of : Option FileFault → List FileFault
-told_of None = []
-told_of (Some fault) = fault ∷ []
+abbrev pub reported_of : Option FileFault → List FileFault
+reported_of None = []
+reported_of (Some fault) = fault ∷ []
 
 -- the faults that are told of files are those of all files that have one, in the order of the files
 pub record AreFaultsOf {S : Type 0} (program : Program S) (files : List File) (faults : List FileFault) : Type 0 where
   pub told : List (Option FileFault)
-  pub each : AllZip (IsToldOf program) files told
-  pub all : faults ≡ flat_map told_of told
+  pub each : AllZip (IsReportedOf program) files told
+  pub all : faults ≡ flat_map reported_of told

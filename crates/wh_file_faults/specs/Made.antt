@@ -5,7 +5,7 @@ use Rattle.wh_workflow.specs.Law.{Program}
 use Rattle.wh_files.specs.declared.InputFault.{InputFault}
 use Rattle.wh_files.specs.declared.InputFault.TheVariants.{OutOfMemory}
 use Rattle.wh_file_faults.specs.declared.file_faults.FileFault.{FileFault}
-use Rattle.wh_file_faults.specs.Faults.{File, IsToldOf, told_of, AreFaultsOf}
+use Rattle.wh_file_faults.specs.Faults.{File, IsReportedOf, reported_of, AreFaultsOf}
 
 -- what was made of inputs by a relation, one by one, with what is told of each; that stands apart, in the same order
 pub record AreMade {T U : Type 0} (Makes : T → U × Option FileFault → Type 0) (inputs : List T) (made : List U)
@@ -13,7 +13,7 @@ pub record AreMade {T U : Type 0} (Makes : T → U × Option FileFault → Type 
   pub both : List (U × Option FileFault)
   pub each : AllZip Makes inputs both
   pub ones : made ≡ map (λ one. one.0) both
-  pub told : faults ≡ flat_map told_of (map (λ one. one.1) both)
+  pub told : faults ≡ flat_map reported_of (map (λ one. one.1) both)
 
 -- what was made of an input: it was read as a file, and the rest was made and is told of that file
 pub record IsMadeOf {S T U : Type 0} (program : Program S) (Reads : T → File → Type 0) (Gives : File → U → Type 0)
@@ -21,7 +21,7 @@ pub record IsMadeOf {S T U : Type 0} (program : Program S) (Reads : T → File �
   pub file : File
   pub read : Reads input file
   pub gives : Gives file made.0
-  pub told : IsToldOf program file made.1
+  pub told : IsReportedOf program file made.1
 
 -- what was made of inputs: each was read as a file, in their order, and the rest was made and is told of these files
 pub record AreMadeOf {S T U : Type 0} (program : Program S) (Reads : T → File → Type 0) (Gives : File → U → Type 0)

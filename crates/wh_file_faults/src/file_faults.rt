@@ -3,7 +3,7 @@
 ghost use Rattle.std.specs.Prelude.{◌≡◌, ℕ, List, ◌++◌, [], ◌∷◌, IfErr, IfOk, OnOk, Some, map};
 ghost use Rattle.std.specs.List.{flat_map};
 ghost use Rattle.wh_file_faults.specs.Faults.{HasHistory, IsCodeCause, IsFaultOf, IsJsonCause, IsUnreadCause};
-ghost use Rattle.wh_file_faults.specs.Faults.{told_of};
+ghost use Rattle.wh_file_faults.specs.Faults.{reported_of};
 ghost use Rattle.wh_json.specs.declared.fault.ReadFault.TheVariants.{BadJson};
 ghost use Rattle.wh_file_faults.specs.Texts.{cause_text, file_fault_text, mark_text};
 
@@ -153,7 +153,7 @@ pub fn code_fault<W: Workflow>(
 
 /// Adds the fault of a file, if it has one.
 fn add_fault(faults: &mut Vec<FileFault>, fault: Option<FileFault>) -> Result<(), OutOfMemory>
-    ensures { OnOk result (faults.new.items ≡ faults.old.items ++ told_of fault) }
+    ensures { OnOk result (faults.new.items ≡ faults.old.items ++ reported_of fault) }
 {
     match fault {
         Some(fault) => Ok(faults.push(fault)?),
@@ -168,7 +168,7 @@ fn add_told<T: Drop>(
     told: (T, Option<FileFault>),
 ) -> Result<(), OutOfMemory>
     ensures made { OnOk result (made.new.items ≡ made.old.items ++ (told.0 ∷ [])) }
-    ensures faults { OnOk result (faults.new.items ≡ faults.old.items ++ told_of told.1) }
+    ensures faults { OnOk result (faults.new.items ≡ faults.old.items ++ reported_of told.1) }
 {
     let (one, fault) = told;
     let added = made.push(one).is_ok();
@@ -184,7 +184,7 @@ pub(crate) fn parted<T: Drop>(
 ) -> Result<(Vec<T>, Vec<FileFault>), OutOfMemory>
     ensures made { IfOk result (λ parts. parts.0.items ≡ map (λ one. one.0) told.items) }
     ensures faults { IfOk result (λ parts.
-        parts.1.items ≡ flat_map told_of (map (λ one. one.1) told.items)) }
+        parts.1.items ≡ flat_map reported_of (map (λ one. one.1) told.items)) }
 {
     let mut made = Vec::new(alloc);
     let mut faults = Vec::new(alloc);

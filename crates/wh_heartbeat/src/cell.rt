@@ -1,7 +1,7 @@
 //! The activity task that a worker runs, for its source and its handler.
 
 ghost use Rattle.std.specs.Prelude.{◌≡◌};
-ghost use Rattle.wh_heartbeat.specs.Cells.{noted, was_cancelled};
+ghost use Rattle.wh_heartbeat.specs.Cells.{noted, was_canceled};
 
 use std::sync::{Mutex, Wait};
 use wh_events::{OutOfMemory, Text};
@@ -11,30 +11,30 @@ use wh_events::{OutOfMemory, Text};
 struct RunningActivity {
     /// The token under which it is answered.
     token: Text,
-    /// Whether a beat was told that it is to be cancelled.
-    is_cancelled: bool,
+    /// Whether a beat was told that it is to be canceled.
+    is_canceled: bool,
 }
 
 impl RunningActivity {
-    /// Whether it is the task of this token, and is to be cancelled.
-    fn was_cancelled(&self, token: &str) -> bool
-        ensures { result ≡ was_cancelled self.now token.now }
+    /// Whether it is the task of this token, and is to be canceled.
+    fn was_canceled(&self, token: &str) -> bool
+        ensures { result ≡ was_canceled self.now token.now }
     {
-        self.is_cancelled && self.token.get() == token
+        self.is_canceled && self.token.get() == token
     }
 
-    /// Notes that the task of this token is to be cancelled.
+    /// Notes that the task of this token is to be canceled.
     fn note_cancel(&mut self, token: &str)
         ensures { self.new ≡ noted self.old token.now }
     {
         if self.token.get() == token {
-            self.is_cancelled = true;
+            self.is_canceled = true;
         }
     }
 }
 
 /// What a worker's source and the handler of its activities know of the task that it runs. The source
-/// says which one it is, and the handler's heartbeat whether it is to be cancelled. Each may be in
+/// says which one it is, and the handler's heartbeat whether it is to be canceled. Each may be in
 /// another thread, so contracts do not see what it holds.
 #[derive(Drop)]
 pub struct ActivityCell {
@@ -55,7 +55,7 @@ impl ActivityCell {
         *self.running.lock(rt) = match token.try_copy() {
             Ok(token) => Some(RunningActivity {
                 token,
-                is_cancelled: false,
+                is_canceled: false,
             }),
             Err(_) => None,
         };
@@ -69,17 +69,17 @@ impl ActivityCell {
         }
     }
 
-    /// Notes that the task of this token is to be cancelled, if it is the one that runs.
+    /// Notes that the task of this token is to be canceled, if it is the one that runs.
     pub fn note_cancel<R: Wait>(&self, rt: &R, token: &Text) {
         if let Some(running) = &mut *self.running.lock(rt) {
             running.note_cancel(token.get());
         }
     }
 
-    /// Whether the task of this token is the one that runs, and is to be cancelled.
-    pub fn was_cancelled<R: Wait>(&self, rt: &R, token: &Text) -> bool {
+    /// Whether the task of this token is the one that runs, and is to be canceled.
+    pub fn was_canceled<R: Wait>(&self, rt: &R, token: &Text) -> bool {
         match &*self.running.lock(rt) {
-            Some(running) => running.was_cancelled(token.get()),
+            Some(running) => running.was_canceled(token.get()),
             None => false,
         }
     }

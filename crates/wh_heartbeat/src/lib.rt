@@ -5,4 +5,4 @@ mod cell;
 mod heartbeat;
 
 pub use cell::ActivityCell;
-pub use heartbeat::{Beat, Heartbeat, NoHeartbeat};
+pub use heartbeat::{HeartbeatResponse, Heartbeat, NoHeartbeat};

@@ -17,20 +17,20 @@ use wh_slots::TaskName;
 use wh_tasks::{ActivityAnswer, Sent, SourceFault};
 
 /// The request that answers an activity task, of which the handler had heard that it is to be
-/// cancelled, or not. One that was to be cancelled and failed has given up.
+/// canceled, or not. One that was to be canceled and failed has given up.
 fn activity_request<L: Connection>(
     client: &Client<'_, L>,
     task: &OpenTask,
     answer: &ActivityAnswer,
-    was_cancelled: bool,
+    was_canceled: bool,
 ) -> Result<Request, OutOfMemory>
     ensures { IfOk result
-        (IsActivityRequest client.now.options.now.names task.now.token answer.now was_cancelled) }
+        (IsActivityRequest client.now.options.now.names task.now.token answer.now was_canceled) }
 {
     match answer {
         ActivityAnswer::Completed(outcome) => client.activity_completed(&task.token, outcome.get()),
         ActivityAnswer::Failed(reason) => {
-            client.activity_failed(&task.token, reason.get(), was_cancelled)
+            client.activity_failed(&task.token, reason.get(), was_canceled)
         }
     }
 }
@@ -44,10 +44,10 @@ fn respond<L: Connection>(
     ensures { result ≡ Acknowledged →
         AnswersActivity L.gives client.now.options.now.names task.now.token answer.now }
 {
-    let was_cancelled = client.was_cancelled(&task.token);
-    let request = activity_request(client, task, answer, was_cancelled);
+    let was_canceled = client.was_canceled(&task.token);
+    let request = activity_request(client, task, answer, was_canceled);
     let receipt = send_written(client, task, request);
-    log_activity(client, task, answer, was_cancelled, receipt);
+    log_activity(client, task, answer, was_canceled, receipt);
     receipt
 }
 

@@ -72,7 +72,7 @@ fn reports_refusal(status: Status, message: &str) -> bool
     match status {
         Status::NotFound => false,
         Status::InvalidArgument => message != "UnhandledCommand",
-        Status::Cancelled | Status::PermissionDenied | Status::Unauthenticated | Status::Other =>
+        Status::Canceled | Status::PermissionDenied | Status::Unauthenticated | Status::Other =>
             true,
     }
 }

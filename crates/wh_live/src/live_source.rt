@@ -116,7 +116,7 @@ impl<L: Connection> TaskSource for LiveSource<'_, L> {
 
     ghost delivers = { λ source. Delivers L.gives source.names source.role };
 
-    ghost tells = { λ source. Fetches L.gives source.names source.role };
+    ghost fetches = { λ source. Fetches L.gives source.names source.role };
 
     ghost comes_from = { ComesFrom };
 

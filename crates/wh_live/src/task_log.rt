@@ -66,13 +66,13 @@ pub(crate) fn log_workflow<L: Connection>(
     }
 }
 
-/// Logs how an activity task ended that was to be cancelled or not, where tasks are logged: its run
+/// Logs how an activity task ended that was to be canceled or not, where tasks are logged: its run
 /// and type.
 pub(crate) fn log_activity<L: Connection>(
     client: &Client<'_, L>,
     open: &OpenTask,
     answer: &ActivityAnswer,
-    was_cancelled: bool,
+    was_canceled: bool,
     receipt: Receipt,
 ) {
     if !client.options.verbose {
@@ -80,7 +80,7 @@ pub(crate) fn log_activity<L: Connection>(
     }
     let answered = match answer {
         ActivityAnswer::Completed(_) => "completed",
-        ActivityAnswer::Failed(_) if was_cancelled => "cancelled",
+        ActivityAnswer::Failed(_) if was_canceled => "canceled",
         ActivityAnswer::Failed(_) => "failed",
     };
     let what = Shown(open.what.get());

@@ -47,7 +47,7 @@ pub(crate) fn request_text(alloc: Global, fault: &RequestFault) -> Result<String
         }
         RequestFault::NotScheduled { activity_id } => {
             let id = activity_id.get();
-            format!(in alloc; "the activity {id} is cancelled and was not scheduled")
+            format!(in alloc; "the activity {id} is canceled and was not scheduled")
         }
         RequestFault::NeverSent { change_id } => {
             let id = change_id.get();

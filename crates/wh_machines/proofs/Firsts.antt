@@ -3,7 +3,7 @@ use Rattle.std.proofs.Common.{◌≡◌, ℕ, zero, suc, ◌+◌, ◌<◌, ◌�
 use Rattle.std.proofs.lemmas.Bool.Decides.{nat_tests}
 use Rattle.std.proofs.lemmas.List.{length_push}
 use Rattle.wh_events.specs.declared.event.Event.{Event}
-use Rattle.wh_events.specs.Machines.{or_else, closes, starts, closed_by, is_started, cancelled_after, status_of}
+use Rattle.wh_events.specs.Machines.{or_else, closes, starts, closed_by, is_started, canceled_after, status_of}
 use Rattle.wh_events.specs.Places.{place_fault, fault_after}
 use Rattle.wh_machines.proofs.Histories.{number_if, fault_after-push, place_none, later_none}
 use Rattle.wh_machines.specs.Private.Openings.{first_by, closes_test, starts_test, cancels_test, up_to, status_up_to, opening_with}
@@ -63,11 +63,11 @@ is_started-first number before (event ∷ rest) = by (starts number event) (is_s
     by true later = refl
     by false later = later
 
-pub cancelled_after-first : (number : ℕ) (before events : List Event) → cancelled_after before number events ≡ is_some (first_by (cancels_test number) before events)
-cancelled_after-first number before [] = refl
-cancelled_after-first number before (event ∷ rest) = by (cancels_test number before event) (cancelled_after-first number (before ++ event ∷ []) rest)
+pub canceled_after-first : (number : ℕ) (before events : List Event) → canceled_after before number events ≡ is_some (first_by (cancels_test number) before events)
+canceled_after-first number before [] = refl
+canceled_after-first number before (event ∷ rest) = by (cancels_test number before event) (canceled_after-first number (before ++ event ∷ []) rest)
   where
-    by : (b : Bool) → cancelled_after (before ++ event ∷ []) number rest ≡ is_some (first_by (cancels_test number) (before ++ event ∷ []) rest) → (b || cancelled_after (before ++ event ∷ []) number rest) ≡ is_some (cond b (Some event.number) (first_by (cancels_test number) (before ++ event ∷ []) rest))
+    by : (b : Bool) → canceled_after (before ++ event ∷ []) number rest ≡ is_some (first_by (cancels_test number) (before ++ event ∷ []) rest) → (b || canceled_after (before ++ event ∷ []) number rest) ≡ is_some (cond b (Some event.number) (first_by (cancels_test number) (before ++ event ∷ []) rest))
     by true later = refl
     by false later = later
 
@@ -81,6 +81,6 @@ first_up_to test events place numbered = first_by-take test place 0 [] events nu
 pub status_up_to_is : (events : List Event) (number place : ℕ) (previous : Option ℕ) → NumberedFrom 0 events → status_up_to place (opening_with events number previous) ≡ status_of (take place events) number
 status_up_to_is events number place previous numbered =
     let closed = closed_by-first number [] (take place events) ∙ first_up_to (closes_test number) events place numbered in
-    let cancelling = cancelled_after-first number [] (take place events) ∙ ap is_some (first_up_to (cancels_test number) events place numbered) in
+    let cancelling = canceled_after-first number [] (take place events) ∙ ap is_some (first_up_to (cancels_test number) events place numbered) in
     let started = is_started-first number [] (take place events) ∙ ap is_some (first_up_to (starts_test number) events place numbered) in
     sym (rw (closed, cancelling, started) refl)

@@ -39,7 +39,7 @@ pub reference_there : (before : List Event) (thing : Thing) (number : ℕ) → r
 unfolding reference_fault
 reference_there before thing number h = not_faulty _ _ (first_none _ _ h)
 
--- a child that is cancelled by its workflow id is open
+-- a child that is canceled by its workflow id is open
 pub child_there : (before : List Event) (workflow_id : List ℕ) → role_fault before (CancelsChild workflow_id) ≡ None → is_none (open_named before Child workflow_id) ≡ false
 child_there before workflow_id h = not_faulty _ _ h
 

@@ -2,7 +2,7 @@
 ghost use Rattle.std.specs.Prelude.{◌≡◌, IfOk};
 ghost use Rattle.std.specs.Result.{result_err};
 ghost use Rattle.wh_machines.specs.Lookups.{thing_of};
-ghost use Rattle.wh_match.specs.Private.Faults.{still_open_by, is_late_by, is_cancelled_by, opening_fault_by};
+ghost use Rattle.wh_match.specs.Private.Faults.{still_open_by, is_late_by, is_canceled_by, opening_fault_by};
 ghost use Rattle.wh_match.specs.Private.Faults.{cancel_fault_by};
 
 use crate::act::{left_open, some_cancels, some_opens, withdrawn};
@@ -26,9 +26,9 @@ fn is_late(standing: Standing, earlier: &[Command], kind: OpenKind, id: &str) ->
     !standing.is_open && !some_opens(kind, id, earlier) && standing.is_ended
 }
 
-/// Whether the activity or child was cancelled before.
-fn is_cancelled(standing: Standing, earlier: &[Command], kind: OpenKind, id: &str) -> bool
-    ensures { result ≡ is_cancelled_by standing earlier.now (thing_of kind) id.now }
+/// Whether the activity or child was canceled before.
+fn is_canceled(standing: Standing, earlier: &[Command], kind: OpenKind, id: &str) -> bool
+    ensures { result ≡ is_canceled_by standing earlier.now (thing_of kind) id.now }
 {
     !matches!(kind, OpenKind::Timer)
         && (standing.is_cancelling || (standing.is_open && some_cancels(kind, id, earlier)))
@@ -65,7 +65,7 @@ pub(crate) fn judge_cancel(
     let late = is_late(standing, earlier, kind, id);
     if !still_open(standing, earlier, kind, id) && !late {
         Err(WorkflowFault::NotOpen)
-    } else if is_cancelled(standing, earlier, kind, id) {
+    } else if is_canceled(standing, earlier, kind, id) {
         Err(WorkflowFault::AlreadyCancelling)
     } else {
         Ok(late)

@@ -14,7 +14,7 @@ use wh_machines::Track;
 pub(crate) struct Standing {
     /// One of them is open.
     pub(crate) is_open: bool,
-    /// The open one was asked to be cancelled.
+    /// The open one was asked to be canceled.
     pub(crate) is_cancelling: bool,
     /// The last of them was closed by an outside event since the cut before.
     pub(crate) is_ended: bool,

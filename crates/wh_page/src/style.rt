@@ -82,7 +82,7 @@ svg .request{--c:var(--request)}
 svg .bar{fill:var(--c)}
 svg .wait{fill:var(--c);fill-opacity:.35}
 svg .open .bar{fill-opacity:.3;stroke:var(--c);stroke-dasharray:3 2}
-svg .cancelled .bar{fill-opacity:.3;stroke:var(--c)}
+svg .canceled .bar{fill-opacity:.3;stroke:var(--c)}
 svg .failed .bar{stroke:var(--bad);stroke-width:2}
 svg .said{fill:var(--soft);font-size:11px}
 svg .failed .said{fill:var(--bad)}

@@ -18,7 +18,7 @@ use Rattle.wh_host.specs.declared.reply.Outcome.TheVariants.{Failed}
 use Rattle.wh_poll.specs.declared.answer.Reply.{Reply}
 use Rattle.wh_poll.specs.declared.serve.Served.{Served}
 use Rattle.wh_tasks.specs.declared.source.Sent.TheVariants.{Workflow as OfWorkflow}
-use Rattle.wh_tasks.specs.Source.{Answerable, Delivers, Tells, Answers, Workflow, SameTelling, FailsOnly, KeepsSource, RoseIfFailed, SameMay}
+use Rattle.wh_tasks.specs.Source.{Answerable, Delivers, MayFetch, Answers, Workflow, SameFetching, FailsOnly, KeepsSource, RoseIfFailed, SameMay}
 use Rattle.wh_tasks.specs.Tasks.{Basis, Own, Nothing, Joined, Told, basis_of, StepsFrom, FailsOnlySource}
 use Rattle.wh_host.specs.Machine.{with_taken}
 use Rattle.wh_poll.specs.Serve.{ServesWorkflow, Counts, MayCount}
@@ -32,16 +32,16 @@ use Rattle.wh_poll.specs.Turns.{Turn, Hears, IsTurn, IsLedBy, GoesOn}
 use Rattle.wh_poll.specs.Ends.{IsEndOf}
 
 -- what a task gives stays what it gives where the same is told
-StepsFrom-same : {S : Type 0} (program : Program S) (basis : Basis) (p q : Tells) (run : Option Held) (key : RunKey) (events : List Event) (stepped : Option Held) (fault : Option Fault) (hit : Bool) (before after : ℕ)
-    → SameTelling p q → StepsFrom program basis q run key events stepped fault hit before after → StepsFrom program basis p run key events stepped fault hit before after
+StepsFrom-same : {S : Type 0} (program : Program S) (basis : Basis) (p q : MayFetch) (run : Option Held) (key : RunKey) (events : List Event) (stepped : Option Held) (fault : Option Fault) (hit : Bool) (before after : ℕ)
+    → SameFetching p q → StepsFrom program basis q run key events stepped fault hit before after → StepsFrom program basis p run key events stepped fault hit before after
 StepsFrom-same program Own p q run key events stepped fault hit before after same s = s
 StepsFrom-same program Nothing p q run key events stepped fault hit before after same s = s
 StepsFrom-same program (Joined held) p q run key events stepped fault hit before after same s = s
 StepsFrom-same program Told p q run key events stepped fault hit before after same s = ((s.0.0, (same key _ s.0.0).1 s.0.1, s.0.2), s.1)
 
 -- what was sent after a poll makes the turn
-pub serves_sent : {S : Type 0} (program : Program S) (p q : Tells) (delivers : Delivers) (old between new : Answers) (task : WorkflowTask) (run : Option Held) (sent : Result Reply StepFault)
-    → delivers (Workflow task) → between ≡ old → SameTelling p q → Sends program q run task between new sent
+pub serves_sent : {S : Type 0} (program : Program S) (p q : MayFetch) (delivers : Delivers) (old between new : Answers) (task : WorkflowTask) (run : Option Held) (sent : Result Reply StepFault)
+    → delivers (Workflow task) → between ≡ old → SameFetching p q → Sends program q run task between new sent
     → ServesWorkflow program p delivers old new (served_workflow task.name sent)
 serves_sent program p q delivers old between new task run (Ok reply) delivered kept same sends =
     let said = sends.1 in
@@ -105,12 +105,12 @@ pub turn_more : {T : Type 0} (turns : List T) (turn : T) (count : ℕ) → lengt
 turn_more turns turn count long = omega (arith, long, length-append turns (turn ∷ []))
 
 -- what two calls keep of a source, one after the other
-keeps_on : {S : Type 0} (delivers : S → Delivers) (tells : S → Tells) (comes_from : S → S → Type 0) (old between new : S)
-    → KeepsSource delivers tells comes_from old between → KeepsSource delivers tells comes_from between new → KeepsSource delivers tells comes_from old new
-keeps_on delivers tells comes_from old between new before after = record {
+keeps_on : {S : Type 0} (delivers : S → Delivers) (fetches : S → MayFetch) (comes_from : S → S → Type 0) (old between new : S)
+    → KeepsSource delivers fetches comes_from old between → KeepsSource delivers fetches comes_from between new → KeepsSource delivers fetches comes_from old new
+keeps_on delivers fetches comes_from old between new before after = record {
   same = record {
     delivers = λ task. (λ gave. (after.same.delivers task).0 ((before.same.delivers task).0 gave), λ gives. (before.same.delivers task).1 ((after.same.delivers task).1 gives));
-    tells = λ key up_to history. (λ told. (after.same.tells key up_to history).0 ((before.same.tells key up_to history).0 told), λ tells. (before.same.tells key up_to history).1 ((after.same.tells key up_to history).1 tells));
+    fetches = λ key up_to history. (λ told. (after.same.fetches key up_to history).0 ((before.same.fetches key up_to history).0 told), λ fetches. (before.same.fetches key up_to history).1 ((after.same.fetches key up_to history).1 fetches));
   };
   origin = λ first came. after.origin first (before.origin first came);
 }
@@ -119,37 +119,37 @@ keeps_on delivers tells comes_from old between new before after = record {
 allows_on : (p q r : Answerable) → SameMay p q → SameMay q r → SameMay p r
 allows_on p q r before after = λ task answer. (λ might. (after task answer).0 ((before task answer).0 might), λ may. (before task answer).1 ((after task answer).1 may))
 
-module _ {S A O : Type 0} (tells : S → Tells) (delivers : S → Delivers) (answers : S → Answers) (failures : S → ℕ) (comes_from : S → S → Type 0) (may : A → Answerable) where
+module _ {S A O : Type 0} (fetches : S → MayFetch) (delivers : S → Delivers) (answers : S → Answers) (failures : S → ℕ) (comes_from : S → S → Type 0) (may : A → Answerable) where
   -- what a worker would leave of its setup after so many turns
   pub record IsSoFar (counted : Shares) (setup : WorkerSetup S A O) (count : ℕ) (end : WorkerEnd S A O) : Type 0 where
     pub taken : end.counted.taken ≤ counted.taken + count
     pub fault : RoseIfFailed end.fault (failures setup.source) (failures end.source)
-    pub keeps : KeepsSource delivers tells comes_from setup.source end.source
+    pub keeps : KeepsSource delivers fetches comes_from setup.source end.source
     pub allows : SameMay (may setup.handler) (may end.handler)
     pub answered : length (answers end.source) + counted.taken ≤ length (answers setup.source) + end.counted.taken
 
-module _ {P S A O : Type 0} (program : Program P) (tells : S → Tells) (delivers : S → Delivers) (answers : S → Answers) (failures : S → ℕ) (comes_from : S → S → Type 0) (may : A → Answerable) (hears : Hears O)
+module _ {P S A O : Type 0} (program : Program P) (fetches : S → MayFetch) (delivers : S → Delivers) (answers : S → Answers) (failures : S → ℕ) (comes_from : S → S → Type 0) (may : A → Answerable) (hears : Hears O)
     (counted : Shares) (setup : WorkerSetup S A O) (count : ℕ) where
   -- one turn more
   pub one_more_so_far : (kind : SlotKind) (old : WorkerEnd S A O) (turn : Turn) (new : WorkerEnd S A O)
-      → IsSoFar tells delivers answers failures comes_from may counted setup count old → IsTurn program tells delivers answers failures comes_from may hears kind old turn new
+      → IsSoFar fetches delivers answers failures comes_from may counted setup count old → IsTurn program fetches delivers answers failures comes_from may hears kind old turn new
       → (seat later : Shares) → seat ≡ old.counted → later ≡ new.counted → later.taken ≤ seat.taken + 1
       → length (answers new.source) + seat.taken ≤ length (answers old.source) + later.taken
-      → IsSoFar tells delivers answers failures comes_from may counted setup (count + 1) new
+      → IsSoFar fetches delivers answers failures comes_from may counted setup (count + 1) new
   one_more_so_far kind old turn new before took seat later was is more answered =
       let had : seat.taken ≡ old.counted.taken = ap (λ shares. shares.taken) was in
       let has : later.taken ≡ new.counted.taken = ap (λ shares. shares.taken) is in
       record {
         taken = omega (arith, had, has, more, before.taken);
         fault = subst (λ fault. RoseIfFailed fault (failures setup.source) (failures new.source)) (sym took.kept) (rose_kept old.fault turn _ _ _ before.fault took.failed);
-        keeps = keeps_on delivers tells comes_from setup.source old.source new.source before.keeps took.keeps;
+        keeps = keeps_on delivers fetches comes_from setup.source old.source new.source before.keeps took.keeps;
         allows = allows_on _ _ _ before.allows took.allows;
         answered = omega (arith, had, has, answered, before.answered);
       }
 
   -- no turn follows
-  pub end_so_far : (end : WorkerEnd S A O) → count ≤ setup.turns → IsSoFar tells delivers answers failures comes_from may counted setup count end
-      → IsLedBy program tells delivers answers failures comes_from may hears counted setup end → IsEndOf program tells delivers answers failures comes_from may hears counted setup end
+  pub end_so_far : (end : WorkerEnd S A O) → count ≤ setup.turns → IsSoFar fetches delivers answers failures comes_from may counted setup count end
+      → IsLedBy program fetches delivers answers failures comes_from may hears counted setup end → IsEndOf program fetches delivers answers failures comes_from may hears counted setup end
   end_so_far end within so_far led = record {
     taken = omega (arith, within, so_far.taken);
     fault = so_far.fault;

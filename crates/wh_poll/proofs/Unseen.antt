@@ -17,7 +17,7 @@ use Rattle.wh_workflow.specs.Law.{Program}
 use Rattle.wh_tasks.specs.Tasks.{answer_to}
 use Rattle.wh_replay.specs.Runs.{HistoryView, Held, history_of, Shows, run_of, follows, steps, advance_steps}
 use Rattle.wh_replay.specs.Advances.{answered}
-use Rattle.wh_tasks.specs.Tasks.{Own, Nothing, Joined, Told, later_basis, Replays, ReplaysTold, StepsFrom, Steps, IsAnswer}
+use Rattle.wh_tasks.specs.Tasks.{Own, Nothing, Joined, Told, later_basis, Replays, ReplaysFetched, StepsFrom, Steps, IsAnswer}
 use Rattle.wh_slots.specs.declared.SlotKind.{SlotKind}
 use Rattle.wh_slots.specs.declared.SlotKind.TheVariants.{Workflow, Activity}
 use Rattle.wh_slots.specs.declared.ReserveFault.{ReserveFault}
@@ -97,7 +97,7 @@ module _ {S : Type 0} (program : Program S) (key : RunKey) where
     split : table key ≡ (front ++ (e ∷ es)) ++ rest
     split = is ∙ sym (append_assoc front (e ∷ es) rest)
 
-    told : ReplaysTold program (told_by table) key (last_number (e ∷ es)) stepped fault before after → IsRight program key (front ++ (e ∷ es)) stepped fault
+    told : ReplaysFetched program (told_by table) key (last_number (e ∷ es)) stepped fault before after → IsRight program key (front ++ (e ∷ es)) stepped fault
     told t =
         let more = last-numbered (1 + length front) e es rest counted in
         let all = length-append front (e ∷ es) in

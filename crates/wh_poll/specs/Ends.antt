@@ -7,13 +7,13 @@ use Rattle.wh_ledger.specs.declared.Shares.{Shares}
 use Rattle.wh_ledger.specs.Shares.{no_shares, sums_of}
 use Rattle.wh_host.specs.declared.config.Config.{Config}
 use Rattle.wh_host.specs.Machine.{totals_of}
-use Rattle.wh_tasks.specs.Source.{Answers, Answerable, Delivers, Tells, KeepsSource, RoseIfFailed, SameMay}
+use Rattle.wh_tasks.specs.Source.{Answers, Answerable, Delivers, MayFetch, KeepsSource, RoseIfFailed, SameMay}
 use Rattle.wh_poll.specs.declared.hosting.HostEnd.{HostEnd}
 use Rattle.wh_poll.specs.declared.setup.WorkerSetup.{WorkerSetup}
 use Rattle.wh_poll.specs.declared.setup.WorkerEnd.{WorkerEnd}
 use Rattle.wh_poll.specs.Turns.{Hears, IsLedBy}
 
-module _ {P S A O : Type 0} (program : Program P) (tells : S → Tells) (delivers : S → Delivers) (answers : S → Answers)
+module _ {P S A O : Type 0} (program : Program P) (fetches : S → MayFetch) (delivers : S → Delivers) (answers : S → Answers)
     (failures : S → ℕ) (comes_from : S → S → Type 0) (may : A → Answerable) (hears : Hears O) where
   -- what a worker leaves of its setup, by what its seat had counted before: it took no more tasks than it had turns,
   -- its fault is one of its own source, its source and its handler keep what every call keeps, it sent no more answers
@@ -21,10 +21,10 @@ module _ {P S A O : Type 0} (program : Program P) (tells : S → Tells) (deliver
   pub record IsEndOf (counted : Shares) (setup : WorkerSetup S A O) (end : WorkerEnd S A O) : Type 0 where
     pub taken : end.counted.taken ≤ counted.taken + setup.turns
     pub fault : RoseIfFailed end.fault (failures setup.source) (failures end.source)
-    pub keeps : KeepsSource delivers tells comes_from setup.source end.source
+    pub keeps : KeepsSource delivers fetches comes_from setup.source end.source
     pub allows : SameMay (may setup.handler) (may end.handler)
     pub answered : length (answers end.source) + counted.taken ≤ length (answers setup.source) + end.counted.taken
-    pub told : IsLedBy program tells delivers answers failures comes_from may hears counted setup end
+    pub told : IsLedBy program fetches delivers answers failures comes_from may hears counted setup end
 
   -- what a worker, a seat with a setup, has become: the seat, and what it leaves
   pub record IsWorked (seated : Shares × WorkerSetup S A O) (ended : Shares × WorkerEnd S A O) : Type 0 where

@@ -3,7 +3,7 @@ use Rattle.std.specs.Prelude.{◌≡◌, ℕ, ◌+◌, ◌≤◌, List, [], ◌�
 use Rattle.wh_workflow.specs.Law.{Program}
 use Rattle.wh_ledger.specs.declared.Shares.{Shares}
 use Rattle.wh_tasks.specs.declared.source.SourceFault.{SourceFault}
-use Rattle.wh_tasks.specs.Source.{Answers, Answerable, Delivers, Tells, RoseIfFailed}
+use Rattle.wh_tasks.specs.Source.{Answers, Answerable, Delivers, MayFetch, RoseIfFailed}
 use Rattle.wh_poll.specs.declared.lists.Worker.{Worker}
 use Rattle.wh_poll.specs.declared.observer.NoObserver.{NoObserver}
 use Rattle.wh_poll.specs.declared.setup.WorkerEnd.{WorkerEnd}
@@ -15,7 +15,7 @@ abbrev pub worker_of : {T C F S A O : Type 0} → Shares × WorkerEnd S A O → 
 worker_of ended = record { seat = ended.0; source = ended.1.source; fault = ended.1.fault }
 
 -- what a worker without an observer hands back: what its turns led to
-pub record IsWorkOf {T C F P S A : Type 0} (program : Program P) (tells : S → Tells) (delivers : S → Delivers)
+pub record IsWorkOf {T C F P S A : Type 0} (program : Program P) (fetches : S → MayFetch) (delivers : S → Delivers)
     (answers : S → Answers) (failures : S → ℕ) (comes_from : S → S → Type 0) (may : A → Answerable)
     (seat : Shares) (source : S) (handler : A) (turns : ℕ) (worker : Worker T C F S) : Type 0 where
   pub setup : WorkerSetup S A NoObserver
@@ -23,18 +23,18 @@ pub record IsWorkOf {T C F P S A : Type 0} (program : Program P) (tells : S → 
   pub handler_is : setup.handler ≡ handler
   pub turns_are : setup.turns ≡ turns
   pub end : WorkerEnd S A NoObserver
-  pub led : IsLedBy program tells delivers answers failures comes_from may (λ old turn new. new ≡ old) seat setup end
+  pub led : IsLedBy program fetches delivers answers failures comes_from may (λ old turn new. new ≡ old) seat setup end
   pub worker_is : worker ≡ worker_of (end.counted, end)
 
 -- so do workers, each of the seat, the source, the handler and the turns of its place
-abbrev pub AreWorkOf : {T C F P S A : Type 0} → Program P → (S → Tells) → (S → Delivers) → (S → Answers) → (S → ℕ)
+abbrev pub AreWorkOf : {T C F P S A : Type 0} → Program P → (S → MayFetch) → (S → Delivers) → (S → Answers) → (S → ℕ)
     → (S → S → Type 0) → (A → Answerable) → List Shares → List S → List A → List ℕ → List (Worker T C F S) → Type 0
-AreWorkOf program tells delivers answers failures comes_from may [] [] [] [] [] = Unit {0}
-AreWorkOf program tells delivers answers failures comes_from may
+AreWorkOf program fetches delivers answers failures comes_from may [] [] [] [] [] = Unit {0}
+AreWorkOf program fetches delivers answers failures comes_from may
     (seat ∷ seats) (source ∷ sources) (handler ∷ handlers) (turn ∷ turns) (worker ∷ workers) =
-    IsWorkOf program tells delivers answers failures comes_from may seat source handler turn worker
-    × AreWorkOf program tells delivers answers failures comes_from may seats sources handlers turns workers
-AreWorkOf program tells delivers answers failures comes_from may _ _ _ _ _ = ⊥
+    IsWorkOf program fetches delivers answers failures comes_from may seat source handler turn worker
+    × AreWorkOf program fetches delivers answers failures comes_from may seats sources handlers turns workers
+AreWorkOf program fetches delivers answers failures comes_from may _ _ _ _ _ = ⊥
 
 -- each seat took at most as many tasks as its worker had turns
 abbrev pub WithinTurns : List Shares → List ℕ → List Shares → Type 0

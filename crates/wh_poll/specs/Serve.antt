@@ -22,7 +22,7 @@ use Rattle.wh_tasks.specs.declared.source.ActivityAnswer.TheVariants.{Completed 
 use Rattle.wh_poll.specs.declared.serve.Served.{Served}
 use Rattle.wh_poll.specs.declared.serve.Served.TheVariants.{Workflow, Activity, NoMemory, Repeated, Idle, Closed, NoSlot, Draining, NumbersSpent}
 use Rattle.wh_tasks.specs.declared.source.Sent.TheVariants.{Workflow as OfWorkflow, Activity as OfActivity}
-use Rattle.wh_tasks.specs.Source.{Delivers, Tells, Answerable, Answers, Workflow as WorkflowDelivery, Activity as ActivityDelivery}
+use Rattle.wh_tasks.specs.Source.{Delivers, MayFetch, Answerable, Answers, Workflow as WorkflowDelivery, Activity as ActivityDelivery}
 use Rattle.wh_tasks.specs.Tasks.{Steps, IsAnswer}
 
 -- a workflow task that is answered `Complete` is completed, else failed
@@ -36,25 +36,25 @@ activity_outcome (Done result) = Completed
 activity_outcome (Undone reason) = Failed
 
 -- the answer is that of replay of the task, with no run or a replayed one of its key, over a new meter
-pub record IsReply {S : Type 0} (program : Program S) (tells : Tells) (run : Option Held) (key : RunKey)
+pub record IsReply {S : Type 0} (program : Program S) (fetches : MayFetch) (run : Option Held) (key : RunKey)
     (events : List Event) (hit : Bool) (steps : ℕ) (outcome : Outcome) (answer : Answer) : Type 0 where
   pub own : IfSome run (λ r. r.key ≡ key)
   pub real : IfSome run (λ r. IsReplayed program (history_of r))
   pub stepped : Option Held
   pub fault : Option Fault
-  pub replayed : Steps program tells run key events stepped fault hit 0 steps
+  pub replayed : Steps program fetches run key events stepped fault hit 0 steps
   pub answered : IsAnswer stepped fault answer
   pub ends : outcome_of answer ≡ outcome
 
 -- exactly one answer was sent, under the name of a delivered workflow task: that of its replay
-pub record AnswersWorkflow {S : Type 0} (program : Program S) (tells : Tells) (delivers : Delivers)
+pub record AnswersWorkflow {S : Type 0} (program : Program S) (fetches : MayFetch) (delivers : Delivers)
     (old new : Answers) (name : TaskName) (hit : Bool) (steps : ℕ) (outcome : Outcome) : Type 0 where
   pub task : WorkflowTask
   pub delivered : delivers (WorkflowDelivery task)
   pub named : task.name ≡ name
   pub run : Option Held
   pub answer : Answer
-  pub reply : IsReply program tells run task.run task.events hit steps outcome answer
+  pub reply : IsReply program fetches run task.run task.events hit steps outcome answer
   pub sent : new ≡ old ++ (name, OfWorkflow answer) ∷ []
 
 -- exactly one answer was sent, under the name of a delivered activity task: one that the handler may give
@@ -87,11 +87,11 @@ SendsNothing kind delivers old new (Ok NumbersSpent) = new ≡ old
 SendsNothing kind delivers old new (Err fault) = new ≡ old
 
 -- one answer where a workflow task was served, and none otherwise
-abbrev pub ServesWorkflow : {S : Type 0} → Program S → Tells → Delivers → Answers → Answers
+abbrev pub ServesWorkflow : {S : Type 0} → Program S → MayFetch → Delivers → Answers → Answers
     → Result Served SourceFault → Type 0
-ServesWorkflow program tells delivers old new (Ok (Workflow name hit steps outcome)) =
-    AnswersWorkflow program tells delivers old new name hit steps outcome
-ServesWorkflow program tells delivers old new served = SendsNothing WorkflowKind delivers old new served
+ServesWorkflow program fetches delivers old new (Ok (Workflow name hit steps outcome)) =
+    AnswersWorkflow program fetches delivers old new name hit steps outcome
+ServesWorkflow program fetches delivers old new served = SendsNothing WorkflowKind delivers old new served
 
 -- one answer where an activity task was served, and none otherwise
 abbrev pub ServesActivity : Answerable → Delivers → Answers → Answers → Result Served SourceFault → Type 0
@@ -99,10 +99,10 @@ ServesActivity may delivers old new (Ok (Activity name outcome)) = AnswersActivi
 ServesActivity may delivers old new served = SendsNothing ActivityKind delivers old new served
 
 -- one answer where a task was served, which is of the kind that was asked for, and none otherwise
-abbrev pub Serves : {S : Type 0} → SlotKind → Program S → Tells → Delivers → Answerable → Answers → Answers
+abbrev pub Serves : {S : Type 0} → SlotKind → Program S → MayFetch → Delivers → Answerable → Answers → Answers
     → Result Served SourceFault → Type 0
-Serves WorkflowKind program tells delivers may old new served = ServesWorkflow program tells delivers old new served
-Serves ActivityKind program tells delivers may old new served = ServesActivity may delivers old new served
+Serves WorkflowKind program fetches delivers may old new served = ServesWorkflow program fetches delivers old new served
+Serves ActivityKind program fetches delivers may old new served = ServesActivity may delivers old new served
 
 -- the outcome was counted, or nothing
 abbrev pub MayCount : Shares → Shares → Outcome → Type 0

@@ -4,7 +4,7 @@ use Rattle.wh_workflow.specs.Law.{Program}
 use Rattle.wh_slots.specs.declared.SlotKind.{SlotKind}
 use Rattle.wh_ledger.specs.declared.Shares.{Shares}
 use Rattle.wh_tasks.specs.declared.source.SourceFault.{SourceFault}
-use Rattle.wh_tasks.specs.Source.{Answers, Answerable, Delivers, Tells, FailsOnly, KeepsSource, SameMay}
+use Rattle.wh_tasks.specs.Source.{Answers, Answerable, Delivers, MayFetch, FailsOnly, KeepsSource, SameMay}
 use Rattle.wh_poll.specs.declared.serve.Served.{Served}
 use Rattle.wh_poll.specs.declared.setup.WorkerSetup.{WorkerSetup}
 use Rattle.wh_poll.specs.declared.setup.WorkerEnd.{WorkerEnd}
@@ -45,16 +45,16 @@ at_first counted setup =
       fault = None;
     }
 
-module _ {P S A O : Type 0} (program : Program P) (tells : S → Tells) (delivers : S → Delivers) (answers : S → Answers)
+module _ {P S A O : Type 0} (program : Program P) (fetches : S → MayFetch) (delivers : S → Delivers) (answers : S → Answers)
     (failures : S → ℕ) (comes_from : S → S → Type 0) (may : A → Answerable) (hears : Hears O) where
   -- one turn of a worker, of a kind: the answer that it sends, what its seat counts, what its source and its handler
   -- keep, the fault that it keeps, and what its observer is told
   pub record IsTurn (kind : SlotKind) (old : WorkerEnd S A O) (turn : Turn) (new : WorkerEnd S A O) : Type 0 where
-    pub serves : Serves kind program (tells old.source) (delivers old.source) (may old.handler)
+    pub serves : Serves kind program (fetches old.source) (delivers old.source) (may old.handler)
         (answers old.source) (answers new.source) turn
     pub counts : Counts old.counted new.counted turn
     pub failed : FailsOnly turn (failures old.source) (failures new.source)
-    pub keeps : KeepsSource delivers tells comes_from old.source new.source
+    pub keeps : KeepsSource delivers fetches comes_from old.source new.source
     pub allows : SameMay (may old.handler) (may new.handler)
     pub kept : new.fault ≡ first_fault old.fault turn
     pub told : hears old.observer turn new.observer

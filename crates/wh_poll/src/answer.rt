@@ -48,11 +48,11 @@ pub(crate) fn answer_by_replay<W: Workflow, S: TaskSource>(
     source: &mut S,
 ) -> Answered<W>
     requires { IfSome run (λ run. run.key ≡ task.run) }
-    ensures sends { Sends W.program (S.tells source.old) run task
+    ensures sends { Sends W.program (S.fetches source.old) run task
         (S.answers source.old) (S.answers source.new) result.sent }
     ensures run { IfSome result.run (λ _. S.caches source.new task.name) }
     ensures failures { FailsOnlySource result.sent (S.failures source.old) (S.failures source.new) }
-    ensures keeps { KeepsSource S.delivers S.tells S.comes_from source.old source.new }
+    ensures keeps { KeepsSource S.delivers S.fetches S.comes_from source.old source.new }
 {
     if let Some(run) = &run {
         // Made for the proof: its contract says that the run is replayed.
@@ -120,7 +120,7 @@ fn send_answer<W: Workflow, S: TaskSource>(
     ensures sends { SendsAnswer run.now fault name (S.answers source.old) (S.answers source.new) result.outcome }
     ensures run { result.run ≡ RunUse.Cache → S.caches source.new name }
     ensures failures { FailsOnlySource result.outcome (S.failures source.old) (S.failures source.new) }
-    ensures keeps { KeepsSource S.delivers S.tells S.comes_from source.old source.new }
+    ensures keeps { KeepsSource S.delivers S.fetches S.comes_from source.old source.new }
 {
     let Ok(answer) = answer_of(alloc, run, fault) else {
         return TaskEnd {
@@ -191,7 +191,7 @@ pub(crate) fn answer_by_handler<S: TaskSource, A: ActivityHandler>(
 ) -> Result<Outcome, StepFault>
     ensures sends { SendsActivity (A.may handler.old) task.now (S.answers source.old) (S.answers source.new) result }
     ensures failures { FailsOnlySource result (S.failures source.old) (S.failures source.new) }
-    ensures keeps { KeepsSource S.delivers S.tells S.comes_from source.old source.new }
+    ensures keeps { KeepsSource S.delivers S.fetches S.comes_from source.old source.new }
     ensures may { SameMay (A.may handler.old) (A.may handler.new) }
 {
     let answer = match handler.run(task) {

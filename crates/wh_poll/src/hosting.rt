@@ -34,7 +34,7 @@ type Ended<T, C, F, S, A, O> = (Vec<Seat<T, C, F>>, Vec<WorkerEnd<S, A, O>>);
 /// The seats and what the workers leave come back in the order of the setups, and the list of the
 /// seats has the room that it had. Each worker leaves its setup as its turns led to it, with its
 /// handler and its observer, which was notified of each turn; its source comes from the one of the
-/// setup, with the same `delivers` and `tells`, and was sent at most as many answers as the worker
+/// setup, with the same `delivers` and `fetches`, and was sent at most as many answers as the worker
 /// took tasks. `OutOfMemory` where there was no memory. Then the seats and the setups are given up,
 /// so the host can't be closed any more, and what workers did until then they have done.
 pub fn run_on_host<
@@ -60,7 +60,7 @@ pub fn run_on_host<
     ensures room { IfOk result (λ ended. vec_capacity ended.0 ≡ vec_capacity seats) }
     ensures count { IfOk result (λ ended. vec_len ended.1 ≡ vec_len setups) }
     ensures counted { IfOk result (λ ended. ended.0.items ≡ map (λ end. end.counted) ended.1.items) }
-    ensures ends { IfOk result (λ ended. AreEnds W.program S.tells S.delivers S.answers S.failures S.comes_from
+    ensures ends { IfOk result (λ ended. AreEnds W.program S.fetches S.delivers S.answers S.failures S.comes_from
         A.may O.hears seats.items setups.items ended.1.items) }
 {
     let mut ends = Vec::new(alloc);
@@ -86,7 +86,7 @@ pub struct HostEnd<S, A, O> {
 ///
 /// Each worker leaves its setup as its turns led to it, with its handler and its observer, which
 /// was notified of each turn; its source comes from the one of the setup, with the same `delivers`
-/// and `tells`, and was sent at most as many answers as the worker took tasks. The totals are the
+/// and `fetches`, and was sent at most as many answers as the worker took tasks. The totals are the
 /// sums of what the workers counted, and the sizes are those that were asked for. `BadConfig`
 /// where a size is not within its range, or the seats are not as many as the setups; `OutOfMemory`
 /// where there was no memory. Then the setups are given up. (Temporal documentation, "Workers": a
@@ -106,7 +106,7 @@ pub fn run_host<
     gate: &G,
 ) -> Result<HostEnd<S, A, O>, OpenFault>
     ensures bad { (result ≡ Err OpenFault.BadConfig) ↔ (¬ (IsConfig config × (config.seats ≡ vec_len setups))) }
-    ensures end { IfOk result (IsHostEnd W.program S.tells S.delivers S.answers S.failures S.comes_from
+    ensures end { IfOk result (IsHostEnd W.program S.fetches S.delivers S.answers S.failures S.comes_from
         A.may O.hears config setups) }
 {
     run_host_beside::<W, R, S, A, O, G, NoCompanion>(rt, alloc, config, setups, gate, None)
@@ -131,7 +131,7 @@ pub fn run_host_beside<
     companion: Option<&P>,
 ) -> Result<HostEnd<S, A, O>, OpenFault>
     ensures bad { (result ≡ Err OpenFault.BadConfig) ↔ (¬ (IsConfig config × (config.seats ≡ vec_len setups))) }
-    ensures end { IfOk result (IsHostEnd W.program S.tells S.delivers S.answers S.failures S.comes_from
+    ensures end { IfOk result (IsHostEnd W.program S.fetches S.delivers S.answers S.failures S.comes_from
         A.may O.hears config setups) }
 {
     if config.seats != setups.len() {
@@ -183,7 +183,7 @@ fn run_with<
         × (completed.parts ≡ config.seats) }
     requires failed { (failed.name ≡ F.name) × (failed.parts ≡ F.parts) × (failed.parts ≡ config.seats) }
     ensures bad { (result ≡ Err OpenFault.BadConfig) ↔ (¬ IsConfig config) }
-    ensures end { IfOk result (IsHostEnd W.program S.tells S.delivers S.answers S.failures S.comes_from
+    ensures end { IfOk result (IsHostEnd W.program S.fetches S.delivers S.answers S.failures S.comes_from
         A.may O.hears config setups) }
 {
     let (host, mut seats) = Host::<W, T, C, F>::open(alloc, config, taken, completed, failed)?;
@@ -231,7 +231,7 @@ pub fn run_beside<
     ensures room { IfOk result.1 (λ ended. vec_capacity ended.0 ≡ vec_capacity seats) }
     ensures count { IfOk result.1 (λ ended. vec_len ended.1 ≡ vec_len setups) }
     ensures counted { IfOk result.1 (λ ended. ended.0.items ≡ map (λ end. end.counted) ended.1.items) }
-    ensures ends { IfOk result.1 (λ ended. AreEnds W.program S.tells S.delivers S.answers S.failures S.comes_from
+    ensures ends { IfOk result.1 (λ ended. AreEnds W.program S.fetches S.delivers S.answers S.failures S.comes_from
         A.may O.hears seats.items setups.items ended.1.items) }
 {
     let Some(companion) = companion else {
@@ -250,7 +250,7 @@ pub fn run_beside<
             ensures room { IfOk result (λ ended. vec_capacity ended.0 ≡ vec_capacity seats) }
             ensures count { IfOk result (λ ended. vec_len ended.1 ≡ vec_len setups) }
             ensures counted { IfOk result (λ ended. ended.0.items ≡ map (λ end. end.counted) ended.1.items) }
-            ensures ends { IfOk result (λ ended. AreEnds W.program S.tells S.delivers S.answers S.failures
+            ensures ends { IfOk result (λ ended. AreEnds W.program S.fetches S.delivers S.answers S.failures
                 S.comes_from A.may O.hears seats.items setups.items ended.1.items) }
         {
             signal.begin(rt);

@@ -35,7 +35,7 @@ pub struct Worker<T: Ledger, C: Ledger, F: Ledger, S> {
 /// both are closed, when the host drains, or after so many turns. The first fault of the source is
 /// kept, and the work goes on. What comes back is what the turns led to, each of which is one of
 /// `serve_one`. The source comes from the one that was handed in, with the same `delivers` and
-/// `tells`, and was sent at most as many answers as the seat took tasks.
+/// `fetches`, and was sent at most as many answers as the seat took tasks.
 pub fn work<
     R: Wait,
     W: Workflow,
@@ -57,10 +57,10 @@ pub fn work<
 ) -> Worker<T, C, F, S>
     ensures taken { result.seat.taken ≤ seat.taken + turns }
     ensures fault { RoseIfFailed result.fault (S.failures source) (S.failures result.source) }
-    ensures same { SameTasks (S.delivers source) (S.tells source) (S.delivers result.source) (S.tells result.source) }
+    ensures same { SameTasks (S.delivers source) (S.fetches source) (S.delivers result.source) (S.fetches result.source) }
     ensures origin { KeepsOrigin S.comes_from source result.source }
     ensures answered { length (S.answers result.source) + seat.taken ≤ length (S.answers source) + result.seat.taken }
-    ensures work { IsWorkOf W.program S.tells S.delivers S.answers S.failures S.comes_from A.may
+    ensures work { IsWorkOf W.program S.fetches S.delivers S.answers S.failures S.comes_from A.may
         seat source handler turns result }
 {
     let setup = WorkerSetup {
@@ -126,7 +126,7 @@ pub fn run_workers<
         AllAnsweredWithin (map (λ source. length (S.answers source)) sources.items) seats.items
         (map (λ worker. length (S.answers worker.source)) workers.items) (map (λ worker. worker.seat) workers.items)) }
     ensures work { IfOk result (λ workers.
-        AreWorkOf W.program S.tells S.delivers S.answers S.failures S.comes_from A.may
+        AreWorkOf W.program S.fetches S.delivers S.answers S.failures S.comes_from A.may
         seats.items sources.items handlers.items turns.items workers.items) }
 {
     let setups = setups_of(alloc, sources, handlers, turns)?;

@@ -107,11 +107,11 @@ pub fn serve_one<
     gate: &G,
     kind: SlotKind,
 ) -> Result<Served, SourceFault>
-    ensures serves { Serves kind W.program (S.tells source.old) (S.delivers source.old) (A.may handler.old)
+    ensures serves { Serves kind W.program (S.fetches source.old) (S.delivers source.old) (A.may handler.old)
         (S.answers source.old) (S.answers source.new) result }
     ensures counts { Counts seat.old seat.new result }
     ensures failures { FailsOnly result (S.failures source.old) (S.failures source.new) }
-    ensures keeps { KeepsSource S.delivers S.tells S.comes_from source.old source.new }
+    ensures keeps { KeepsSource S.delivers S.fetches S.comes_from source.old source.new }
     ensures may { SameMay (A.may handler.old) (A.may handler.new) }
 {
     let reserved = host.lock(rt).reserve(kind);
@@ -147,11 +147,11 @@ fn serve_workflow<R: Wait, W: Workflow, T: Ledger, C: Ledger, F: Ledger, S: Task
     gate: &G,
     permit: Permit,
 ) -> Result<Served, SourceFault>
-    ensures serves { ServesWorkflow W.program (S.tells source.old) (S.delivers source.old)
+    ensures serves { ServesWorkflow W.program (S.fetches source.old) (S.delivers source.old)
         (S.answers source.old) (S.answers source.new) result }
     ensures counts { Counts seat.old seat.new result }
     ensures failures { FailsOnly result (S.failures source.old) (S.failures source.new) }
-    ensures keeps { KeepsSource S.delivers S.tells S.comes_from source.old source.new }
+    ensures keeps { KeepsSource S.delivers S.fetches S.comes_from source.old source.new }
 {
     let task = match start_workflow(source) {
         TurnStart::Task(task) => task,
@@ -177,7 +177,7 @@ fn start_workflow<S: TaskSource>(source: &mut S) -> TurnStart<WorkflowTask>
     ensures answers { S.answers source.new ≡ S.answers source.old }
     ensures failures { Starts (λ _. S.failures source.old ≤ S.failures source.new)
         (λ served. FailsOnly served (S.failures source.old) (S.failures source.new)) result }
-    ensures keeps { KeepsSource S.delivers S.tells S.comes_from source.old source.new }
+    ensures keeps { KeepsSource S.delivers S.fetches S.comes_from source.old source.new }
 {
     match source.poll_workflow() {
         Ok(Polled::Task(task)) => TurnStart::Task(task),
@@ -199,10 +199,10 @@ fn answer_held<R: Wait, W: Workflow, T: Ledger, C: Ledger, F: Ledger, S: TaskSou
     source: &mut S,
 ) -> Result<Reply, StepFault>
     requires { IfSome cached (λ run. run.key ≡ task.run) }
-    ensures sends { Sends W.program (S.tells source.old) cached task
+    ensures sends { Sends W.program (S.fetches source.old) cached task
         (S.answers source.old) (S.answers source.new) result }
     ensures failures { FailsOnlySource result (S.failures source.old) (S.failures source.new) }
-    ensures keeps { KeepsSource S.delivers S.tells S.comes_from source.old source.new }
+    ensures keeps { KeepsSource S.delivers S.fetches S.comes_from source.old source.new }
 {
     let Answered { run, sent } = answer_by_replay(alloc, cached, task, source);
     give_back(rt, host, held, run);
@@ -230,7 +230,7 @@ fn serve_activity<
         (S.answers source.old) (S.answers source.new) result }
     ensures counts { Counts seat.old seat.new result }
     ensures failures { FailsOnly result (S.failures source.old) (S.failures source.new) }
-    ensures keeps { KeepsSource S.delivers S.tells S.comes_from source.old source.new }
+    ensures keeps { KeepsSource S.delivers S.fetches S.comes_from source.old source.new }
     ensures may { SameMay (A.may handler.old) (A.may handler.new) }
 {
     let task = match start_activity(source) {
@@ -254,7 +254,7 @@ fn start_activity<S: TaskSource>(source: &mut S) -> TurnStart<ActivityTask>
     ensures answers { S.answers source.new ≡ S.answers source.old }
     ensures failures { Starts (λ _. S.failures source.old ≤ S.failures source.new)
         (λ served. FailsOnly served (S.failures source.old) (S.failures source.new)) result }
-    ensures keeps { KeepsSource S.delivers S.tells S.comes_from source.old source.new }
+    ensures keeps { KeepsSource S.delivers S.fetches S.comes_from source.old source.new }
 {
     match source.poll_activity() {
         Ok(Polled::Task(task)) => TurnStart::Task(task),

@@ -89,7 +89,7 @@ impl<S: TaskSource, A: ActivityHandler, O: Observer> WorkerEnd<S, A, O> {
         ensures taken { seat.new.taken ≤ seat.old.taken + 1 }
         ensures answered { length (S.answers self.new.source) + seat.old.taken
             ≤ length (S.answers self.old.source) + seat.new.taken }
-        ensures turn { IsTurn W.program S.tells S.delivers S.answers S.failures S.comes_from A.may O.hears
+        ensures turn { IsTurn W.program S.fetches S.delivers S.answers S.failures S.comes_from A.may O.hears
             kind self.old result self.new }
     {
         let source = &mut self.source;
@@ -133,7 +133,7 @@ pub(crate) fn run_worker<
     mut seat: Seat<T, C, F>,
     setup: WorkerSetup<S, A, O>,
 ) -> EndedWorker<T, C, F, S, A, O>
-    ensures { IsWorked W.program S.tells S.delivers S.answers S.failures S.comes_from A.may O.hears
+    ensures { IsWorked W.program S.fetches S.delivers S.answers S.failures S.comes_from A.may O.hears
         (seat, setup) result }
 {
     let WorkerSetup {
@@ -179,7 +179,7 @@ pub(crate) fn run_in_threads<
 ) -> Result<Vec<EndedWorker<T, C, F, S, A, O>>, AllocError>
     ensures count { IfOk result (λ ended. vec_len ended ≡ vec_len pairs) }
     ensures each { IfOk result (λ ended. (i : ℕ) (seated : _) (end : _) → i < vec_len pairs →
-        IsWorked W.program S.tells S.delivers S.answers S.failures S.comes_from A.may O.hears
+        IsWorked W.program S.fetches S.delivers S.answers S.failures S.comes_from A.may O.hears
         (slice_index_or pairs.items i seated) (slice_index_or ended.items i end)) }
 {
     thread::map_vec(
@@ -187,7 +187,7 @@ pub(crate) fn run_in_threads<
         pairs,
         &|seated: SeatedWorker<T, C, F, S, A, O>| -> EndedWorker<T, C, F, S, A, O>
             requires { IsSend W.row × IsSend W.State.row }
-            ensures { IsWorked W.program S.tells S.delivers S.answers S.failures S.comes_from A.may O.hears
+            ensures { IsWorked W.program S.fetches S.delivers S.answers S.failures S.comes_from A.may O.hears
                 seated result }
         {
             let (seat, setup) = seated;

@@ -5,7 +5,7 @@ use Rattle.std.specs.Io.KnownBytes.{Appends}
 use Rattle.std.proofs.lemmas.List.{append_assoc, take-append-le, take_all}
 use Rattle.std.proofs.Math.Nat.{div-mul-le_self, mul-le-mul_right}
 use Rattle.wh_console.specs.Consoles.{ConsoleView, Reported}
-use Rattle.wh_progress.specs.Batches.{batch_size, told_after, told_batches, told_of}
+use Rattle.wh_progress.specs.Batches.{batch_size, reports_after, reported_batches, reports_of}
 use Rattle.wh_progress.specs.Lines.{end_text, line_text, progress_of}
 use Rattle.wh_progress.specs.declared.mode.ProgressMode.{ProgressMode}
 use Rattle.wh_progress.specs.declared.mode.ProgressMode.TheVariants.{Hidden, Lines, InPlace}
@@ -46,13 +46,13 @@ fewer_fit : (batches size files : ℕ) → suc batches * size ≤ files → batc
 fewer_fit batches size files fits = omega arith
 
 -- what is told after the first batches says nothing of later files
-pub told_front : (mode : ProgressMode) (total : ℕ) (done later : List Bool) (batches : ℕ) (name : List ℕ)
+pub reports_front : (mode : ProgressMode) (total : ℕ) (done later : List Bool) (batches : ℕ) (name : List ℕ)
     → batches * batch_size total ≤ length done
-    → told_after mode total done batches name ≡ told_after mode total (done ++ later) batches name
-told_front mode total done later zero name fits = refl
-told_front mode total done later (suc batches) name fits =
+    → reports_after mode total done batches name ≡ reports_after mode total (done ++ later) batches name
+reports_front mode total done later zero name fits = refl
+reports_front mode total done later (suc batches) name fits =
     ap₂ (λ before faulty. before ++ line_text mode (progress_of total faulty) name)
-    (told_front mode total done later batches name (fewer_fit batches (batch_size total) (length done) fits))
+    (reports_front mode total done later batches name (fewer_fit batches (batch_size total) (length done) fits))
     (sym (take-append-le (suc batches * batch_size total) done later fits))
 
 -- a batch that is told of is within the files
@@ -62,7 +62,7 @@ within size total batches less =
     let here = mul-le-mul_right {m = suc batches} {n = (total - 1) / size} size less in
     omega (arith, whole, here)
 
-pub batch_fits : (mode : ProgressMode) (total batches : ℕ) → batches < told_batches mode total → suc batches * batch_size total ≤ total
+pub batch_fits : (mode : ProgressMode) (total batches : ℕ) → batches < reported_batches mode total → suc batches * batch_size total ≤ total
 batch_fits Hidden total batches less = absurd (omega (arith, less))
 batch_fits Lines total batches less = within (batch_size total) total batches less
 batch_fits InPlace total batches less = within (batch_size total) total batches less
@@ -70,32 +70,32 @@ batch_fits InPlace total batches less = within (batch_size total) total batches 
 -- one batch more was told of
 pub told_more : (mode : ProgressMode) (total : ℕ) (done more : List Bool) (batches : ℕ) (a b c : ConsoleView)
     → length done ≡ batches * batch_size total → length (done ++ more) ≡ suc batches * batch_size total
-    → Reported a b (told_after mode total done batches)
+    → Reported a b (reports_after mode total done batches)
     → Reported b c (line_text mode (progress_of total (done ++ more)))
-    → Reported a c (told_after mode total (done ++ more) (suc batches))
+    → Reported a c (reports_after mode total (done ++ more) (suc batches))
 told_more mode total done more batches a b c so_far now before after =
     reported_as a c
-    (λ name. told_after mode total done batches name ++ line_text mode (progress_of total (done ++ more)) name)
-    (told_after mode total (done ++ more) (suc batches))
+    (λ name. reports_after mode total done batches name ++ line_text mode (progress_of total (done ++ more)) name)
+    (reports_after mode total (done ++ more) (suc batches))
     (ap₂ (λ front faulty. front ++ line_text mode (progress_of total faulty) a.name)
-    (told_front mode total done more batches a.name (omega (arith, so_far)))
+    (reports_front mode total done more batches a.name (omega (arith, so_far)))
     (sym (take_all (suc batches * batch_size total) (done ++ more) (omega (arith, now)))))
     (reported_both a b c _ _ before after)
 
 -- the last batch is not told of
 pub told_before_last : (mode : ProgressMode) (total : ℕ) (done more : List Bool) (batches : ℕ) (a b : ConsoleView)
     → length done ≡ batches * batch_size total
-    → Reported a b (told_after mode total done batches)
-    → Reported a b (told_after mode total (done ++ more) batches)
+    → Reported a b (reports_after mode total done batches)
+    → Reported a b (reports_after mode total (done ++ more) batches)
 told_before_last mode total done more batches a b so_far before =
-    reported_as a b (told_after mode total done batches) (told_after mode total (done ++ more) batches)
-    (told_front mode total done more batches a.name (omega (arith, so_far))) before
+    reported_as a b (reports_after mode total done batches) (reports_after mode total (done ++ more) batches)
+    (reports_front mode total done more batches a.name (omega (arith, so_far))) before
 
 -- all was told of that is told of files
 pub told_all : (mode : ProgressMode) (total : ℕ) (faulty : List Bool) (a b c : ConsoleView) → total ≡ length faulty
-    → Reported a b (told_after mode total faulty (told_batches mode total))
-    → Reported b c (end_text mode (told_batches mode total))
-    → Reported a c (told_of mode faulty)
+    → Reported a b (reports_after mode total faulty (reported_batches mode total))
+    → Reported b c (end_text mode (reported_batches mode total))
+    → Reported a c (reports_of mode faulty)
 told_all mode total faulty a b c same before after =
-    subst (λ n. Reported a c (λ name. told_after mode n faulty (told_batches mode n) name ++ end_text mode (told_batches mode n) name)) same
+    subst (λ n. Reported a c (λ name. reports_after mode n faulty (reported_batches mode n) name ++ end_text mode (reported_batches mode n) name)) same
     (reported_both a b c _ _ before after)

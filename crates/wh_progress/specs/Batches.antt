@@ -9,19 +9,19 @@ abbrev pub batch_size : ℕ → ℕ
 batch_size total = max 64 (total / 20)
 
 -- after how many batches progress is told: after each but the last
-abbrev pub told_batches : ProgressMode → ℕ → ℕ
-told_batches Hidden total = 0
-told_batches _ total = (total - 1) / batch_size total
+abbrev pub reported_batches : ProgressMode → ℕ → ℕ
+reported_batches Hidden total = 0
+reported_batches _ total = (total - 1) / batch_size total
 
 -- what is told after the first batches of so many files, where those that are done have a fault or not
-abbrev pub told_after : ProgressMode → (total : ℕ) → (faulty : List Bool) → (batches : ℕ) → List ℕ → List ℕ
-told_after mode total faulty zero name = []
-told_after mode total faulty (suc batches) name =
-    told_after mode total faulty batches name
+abbrev pub reports_after : ProgressMode → (total : ℕ) → (faulty : List Bool) → (batches : ℕ) → List ℕ → List ℕ
+reports_after mode total faulty zero name = []
+reports_after mode total faulty (suc batches) name =
+    reports_after mode total faulty batches name
     ++ line_text mode (progress_of total (take (suc batches * batch_size total) faulty)) name
 
 -- what is told of files in all, where each has a fault or not
-abbrev pub told_of : ProgressMode → (faulty : List Bool) → List ℕ → List ℕ
-told_of mode faulty name =
-    told_after mode (length faulty) faulty (told_batches mode (length faulty)) name
-    ++ end_text mode (told_batches mode (length faulty)) name
+abbrev pub reports_of : ProgressMode → (faulty : List Bool) → List ℕ → List ℕ
+reports_of mode faulty name =
+    reports_after mode (length faulty) faulty (reported_batches mode (length faulty)) name
+    ++ end_text mode (reported_batches mode (length faulty)) name

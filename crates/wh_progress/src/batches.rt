@@ -1,7 +1,7 @@
 //! How files are split into batches.
 
 ghost use Rattle.std.specs.Prelude.{◌≡◌};
-ghost use Rattle.wh_progress.specs.Batches.{batch_size, told_batches};
+ghost use Rattle.wh_progress.specs.Batches.{batch_size, reported_batches};
 
 use crate::mode::ProgressMode;
 
@@ -21,8 +21,8 @@ pub fn batch_size(total: usize) -> usize
 
 /// After how many batches of so many files progress is told: after each but the last. After none
 /// where it is hidden.
-pub fn told_batches(mode: ProgressMode, total: usize) -> usize
-    ensures batches { result ≡ told_batches mode total }
+pub fn reported_batches(mode: ProgressMode, total: usize) -> usize
+    ensures batches { result ≡ reported_batches mode total }
 {
     match mode {
         ProgressMode::Hidden => 0,

@@ -6,6 +6,6 @@ mod batches;
 mod lines;
 mod mode;
 
-pub use batches::{batch_size, told_batches};
+pub use batches::{batch_size, reported_batches};
 pub use lines::{Progress, ProgressEnd, ProgressLine};
 pub use mode::{ProgressMode, progress_mode};

@@ -13,7 +13,7 @@ use Rattle.wh_events.specs.declared.kind.EventKind.TheVariants.{Inert}
 use Rattle.wh_events.specs.Kinds.{class_of}
 use Rattle.wh_events.specs.Cuts.{cuts, completes, is_cut, is_inert, is_inert_class, is_recorded, is_task_completed, is_task_completed_kind, is_task_started, is_task_started_kind, lets_cut, next_core}
 use Rattle.wh_events.proofs.Cutting.{completes_kind}
-use Rattle.wh_query.specs.Told.{starts_last, completed_part, completed_cuts, extends, HasCompletedTasks}
+use Rattle.wh_query.specs.Completed.{starts_last, completed_part, completed_cuts, extends, HasCompletedTasks}
 
 or_true : (b : Bool) → (b || true) ≡ true
 or_true true = refl

@@ -1,3 +1,3 @@
 pub mod Queries
 pub mod Laws
-pub mod Told
+pub mod Completed

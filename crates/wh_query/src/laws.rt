@@ -1,6 +1,6 @@
 //! What holds of every workflow that is queried.
 ghost use Rattle.wh_query.specs.Laws.{QueriesAgree};
-ghost use Rattle.wh_query.specs.Told.{HasCompletedTasks};
+ghost use Rattle.wh_query.specs.Completed.{HasCompletedTasks};
 
 use wh_queryable::Queryable;
 
@@ -12,6 +12,6 @@ pub fn queries_agree<W: Queryable>()
 
 /// What is queried of a history that a server tells has each task that is completed in it, and no
 /// task that is in hand.
-pub fn told_tasks_are_completed()
+pub fn fetched_tasks_are_completed()
     ensures { HasCompletedTasks }
 {}

@@ -3,7 +3,7 @@
 
 pub mod laws;
 mod querying;
-mod told;
+mod completed;
 
 pub use querying::{query_each, query_history, query_replayed, query_run};
-pub use told::query_told;
+pub use completed::query_fetched;

@@ -12,7 +12,7 @@ use Rattle.wh_events.specs.declared.key.RunKey.{RunKey}
 use Rattle.wh_events.specs.Keys.{same_key}
 use Rattle.wh_host.specs.Machine.{HostView, IsHost}
 use Rattle.wh_query.specs.Queries.{query_at}
-use Rattle.wh_query.specs.Told.{completed_part}
+use Rattle.wh_query.specs.Completed.{completed_part}
 use Rattle.wh_query_messages.specs.Answers.{query_completed}
 use Rattle.wh_query_messages.specs.Polled.{Asked, query_in}
 use Rattle.wh_queryable.specs.Queries.{Queries}
@@ -39,8 +39,8 @@ pub record IsFetched (gives : Gives) (names : WorkerNames) (run : RunKey) (event
   pub read : ReadsEvents all events
 
 -- the history of a run: what its query comes with, or what is fetched
-abbrev pub IsTold : Gives → WorkerNames → RunKey → List ℕ → List Data → List Event → Type 0
-IsTold gives names run next_page members events =
+abbrev pub AreRunEvents : Gives → WorkerNames → RunKey → List ℕ → List Data → List Event → Type 0
+AreRunEvents gives names run next_page members events =
     IsOwn gives names run next_page members events ⊎ IsFetched gives names run events
 
 -- ---- Results
@@ -66,14 +66,14 @@ module _ {S : Type 0} (program : Program S) (queries : Queries S) where
 
 module _ {S : Type 0} (gives : Gives) (names : WorkerNames) (program : Program S) (queries : Queries S) where
   -- what the query gives at what the completed tasks of a told history say, or the fault of replay in words
-  pub record IsToldResult (asked : Asked) (given : QueryResult) : Type 0 where
+  pub record AreRunEventsOf (asked : Asked) (given : QueryResult) : Type 0 where
     pub events : List Event
-    pub told : IsTold gives names asked.run asked.next_page asked.members events
+    pub told : AreRunEvents gives names asked.run asked.next_page asked.members events
     pub is : given ≡ settled (query_at program queries (completed_part events) asked.query.query_type asked.query.input)
 
   -- what the query gives: at a cached run, or at a told history
   abbrev pub IsQueryResult : Asked → QueryResult → Type 0
-  IsQueryResult asked given = IsCachedResult program queries asked given ⊎ IsToldResult asked given
+  IsQueryResult asked given = IsCachedResult program queries asked given ⊎ AreRunEventsOf asked given
 
   -- the query could be read, and this is what it gives
   abbrev pub IsSettled : Option Asked → QueryResult → Type 0

@@ -9,14 +9,14 @@ ghost use Rattle.wh_query_desk.specs.Answers.{AnswersPoll, IsQueryResult, IsSett
 
 use crate::cached::query_cached;
 use crate::reasons::reason_of;
-use crate::told::told_events;
+use crate::events::run_events;
 use std::alloc::Global;
 use std::sync::Wait;
 use std::sync::ledger::Ledger;
 use wh_client::{AskFault, Client, Connection, Request};
 use wh_events::{OutOfMemory, Text};
 use wh_host::Host;
-use wh_query::query_told;
+use wh_query::query_fetched;
 use wh_query_messages::{PolledQuery, polled_query, query_completed};
 use wh_queryable::{QueryResult, Queryable};
 use wh_replay::RunFault;
@@ -53,9 +53,9 @@ fn query_by_replay<W: Queryable, L: Connection>(
         next_page,
         ..
     } = polled;
-    let events = told_events(client, &run, next_page, members)?;
+    let events = run_events(client, &run, next_page, members)?;
     let alloc = client.allocator();
-    let given = query_told::<W>(alloc, events, query.query_type.get(), query.input.get());
+    let given = query_fetched::<W>(alloc, events, query.query_type.get(), query.input.get());
     Ok(settled(alloc, given)?)
 }
 

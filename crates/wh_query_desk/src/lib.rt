@@ -7,7 +7,7 @@ mod cached;
 mod desk;
 mod queue;
 mod reasons;
-mod told;
+mod events;
 
 pub use answering::query_answer;
 pub use cached::query_cached;

@@ -442,7 +442,7 @@ impl TaskSource for ScriptSource {
 
     ghost delivers = { λ source. Gives source.histories };
 
-    ghost tells = { λ source. Recounts source.histories };
+    ghost fetches = { λ source. Recounts source.histories };
 
     ghost comes_from = { ComesFrom };
 

@@ -1,22 +1,22 @@
--- What is read of a heartbeat, and of an activity that was cancelled.
+-- What is read of a heartbeat, and of an activity that was canceled.
 use Rattle.std.proofs.Common.{◌≡◌, codes, Option, Some, None, refl, sym, ap, ◌∙◌}
 use Rattle.std.specs.Result.{result_ok}
 use Rattle.serde_json.specs.Find.{get}
 use Rattle.wh_commands.proofs.Reading.{payloads_back}
-use Rattle.wh_requests.specs.Heartbeats.{HeartbeatsAreRead, CancelledIsApart}
+use Rattle.wh_requests.specs.Heartbeats.{HeartbeatsAreRead, CanceledIsApart}
 
 pub heartbeats_read : HeartbeatsAreRead
 heartbeats_read names token = record {
   heartbeat = λ details. record { namespace = refl; identity = refl; task = refl };
   details = λ details bytes. ap result_ok (payloads_back details bytes);
-  cancelled = λ reason. record { namespace = refl; identity = refl; task = refl };
+  canceled = λ reason. record { namespace = refl; identity = refl; task = refl };
 }
 
 something_is_nothing : {A : Type 0} (a : A) → None ≡ Some a → ⊥
 something_is_nothing a e = cc
 
-pub cancelled_apart : CancelledIsApart
-cancelled_apart names token other_token reason message outcome = (
+pub canceled_apart : CanceledIsApart
+canceled_apart names token other_token reason message outcome = (
   λ e. something_is_nothing _ (ap (get (codes "failure")) e),
   λ e. something_is_nothing _ (ap (get (codes "result")) e),
 )

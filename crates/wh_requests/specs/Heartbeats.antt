@@ -1,4 +1,4 @@
--- What is told of an activity that runs, and that it was cancelled.
+-- What is told of an activity that runs, and that it was canceled.
 use Rattle.std.specs.Prelude.{◌≡◌, ◌≢◌, ℕ, List, [], ◌∷◌, codes, Some}
 use Rattle.serde_json.specs.Data.{Data, string, object}
 use Rattle.wh_events.specs.declared.event.Payload.{Payload}
@@ -14,25 +14,25 @@ abbrev pub activity_heartbeat : WorkerNames → List ℕ → List Payload → Da
 activity_heartbeat names token details = object (put_all (
     (codes "details", payloads_written details) ∷ []) (answer_of names token))
 
--- an activity that was cancelled, with the reason as its details
-abbrev pub activity_cancelled : WorkerNames → List ℕ → List ℕ → Data
-activity_cancelled names token reason = object (put_all (
+-- an activity that was canceled, with the reason as its details
+abbrev pub activity_canceled : WorkerNames → List ℕ → List ℕ → Data
+activity_canceled names token reason = object (put_all (
     (codes "details", json_payloads (string reason)) ∷ []) (answer_of names token))
 
 -- ---- Laws
 
--- a heartbeat names the worker and the task, and has the details; an activity that was cancelled names both
+-- a heartbeat names the worker and the task, and has the details; an activity that was canceled names both
 pub record AreHeartbeats (names : WorkerNames) (token : List ℕ) : Type 0 where
   pub heartbeat : (details : List Payload) → IsAnswer names token (activity_heartbeat names token details)
   pub details : (details : List Payload) → HaveBytes details
       → payloads_of (codes "details") (activity_heartbeat names token details) ≡ Some details
-  pub cancelled : (reason : List ℕ) → IsAnswer names token (activity_cancelled names token reason)
+  pub canceled : (reason : List ℕ) → IsAnswer names token (activity_canceled names token reason)
 
 abbrev pub HeartbeatsAreRead : Type 0
 HeartbeatsAreRead = (names : WorkerNames) (token : List ℕ) → AreHeartbeats names token
 
--- an activity that was cancelled is never written as one that failed, nor as a result
-abbrev pub CancelledIsApart : Type 0
-CancelledIsApart = (names : WorkerNames) (token other_token reason message : List ℕ) (outcome : List Payload)
-    → (activity_cancelled names token reason ≢ activity_failed names other_token message)
-    × (activity_cancelled names token reason ≢ activity_completed names other_token outcome)
+-- an activity that was canceled is never written as one that failed, nor as a result
+abbrev pub CanceledIsApart : Type 0
+CanceledIsApart = (names : WorkerNames) (token other_token reason message : List ℕ) (outcome : List Payload)
+    → (activity_canceled names token reason ≢ activity_failed names other_token message)
+    × (activity_canceled names token reason ≢ activity_completed names other_token outcome)

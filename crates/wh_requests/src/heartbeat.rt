@@ -1,4 +1,4 @@
-//! Writes what is told of an activity that runs, and that it was cancelled.
+//! Writes what is told of an activity that runs, and that it was canceled.
 
 ghost use Rattle.std.specs.Prelude.{◌≡◌, IfOk};
 ghost use Rattle.serde_json.specs.View.{view};
@@ -27,13 +27,13 @@ pub fn activity_heartbeat(
 
 /// The request of `RespondActivityTaskCanceled`, with the reason as its details, a text in JSON.
 /// `OutOfMemory` where there was no memory for it.
-pub fn activity_cancelled(
+pub fn activity_canceled(
     alloc: Global,
     names: &WorkerNames,
     token: &str,
     reason: &str,
 ) -> Result<Value, OutOfMemory>
-    ensures { IfOk result (λ params. view params ≡ spec.activity_cancelled names.now token.now reason.now) }
+    ensures { IfOk result (λ params. view params ≡ spec.activity_canceled names.now token.now reason.now) }
 {
     let reason = Value::try_from_str(alloc, reason)?;
     let details = json_payloads(alloc, &reason)?;

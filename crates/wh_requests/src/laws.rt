@@ -1,7 +1,7 @@
 //! What holds of all requests, each law as the contract of a function that does nothing.
 ghost use Rattle.wh_requests.specs.Apart.{CompletionsDiffer, FailuresDiffer};
 ghost use Rattle.wh_requests.specs.Apart.{ResultsDiffer, ActivityFailuresDiffer, FailureIsNoResult};
-ghost use Rattle.wh_requests.specs.Heartbeats.{CancelledIsApart, HeartbeatsAreRead};
+ghost use Rattle.wh_requests.specs.Heartbeats.{CanceledIsApart, HeartbeatsAreRead};
 ghost use Rattle.wh_requests.specs.ServerReads.{CompletionIsRead, EndIsRead, FailuresAreRead};
 ghost use Rattle.wh_requests.specs.ServerReads.{HistoryIsRead, PollsAreRead, QueryFailedIsRead};
 
@@ -37,12 +37,12 @@ pub fn answers_are_read()
 {}
 
 /// What a server reads of a heartbeat: who tells it, of which task, and the details; and of an activity
-/// that was cancelled, who says so and of which task.
+/// that was canceled, who says so and of which task.
 pub fn heartbeats_are_read()
     ensures { HeartbeatsAreRead }
 {}
 
-/// An activity that was cancelled is never written as one that failed, nor as one with a result.
-pub fn cancelled_activities_are_apart()
-    ensures { CancelledIsApart }
+/// An activity that was canceled is never written as one that failed, nor as one with a result.
+pub fn canceled_activities_are_apart()
+    ensures { CanceledIsApart }
 {}

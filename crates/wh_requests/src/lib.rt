@@ -7,7 +7,7 @@ mod heartbeat;
 pub mod laws;
 mod request;
 
-pub use heartbeat::{activity_cancelled, activity_heartbeat};
+pub use heartbeat::{activity_canceled, activity_heartbeat};
 pub use request::{
     FailedCause, NO_QUERIES, activity_completed, activity_failed, history, poll_activity,
     poll_workflow, query_failed, shutdown, workflow_completed, workflow_failed,

@@ -5,7 +5,7 @@ use Rattle.serde_json.specs.Find.{as_bool}
 use Rattle.wh_commands.specs.Objects.{object_of}
 use Rattle.wh_json.specs.Fields.{field}
 
--- the result of a heartbeat says that the activity is to be cancelled
+-- the result of a heartbeat says that the activity is to be canceled
 abbrev pub is_cancel_requested : Data → Bool
 is_cancel_requested d = unwrap_or (option_and_then as_bool (field (codes "cancelRequested") (Some d))) false
 

@@ -12,7 +12,7 @@ pub fn results_are_read()
     ensures empty { EmptyIsNothing }
 {}
 
-/// Whether an activity is to be cancelled is read as a server writes it, and false where it writes
+/// Whether an activity is to be canceled is read as a server writes it, and false where it writes
 /// nothing.
 pub fn cancels_are_read()
     ensures { CancelIsRead }

@@ -39,7 +39,7 @@ fn outcome_by(kind: &EventKind) -> Outcome
         | EventKind::SignalExternalWorkflowExecutionFailed { .. } => Outcome::Failed,
         EventKind::ActivityTaskCanceled { .. }
         | EventKind::TimerCanceled { .. }
-        | EventKind::ChildWorkflowExecutionCanceled { .. } => Outcome::Cancelled,
+        | EventKind::ChildWorkflowExecutionCanceled { .. } => Outcome::Canceled,
         _ => Outcome::Done,
     }
 }
@@ -57,7 +57,7 @@ fn outcome_word(kind: &EventKind) -> &'static str
             "timed out",
         EventKind::ActivityTaskCanceled { .. }
         | EventKind::TimerCanceled { .. }
-        | EventKind::ChildWorkflowExecutionCanceled { .. } => "cancelled",
+        | EventKind::ChildWorkflowExecutionCanceled { .. } => "canceled",
         EventKind::TimerFired { .. } => "fired",
         EventKind::ChildWorkflowExecutionTerminated { .. } => "terminated",
         EventKind::StartChildWorkflowExecutionFailed { .. } => "not started",

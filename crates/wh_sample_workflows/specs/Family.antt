@@ -24,7 +24,7 @@ family_gives state (Signal name _) =
 family_gives state (Child workflow_id end) = if bytes_eq workflow_id (codes "kid") then family_end end ∷ [] else []
 family_gives _ _ = []
 
--- after the signal to stop, or the end of the child, the child isn't cancelled any more
+-- after the signal to stop, or the end of the child, the child isn't canceled any more
 abbrev pub family_after : FamilyState → Job → FamilyState
 family_after state (Signal name _) = if bytes_eq name (codes "stop") then record { cancellable = false } else state
 family_after state (Child workflow_id _) =

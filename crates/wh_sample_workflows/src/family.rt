@@ -19,7 +19,7 @@ use wh_workflow::{ChildEnd, Command, Job, Meter, Workflow, give, no_payloads, te
 /// Other jobs change nothing and give nothing.
 pub struct Family;
 
-/// Whether the signal cancels the child: it has not ended, and was not cancelled.
+/// Whether the signal cancels the child: it has not ended, and was not canceled.
 #[derive(Clone, Copy, Debug, PartialEq, Eq)]
 pub struct FamilyState {
     /// True from the start to the first such signal or the child's end.

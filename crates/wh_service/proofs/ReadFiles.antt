@@ -11,7 +11,7 @@ use Rattle.wh_service.specs.declared.readings.ReadFile.{ReadFile}
 use Rattle.wh_file_faults.specs.Faults.{File}
 use Rattle.wh_service.specs.Readings.{reading_of}
 use Rattle.wh_file_faults.specs.declared.file_faults.FileFault.{FileFault}
-use Rattle.wh_file_faults.specs.Faults.{IsToldOf}
+use Rattle.wh_file_faults.specs.Faults.{IsReportedOf}
 use Rattle.wh_file_faults.specs.Made.{AreMadeOf, IsMadeOf}
 use Rattle.wh_files.specs.declared.InputFault.{InputFault}
 use Rattle.wh_files.specs.declared.InputFault.TheVariants.{OutOfMemory as InputMemory}
@@ -27,7 +27,7 @@ plain_is (Err fault) read room gives = sym (gives (λ e. room (ap Err e)))
 pub made_of_file : {S T : Type 0} (program : Program S) (Reads : T → File → Type 0) (Refuses : T → InputFault → Type 0) (input : T) (file : File) (answer : Result (ReadFile × Option FileFault) InputFault)
     → Reads input file
     → IfOk answer (λ made. IsReading file made.0)
-    → IfOk answer (λ made. IsToldOf program file made.1)
+    → IfOk answer (λ made. IsReportedOf program file made.1)
     → IfErr answer (λ fault. fault ≡ InputMemory)
     → MatchResult answer (IsMadeOf program Reads IsReading input) (λ fault. (fault ≡ InputMemory) ⊎ Refuses input fault)
 made_of_file program Reads Refuses input file (Ok made) read reading own memory = record { file = file; read = read; gives = reading; told = own }

@@ -1,7 +1,7 @@
 //! Files are read, each in the thread that parses it.
 
 ghost use Rattle.std.specs.Prelude.{◌≡◌, ◌⊎◌, Err, IfErr, IfOk, MatchResult, Ok, not, string_bytes};
-ghost use Rattle.wh_file_faults.specs.Faults.{HasHistory, IsCauseIn, IsFaultOf, IsToldOf};
+ghost use Rattle.wh_file_faults.specs.Faults.{HasHistory, IsCauseIn, IsFaultOf, IsReportedOf};
 ghost use Rattle.wh_file_faults.specs.Made.{IsFaultIn, IsMadeOf};
 ghost use Rattle.wh_files.specs.declared.InputFault.TheVariants.{OutOfMemory as InputMemory};
 ghost use Rattle.wh_json.specs.Events.{history};
@@ -144,7 +144,7 @@ fn read_file<W: Workflow>(
     file: (String, Vec<u8>),
 ) -> Result<(ReadFile, Option<FileFault>), InputFault>
     ensures reading { IfOk result (λ made. IsReading file made.0) }
-    ensures fault { IfOk result (λ made. IsToldOf W.program file made.1) }
+    ensures fault { IfOk result (λ made. IsReportedOf W.program file made.1) }
     ensures memory { IfErr result (λ fault. fault ≡ InputMemory) }
 {
     let (name, bytes) = file;

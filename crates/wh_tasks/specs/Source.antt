@@ -26,8 +26,8 @@ abbrev pub Delivers : Type 1
 Delivers = Delivery → Type 0
 
 -- which histories a source tells of a run up to a number
-abbrev pub Tells : Type 1
-Tells = RunKey → ℕ → List Event → Type 0
+abbrev pub MayFetch : Type 1
+MayFetch = RunKey → ℕ → List Event → Type 0
 
 -- which answers an activity task may get
 abbrev pub Answerable : Type 1
@@ -38,23 +38,23 @@ abbrev pub SameDeliveries : Delivers → Delivers → Type 0
 SameDeliveries p q = (task : Delivery) → p task ↔ q task
 
 -- both tell the same histories
-abbrev pub SameTelling : Tells → Tells → Type 0
-SameTelling p q = (key : RunKey) (up_to : ℕ) (history : List Event) → p key up_to history ↔ q key up_to history
+abbrev pub SameFetching : MayFetch → MayFetch → Type 0
+SameFetching p q = (key : RunKey) (up_to : ℕ) (history : List Event) → p key up_to history ↔ q key up_to history
 
 -- a source delivers the same tasks and tells the same histories as before
-pub record SameTasks (old_delivers : Delivers) (old_tells : Tells)
-    (new_delivers : Delivers) (new_tells : Tells) : Type 0 where
+pub record SameTasks (old_delivers : Delivers) (old_tells : MayFetch)
+    (new_delivers : Delivers) (new_tells : MayFetch) : Type 0 where
   pub delivers : SameDeliveries old_delivers new_delivers
-  pub tells : SameTelling old_tells new_tells
+  pub fetches : SameFetching old_tells new_tells
 
 -- what a source came from before, it comes from afterwards
 abbrev pub KeepsOrigin : {S : Type 0} → (S → S → Type 0) → S → S → Type 0
 KeepsOrigin comes_from old new = (first : _) → comes_from old first → comes_from new first
 
--- what a call keeps of a source: it with the same `delivers` and `tells`, and comes from what it came from
-pub record KeepsSource {S : Type 0} (delivers : S → Delivers) (tells : S → Tells) (comes_from : S → S → Type 0)
+-- what a call keeps of a source: it with the same `delivers` and `fetches`, and comes from what it came from
+pub record KeepsSource {S : Type 0} (delivers : S → Delivers) (fetches : S → MayFetch) (comes_from : S → S → Type 0)
     (old new : S) : Type 0 where
-  pub same : SameTasks (delivers old) (tells old) (delivers new) (tells new)
+  pub same : SameTasks (delivers old) (fetches old) (delivers new) (fetches new)
   pub origin : KeepsOrigin comes_from old new
 
 -- the runs of all tasks may be cached

@@ -8,7 +8,7 @@ use Rattle.wh_replay.specs.declared.run.Answer.{Answer}
 use Rattle.wh_replay.specs.declared.run.Answer.TheVariants.{Complete, Fail}
 use Rattle.wh_replay.specs.Replays.{ends_in_task}
 use Rattle.wh_tasks.specs.Numbers.{last_number}
-use Rattle.wh_tasks.specs.Source.{Tells}
+use Rattle.wh_tasks.specs.Source.{MayFetch}
 use Rattle.wh_workflow.specs.Law.{Program}
 use Rattle.wh_workflow.specs.Counting.{risen}
 use Rattle.wh_replay.specs.Runs.{Held, follows, run_of, steps, advance_steps}
@@ -65,29 +65,29 @@ module _ {S : Type 0} (program : Program S) where
   Replays key events steps None None before after = ⊥
 
   -- replay from the first event of what the source tells
-  abbrev pub ReplaysTold : Tells → RunKey → ℕ → Option Held → Option Fault → ℕ → ℕ → Type 0
-  ReplaysTold tells key up_to run fault before after =
+  abbrev pub ReplaysFetched : MayFetch → RunKey → ℕ → Option Held → Option Fault → ℕ → ℕ → Type 0
+  ReplaysFetched fetches key up_to run fault before after =
       (history : List Event)
-      × tells key up_to history
+      × fetches key up_to history
       × Replays key history (steps program history) run fault before after
 
   -- the run and the fault that a task gives, whether its run was hit, and the meter before and after
-  abbrev pub StepsFrom : Basis → Tells → Option Held → RunKey → List Event
+  abbrev pub StepsFrom : Basis → MayFetch → Option Held → RunKey → List Event
       → Option Held → Option Fault → Bool → ℕ → ℕ → Type 0
-  StepsFrom Own tells run key events stepped fault hit before after =
+  StepsFrom Own fetches run key events stepped fault hit before after =
       Replays key events (steps program events) stepped fault before after × (hit ≡ false)
-  StepsFrom Nothing tells run key events stepped fault hit before after =
+  StepsFrom Nothing fetches run key events stepped fault hit before after =
       (stepped ≡ run) × (fault ≡ Some NotATask) × (hit ≡ is_some run)
-  StepsFrom (Joined held) tells run key events stepped fault hit before after =
+  StepsFrom (Joined held) fetches run key events stepped fault hit before after =
       Replays key (held ++ events) (advance_steps program held events) stepped fault before after × (hit ≡ true)
-  StepsFrom Told tells run key events stepped fault hit before after =
-      ReplaysTold tells key (last_number events) stepped fault before after × (hit ≡ false)
+  StepsFrom Told fetches run key events stepped fault hit before after =
+      ReplaysFetched fetches key (last_number events) stepped fault before after × (hit ≡ false)
 
   -- the same, from the first basis that applies
-  abbrev pub Steps : Tells → Option Held → RunKey → List Event
+  abbrev pub Steps : MayFetch → Option Held → RunKey → List Event
       → Option Held → Option Fault → Bool → ℕ → ℕ → Type 0
-  Steps tells run key events stepped fault hit before after =
-      StepsFrom (basis_of run events) tells run key events stepped fault hit before after
+  Steps fetches run key events stepped fault hit before after =
+      StepsFrom (basis_of run events) fetches run key events stepped fault hit before after
 
 -- the answer that is sent: `Fail` of the fault, else the unsent commands of the run
 abbrev pub IsAnswer : Option Held → Option Fault → Answer → Type 0

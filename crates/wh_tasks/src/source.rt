@@ -104,7 +104,7 @@ pub struct Acceptance {
 
 /// A source of tasks, one for each worker: what a worker polls, and what it answers. It has a list
 /// of the answers that it took, a count of its failures, which no call lowers, two relations that
-/// no call changes: which tasks it delivers, and which histories it fetches (`tells`), one that no
+/// no call changes: which tasks it delivers, and which histories it fetches (`fetches`), one that no
 /// call leads out of: which sources it comes from, and one that holds of no task that was just
 /// polled unless it holds of all: of which tasks the runs may be cached. That its histories are
 /// true is its own promise.
@@ -128,7 +128,7 @@ pub trait TaskSource {
     ghost delivers: { Self → Delivery → Type 0 };
 
     /// What `whole` may give for a run's key and a number. No call changes it.
-    ghost tells: { Self → RunKey → ℕ → List Event → Type 0 };
+    ghost fetches: { Self → RunKey → ℕ → List Event → Type 0 };
 
     /// Which sources this one comes from: what calls may have made it of. No call leads away from
     /// them, so a source says by it what its calls keep.
@@ -144,36 +144,36 @@ pub trait TaskSource {
         ensures run { IfOk result (IfTask (λ task. caches self.new task.name → CachesAll caches self.new)) }
         ensures answers { answers self.new ≡ answers self.old }
         ensures failures { FailsOnly result (failures self.old) (failures self.new) }
-        ensures keeps { KeepsSource delivers tells comes_from self.old self.new };
+        ensures keeps { KeepsSource delivers fetches comes_from self.old self.new };
 
     /// The next activity task, if there is one. A fault gives none, and sends nothing.
     fn poll_activity(&mut self) -> Result<Polled<ActivityTask>, SourceFault>
         ensures task { IfOk result (IfTask (λ task. delivers self.old (Activity task))) }
         ensures answers { answers self.new ≡ answers self.old }
         ensures failures { FailsOnly result (failures self.old) (failures self.new) }
-        ensures keeps { KeepsSource delivers tells comes_from self.old self.new };
+        ensures keeps { KeepsSource delivers fetches comes_from self.old self.new };
 
     /// The history of a run from its first event up to the one of a number. No run more may be
     /// cached afterwards. A fault gives none, and sends nothing.
     fn whole(&mut self, key: &RunKey, up_to: u64) -> Result<Vec<Event>, SourceFault>
-        ensures told { IfOk result (λ history. tells self.old key.now up_to history.items) }
+        ensures told { IfOk result (λ history. fetches self.old key.now up_to history.items) }
         ensures runs { CachesNoMore caches self.old self.new }
         ensures answers { answers self.new ≡ answers self.old }
         ensures failures { FailsOnly result (failures self.old) (failures self.new) }
-        ensures keeps { KeepsSource delivers tells comes_from self.old self.new };
+        ensures keeps { KeepsSource delivers fetches comes_from self.old self.new };
 
     /// Sends the answer to the workflow task of a name. After a fault nothing was taken.
     fn answer_workflow(&mut self, name: TaskName, answer: &Answer) -> Result<(), SourceFault>
         ensures sent { OnOk result (answers self.new ≡ answers self.old ++ (name, OfWorkflow answer.now) ∷ []) }
         ensures unsent { OnErr result (answers self.new ≡ answers self.old) }
         ensures failures { FailsOnly result (failures self.old) (failures self.new) }
-        ensures keeps { KeepsSource delivers tells comes_from self.old self.new };
+        ensures keeps { KeepsSource delivers fetches comes_from self.old self.new };
 
     /// Sends the answer to the workflow task of a name, and shows the events that it was replayed
     /// from, those of the run that replay gave and none where it gave no run, and how many steps
     /// replay took. It says whether the run may be cached, also where sending failed: a source says
     /// no where the answer does not count, so that the run may differ from the history that goes
-    /// on. A source that has to know the events, as for the number of the one that a cancelled
+    /// on. A source that has to know the events, as for the number of the one that a canceled
     /// activity was scheduled by, that logs the steps, or that lets some runs alone be cached,
     /// answers here. For every other one this is `answer_workflow`, and the run is used as one
     /// without an answer.
@@ -188,7 +188,7 @@ pub trait TaskSource {
         ensures unsent { OnErr result.sent (answers self.new ≡ answers self.old) }
         ensures run { result.run ≡ RunUse.Cache → caches self.new name }
         ensures failures { FailsOnly result.sent (failures self.old) (failures self.new) }
-        ensures keeps { KeepsSource delivers tells comes_from self.old self.new }
+        ensures keeps { KeepsSource delivers fetches comes_from self.old self.new }
     {
         let sent = self.answer_workflow(name, answer);
         let run = self.without_answer();
@@ -209,5 +209,5 @@ pub trait TaskSource {
         ensures sent { OnOk result (answers self.new ≡ answers self.old ++ (name, OfActivity answer.now) ∷ []) }
         ensures unsent { OnErr result (answers self.new ≡ answers self.old) }
         ensures failures { FailsOnly result (failures self.old) (failures self.new) }
-        ensures keeps { KeepsSource delivers tells comes_from self.old self.new };
+        ensures keeps { KeepsSource delivers fetches comes_from self.old self.new };
 }

@@ -6,7 +6,7 @@ ghost use Rattle.wh_tasks.specs.Source.{KeepsSource};
 ghost use Rattle.wh_replay.specs.Runs.{follows, steps};
 ghost use Rattle.wh_tasks.specs.Numbers.{last_number};
 ghost use Rattle.wh_tasks.specs.Tasks.{basis_of, later_basis, NeedsMemory, AsksSource, StepsFrom, Steps};
-ghost use Rattle.wh_tasks.specs.Tasks.{Replays, ReplaysTold, HasAnswer, FailsOnlySource};
+ghost use Rattle.wh_tasks.specs.Tasks.{Replays, ReplaysFetched, HasAnswer, FailsOnlySource};
 ghost use Rattle.wh_tasks.specs.declared.source.SourceFault.{SourceFault};
 
 use crate::source::{SourceFault, TaskSource};
@@ -76,7 +76,7 @@ pub fn replay_task<W: Workflow, S: TaskSource>(
     meter: &mut Meter,
 ) -> Result<Stepped<W>, StepFault>
     requires { IfSome run (λ run. run.key ≡ key.now) }
-    ensures stepped { IfOk result (λ stepped. Steps W.program (S.tells source.old) run key.now events.items
+    ensures stepped { IfOk result (λ stepped. Steps W.program (S.fetches source.old) run key.now events.items
         stepped.run stepped.fault stepped.hit meter.old meter.new) }
     ensures key { IfOk result (λ stepped. IfSome stepped.run (λ run. run.key ≡ key.now)) }
     ensures one { IfOk result (λ stepped. HasAnswer stepped.run stepped.fault) }
@@ -86,7 +86,7 @@ pub fn replay_task<W: Workflow, S: TaskSource>(
     ensures memory { result ≡ Err StepFault.OutOfMemory → NeedsMemory (basis_of run events.items) events.items }
     ensures asked { (fault : SourceFault) → result ≡ Err (StepFault.Source fault) →
         AsksSource (basis_of run events.items) }
-    ensures keeps { KeepsSource S.delivers S.tells S.comes_from source.old source.new }
+    ensures keeps { KeepsSource S.delivers S.fetches S.comes_from source.old source.new }
 {
     if is_whole(events.as_slice()) {
         drop(run);
@@ -109,14 +109,14 @@ fn replay_held<W: Workflow, S: TaskSource>(
 ) -> Result<Stepped<W>, StepFault>
     requires { run.key ≡ key.now }
     ensures stepped { IfOk result (λ stepped.
-        StepsFrom W.program (later_basis (Some run) events.items) (S.tells source.old) (Some run) key.now events.items
+        StepsFrom W.program (later_basis (Some run) events.items) (S.fetches source.old) (Some run) key.now events.items
         stepped.run stepped.fault stepped.hit meter.old meter.new) }
     ensures key { IfOk result (λ stepped. IfSome stepped.run (λ run. run.key ≡ key.now)) }
     ensures one { IfOk result (λ stepped. HasAnswer stepped.run stepped.fault) }
     ensures never_lowered { meter.old ≤ meter.new }
     ensures answers { S.answers source.new ≡ S.answers source.old }
     ensures failures { FailsOnlySource result (S.failures source.old) (S.failures source.new) }
-    ensures keeps { KeepsSource S.delivers S.tells S.comes_from source.old source.new }
+    ensures keeps { KeepsSource S.delivers S.fetches S.comes_from source.old source.new }
     ensures memory { result ≡ Err StepFault.OutOfMemory →
         NeedsMemory (later_basis (Some run) events.items) events.items }
     ensures asked { (fault : SourceFault) → result ≡ Err (StepFault.Source fault) →
@@ -134,7 +134,7 @@ fn replay_held<W: Workflow, S: TaskSource>(
             fault: Some(Fault::NotATask),
             hit: true,
         }),
-        Err(AdvanceFault::Gap(_run)) => replay_told(alloc, key, up_to, source, meter),
+        Err(AdvanceFault::Gap(_run)) => replay_fetched(alloc, key, up_to, source, meter),
         Err(AdvanceFault::Fault(fault)) => Ok(Stepped {
             run: None,
             fault: Some(fault),
@@ -153,14 +153,14 @@ fn replay_unheld<W: Workflow, S: TaskSource>(
     meter: &mut Meter,
 ) -> Result<Stepped<W>, StepFault>
     ensures stepped { IfOk result (λ stepped.
-        StepsFrom W.program (later_basis None events.now) (S.tells source.old) None key.now events.now
+        StepsFrom W.program (later_basis None events.now) (S.fetches source.old) None key.now events.now
         stepped.run stepped.fault stepped.hit meter.old meter.new) }
     ensures key { IfOk result (λ stepped. IfSome stepped.run (λ run. run.key ≡ key.now)) }
     ensures one { IfOk result (λ stepped. HasAnswer stepped.run stepped.fault) }
     ensures never_lowered { meter.old ≤ meter.new }
     ensures answers { S.answers source.new ≡ S.answers source.old }
     ensures failures { FailsOnlySource result (S.failures source.old) (S.failures source.new) }
-    ensures keeps { KeepsSource S.delivers S.tells S.comes_from source.old source.new }
+    ensures keeps { KeepsSource S.delivers S.fetches S.comes_from source.old source.new }
     ensures memory { result ≡ Err StepFault.OutOfMemory → NeedsMemory (later_basis None events.now) events.now }
     ensures asked { (fault : SourceFault) → result ≡ Err (StepFault.Source fault) →
         AsksSource (later_basis None events.now) }
@@ -172,7 +172,7 @@ fn replay_unheld<W: Workflow, S: TaskSource>(
             hit: false,
         });
     }
-    replay_told(alloc, key, last_number(events), source, meter)
+    replay_fetched(alloc, key, last_number(events), source, meter)
 }
 
 /// Replays events from the first.
@@ -213,20 +213,20 @@ fn replay_first<W: Workflow>(
 }
 
 /// Replays the history that is fetched from the source, from the first event.
-fn replay_told<W: Workflow, S: TaskSource>(
+fn replay_fetched<W: Workflow, S: TaskSource>(
     alloc: Global,
     key: &RunKey,
     up_to: u64,
     source: &mut S,
     meter: &mut Meter,
 ) -> Result<Stepped<W>, StepFault>
-    ensures replays { IfOk result (λ stepped. ReplaysTold W.program (S.tells source.old) key.now up_to
+    ensures replays { IfOk result (λ stepped. ReplaysFetched W.program (S.fetches source.old) key.now up_to
         stepped.run stepped.fault meter.old meter.new) }
     ensures miss { IfOk result (λ stepped. stepped.hit ≡ false) }
     ensures never_lowered { meter.old ≤ meter.new }
     ensures answers { S.answers source.new ≡ S.answers source.old }
     ensures failures { FailsOnlySource result (S.failures source.old) (S.failures source.new) }
-    ensures keeps { KeepsSource S.delivers S.tells S.comes_from source.old source.new }
+    ensures keeps { KeepsSource S.delivers S.fetches S.comes_from source.old source.new }
 {
     let history = match source.whole(key, up_to) {
         Ok(history) => history,

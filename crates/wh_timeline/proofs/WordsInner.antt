@@ -5,7 +5,7 @@ use Rattle.wh_html.proofs.Alike.{is_inner}
 use Rattle.wh_timeline.specs.declared.page.Kind.{Kind}
 use Rattle.wh_timeline.specs.declared.page.Kind.TheVariants.{Activity, Timer, Child, Signal, Request, Marker}
 use Rattle.wh_timeline.specs.declared.page.Outcome.{Outcome}
-use Rattle.wh_timeline.specs.declared.page.Outcome.TheVariants.{Open, Done, Failed, Cancelled}
+use Rattle.wh_timeline.specs.declared.page.Outcome.TheVariants.{Open, Done, Failed, Canceled}
 use Rattle.wh_timeline.specs.declared.page.Side.{Side}
 use Rattle.wh_timeline.specs.declared.page.Side.TheVariants.{Told, Gives, Recorded, Fault, Note}
 use Rattle.wh_timeline.specs.Words.{kind_word, outcome_class, side_word}
@@ -23,7 +23,7 @@ pub outcome-inner : (outcome : Outcome) → list_all is_inner (outcome_class out
 outcome-inner Open = refl
 outcome-inner Done = refl
 outcome-inner Failed = refl
-outcome-inner Cancelled = refl
+outcome-inner Canceled = refl
 
 pub side-inner : (side : Side) → list_all is_inner (side_word side) ≡ true
 side-inner Told = refl

@@ -121,7 +121,7 @@ fault_html stops bottom (Some fault) =
 -- the end of the picture, and what its signs mean
 abbrev pub closing_html : Html
 closing_html =
-    markup (codes "</svg>\n</div>\n<p class=\"soft key\"><span class=\"activity\">activity</span><span class=\"timer\">timer</span><span class=\"child\">child</span><span class=\"signal\">signal</span><span class=\"request\">request</span><span class=\"marker\">marker</span><span class=\"none\">pale: not started yet, still open, or cancelled</span><span class=\"none\">red edge: failed</span><span class=\"none\">Time runs to the right, with some room for each step; hatched: longer than it is drawn.</span></p>\n</section>\n")
+    markup (codes "</svg>\n</div>\n<p class=\"soft key\"><span class=\"activity\">activity</span><span class=\"timer\">timer</span><span class=\"child\">child</span><span class=\"signal\">signal</span><span class=\"request\">request</span><span class=\"marker\">marker</span><span class=\"none\">pale: not started yet, still open, or canceled</span><span class=\"none\">red edge: failed</span><span class=\"none\">Time runs to the right, with some room for each step; hatched: longer than it is drawn.</span></p>\n</section>\n")
 
 -- the picture of lanes, of so many in all, and of tasks
 unfoldable pub picture_html : Option Moment → List Stop → List Lane → (total : ℕ) → List Task → Html

@@ -3,7 +3,7 @@ use Rattle.std.specs.Prelude.{ℕ, List, codes}
 use Rattle.wh_timeline.specs.declared.page.Kind.{Kind}
 use Rattle.wh_timeline.specs.declared.page.Kind.TheVariants.{Activity, Timer, Child, Signal, Request, Marker}
 use Rattle.wh_timeline.specs.declared.page.Outcome.{Outcome}
-use Rattle.wh_timeline.specs.declared.page.Outcome.TheVariants.{Open, Done, Failed, Cancelled}
+use Rattle.wh_timeline.specs.declared.page.Outcome.TheVariants.{Open, Done, Failed, Canceled}
 use Rattle.wh_timeline.specs.declared.page.Side.{Side}
 use Rattle.wh_timeline.specs.declared.page.Side.TheVariants.{Told, Gives, Recorded, Fault, Note}
 
@@ -21,7 +21,7 @@ abbrev pub outcome_class : Outcome → List ℕ
 outcome_class Open = codes "open"
 outcome_class Done = codes "done"
 outcome_class Failed = codes "failed"
-outcome_class Cancelled = codes "cancelled"
+outcome_class Canceled = codes "canceled"
 
 -- who says a line, in a word
 abbrev pub side_word : Side → List ℕ

@@ -41,8 +41,8 @@ pub enum Outcome {
     Done,
     /// It failed or timed out, or was terminated.
     Failed,
-    /// It was cancelled.
-    Cancelled,
+    /// It was canceled.
+    Canceled,
 }
 
 /// A thing of a run: what stands in a lane of the picture, and in a row of the table.
@@ -176,7 +176,7 @@ impl Outcome {
             Outcome::Open => "open",
             Outcome::Done => "done",
             Outcome::Failed => "failed",
-            Outcome::Cancelled => "cancelled",
+            Outcome::Canceled => "canceled",
         }
     }
 }

@@ -1,4 +1,4 @@
--- The things of a history, and the events that opened, started, cancelled and ended each.
+-- The things of a history, and the events that opened, started, canceled and ended each.
 use Rattle.std.specs.Prelude.{ℕ, ◌+◌, ◌==◌, List, [], ◌∷◌, ◌++◌, length, slice_get, slice_set, Bool, false, Option, Some, None, option_and_then, if◌then◌else◌}
 use Rattle.wh_events.specs.declared.kind.Effect.{Effect}
 use Rattle.wh_events.specs.declared.kind.Effect.TheVariants.{Starts, Cancels, Closes}

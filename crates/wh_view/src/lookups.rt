@@ -74,7 +74,7 @@ impl View {
     ghost use Rattle.std.specs.Prelude.{◌≡◌};
     ghost use Rattle.wh_view.specs.Lookups.{thing_of, opening_of, task_of, lacks_thing};
 
-    /// The thing that an event of the view opened, started, cancelled or ended.
+    /// The thing that an event of the view opened, started, canceled or ended.
     pub fn thing_of(&self, event: &ViewedEvent) -> Option<ViewedThing>
         ensures { result ≡ thing_of self.now event.now }
     {

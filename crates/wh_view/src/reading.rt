@@ -122,7 +122,7 @@ fn view_members(alloc: Global, members: &[Value]) -> Result<View, OutOfMemory>
 /// that is out of order also, and the rest of the event is viewed as far as it can be.
 ///
 /// Each event of the list is viewed, once and in its place. A thing is opened by an event, and
-/// started, cancelled and ended by the first later events that name its number: where several
+/// started, canceled and ended by the first later events that name its number: where several
 /// events of that number opened something, the last one before.
 ///
 /// `TooLong`, `BadJson` or `NoEvents`, in that order, where there is no list of events. Want of

@@ -58,7 +58,7 @@ pub struct ViewedThing {
     pub opened: usize,
     /// The index of the first event that says that it has begun.
     pub started: Option<usize>,
-    /// The index of the first event that asks for it to be cancelled.
+    /// The index of the first event that asks for it to be canceled.
     pub cancelling: Option<usize>,
     /// The index of the first event that ends it. A signal and a marker end with the event that
     /// opened them.
@@ -82,7 +82,7 @@ pub struct View {
     pub events: Items<ViewedEvent>,
     /// The things that they opened, in that order.
     pub things: Items<ViewedThing>,
-    /// For each event the index among the things of the one that it opened, started, cancelled or
+    /// For each event the index among the things of the one that it opened, started, canceled or
     /// ended, if there is one.
     pub links: Items<Option<usize>>,
     /// For each event the workflow task in which it stands, counted from 1: an event that a command

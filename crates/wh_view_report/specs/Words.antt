@@ -38,7 +38,7 @@ linked view event None = []
 linked view event (Some thing) =
     if thing.opened == index_of event
     then reference_text (codes ", started ") view thing.started
-    ++ (reference_text (codes ", to be cancelled ") view thing.cancelling ++ ended_text view event.place thing.ended)
+    ++ (reference_text (codes ", to be canceled ") view thing.cancelling ++ ended_text view event.place thing.ended)
     else reference_text (codes ", opened ") view (Some thing.opened)
 
 abbrev pub link_text : View → ViewedEvent → List ℕ

@@ -299,7 +299,7 @@ fn write_span<O: Write>(view: &View, span: Span, writer: &mut O) -> io::Result<(
 /// - `task`, that in which it stands, and `is`: `told`, `completes`, `gives` or `other`;
 /// - `mark`, what is not as it should be;
 /// - `thing`, if it has one: its `kind` and the places of the events that `opened`, `started`,
-///   cancelled (`cancelling`) and `ended` it;
+///   canceled (`cancelling`) and `ended` it;
 /// - `recorded`, the whole event as the history has it.
 ///
 /// After an error some of the lines may have been written.

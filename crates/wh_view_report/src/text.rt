@@ -333,7 +333,7 @@ fn write_span<O: Write>(view: &View, span: Span, writer: &mut O) -> io::Result<(
 /// - `  gives TYPE ..` of what a command of that task gave.
 ///
 /// After the type stand the id and the type of its thing, the number as `(event N)`, the time as the
-/// history writes it, the events that started, cancelled, ended or opened its thing, the attempt, how
+/// history writes it, the events that started, canceled, ended or opened its thing, the attempt, how
 /// long it is to take, why it failed, and what the reader of histories refuses of it. Each value
 /// of the event follows on a line of its own. A text is shown by its first 80 characters; after a
 /// longer one stands how many it has. The last line says how many events stand in other

@@ -85,7 +85,7 @@ impl fmt::Display for Link<'_> {
         };
         if thing.opened == self.1.index() {
             let started = Reference(", started ", self.0, thing.started);
-            let cancelling = Reference(", to be cancelled ", self.0, thing.cancelling);
+            let cancelling = Reference(", to be canceled ", self.0, thing.cancelling);
             let ended = Ended(self.0, self.1.place, thing.ended);
             write!(f, "{started}{cancelling}{ended}")
         } else {

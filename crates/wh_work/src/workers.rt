@@ -13,7 +13,7 @@ use std::alloc::Global;
 use std::sync::{Arc, Wait};
 use std::thread::Threads;
 use std::time::Clock;
-use wh_activities::{Beating, BeatingHandler};
+use wh_activities::{WithHeartbeat, HeartbeatHandler};
 use wh_commands::WorkerNames;
 use wh_console::Format;
 use wh_crew::{LiveEnd, LiveHeartbeat, serve_live};
@@ -24,7 +24,7 @@ use wh_queryable::Queryable;
 use wh_rpc::Caller;
 
 /// A handler with its heartbeat, as a live worker runs activities by.
-type LiveHandler<'a, B, R, C> = Beating<B, LiveHeartbeat<'a, R, CountedCalls<'a, C, R>>>;
+type LiveHandler<'a, B, R, C> = WithHeartbeat<B, LiveHeartbeat<'a, R, CountedCalls<'a, C, R>>>;
 
 /// A cell for each worker, in which its source and its heartbeat find the activity task that it runs.
 fn cells_of(alloc: Global, seats: usize) -> Result<Vec<Arc<ActivityCell>>, OutOfMemory>
@@ -57,7 +57,7 @@ fn crew_of<'a, R, C, B: Drop, M: Fn() -> B>(
         let cell = Arc::try_clone(cell)?;
         let heartbeat = LiveHeartbeat::new(rt, calls, names.try_copy()?, cell);
         let handler = make();
-        let member = (Beating { handler, heartbeat }, Watch(calls.progress));
+        let member = (WithHeartbeat { handler, heartbeat }, Watch(calls.progress));
         crew.push(member)?;
     }
     Ok(crew)
@@ -96,7 +96,7 @@ pub fn serve_calls<
     R: Threads + Wait + Clock + Eprint + FileReplacer + AllocGlobal + Sync,
     C: Caller + Sync,
     L: FnOnce() -> bool,
-    B: BeatingHandler + Send + Drop,
+    B: HeartbeatHandler + Send + Drop,
     M: Fn() -> B,
 >(
     rt: &R,

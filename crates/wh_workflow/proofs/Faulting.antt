@@ -21,7 +21,7 @@ use Rattle.wh_workflow.specs.declared.command.Command.{Command}
 use Rattle.wh_workflow.specs.declared.command.Command.TheVariants.{CancelActivity, CancelTimer, CancelChild}
 use Rattle.wh_workflow.specs.declared.fault.WorkflowFault.{WorkflowFault}
 use Rattle.wh_workflow.specs.declared.fault.WorkflowFault.TheVariants.{AfterClosing, TooManyCommands, IdInUse, IdReused, NotOpen, AlreadyCancelling, BadRange, VersionOutOfRange, UnknownWorkflow}
-use Rattle.wh_workflow.specs.Scripts.{ActivationContext, Settled, Act, act_of, act_opens, act_cancels, act_closes, some_act, left_open, withdrawn, is_timer, open_at, still_open, has_outside, closer_of, is_late, cancels_open, is_cancelled, choice_of, fault_if, opening_fault, cancel_fault, ask_fault, act_fault, given, most_commands, command_fault}
+use Rattle.wh_workflow.specs.Scripts.{ActivationContext, Settled, Act, act_of, act_opens, act_cancels, act_closes, some_act, left_open, withdrawn, is_timer, open_at, still_open, has_outside, closer_of, is_late, cancels_open, is_canceled, choice_of, fault_if, opening_fault, cancel_fault, ask_fault, act_fault, given, most_commands, command_fault}
 use Rattle.wh_workflow.specs.Scripts.Act.{Opening, Cancelling, Closing, Asking, Other}
 use Rattle.wh_workflow.specs.CommandFaults.{IsOfCut, Does, IsLeftOpen, IsWithdrawn, IsStillOpen, IsEndedHere, IsLateCancel, IsCancellingAtCut, UsesId, ReusesId, CancelsNothing, CancelsAgain, AsksBadRange, GetsOutOfRange, RowApplies, row_of, LeastRowDecides}
 use Rattle.wh_events.specs.Rows.{IsLeastOrNone}
@@ -202,7 +202,7 @@ module _ (context : ActivationContext) (of_cut : IsOfCut context) (thing : Thing
     λ r. ap (cancels_open context) ((open_unclosed context.seen of_cut.in_place thing id r.0 named).1 r.1) ∙ status_cancels _ _ _ r.2,
   )
 
-  again_decides : IsTrue (is_named thing) → (earlier : List Command) → Decides (is_cancelled context earlier thing id) ((¬ (thing ≡ Timer)) × (IsCancellingAtCut context thing id ⊎ (HasOpen context.seen thing id × Does earlier (Cancelling thing id))))
+  again_decides : IsTrue (is_named thing) → (earlier : List Command) → Decides (is_canceled context earlier thing id) ((¬ (thing ≡ Timer)) × (IsCancellingAtCut context thing id ⊎ (HasOpen context.seen thing id × Does earlier (Cancelling thing id))))
   again_decides named earlier =
       let asked : Bool = cancels_open context (open_named context.seen thing id) in
       let stopped : Bool = open_at context thing id && some_act (act_cancels thing id) earlier in
@@ -234,7 +234,7 @@ misses context earlier (Cancelling thing id) = not (still_open context earlier t
 misses context earlier _ = false
 
 cancels_again : ActivationContext → List Command → Act → Bool
-cancels_again context earlier (Cancelling thing id) = is_cancelled context earlier thing id
+cancels_again context earlier (Cancelling thing id) = is_canceled context earlier thing id
 cancels_again context earlier _ = false
 
 asks_badly : Act → Bool
@@ -281,7 +281,7 @@ in_rows : (context : ActivationContext) (settled : Settled) (earlier : List Comm
 unfolding opening_fault cancel_fault ask_fault uses reuses misses cancels_again asks_badly gets_badly
 in_rows context settled earlier (Opening thing id) = ap (or_else (fault_if (still_open context earlier thing id) IdInUse)) (or_none (fault_if (withdrawn thing id earlier) IdReused))
 in_rows context settled earlier (Cancelling thing id) =
-    ap (or_else (fault_if (not (still_open context earlier thing id) && not (is_late context earlier thing id)) NotOpen)) (or_none (fault_if (is_cancelled context earlier thing id) AlreadyCancelling))
+    ap (or_else (fault_if (not (still_open context earlier thing id) && not (is_late context earlier thing id)) NotOpen)) (or_none (fault_if (is_canceled context earlier thing id) AlreadyCancelling))
 in_rows context settled earlier (Asking change_id low high) =
     let version : ℤ = (choice_of context settled change_id high).version in
     ap (or_else (fault_if (int_lt high low || (int_lt low (negsuc 0) || int_lt high (pos 0))) BadRange)) (or_none (fault_if (int_lt version low || int_lt high version) VersionOutOfRange))

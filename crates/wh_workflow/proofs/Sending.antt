@@ -20,8 +20,8 @@ not_neither false b = not_twice b
 
 dropped_decides : (context : ActivationContext) → IsOfCut context → (earlier later : List Command) (act : Act) → Decides (not (is_sent_act context earlier later act)) (IsDropped context earlier later act)
 dropped_decides context of_cut earlier later (Opening thing id) =
-    let cancelled : Bool = some_act (act_cancels thing id) later in
-    Decides-at (not (not cancelled)) cancelled (not_twice cancelled) (some_cancels thing id later)
+    let canceled : Bool = some_act (act_cancels thing id) later in
+    Decides-at (not (not canceled)) canceled (not_twice canceled) (some_cancels thing id later)
 dropped_decides context of_cut earlier later (Cancelling thing id) =
     let open_here : Bool = left_open thing id earlier in
     let late : Bool = is_late context earlier thing id in

@@ -40,8 +40,8 @@ IsWithdrawn thing id commands =
     (before : List Command) × (opening : Command) × (after : List Command) × (commands ≡ before ++ opening ∷ after)
     × (act_of opening ≡ Opening thing id) × Does after (Cancelling thing id)
 
--- it is open by now: opened in this activation and not cancelled, or open at the cut, and no timer
--- that was cancelled in this activation
+-- it is open by now: opened in this activation and not canceled, or open at the cut, and no timer
+-- that was canceled in this activation
 abbrev pub IsStillOpen : ActivationContext → List Command → Thing → List ℕ → Type 0
 IsStillOpen context earlier thing id =
     IsLeftOpen thing id earlier
@@ -69,7 +69,7 @@ abbrev pub UsesId : ActivationContext → List Command → Act → Type 0
 UsesId context earlier (Opening thing id) = IsStillOpen context earlier thing id
 UsesId context earlier _ = ⊥
 
--- an opening of what this activation opened and then cancelled
+-- an opening of what this activation opened and then canceled
 abbrev pub ReusesId : List Command → Act → Type 0
 ReusesId earlier (Opening thing id) = IsWithdrawn thing id earlier
 ReusesId earlier _ = ⊥
@@ -80,7 +80,7 @@ CancelsNothing context earlier (Cancelling thing id) =
     (¬ IsStillOpen context earlier thing id) × ¬ IsLateCancel context earlier thing id
 CancelsNothing context earlier _ = ⊥
 
--- a cancel of an activity or child that is cancelling at the cut, or open at it and cancelled in this activation
+-- a cancel of an activity or child that is cancelling at the cut, or open at it and canceled in this activation
 abbrev pub CancelsAgain : ActivationContext → List Command → Act → Type 0
 CancelsAgain context earlier (Cancelling thing id) =
     (¬ (thing ≡ Timer)) × (IsCancellingAtCut context thing id

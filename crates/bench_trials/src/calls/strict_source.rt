@@ -39,7 +39,7 @@ impl TaskSource for StrictSource {
 
     ghost delivers = { λ source. Gives source.script.histories };
 
-    ghost tells = { λ source. Recounts source.script.histories };
+    ghost fetches = { λ source. Recounts source.script.histories };
 
     ghost comes_from = { λ later first. ComesFrom later.script first.script };
 

@@ -217,7 +217,7 @@ impl<'b, 'r, 'h, R: Wait + Abort, T: Ledger, C: Ledger, F: Ledger> TaskSource
 
     ghost delivers = { λ source task. Unit {0} };
 
-    ghost tells = { λ source key up_to history. Unit {0} };
+    ghost fetches = { λ source key up_to history. Unit {0} };
 
     ghost comes_from = { λ later first. Unit {0} };
 

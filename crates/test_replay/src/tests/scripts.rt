@@ -4,7 +4,7 @@ use crate::tests::replaying::replays;
 use crate::tests::runs::begins;
 use test_support::Scripted;
 
-/// What is opened and cancelled in one task, of which nothing was open before.
+/// What is opened and canceled in one task, of which nothing was open before.
 const WITHDRAWN: &str = "\
 start:Scripted S T => 2 steps, holds 3, []
 start:Scripted signal:start_timer signal:cancel_timer S T => 4 steps, holds 5, []

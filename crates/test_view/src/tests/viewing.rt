@@ -14,7 +14,7 @@ racer
 Racer: 21 events, 4 tasks completed, 3 things
   told WorkflowExecutionStarted Racer (event 1) 2024-05-01T10:00:01Z
 task 1: WorkflowTaskCompleted (event 4) 2024-05-01T10:00:04Z
-  gives ActivityTaskScheduled 1 race (event 5) 2024-05-01T10:00:05Z, to be cancelled (event 11), ended (event 12)
+  gives ActivityTaskScheduled 1 race (event 5) 2024-05-01T10:00:05Z, to be canceled (event 11), ended (event 12)
   gives TimerStarted t (event 6) 2024-05-01T10:00:06Z, ended (event 7)
   told TimerFired t (event 7) 2024-05-01T10:00:07Z, opened (event 6)
 task 2: WorkflowTaskCompleted (event 10) 2024-05-01T10:00:10Z

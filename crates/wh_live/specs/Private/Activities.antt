@@ -1,7 +1,7 @@
 -- What is sent for an activity task.
 use Rattle.std.specs.Prelude.{◌≡◌, ℕ, List, Bool, true, codes}
 use Rattle.wh_client.specs.Calls.{Gives}
-use Rattle.wh_client.specs.Heartbeats.{IsFailedActivity, WasCancelled}
+use Rattle.wh_client.specs.Heartbeats.{IsFailedActivity, WasCanceled}
 use Rattle.wh_client.specs.Requests.{IsAcknowledged, IsRequest}
 use Rattle.wh_client.specs.declared.requests.Request.{Request}
 use Rattle.wh_commands.specs.declared.names.WorkerNames.{WorkerNames}
@@ -10,18 +10,18 @@ use Rattle.wh_tasks.specs.declared.source.ActivityAnswer.{ActivityAnswer}
 use Rattle.wh_tasks.specs.declared.source.ActivityAnswer.TheVariants.{Completed, Failed}
 
 -- an activity's result is sent as such, whatever was heard of a cancel; why it failed is sent as a cancel, where it was to
--- be cancelled, and else as a failure
+-- be canceled, and else as a failure
 abbrev pub IsActivityRequest : WorkerNames → List ℕ → ActivityAnswer → Bool → Request → Type 0
-IsActivityRequest names token (Completed outcome) was_cancelled request =
+IsActivityRequest names token (Completed outcome) was_canceled request =
     IsRequest request (codes "RespondActivityTaskCompleted") (activity_completed names token outcome)
-IsActivityRequest names token (Failed reason) was_cancelled request =
-    IsFailedActivity names token reason was_cancelled request
+IsActivityRequest names token (Failed reason) was_canceled request =
+    IsFailedActivity names token reason was_canceled request
 
--- the server gave a result for such an answer to the task of a token; as cancelled only where the server had said to a
+-- the server gave a result for such an answer to the task of a token; as canceled only where the server had said to a
 -- heartbeat of that task that it is to be
 pub record AnswersActivity (gives : Gives) (names : WorkerNames) (token : List ℕ) (answer : ActivityAnswer) : Type 0 where
-  pub was_cancelled : Bool
-  pub heard : was_cancelled ≡ true → WasCancelled gives token
+  pub was_canceled : Bool
+  pub heard : was_canceled ≡ true → WasCanceled gives token
   pub request : Request
-  pub written : IsActivityRequest names token answer was_cancelled request
+  pub written : IsActivityRequest names token answer was_canceled request
   pub given : IsAcknowledged gives request

@@ -24,7 +24,7 @@ closes_test number before event = closes number event
 abbrev pub starts_test : ℕ → List Event → Event → Bool
 starts_test number before event = starts number event
 
--- the event asks for it to be cancelled
+-- the event asks for it to be canceled
 abbrev pub cancels_test : ℕ → List Event → Event → Bool
 cancels_test number before event = cancels_number before number (role_of event.body)
 

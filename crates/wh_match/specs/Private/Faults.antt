@@ -24,9 +24,9 @@ abbrev pub is_late_by : Standing → List Command → Thing → List ℕ → Boo
 is_late_by standing earlier thing id =
     not standing.is_open && (not (some_act (act_opens thing id) earlier) && standing.is_ended)
 
--- cancelled before
-abbrev pub is_cancelled_by : Standing → List Command → Thing → List ℕ → Bool
-is_cancelled_by standing earlier thing id =
+-- canceled before
+abbrev pub is_canceled_by : Standing → List Command → Thing → List ℕ → Bool
+is_canceled_by standing earlier thing id =
     not (is_timer thing) && (standing.is_cancelling || (standing.is_open && some_act (act_cancels thing id) earlier))
 
 -- why a thing that stands so can't be opened
@@ -35,12 +35,12 @@ opening_fault_by standing earlier thing id =
     or_else (fault_if (still_open_by standing earlier thing id) IdInUse)
     (fault_if (withdrawn thing id earlier) IdReused)
 
--- why a thing that stands so can't be cancelled
+-- why a thing that stands so can't be canceled
 abbrev pub cancel_fault_by : Standing → List Command → Thing → List ℕ → Option WorkflowFault
 cancel_fault_by standing earlier thing id =
     or_else
     (fault_if (not (still_open_by standing earlier thing id) && not (is_late_by standing earlier thing id)) NotOpen)
-    (fault_if (is_cancelled_by standing earlier thing id) AlreadyCancelling)
+    (fault_if (is_canceled_by standing earlier thing id) AlreadyCancelling)
 
 -- why this version of a change can't be asked for
 abbrev pub range_fault : ℤ → ℤ → ℤ → Option WorkflowFault

@@ -22,7 +22,7 @@ use Rattle.wh_poll.specs.declared.serve.Served.TheVariants.{Workflow, Activity, 
 use Rattle.wh_poll.specs.declared.serve.TurnStart.{TurnStart}
 use Rattle.wh_poll.specs.declared.serve.TurnStart.TheVariants.{Task, Over}
 use Rattle.wh_tasks.specs.declared.source.Sent.TheVariants.{Workflow as OfWorkflow, Activity as OfActivity}
-use Rattle.wh_tasks.specs.Source.{Tells, Answerable, Answers}
+use Rattle.wh_tasks.specs.Source.{MayFetch, Answerable, Answers}
 use Rattle.wh_tasks.specs.Tasks.{IsAnswer}
 use Rattle.wh_poll.specs.Serve.{outcome_of, activity_outcome, IsReply}
 
@@ -66,13 +66,13 @@ IsRefused name (Repeated own) = own ≡ name
 IsRefused name _ = ⊥
 
 -- the one answer to a task, or none
-abbrev pub Sends : {S : Type 0} → Program S → Tells → Option Held → WorkflowTask → Answers → Answers
+abbrev pub Sends : {S : Type 0} → Program S → MayFetch → Option Held → WorkflowTask → Answers → Answers
     → Result Reply StepFault → Type 0
-Sends program tells run task old new (Ok reply) =
+Sends program fetches run task old new (Ok reply) =
     (answer : Answer)
-    × IsReply program tells run task.run task.events reply.hit reply.steps reply.outcome answer
+    × IsReply program fetches run task.run task.events reply.hit reply.steps reply.outcome answer
     × (new ≡ old ++ (task.name, OfWorkflow answer) ∷ [])
-Sends program tells run task old new (Err fault) = new ≡ old
+Sends program fetches run task old new (Err fault) = new ≡ old
 
 -- the one answer to a task that was replayed, or none
 abbrev pub SendsAnswer : Option Held → Option Fault → TaskName → Answers → Answers → Result Outcome StepFault → Type 0

@@ -12,7 +12,7 @@ returns g c =
     let ended = c.in_ok-ended.ended.items in
     let long : vec_len c.in_ok-pairs.pairs ≡ length pairs = c.in_ok-pairs.pairs.ok.0 in
     let same : length ended ≡ length pairs = sym c.in_ok-ended.ended.ok.0 ∙ (c.in_ok-ended.ensures.count ∙ long) in
-    let R = IsWorked g.W.Workflow.program S.tells S.delivers S.answers S.failures S.comes_from g.A.ActivityHandler.may (λ old turn new. new ≡ old) in
+    let R = IsWorked g.W.Workflow.program S.fetches S.delivers S.answers S.failures S.comes_from g.A.ActivityHandler.may (λ old turn new. new ≡ old) in
     let all = zip_each R pairs ended same (λ i seated end below. c.in_ok-ended.ensures.each i seated end (omega (arith, below, long))) in
     let setups = c.in_ok-setups.setups.items in
     let firsts = c.in_ok-pairs.ensures.firsts in
@@ -20,9 +20,9 @@ returns g c =
     let own = c.in_ok-setups.ensures in
     let workers = c.workers_of.ensures in
     record {
-      turns = workers_within g.W.Workflow.program S.tells S.delivers S.answers S.failures S.comes_from g.A.ActivityHandler.may pairs ended setups _ c.args.sources.items c.args.handlers.items _ _ firsts seconds own.sources own.handlers own.turns workers all;
-      faults = workers_rose g.W.Workflow.program S.tells S.delivers S.answers S.failures S.comes_from g.A.ActivityHandler.may pairs ended setups _ c.args.sources.items c.args.handlers.items _ _ firsts seconds own.sources own.handlers own.turns workers all;
-      origins = workers_come g.W.Workflow.program S.tells S.delivers S.answers S.failures S.comes_from g.A.ActivityHandler.may pairs ended setups _ c.args.sources.items c.args.handlers.items _ _ firsts seconds own.sources own.handlers own.turns workers all;
-      answered = workers_answered g.W.Workflow.program S.tells S.delivers S.answers S.failures S.comes_from g.A.ActivityHandler.may pairs ended setups _ c.args.sources.items c.args.handlers.items _ _ firsts seconds own.sources own.handlers own.turns workers all;
-      work = workers_worked g.W.Workflow.program S.tells S.delivers S.answers S.failures S.comes_from g.A.ActivityHandler.may pairs ended setups _ c.args.sources.items c.args.handlers.items _ _ firsts seconds own.sources own.handlers own.turns workers all;
+      turns = workers_within g.W.Workflow.program S.fetches S.delivers S.answers S.failures S.comes_from g.A.ActivityHandler.may pairs ended setups _ c.args.sources.items c.args.handlers.items _ _ firsts seconds own.sources own.handlers own.turns workers all;
+      faults = workers_rose g.W.Workflow.program S.fetches S.delivers S.answers S.failures S.comes_from g.A.ActivityHandler.may pairs ended setups _ c.args.sources.items c.args.handlers.items _ _ firsts seconds own.sources own.handlers own.turns workers all;
+      origins = workers_come g.W.Workflow.program S.fetches S.delivers S.answers S.failures S.comes_from g.A.ActivityHandler.may pairs ended setups _ c.args.sources.items c.args.handlers.items _ _ firsts seconds own.sources own.handlers own.turns workers all;
+      answered = workers_answered g.W.Workflow.program S.fetches S.delivers S.answers S.failures S.comes_from g.A.ActivityHandler.may pairs ended setups _ c.args.sources.items c.args.handlers.items _ _ firsts seconds own.sources own.handlers own.turns workers all;
+      work = workers_worked g.W.Workflow.program S.fetches S.delivers S.answers S.failures S.comes_from g.A.ActivityHandler.may pairs ended setups _ c.args.sources.items c.args.handlers.items _ _ firsts seconds own.sources own.handlers own.turns workers all;
     }

@@ -9,5 +9,5 @@ returns-clause-taken g c = search rules
 pub returns-clause-work : goal.returns-clause-work
 returns-clause-work g c =
     let S = g.S.TaskSource in
-    subst (λ worker. IsWorkOf g.W.Workflow.program S.tells S.delivers S.answers S.failures S.comes_from g.A.ActivityHandler.may c.args.seat c.args.source c.args.handler c.args.turns worker) (sym c.worker_of.ensures)
-    (work_of _ _ _ g.W.Workflow.program S.tells S.delivers S.answers S.failures S.comes_from g.A.ActivityHandler.may c.args.seat _ c.run_worker.result c.run_worker.ensures)
+    subst (λ worker. IsWorkOf g.W.Workflow.program S.fetches S.delivers S.answers S.failures S.comes_from g.A.ActivityHandler.may c.args.seat c.args.source c.args.handler c.args.turns worker) (sym c.worker_of.ensures)
+    (work_of _ _ _ g.W.Workflow.program S.fetches S.delivers S.answers S.failures S.comes_from g.A.ActivityHandler.may c.args.seat _ c.run_worker.result c.run_worker.ensures)

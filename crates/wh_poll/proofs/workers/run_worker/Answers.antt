@@ -26,12 +26,12 @@ loop-turn-preserved g c =
     let rota = c.loop-turn.rota in
     let more : is_last rota.other_closed served ≡ false = search rules in
     let next : c.goes_on.new.self ≡ next_rota rota served = search rules in
-    let step = IsTurn g.W.Workflow.program S.tells S.delivers S.answers S.failures S.comes_from g.A.ActivityHandler.may g.O.Observer.hears in
+    let step = IsTurn g.W.Workflow.program S.fetches S.delivers S.answers S.failures S.comes_from g.A.ActivityHandler.may g.O.Observer.hears in
     let first = at_first c.args.seat c.args.setup in
     let led = goes_on_more step first_rota rota first old new before.turns.0 served before.turns.2 own.turn more in
     record {
       seat = own.counted;
-      so_far = one_more_so_far g.W.Workflow.program S.tells S.delivers S.answers S.failures S.comes_from g.A.ActivityHandler.may g.O.Observer.hears c.args.seat c.args.setup c.loop-turn._turn rota.kind old served new
+      so_far = one_more_so_far g.W.Workflow.program S.fetches S.delivers S.answers S.failures S.comes_from g.A.ActivityHandler.may g.O.Observer.hears c.args.seat c.args.setup c.loop-turn._turn rota.kind old served new
           before.so_far own.turn c.loop-turn.seat c.take_turn-served.new.seat before.seat own.counted own.taken own.answered;
       turns = (before.turns.0 ++ served ∷ [], turn_more before.turns.0 served c.loop-turn._turn before.turns.1, subst (λ r. GoesOn step first_rota first (before.turns.0 ++ served ∷ []) r new) (sym next) led);
     }
@@ -43,13 +43,13 @@ returns g c =
     let before = c.loop-turn.invariant in
     let old = c.loop-turn.end in
     let rota = c.loop-turn.rota in
-    let is = moved_two (λ seat end. IsWorked g.W.Workflow.program S.tells S.delivers S.answers S.failures S.comes_from g.A.ActivityHandler.may g.O.Observer.hears (c.args.seat, c.args.setup) (seat, end)) in
+    let is = moved_two (λ seat end. IsWorked g.W.Workflow.program S.fetches S.delivers S.answers S.failures S.comes_from g.A.ActivityHandler.may g.O.Observer.hears (c.args.seat, c.args.setup) (seat, end)) in
     elim c.loop-turn-test.branch [
       | else-loop-turn-test w ↦
           let done : c.loop-turn._turn ≡ c.args.setup.turns = omega (arith, w.loop-turn-test.false, c.loop-turn.auto._turn-end) in
           is c.loop-turn.seat c.loop-turn-test.seat old c.loop-turn-test.end (sym w.seat-is) (sym w.end-is) (record {
             seat = before.seat;
-            end = end_so_far g.W.Workflow.program S.tells S.delivers S.answers S.failures S.comes_from g.A.ActivityHandler.may g.O.Observer.hears c.args.seat c.args.setup c.loop-turn._turn old (omega (arith, done)) before.so_far (record {
+            end = end_so_far g.W.Workflow.program S.fetches S.delivers S.answers S.failures S.comes_from g.A.ActivityHandler.may g.O.Observer.hears c.args.seat c.args.setup c.loop-turn._turn old (omega (arith, done)) before.so_far (record {
               turns = before.turns.0;
               rota = rota;
               before = old;
@@ -63,11 +63,11 @@ returns g c =
           let new = w.take_turn-served.new.self in
           let below : c.loop-turn._turn < c.args.setup.turns = w.loop-turn-test.true in
           let last : is_last rota.other_closed served ≡ true = search (rules, w.goes_on.ensures.ends, w.if-not-goes_on.true) in
-          let so_far = one_more_so_far g.W.Workflow.program S.tells S.delivers S.answers S.failures S.comes_from g.A.ActivityHandler.may g.O.Observer.hears c.args.seat c.args.setup c.loop-turn._turn rota.kind old served new
+          let so_far = one_more_so_far g.W.Workflow.program S.fetches S.delivers S.answers S.failures S.comes_from g.A.ActivityHandler.may g.O.Observer.hears c.args.seat c.args.setup c.loop-turn._turn rota.kind old served new
           before.so_far own.turn c.loop-turn.seat w.take_turn-served.new.seat before.seat own.counted own.taken own.answered in
           is w.take_turn-served.new.seat c.loop-turn-test.seat new c.loop-turn-test.end (sym w.seat-is) (sym w.end-is) (record {
             seat = own.counted;
-            end = end_so_far g.W.Workflow.program S.tells S.delivers S.answers S.failures S.comes_from g.A.ActivityHandler.may g.O.Observer.hears c.args.seat c.args.setup (c.loop-turn._turn + 1) new (omega (arith, below)) so_far (record {
+            end = end_so_far g.W.Workflow.program S.fetches S.delivers S.answers S.failures S.comes_from g.A.ActivityHandler.may g.O.Observer.hears c.args.seat c.args.setup (c.loop-turn._turn + 1) new (omega (arith, below)) so_far (record {
               turns = before.turns.0;
               rota = rota;
               before = old;

@@ -1,7 +1,7 @@
 //! The history that a query is answered from, where its run is not cached.
 ghost use Rattle.std.specs.Prelude.{◌≡◌, IfOk, map};
 ghost use Rattle.serde_json.specs.View.{view};
-ghost use Rattle.wh_query_desk.specs.Answers.{IsFetched, IsOwn, IsTold};
+ghost use Rattle.wh_query_desk.specs.Answers.{IsFetched, IsOwn, AreRunEvents};
 ghost use Rattle.wh_replay.specs.Runs.{follows};
 
 use serde_json::Value;
@@ -45,13 +45,13 @@ fn fetched_events<L: Connection>(
 
 /// The history of a query's run: the events that the query comes with, where the first is among them,
 /// and else those that are fetched. The fault says why they can't be had.
-pub(crate) fn told_events<L: Connection>(
+pub(crate) fn run_events<L: Connection>(
     client: &Client<'_, L>,
     run: &RunKey,
     next_page: Text,
     members: Vec<Value>,
 ) -> Result<Vec<Event>, AskFault>
-    ensures { IfOk result (λ events. IsTold L.gives client.now.options.now.names run.now next_page
+    ensures { IfOk result (λ events. AreRunEvents L.gives client.now.options.now.names run.now next_page
         (map view members.items) events.items) }
 {
     if members.is_empty() {

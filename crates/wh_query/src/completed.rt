@@ -2,7 +2,7 @@
 ghost use Rattle.std.specs.Prelude.{◌≡◌, ◌≤◌, length, take};
 ghost use Rattle.wh_replay.specs.Checks.{Answers};
 ghost use Rattle.wh_query.specs.Queries.{query_at};
-ghost use Rattle.wh_query.specs.Told.{completed_part, extends};
+ghost use Rattle.wh_query.specs.Completed.{completed_part, extends};
 
 use crate::querying::query_history;
 use std::alloc::Global;
@@ -40,7 +40,7 @@ fn completed_len(events: &[Event]) -> usize
 /// of that replay. The history may end anywhere: the query is answered in the state after its last
 /// completed task, and a task that is in hand is not given to the workflow yet (Temporal documentation,
 /// "Queries"). `OutOfMemory` may come in place of either.
-pub fn query_told<W: Queryable>(
+pub fn query_fetched<W: Queryable>(
     alloc: Global,
     events: Vec<Event>,
     query_type: &str,

@@ -4,12 +4,12 @@ use Rattle.wh_client.specs.declared.asking.AskFault.{AskFault}
 use Rattle.wh_client.specs.declared.asking.AskFault.TheVariants as asked
 use Rattle.wh_client.specs.declared.codes.Status.TheVariants as status
 use Rattle.wh_events.specs.declared.memory.OutOfMemory.{OutOfMemory}
-use Rattle.wh_heartbeat.specs.declared.heartbeat.Beat.{Beat}
-use Rattle.wh_heartbeat.specs.declared.heartbeat.Beat.TheVariants.{GoOn, CancelRequested, Gone, Unheard}
+use Rattle.wh_heartbeat.specs.declared.heartbeat.HeartbeatResponse.{HeartbeatResponse}
+use Rattle.wh_heartbeat.specs.declared.heartbeat.HeartbeatResponse.TheVariants.{GoOn, CancelRequested, Gone, Unheard}
 
--- the server says whether it is to be cancelled; where it has no such task, or the connection has closed, no answer will be
+-- the server says whether it is to be canceled; where it has no such task, or the connection has closed, no answer will be
 -- taken; after any other fault nothing was heard
-abbrev pub means : Result Bool AskFault → Result Beat AskFault
+abbrev pub means : Result Bool AskFault → Result HeartbeatResponse AskFault
 means (Ok true) = Ok CancelRequested
 means (Ok false) = Ok GoOn
 means (Err (asked.Refused status.NotFound code message)) = Ok Gone
@@ -18,6 +18,6 @@ means (Err asked.OutOfMemory) = Err asked.OutOfMemory
 means (Err _) = Ok Unheard
 
 -- the call brought this to the handler
-abbrev pub Means : Result Bool AskFault → Result Beat OutOfMemory → Type 0
-Means heard (Ok beat) = means heard ≡ Ok beat
+abbrev pub Means : Result Bool AskFault → Result HeartbeatResponse OutOfMemory → Type 0
+Means heard (Ok response) = means heard ≡ Ok response
 Means heard (Err refused) = means heard ≡ Err asked.OutOfMemory

@@ -2,7 +2,7 @@ use Rattle.std.proofs.Common.{[], ◌∷◌, true, codes, refl}
 use Rattle.serde_json.specs.Data.{boolean, string}
 use Rattle.wh_commands.specs.Objects.{object_of}
 use Rattle.wh_json.specs.Fields.{field}
-use Rattle.wh_crew.proofs.bridge_connection.BridgeConnectionConnection.was_cancelled.Goals as goal
+use Rattle.wh_crew.proofs.bridge_connection.BridgeConnectionConnection.was_canceled.Goals as goal
 
 -- a bridge may give each result, so also this one
 pub returns : goal.returns

@@ -1,6 +1,6 @@
 use Rattle.std.proofs.Common.{◌≡◌, ◌≤◌, ◌+◌, ℕ, List, length, take, sym, subst, ◌∙◌, arith}
 use Rattle.wh_events.specs.declared.event.Event.{Event}
-use Rattle.wh_query.specs.Told.{completed_part}
+use Rattle.wh_query.specs.Completed.{completed_part}
 use Rattle.wh_query.proofs.CompletedTasks.{grows, stays}
 use Rattle.wh_query.proofs.told.completed_len.Goals as goal
 use Rattle.wh_query.proofs.told.completed_len.Goals.{then-extends, else-extends}

@@ -6,10 +6,10 @@ use wh_heartbeat::Heartbeat;
 use wh_tasks::{ActivityAnswer, ActivityHandler, ActivityTask};
 
 /// Runs activities, one for each worker, and may beat while it does: it tells the server that an
-/// activity goes on, and hears whether it is to be cancelled (Temporal documentation, "Activity
+/// activity goes on, and hears whether it is to be canceled (Temporal documentation, "Activity
 /// Heartbeat"). What an activity does is its own; contracts see what it may answer.
-pub trait BeatingHandler {
-    ghost use Rattle.wh_activities.specs.Beating.{Brings};
+pub trait HeartbeatHandler {
+    ghost use Rattle.wh_activities.specs.WithHeartbeat.{Brings};
     ghost use Rattle.wh_tasks.specs.Source.{SameMay};
     ghost use Rattle.wh_tasks.specs.declared.source.ActivityTask.{ActivityTask};
     ghost use Rattle.wh_tasks.specs.declared.source.ActivityAnswer.{ActivityAnswer};
@@ -18,7 +18,7 @@ pub trait BeatingHandler {
     ghost may: { Self → Brings → ActivityTask → ActivityAnswer → Type 0 };
 
     /// Runs the task and gives its answer. Each beat of the heartbeat is for this task. Where a beat
-    /// brought that the activity is to be cancelled, a failure is answered for as cancelled.
+    /// brought that the activity is to be canceled, a failure is answered for as canceled.
     /// `OutOfMemory` where there was no memory: the task then gets no answer.
     fn run<H: Heartbeat>(
         &mut self,
@@ -31,15 +31,15 @@ pub trait BeatingHandler {
 
 /// A handler that beats, with its heartbeat: what a worker runs activities by.
 #[derive(Drop)]
-pub struct Beating<B, H> {
+pub struct WithHeartbeat<B, H> {
     /// What runs the activities.
     pub handler: B,
     /// By what it beats.
     pub heartbeat: H,
 }
 
-impl<B: BeatingHandler, H: Heartbeat> ActivityHandler for Beating<B, H> {
-    ghost may = { λ beating. B.may beating.handler H.brings };
+impl<B: HeartbeatHandler, H: Heartbeat> ActivityHandler for WithHeartbeat<B, H> {
+    ghost may = { λ with_heartbeat. B.may with_heartbeat.handler H.brings };
 
     fn run(&mut self, task: &ActivityTask) -> Result<ActivityAnswer, OutOfMemory> {
         self.handler.run(task, &mut self.heartbeat)
