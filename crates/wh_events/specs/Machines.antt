@@ -1,4 +1,4 @@
--- The things that a history opens, and where each stands.
+-- The things that a history opens, and the status of each.
 use Rattle.std.specs.Prelude.{ℕ, ◌-◌, Bool, true, false, ◌&&◌, ◌||◌, List, [], ◌∷◌, ◌++◌, Option, Some, None, if◌then◌else◌, eqb, bytes_eq, is_none, is_some, slice_get}
 use Rattle.wh_events.specs.declared.event.Event.{Event}
 use Rattle.wh_events.specs.declared.place.Status.{Status}
@@ -9,7 +9,7 @@ use Rattle.wh_events.specs.declared.place.Thing.TheVariants.{Activity, Timer, Ch
 use Rattle.wh_events.specs.declared.kind.Effect.TheVariants.{Starts, Cancels, Closes}
 use Rattle.wh_events.specs.Kinds.Role.{Opens, Refers, CancelsChild, Plain}
 
--- the things are of one kind
+-- both are the same kind of thing
 abbrev pub same_thing : Thing → Thing → Bool
 same_thing Activity Activity = true
 same_thing Timer Timer = true
@@ -18,19 +18,19 @@ same_thing CancelRequest CancelRequest = true
 same_thing SignalRequest SignalRequest = true
 same_thing _ _ = false
 
--- what an event of the role opens, if anything
+-- the kind of thing that an event of the role opens, if any
 abbrev pub opened_thing : Role → Option Thing
 opened_thing (Opens thing _) = Some thing
 opened_thing (CancelsChild _) = Some CancelRequest
 opened_thing _ = None
 
--- the id that an event of the role opens a thing under
+-- the id under which an event of the role opens a thing
 abbrev pub opened_id : Role → List ℕ
 opened_id (Opens _ id) = id
 opened_id (CancelsChild workflow_id) = workflow_id
 opened_id _ = []
 
--- an event of the role opens such a thing under the id
+-- an event of the role opens a thing of the kind under the id
 abbrev pub opens_under : Thing → List ℕ → Role → Bool
 opens_under thing id (Opens other other_id) = same_thing thing other && bytes_eq id other_id
 opens_under _ _ _ = false
@@ -45,7 +45,7 @@ abbrev pub starts_number : ℕ → Role → Bool
 starts_number number (Refers _ other Starts) = eqb number other
 starts_number _ _ = false
 
--- the event opens such a thing under the id
+-- the event opens a thing of the kind under the id
 abbrev pub opens : Thing → List ℕ → Event → Bool
 opens thing id event = opens_under thing id (role_of event.body)
 
@@ -66,7 +66,8 @@ closed_by number (event ∷ rest) = if closes number event then Some event.numbe
 abbrev pub is_open : List Event → ℕ → Bool
 is_open events number = is_none (closed_by number events)
 
--- the number of the first of these events that opens such a thing under the id and that no event of the history closes
+-- the number of the first of these events that opens a thing of the kind under the id and that no event of the history
+-- closes
 abbrev pub open_among : List Event → Thing → List ℕ → List Event → Option ℕ
 open_among events thing id [] = None
 open_among events thing id (event ∷ rest) =
@@ -76,7 +77,7 @@ open_among events thing id (event ∷ rest) =
 abbrev pub open_named : List Event → Thing → List ℕ → Option ℕ
 open_named events thing id = open_among events thing id events
 
--- the first, or else the second
+-- the first if there is one, else the second
 abbrev pub or_else : {A : Type 0} → Option A → Option A → Option A
 or_else None other = other
 or_else (Some x) other = Some x
@@ -99,7 +100,7 @@ cancels_number before number (Refers _ other Cancels) = eqb number other
 cancels_number before number (CancelsChild workflow_id) = is_number number (open_named before Child workflow_id)
 cancels_number before number _ = false
 
--- one of the events, of which the first follows those before, asks for the thing to be canceled
+-- one of the events, the first of which follows those before, asks for the thing to be canceled
 abbrev pub canceled_after : List Event → ℕ → List Event → Bool
 canceled_after before number [] = false
 canceled_after before number (event ∷ rest) =
@@ -114,14 +115,14 @@ abbrev pub is_started : List Event → ℕ → Bool
 is_started [] number = false
 is_started (event ∷ rest) number = starts number event || is_started rest number
 
--- closed by the event that closes it, else cancelling, else started, else open
+-- the status: closed by the event that closes it, else cancelling, else started, else open
 abbrev pub status_by : Option ℕ → Bool → Bool → Status
 status_by (Some by) cancelling started = Closed by
 status_by None true started = Cancelling
 status_by None false true = Started
 status_by None false false = Open
 
--- where what the event of the number opened stands, by the events that refer to it alone
+-- the status of what the event of the number opened, by the events that refer to it alone
 abbrev pub status_of : List Event → ℕ → Status
 status_of events number = status_by (closed_by number events) (is_cancelling events number) (is_started events number)
 
@@ -139,7 +140,7 @@ abbrev pub status_at : List Event → ℕ → Option Status
 status_at events number =
     if is_some (opened_thing (role_at events number)) then Some (status_of events number) else None
 
--- a thing of a history: the number of the event that opened it, and where it stands
+-- a thing of a history: the number of the event that opened it, and its status
 pub record Machine : Type 0 where
   pub number : ℕ
   pub status : Status
@@ -152,6 +153,6 @@ machines_among events (event ∷ rest) =
     then record { number = event.number; status = status_of events event.number } ∷ machines_among events rest
     else machines_among events rest
 
--- the things of a history: the number of each opening event with the status, in order
+-- the things of a history: the number of each opening event and its status, in order
 abbrev pub machines_of : List Event → List Machine
 machines_of events = machines_among events events

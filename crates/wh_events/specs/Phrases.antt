@@ -9,11 +9,11 @@ pub record Phrase : Type 0 where
   pub kind : List ℕ
   -- an id, or another name
   pub id : Option (List ℕ)
-  -- a type, a signal or an end
+  -- a type, the name of a signal, or how something ended
   pub name : Option (List ℕ)
   pub detail : Detail
 
--- the phrase that the code's is
+-- the phrase that a value of the code's type stands for
 abbrev pub phrase_seen : code.Phrase → Phrase
 phrase_seen p =
     record {
@@ -35,6 +35,6 @@ named kind id = record { kind = kind; id = Some id; name = None; detail = Nothin
 abbrev pub typed : List ℕ → List ℕ → List ℕ → Phrase
 typed kind id name = record { kind = kind; id = Some id; name = Some name; detail = Nothing }
 
--- a kind with an id and what stands after it
+-- a kind with an id and what follows it
 abbrev pub detailed : List ℕ → List ℕ → Detail → Phrase
 detailed kind id detail = record { kind = kind; id = Some id; name = None; detail = detail }

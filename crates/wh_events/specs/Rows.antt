@@ -6,7 +6,7 @@ pub record IsLeast {F : Type 0} (row_of : F → ℕ) (Applies : F → Type 0) (f
   pub applies : Applies fault
   pub least : (other : F) → Applies other → row_of fault ≤ row_of other
 
--- the fault is the least row that applies; there is none exactly where no row applies
+-- the fault is the least row that applies; there is none exactly when no row applies
 abbrev pub IsLeastOrNone : {F : Type 0} → (F → ℕ) → (F → Type 0) → Option F → Type 0
 IsLeastOrNone {F} row_of Applies found =
     ((found ≡ None) ↔ ((row : F) → ¬ Applies row))

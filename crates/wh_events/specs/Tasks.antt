@@ -1,4 +1,4 @@
--- Which places of a history are cuts, and which events are the record of one, said by where events stand.
+-- Which places of a history are cuts, and which events are the record of one, stated by the places of events.
 use Rattle.std.specs.Prelude.{◌≡◌, ℕ, ◌<◌, ◌↔◌, ◌⊎◌, List, [], ◌∷◌, ◌++◌, filter, drop, IsTrue, All, Contains}
 use Rattle.std.specs.List.Sorted.{IsStrictlyIncreasing}
 use Rattle.wh_events.specs.declared.event.Event.{Event}
@@ -54,23 +54,23 @@ pub record IsBetweenTasks (rest between : List Event) : Type 0 where
   pub stays : CompletesNone between
   pub ends : EndsOrCompletes after
 
--- the record: the commanded events of those, or nothing where no task is completed
+-- the record: the commanded events of those, or nothing if no task is completed
 abbrev pub IsRecord : List Event → List Event → Type 0
 IsRecord rest record_events = (CompletesNone rest × (record_events ≡ []))
     ⊎ ((between : List Event) × IsBetweenTasks rest between × (record_events ≡ filter is_commanded between))
 
--- an event is a cut that the events after it don't record exactly where its place is a live cut
+-- an event is a cut that the events after it don't record exactly when its place is a live cut
 abbrev pub LiveCutIsSaid : Type 0
 LiveCutIsSaid = (events : List Event) (place : ℕ) (event : Event) → IsAt events place event
     → (IsTrue (is_cut event (drop place events)) × ¬ IsTrue (is_recorded (drop place events))) ↔ IsLiveCut events place
 
--- an event is a cut that the events after it record exactly where its place is a recorded cut
+-- an event is a cut that the events after it record exactly when its place is a recorded cut
 abbrev pub RecordedCutIsSaid : Type 0
 RecordedCutIsSaid = (events : List Event) (place : ℕ) (event : Event) → IsAt events place event
     → (IsTrue (is_cut event (drop place events)) × IsTrue (is_recorded (drop place events)))
     ↔ IsRecordedCut events place
 
--- where each event's number is its place, the cuts are the places of the live and the recorded cuts, in order
+-- if each event's number is its place, the cuts are the places of the live and the recorded cuts, in order
 abbrev pub CutsAreListed : Type 0
 CutsAreListed = (events : List Event) → ((i : ℕ) (event : Event) → IsAt events i event → event.number ≡ i)
     → ((place : ℕ) → Contains (cuts events) place ↔ (IsLiveCut events place ⊎ IsRecordedCut events place))

@@ -13,14 +13,14 @@ use std::alloc::AllocError;
 /// A value as it was sent (Temporal documentation, "Payload").
 #[derive(Debug, Drop)]
 pub struct Payload {
-    /// The name of the encoding, such as `json/plain`; empty where none was given.
+    /// The name of the encoding, such as `json/plain`; empty if none was given.
     pub encoding: Items<u8>,
     /// The bytes of the value in that encoding.
     pub content: Items<u8>,
 }
 
 impl Payload {
-    /// A copy with the same content. `OutOfMemory` where there was no memory for it.
+    /// Returns a copy with the same content, or `OutOfMemory` if there was no memory for it.
     pub fn try_copy(&self) -> Result<Self, OutOfMemory>
         ensures { IfOk result (λ copy. copy ≡ self.now) }
     {
@@ -51,14 +51,14 @@ pub struct Event {
 }
 
 impl Event {
-    /// What the event is to a worker.
+    /// Returns what the event is to a worker.
     pub fn class(&self) -> Class
         ensures { result ≡ class_of self.now.body }
     {
         self.body.class()
     }
 
-    /// Whether the run is over with this event: completed, failed, canceled, continued as new,
+    /// Returns whether the event closes the run, as completed, failed, canceled, continued as new,
     /// timed out or terminated.
     pub fn closes_run(&self) -> bool
         ensures { result ≡ closes_run_of self.now.body }
@@ -66,22 +66,23 @@ impl Event {
         self.body.closes_run()
     }
 
-    /// What the event does to the things of its history.
+    /// Returns what the event does to the things of its history.
     pub fn role(&self) -> Role<'_>
         ensures { role_seen result ≡ role_of self.now.body }
     {
         self.body.role()
     }
 
-    /// The number of the event that this one refers to. `None` where it names none, as one that
-    /// names a child by its workflow id, and where the number is 0 or above `EventNo::LAST`.
+    /// Returns the number of the event that this one refers to. Returns `None` if it names none by
+    /// number, as an event that names a child by its workflow id, and if the number is 0 or above
+    /// `EventNo::LAST`.
     pub fn refers_to(&self) -> Option<EventNo>
         ensures { result ≡ reference_of self.now.body }
     {
         self.body.refers_to()
     }
 
-    /// A copy with the same content. `OutOfMemory` where there was no memory for it.
+    /// Returns a copy with the same content, or `OutOfMemory` if there was no memory for it.
     pub fn try_copy(&self) -> Result<Self, OutOfMemory>
         ensures { IfOk result (λ copy. copy ≡ self.now) }
     {
@@ -101,9 +102,9 @@ impl Clone for Event {
     }
 }
 
-/// The id under which the event of the number, counted from 1, opened something (for the kinds of
-/// events see <https://docs.temporal.io/references/events>). It is the empty text where there is no
-/// such event or it opened nothing.
+/// Returns the id under which the event with the number, counted from 1, opened something (for the
+/// kinds of events see <https://docs.temporal.io/references/events>). Returns the empty text if
+/// there is no such event or it opened nothing.
 pub fn opened_id(events: &[Event], number: u64) -> &str
     ensures { result.now ≡ opened_id (role_at events.now number) }
 {
@@ -113,7 +114,8 @@ pub fn opened_id(events: &[Event], number: u64) -> &str
     }
 }
 
-/// The id under which an event of the role opens something; the empty text where it opens nothing.
+/// Returns the id under which an event of the role opens something, or the empty text if it opens
+/// nothing.
 fn opened_under(role: Role<'_>) -> &str
     ensures { result.now ≡ opened_id (role_seen role.entry) }
 {

@@ -14,12 +14,12 @@ use std::hash::{Hash, Hasher};
 pub struct RunKey {
     /// The id of the workflow, which its runs share.
     pub workflow_id: Text,
-    /// The id of this run of it.
+    /// The id of this run of the workflow.
     pub run_id: Text,
 }
 
 impl RunKey {
-    /// A copy with the same content. `OutOfMemory` where there was no memory for it.
+    /// Returns a copy with the same content, or `OutOfMemory` if there was no memory for it.
     pub fn try_copy(&self) -> Result<Self, OutOfMemory>
         ensures { IfOk result (λ copy. copy ≡ self.now) }
     {

@@ -27,28 +27,28 @@ impl Model for Text {
 }
 
 impl Text {
-    /// The text of the string, which is kept as it is.
+    /// Returns the text of the string, without a copy.
     pub fn new(text: String) -> Self
         ensures { result ≡ string_bytes text }
     {
         Text { text }
     }
 
-    /// The text as a string slice.
+    /// Returns the text as a string slice.
     pub fn get(&self) -> &str
         ensures { result.now ≡ self.now }
     {
         self.text.as_str()
     }
 
-    /// The string that the text was made of.
+    /// Returns the string that the text was made of.
     pub fn into_inner(self) -> String
         ensures { string_bytes result ≡ self }
     {
         self.text
     }
 
-    /// A copy of the same text. `OutOfMemory` where there was no memory for it.
+    /// Returns a copy of the same text. Fails with `OutOfMemory` if there was no memory for it.
     pub fn try_copy(&self) -> Result<Self, OutOfMemory>
         ensures { IfOk result (λ copy. copy ≡ self.now) }
     {
@@ -105,21 +105,21 @@ impl<T> Model for Items<T> {
 }
 
 impl<T> Items<T> {
-    /// The items of the vector, which are kept in their order.
+    /// Returns a list of the vector's items in their order, without a copy.
     pub fn new(items: Vec<T>) -> Self
         ensures { result ≡ items.items }
     {
         Items { items }
     }
 
-    /// The items as a slice.
+    /// Returns the items as a slice.
     pub fn get(&self) -> &[T]
         ensures { result.now ≡ self.now }
     {
         self.items.as_slice()
     }
 
-    /// The vector that the list was made of.
+    /// Returns the vector that the list was made of.
     pub fn into_inner(self) -> Vec<T>
         ensures { result.items ≡ self }
     {
@@ -138,8 +138,8 @@ impl<T: Clone + Drop> Clone for Items<T> {
 }
 
 impl<T: Clone + Drop> Items<T> {
-    /// A copy of the same items, for a type whose clones equal what they are made of. `OutOfMemory`
-    /// where there was no memory for it.
+    /// Returns a copy of the same items, for a type whose clones equal what they are made of. Fails
+    /// with `OutOfMemory` if there was no memory for it.
     pub fn try_copy(&self) -> Result<Self, OutOfMemory>
         requires { (item copy : T) → T.is_clone item copy → copy ≡ item }
         ensures { IfOk result (λ copy. copy ≡ self.now) }

@@ -3,10 +3,10 @@
 ghost use Rattle.std.specs.Prelude.{◌≡◌};
 ghost use Rattle.wh_events.specs.Phrases.{phrase_seen, bare, named, typed, detailed};
 
-/// What stands after the ids and types of a phrase.
+/// What follows the ids and types of a phrase.
 #[derive(Clone, Copy)]
 pub enum Detail {
-    /// Nothing does.
+    /// Nothing.
     Nothing,
     /// A time, in nanoseconds.
     Time(i128),
@@ -14,11 +14,11 @@ pub enum Detail {
     Seconds(u64),
     /// The version of a change.
     Version(i32),
-    /// The versions of a change that code can run.
+    /// The range of versions of a change that the code can run.
     Range {
-        /// The least.
+        /// The least version.
         min: i32,
-        /// The greatest.
+        /// The greatest version.
         max: i32,
     },
 }
@@ -30,14 +30,14 @@ pub struct Phrase<'a> {
     pub kind: &'static str,
     /// An id, or another name.
     pub id: Option<&'a str>,
-    /// A type, a signal or an end.
+    /// A type, the name of a signal, or how something ended.
     pub name: Option<&'a str>,
-    /// What stands after them.
+    /// What follows them.
     pub detail: Detail,
 }
 
 impl<'a> Phrase<'a> {
-    /// A kind alone.
+    /// Returns a phrase of a kind alone.
     pub fn bare(kind: &'static str) -> Self
         ensures { phrase_seen result ≡ bare kind.now }
     {
@@ -49,7 +49,7 @@ impl<'a> Phrase<'a> {
         }
     }
 
-    /// A kind with an id.
+    /// Returns a phrase of a kind with an id.
     pub fn named(kind: &'static str, id: &'a str) -> Self
         ensures { phrase_seen result ≡ named kind.now id.now }
     {
@@ -59,7 +59,7 @@ impl<'a> Phrase<'a> {
         }
     }
 
-    /// A kind with an id and a type.
+    /// Returns a phrase of a kind with an id and a type.
     pub fn typed(kind: &'static str, id: &'a str, name: &'a str) -> Self
         ensures { phrase_seen result ≡ typed kind.now id.now name.now }
     {
@@ -69,7 +69,7 @@ impl<'a> Phrase<'a> {
         }
     }
 
-    /// A kind with an id and what stands after it.
+    /// Returns a phrase of a kind with an id and what follows it.
     pub fn detailed(kind: &'static str, id: &'a str, detail: Detail) -> Self
         ensures { phrase_seen result ≡ detailed kind.now id.now detail }
     {
