@@ -1,0 +1,155 @@
+#!/usr/bin/env python3
+"""Tries what docs/PROVED.md cites: each name in backticks is a function, a type, a trait, a definition, a crate or a file of the
+repository, and each clause in parentheses after it is one of its clauses, fields or ghost items. In the table of crates the word
+before a name is its crate. README and the other pages are searched for links alone: each file is there, and each heading.
+
+    tests/claims.py
+
+The last line is `N tried, M wrong`, and the status is 1 where one is wrong."""
+
+import functools
+import re
+import sys
+from pathlib import Path
+
+import rust_items
+from rust_items import body_of, past_braces
+
+code_of = functools.cache(rust_items.code_of)
+TOP = Path(__file__).resolve().parent.parent
+PAGES = [TOP / "README.md", *sorted((TOP / "docs").glob("*.md"))]
+# A name, and the clauses that are cited of it.
+CITED = re.compile(r"`([^`]+)`(?: \(((?:\w+, )*\w+)\))?")
+LINK = re.compile(r"\]\(([^)#:]*)(?:#([\w-]+))?\)")
+# What a type parameter or a ghost item may be called in backticks, without being an item of its own.
+WORDS = {"F", "gives", "Wait", "wh_"}
+ITEM = r"\b(?:fn|struct|enum|trait|type|static|const)\s+{}\b"
+
+
+@functools.cache
+def sources(crate="*", ending="rt"):
+    """Returns the texts of the sources of a crate, or of all."""
+    folder = "src" if ending == "rt" else "specs"
+    return [file.read_text(encoding="utf-8") for file in sorted(TOP.glob(f"crates/{crate}/{folder}/**/*.{ending}"))]
+
+
+def heads(name, crate):
+    """Yields the text of each item of a name: a function up to its body, a type or trait with its body and its impls."""
+    for text in sources(crate):
+        code = code_of(text)
+        for found in re.finditer(ITEM.format(name), code):
+            begin = body_of(code, found.end())
+            is_function = found[0].startswith("fn")
+            yield text[found.start() : begin if is_function else past_braces(code, begin)] if code[begin:] else text[found.start() :]
+        for found in re.finditer(rf"\bimpl\b[^{{;]*\b{name}\b[^{{;]*\{{", code):
+            yield text[found.start() : past_braces(code, found.end() - 1)]
+
+
+def definitions(name, crate):
+    """Yields the text of each definition of a name, up to the blank line behind it."""
+    for text in sources(crate, "antt"):
+        for found in re.finditer(rf"^(?:abbrev )?pub (?:record )?{name}\b.*?(?=\n\n|\Z)", text, re.DOTALL | re.MULTILINE):
+            yield found[0]
+
+
+def methods(kind, name, crate):
+    """Yields the head of a method in the impls of a type, and in its trait."""
+    for text in heads(kind, crate):
+        code = code_of(text)
+        for found in re.finditer(rf"\bfn\s+{name}\b", code):
+            yield text[found.start() : body_of(code, found.end())]
+
+
+def texts_of(name, crate):
+    """Returns the texts of what has the name: of a method those of its type's."""
+    if "::" in name:
+        return [*methods(*name.split("::"), crate)]
+    own = [*heads(name, crate), *definitions(name, crate)]
+    ghosts = [text for text in sources(crate) if re.search(rf"\bghost {name}\s*[:=]", text)] if not own else []
+    return own + ghosts
+
+
+def has_clause(text, clause):
+    """Whether the text of an item has a clause, a field or a ghost item of the name."""
+    return re.search(rf"\b(?:ensures|requires|ghost)\*? {clause}\b|\bpub {clause}\b", text) is not None
+
+
+def with_traits(texts):
+    """Returns texts, and those of the traits that their impls are of."""
+    traits = {found[1] for text in texts for found in re.finditer(r"^impl\b[^{]*?\b(\w+)(?:<[^{]*>)? for ", text, re.MULTILINE)}
+    return texts + [text for trait in sorted(traits) for text in heads(trait, "*")]
+
+
+def wrong_name(name, clauses, crate):
+    """Returns what is wrong with a citation, or None."""
+    name = name.split("(")[0]
+    if name in WORDS or name.startswith(("./", "-")) or " " in name:
+        return None
+    if "/" in name:
+        return None if list(TOP.glob(name)) else f"{name} is no file"
+    if name.endswith("*") or (TOP / "crates" / name).is_dir():
+        return None if list(TOP.glob(f"crates/{name}")) else f"{name} is no crate"
+    if name in (TOP / "crates.txt").read_text(encoding="utf-8").replace(":", " ").split():
+        return None
+    texts = texts_of(name, crate)
+    if not texts:
+        return f"{name} is not in {'any crate' if crate == '*' else crate}"
+    lacking = [one for one in clauses if not any(has_clause(text, one) for text in with_traits(texts))]
+    return f"{name} has no clause {', '.join(lacking)}" if lacking else None
+
+
+def crate_before(text):
+    """Returns the crate that the words before a name in the table of crates say, after the last semicolon, or None."""
+    words = re.sub(r"`[^`]*`|\([^)]*\)", "", text.rpartition(";")[2])
+    for word in reversed(re.findall(r"\b[a-z_]+\b", words)):
+        if (TOP / "crates" / f"wh_{word}").is_dir():
+            return f"wh_{word}"
+    return None
+
+
+def citations(page):
+    """Yields the names that a page cites, with their clauses and the crate where they have to be."""
+    is_by_crate = False
+    for line in page.split("\n"):
+        if line.startswith("## "):
+            is_by_crate = line == "## By crate"
+        for found in CITED.finditer(line):
+            part = line[: found.start()].rpartition("|")[2] if is_by_crate and line.startswith("|") else ""
+            yield found[1], found[2].split(", ") if found[2] else [], crate_before(part) or "*"
+
+
+def anchors(page):
+    """Returns the anchors of a page's headings, as GitHub makes them."""
+    titles = re.findall(r"^#+ (.*)$", page, re.MULTILINE)
+    return {re.sub(r"[^\w -]", "", title.lower()).replace(" ", "-") for title in titles}
+
+
+def wrong_link(file, target, anchor):
+    """Returns what is wrong with a link of a page, or None."""
+    to = (file.parent / target).resolve() if target else file
+    if not to.exists():
+        return f"{target} is not there"
+    if anchor and anchor not in anchors(to.read_text(encoding="utf-8")):
+        return f"{to.name} has no heading {anchor}"
+    return None
+
+
+def main():
+    wrong, tried = [], 0
+    for name, clauses, crate in citations((TOP / "docs/PROVED.md").read_text(encoding="utf-8")):
+        tried += 1
+        wrong.append(wrong_name(name, clauses, crate))
+    for file in PAGES:
+        for target, anchor in LINK.findall(file.read_text(encoding="utf-8")):
+            tried += 1
+            why = wrong_link(file, target, anchor)
+            wrong.append(f"{file.name}: {why}" if why else None)
+    wrong = [one for one in wrong if one]
+    for one in wrong:
+        print(f"claims: {one}", file=sys.stderr)
+    print(f"{tried} tried, {len(wrong)} wrong")
+    return 1 if wrong or not tried else 0
+
+
+if __name__ == "__main__":
+    sys.exit(main())
