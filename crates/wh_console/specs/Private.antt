@@ -1,2 +1,2 @@
--- What no contract of a public item cites.
+-- Definitions that no contract of a public item cites.
 pub mod Outlets

@@ -9,22 +9,22 @@ use std::io;
 use std::io::Write;
 use std::marker::Model;
 
-/// What is reported on the standard error.
+/// A message that a program reports on its standard error.
 pub trait Message {
     ghost use Rattle.std.specs.Prelude.{ℕ, List, OnOk};
     ghost use Rattle.std.specs.Io.KnownBytes.{Appends};
 
-    /// Its text, under the name by which the program was called.
+    /// The text that is reported, from the name by which the program was called.
     ghost text: { Self → List ℕ → List ℕ };
 
-    /// Writes the text. After an error some of it may have been written.
+    /// Writes the text. After an error part of it may have been written.
     fn write<E: Write>(self, name: &str, writer: &mut E) -> io::Result<()>
         ensures { OnOk result (Appends (E.contents writer.old) (E.contents writer.new) (text self name.now)) };
 }
 
 /// The standard output and the standard error of a program, and the name by which it was called.
-/// Contracts see the name, what either has taken, where that is known, whether the one who reads the
-/// output closed it, and whether all that was reported was taken.
+/// Contracts see the name, what each of the two streams has received (where that is known), whether
+/// the reader of the output closed it, and whether every message was written in full.
 #[derive(Drop)]
 pub struct Console<'a, O: Write, E: Write> {
     name: &'a str,
@@ -49,7 +49,7 @@ impl<'a, O: Write, E: Write> Model for Console<'a, O, E> {
 }
 
 impl<'a, O: Write, E: Write> Console<'a, O, E> {
-    /// A console on which nothing was written or reported yet.
+    /// Returns a console to which nothing was written or reported yet.
     pub fn new(name: &'a str, output: O, errors: E) -> Console<'a, O, E>
         ensures { result ≡ record {
           name = name.entry.now;
@@ -67,14 +67,15 @@ impl<'a, O: Write, E: Write> Console<'a, O, E> {
         }
     }
 
-    /// Whether the one who reads the output closed it.
+    /// Returns whether the reader of the output closed it.
     pub fn is_closed(&self) -> bool
         ensures { result ≡ self.now.closed }
     {
         self.output.is_closed()
     }
 
-    /// Reports a message. Where the standard error does not take it, nothing more comes of that.
+    /// Reports a message. An error of the standard error is not returned: the console only notes
+    /// that a message was not written in full.
     pub fn report<M: Message>(&mut self, message: M)
         ensures { Reported self.old self.new (M.text message) }
     {

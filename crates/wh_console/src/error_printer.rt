@@ -3,15 +3,15 @@
 use std::io;
 use std::io::{Eprint, ErrorKind, Write};
 
-/// The standard error, as a writer. It takes text in UTF-8 alone: other bytes are refused as
-/// `ErrorKind::InvalidData`, and nothing is written of them.
+/// The standard error, as a writer. It accepts only UTF-8: for other bytes it returns
+/// `ErrorKind::InvalidData` and writes none of them.
 #[derive(Drop)]
 pub struct ErrorPrinter<'a, R> {
     to: &'a R,
 }
 
 impl<'a, R> ErrorPrinter<'a, R> {
-    /// The standard error of a runtime.
+    /// Returns a writer to the standard error of a runtime.
     pub fn new(to: &'a R) -> ErrorPrinter<'a, R> {
         ErrorPrinter { to }
     }

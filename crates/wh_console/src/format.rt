@@ -1,10 +1,10 @@
-//! In which form a report is written.
+//! The format of a report.
 
-/// In which form a report is written.
+/// The format of a report.
 #[derive(Clone, Copy, Debug, PartialEq, Eq)]
 pub enum Format {
-    /// As lines of text.
+    /// Lines of text.
     Text,
-    /// As lines of JSON (RFC 8259).
+    /// Lines of JSON (RFC 8259).
     Json,
 }

@@ -1,4 +1,4 @@
-//! A writer whose reader may close it.
+//! A writer whose reader may close it, such as a pipe.
 
 ghost use Rattle.std.specs.Prelude.{◌≡◌, ◌⊎◌, ◌↔◌, IsTrue, false};
 ghost use Rattle.wh_console.specs.Private.Outlets.{SaysClosed};
@@ -6,14 +6,14 @@ ghost use Rattle.wh_console.specs.Private.Outlets.{SaysClosed};
 use std::io;
 use std::io::{ErrorKind, Write};
 
-/// A writer, and whether the one who reads what it takes has closed it.
+/// A writer that remembers whether its reader closed it.
 #[derive(Drop)]
 pub struct Outlet<O> {
     writer: O,
     closed: bool,
 }
 
-/// Whether an answer of a writer says that the one who reads has closed it.
+/// Returns whether the result of a write says that the reader closed the writer.
 fn says_closed<T>(answer: &io::Result<T>) -> bool
     ensures { IsTrue result ↔ SaysClosed answer.now }
 {
@@ -24,7 +24,7 @@ fn says_closed<T>(answer: &io::Result<T>) -> bool
 }
 
 impl<O> Outlet<O> {
-    /// A writer that is open as far as is known.
+    /// Wraps a writer that is not known to be closed.
     pub fn new(writer: O) -> Outlet<O>
         ensures writer { result.writer ≡ writer }
         ensures open { result.closed ≡ false }
@@ -35,14 +35,15 @@ impl<O> Outlet<O> {
         }
     }
 
-    /// Whether the one who reads has closed it.
+    /// Returns whether a write or a flush has reported that the reader closed it
+    /// (`ErrorKind::BrokenPipe`).
     pub fn is_closed(&self) -> bool
         ensures { result ≡ self.now.closed }
     {
         self.closed
     }
 
-    /// Notes whether an answer of the writer says that it is closed.
+    /// Notes whether the result of a write says that the writer is closed.
     fn note<T>(&mut self, answer: &io::Result<T>)
         ensures writer { self.new.writer ≡ self.old.writer }
         ensures closed { IsTrue self.new.closed ↔ (IsTrue self.old.closed ⊎ SaysClosed answer.now) }

@@ -1,4 +1,4 @@
--- What an input is called, and where it comes from.
+-- The names of inputs, and where they come from.
 use Rattle.std.specs.Prelude.{◌≡◌, ◌≢◌, Bool, true, false, List, ℕ, ◌++◌, drop, codes, string_bytes, Vec}
 use Rattle.std.specs.declared.alloc.Global.{Global}
 use Rattle.wh_files.specs.declared.Input.{Input}
@@ -9,7 +9,7 @@ use Rattle.wh_files.specs.declared.Origin.TheVariants.{File, Entry, StandardInpu
 abbrev pub IsEndOf : List ℕ → List ℕ → Type 0
 IsEndOf path name = (start : ℕ) × (name ≡ drop start path)
 
--- the name of an input from somewhere, by its path where that is told
+-- the name of an input of this origin, by its path if that is reported
 abbrev pub IsNameOf : Bool → Origin → List ℕ → Type 0
 IsNameOf true (File path) name = name ≡ string_bytes path
 IsNameOf false (File path) name = IsEndOf (string_bytes path) name
@@ -17,23 +17,22 @@ IsNameOf true (Entry dir entry) name = name ≡ string_bytes dir ++ (codes "/" +
 IsNameOf false (Entry dir entry) name = name ≡ string_bytes entry
 IsNameOf by_path (StandardInput bytes) name = name ≡ codes "-"
 
--- the input is called so
+-- the input has that name
 abbrev pub IsCalled : Bool → Input → Type 0
 IsCalled by_path input = IsNameOf by_path input.origin (string_bytes input.name)
 
--- what was named by the path: its file, a file of its folder, or the standard input, which `-` alone names
+-- what the path names: its file, a file of its folder, or the standard input, which only `-` names
 abbrev pub IsOf : List ℕ → Origin → Type 0
 IsOf path (File own) = (string_bytes own ≡ path) × (path ≢ codes "-")
 IsOf path (Entry dir entry) = string_bytes dir ≡ path
 IsOf path (StandardInput bytes) = path ≡ codes "-"
 
--- it is no file of a folder
+-- the origin is no file of a folder
 abbrev pub IsSingle : Origin → Type 0
 IsSingle (Entry dir entry) = ⊥
 IsSingle _ = Unit {0}
 
--- the bytes are those of an input from somewhere: those that the standard input had, or some that
--- its file has
+-- the bytes may be read from this origin: for the standard input the bytes that were read already, for a file any bytes
 abbrev pub IsReadFrom : Origin → Vec ℕ Global → Type 0
 IsReadFrom (StandardInput given) bytes = bytes ≡ given
 IsReadFrom (File path) bytes = Unit {0}

@@ -19,13 +19,13 @@ AreRuns bytes (run ∷ runs) =
 abbrev pub marked_run : List ℕ × List ℕ → List ℕ
 marked_run run = run.0 ++ replicate (length run.1) 63
 
--- the bytes as text, with `?` in the place of each byte that is no text
+-- the bytes as text, with `?` for each byte that is not part of a character
 pub record IsMarked (bytes text : List ℕ) : Type 0 where
   pub runs : List (List ℕ × List ℕ)
   pub cut : AreRuns bytes runs
   pub made : text ≡ flat_map marked_run runs
 
--- a name that is no UTF-8, as it is shown
+-- a name that is not UTF-8, as it is shown
 pub record IsBadName (shown : String Global) : Type 0 where
   pub bytes : List ℕ
   pub no_text : IsUtf8 bytes → ⊥

@@ -7,7 +7,7 @@ use Rattle.wh_files.specs.declared.Reason.TheVariants.{Missing, Forbidden, IsFol
 use Rattle.wh_files.specs.declared.FolderFault.{FolderFault}
 use Rattle.wh_files.specs.declared.FolderFault.TheVariants.{Unreadable, OutOfMemory}
 
--- by what the system says
+-- the reason for an error that the system reports
 abbrev pub reason_of : ErrorKind → Reason
 reason_of NotFound = Missing
 reason_of PermissionDenied = Forbidden
@@ -17,12 +17,12 @@ reason_of FilesystemLoop = LinkLoop
 reason_of InvalidFilename = LongName
 reason_of _ = Other
 
--- out of memory apart
+-- the fault for an error that the system reports; want of memory is a fault of its own
 abbrev pub fault_of : ErrorKind → FolderFault
 fault_of NoMemory = OutOfMemory
 fault_of kind = Unreadable (reason_of kind)
 
--- what is told of it
+-- the words of the report
 abbrev pub reason_words : Reason → List ℕ
 reason_words Missing = codes "no such file or folder"
 reason_words Forbidden = codes "permission denied"

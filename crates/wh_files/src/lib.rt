@@ -1,4 +1,4 @@
-//! Files, those of a folder, and the standard input.
+//! Reads files, the files of a folder and the standard input, and replaces files.
 #![tactic(auto)]
 
 ghost use Rattle.std.specs.Prelude.{◌≡◌, ◌++◌, All, Bool, IfOk, OnOk, codes, replicate, string_bytes};
@@ -12,45 +12,45 @@ use std::io::{ErrorKind, Read};
 use std::rt::Files;
 use std::{fs, io};
 
-/// How many bytes of a file are read: one more than the longest history has, so that a longer file
-/// is seen to be too long, however long it is.
+/// How many bytes of a file are read: one more than the longest history that is accepted, so that a
+/// longer file is seen to be too long without being read to its end.
 const READ_LIMIT: u64 = 67_108_865;
 
-/// Why a file, or the files of a folder, are not there.
+/// Why a file, or the list of the files of a folder, could not be read.
 #[derive(Clone, Copy, Debug)]
 pub enum FolderFault {
     /// The file or the folder cannot be read.
     Unreadable {
-        /// Why not.
+        /// The reason.
         reason: Reason,
     },
     /// There is no memory for a name or for the bytes of a file.
     OutOfMemory,
 }
 
-/// Why a file or a folder cannot be read, in the words of the system.
+/// Why a file or a folder cannot be read, as the system reports it.
 #[derive(Clone, Copy, PartialEq, Eq, Debug)]
 pub enum Reason {
-    /// Nothing is there, or a folder on its way is none.
+    /// Nothing is at the path, or a folder on the path does not exist.
     Missing,
-    /// It may not be read, or not be reached.
+    /// There is no permission to read it or to reach it.
     Forbidden,
-    /// It is a folder, where a file is asked for.
+    /// It is a folder, and a file is needed.
     IsFolder,
-    /// It is no folder, where one is asked for.
+    /// It is not a folder, and a folder is needed.
     NoFolder,
-    /// It is neither a file nor a folder, as a pipe or a device.
+    /// It is neither a file nor a folder, but for example a pipe or a device.
     NoFile,
-    /// It is a link that leads round in a circle.
+    /// Its symbolic links lead round in a circle.
     LinkLoop,
-    /// It is too long, or a name in it is.
+    /// The path is too long, or a name in it is.
     LongName,
-    /// The system says something else.
+    /// The system reports another error.
     Other,
 }
 
 impl Reason {
-    /// The words in which it is reported.
+    /// Returns the words in which the reason is reported.
     pub fn words(self) -> &'static str
         ensures { result.now ≡ reason_words self }
     {
@@ -67,7 +67,7 @@ impl Reason {
     }
 }
 
-/// Why the system says that it can't read.
+/// Returns the reason for an error that the system reports.
 fn reason_of(kind: ErrorKind) -> Reason
     ensures { result ≡ reason_of kind }
 {
@@ -113,21 +113,21 @@ impl From<AllocError> for FolderFault {
 /// Where the bytes of a file come from.
 #[derive(Debug, Drop)]
 pub enum Origin {
-    /// A file that was named itself.
+    /// A file that was named by its own path.
     File {
         /// Its path.
         path: String,
     },
-    /// A file of a folder that was named.
+    /// A file of a folder, where the folder was named.
     Entry {
         /// The path of the folder.
         dir: String,
-        /// The name of the file in it.
+        /// The name of the file in the folder.
         name: String,
     },
-    /// The standard input, which has been read.
+    /// The standard input, which has been read already.
     StandardInput {
-        /// What it had.
+        /// The bytes that were read.
         bytes: Vec<u8>,
     },
 }
@@ -135,39 +135,40 @@ pub enum Origin {
 /// A file that is to be read.
 #[derive(Debug, Drop)]
 pub struct Input {
-    /// What it is called in a report.
+    /// The name of the file in reports.
     pub name: String,
     /// Where its bytes come from.
     pub origin: Origin,
 }
 
-/// Why an input is not there.
+/// Why an input could not be read.
 #[derive(Debug, Drop)]
 pub enum InputFault {
     /// It cannot be read.
     Unreadable {
-        /// The path that was named: its own, or that of its folder.
+        /// The path that was named: that of the file, or that of its folder.
         path: String,
-        /// Its name in the folder, if it is one of a folder.
+        /// The file's name in the folder, if a folder was named.
         entry: Option<String>,
-        /// Why not.
+        /// The reason.
         reason: Reason,
     },
     /// There is no memory for a name or for the bytes.
     OutOfMemory,
 }
 
-/// What is to be read of what a path names.
+/// The files that a path names.
 #[derive(Debug, Drop)]
 pub struct Listing {
     /// The files that can be opened, in the order of the bytes of their names.
     pub inputs: Vec<Input>,
-    /// The names of the files of the folder that can't be, since their names are no UTF-8 text: each
-    /// with `?` in the place of every byte that is no text, in the order of their own bytes.
+    /// The names of the files of the folder that can't be opened because their names are not UTF-8:
+    /// each with `?` for every byte that is not part of a character, in the order of the bytes of
+    /// the original names.
     pub bad_names: Vec<String>,
 }
 
-/// The path of a folder, with a slash after it, so that a link to it is followed.
+/// Returns the path of a folder with a slash after it, so that a link to a folder is followed.
 fn folder_path(alloc: Global, dir: &str) -> Result<String, AllocError> {
     if dir.is_empty() {
         return Ok(String::new(alloc));
@@ -175,7 +176,7 @@ fn folder_path(alloc: Global, dir: &str) -> Result<String, AllocError> {
     format!(in alloc; "{dir}/")
 }
 
-/// The names in a folder as the system gives them: each ended by a zero byte, in any order.
+/// Reads the names in a folder as the system returns them: each ended by a zero byte, in any order.
 fn read_names<R: Files + AllocGlobal>(rt: &R, dir: &str) -> Result<Vec<u8>, FolderFault> {
     let path = folder_path(rt.alloc(), dir)?;
     let mut folder = rt.open_dir(path.as_str())?;
@@ -193,7 +194,8 @@ fn read_names<R: Files + AllocGlobal>(rt: &R, dir: &str) -> Result<Vec<u8>, Fold
     })
 }
 
-/// Those of names, each ended by a zero byte, that end in `.json`, in the order of their bytes.
+/// Returns the names that end in `.json`, in the order of their bytes. In `names` each name is
+/// ended by a zero byte.
 fn sorted_names(alloc: Global, names: &[u8]) -> Result<Vec<Vec<u8>>, AllocError> {
     let mut sorted = Vec::new(alloc);
     for name in names.split(|byte: &u8| *byte == 0) {
@@ -205,7 +207,7 @@ fn sorted_names(alloc: Global, names: &[u8]) -> Result<Vec<Vec<u8>>, AllocError>
     Ok(sorted)
 }
 
-/// Adds a mark for each of so many bytes.
+/// Appends `count` question marks.
 fn push_marks(shown: &mut String, count: usize) -> Result<(), AllocError>
     ensures { OnOk result (string_bytes shown.new ≡ string_bytes shown.old ++ replicate count 63) }
 {
@@ -215,7 +217,7 @@ fn push_marks(shown: &mut String, count: usize) -> Result<(), AllocError>
     Ok(())
 }
 
-/// Bytes as text, with `?` in the place of every byte that is no text.
+/// Returns bytes as text, with `?` for every byte that is not part of a character.
 fn marked(alloc: Global, bytes: &[u8]) -> Result<String, AllocError>
     ensures { IfOk result (λ shown. IsMarked bytes.now (string_bytes shown)) }
 {
@@ -227,14 +229,14 @@ fn marked(alloc: Global, bytes: &[u8]) -> Result<String, AllocError>
     Ok(shown)
 }
 
-/// How many bytes are made room for before a file of a size is read: one more than it has, so that
-/// its end is seen without more room.
+/// Returns how many bytes to reserve before a file of this size is read: one more than it has, so
+/// that its end is seen without growing the buffer.
 fn room_for(size: u64) -> usize {
     size.min(READ_LIMIT) as usize + 1
 }
 
-/// The bytes of what can be read at a path, up to `READ_LIMIT` of them. It has this size, as far as
-/// the system says.
+/// Reads up to `READ_LIMIT` bytes from what stands at a path. `size` is its size as the system
+/// reports it.
 fn read_path<R: Files + AllocGlobal>(
     rt: &R,
     path: &str,
@@ -247,7 +249,7 @@ fn read_path<R: Files + AllocGlobal>(
     Ok(bytes)
 }
 
-/// That something at a path cannot be read: it is a folder, or no file either.
+/// Returns the fault of a path that names no file: a folder, or neither a file nor a folder.
 fn no_file(is_dir: bool) -> FolderFault {
     FolderFault::Unreadable {
         reason: if is_dir {
@@ -258,8 +260,8 @@ fn no_file(is_dir: bool) -> FolderFault {
     }
 }
 
-/// The bytes of a file, up to `READ_LIMIT` of them. What is no file, as a folder or a pipe, cannot
-/// be read.
+/// Reads up to `READ_LIMIT` bytes of a file. Anything other than a file, such as a folder or a
+/// pipe, is refused as `Unreadable`.
 pub fn read_file<R: Files + AllocGlobal>(rt: &R, path: &str) -> Result<Vec<u8>, FolderFault> {
     let metadata = fs::metadata(rt, path)?;
     if !metadata.is_file() {
@@ -268,7 +270,7 @@ pub fn read_file<R: Files + AllocGlobal>(rt: &R, path: &str) -> Result<Vec<u8>, 
     read_path(rt, path, metadata.len())
 }
 
-/// The bytes of a file that was named itself: as of any file, and of a pipe too, until it ends.
+/// Reads a file that was named by its own path. A pipe is read too, until it ends.
 fn read_named<R: Files + AllocGlobal>(rt: &R, path: &str) -> Result<Vec<u8>, FolderFault> {
     let metadata = fs::metadata(rt, path)?;
     if metadata.is_dir() {
@@ -277,7 +279,7 @@ fn read_named<R: Files + AllocGlobal>(rt: &R, path: &str) -> Result<Vec<u8>, Fol
     read_path(rt, path, metadata.len())
 }
 
-/// The bytes of a file of a folder, as of any file.
+/// Reads a file of a folder; anything other than a file is refused.
 fn read_entry<R: Files + AllocGlobal>(
     rt: &R,
     dir: &str,
@@ -287,14 +289,14 @@ fn read_entry<R: Files + AllocGlobal>(
     read_file(rt, path.as_str())
 }
 
-/// The bytes of the standard input, up to `READ_LIMIT` of them.
+/// Reads up to `READ_LIMIT` bytes of the standard input.
 fn read_standard_input<R: io::Input + AllocGlobal>(rt: &R) -> Result<Vec<u8>, FolderFault> {
     let mut bytes = Vec::new(rt.alloc());
     rt.reader().take(READ_LIMIT).read_to_end(&mut bytes)?;
     Ok(bytes)
 }
 
-/// A file of a folder, called by its name alone, or by its path.
+/// Returns the input for a file of a folder, named in reports by its path or by its name alone.
 fn entry_input(alloc: Global, dir: &str, name: String, by_path: bool) -> Result<Input, AllocError>
     ensures called { IfOk result (IsCalled by_path) }
     ensures from { IfOk result (λ input. IsOf dir.now input.origin) }
@@ -311,7 +313,7 @@ fn entry_input(alloc: Global, dir: &str, name: String, by_path: bool) -> Result<
     })
 }
 
-/// What is to be read of a folder, by the bytes of names in it, in their order.
+/// Returns the files of a folder from the bytes of their names, in the same order.
 fn listed(
     alloc: Global,
     dir: &str,
@@ -333,9 +335,10 @@ fn listed(
     Ok(Listing { inputs, bad_names })
 }
 
-/// The files of a folder whose names end in `.json`, in the order of the bytes of their names. What
-/// is no folder cannot be read. Whether its files can be is seen when they are, but for those whose
-/// names are no UTF-8 text: these can't be opened.
+/// Lists the files of a folder whose names end in `.json`, in the order of the bytes of their
+/// names. If the path is not a folder, it is refused as `Unreadable`. The files are not opened yet,
+/// so whether each can be read is known only later; but those whose names are not UTF-8 can't be
+/// opened and are listed as bad names.
 pub fn folder_inputs<R: Files + AllocGlobal>(
     rt: &R,
     dir: &str,
@@ -350,7 +353,7 @@ pub fn folder_inputs<R: Files + AllocGlobal>(
     Ok(listed(rt.alloc(), dir, sorted, by_path)?)
 }
 
-/// The end of a path, after its last slash.
+/// Returns the end of a path, after its last slash.
 fn file_name(path: &str) -> &str
     ensures { IsEndOf path.now result.now }
 {
@@ -360,7 +363,7 @@ fn file_name(path: &str) -> &str
     }
 }
 
-/// The standard input, which is read at once.
+/// Reads the standard input and returns it as an input.
 fn standard_input<R: io::Input + AllocGlobal>(rt: &R) -> Result<Input, FolderFault>
     ensures called { IfOk result (λ input. (by_path : Bool) → IsCalled by_path input) }
     ensures from { IfOk result (λ input. IsOf (codes "-") input.origin) }
@@ -373,8 +376,9 @@ fn standard_input<R: io::Input + AllocGlobal>(rt: &R) -> Result<Input, FolderFau
     })
 }
 
-/// The file at a path, or the standard input where the path is `-`, which is read at once, up to
-/// `READ_LIMIT` bytes of it. It is called by its path, or by what follows the last slash of it.
+/// Returns the file at a path, or the standard input if the path is `-`; the latter is read at
+/// once, up to `READ_LIMIT` bytes of it. The name in reports is the path, or what follows its last
+/// slash.
 pub fn input_at<R: io::Input + AllocGlobal>(
     rt: &R,
     path: &str,
@@ -396,9 +400,9 @@ pub fn input_at<R: io::Input + AllocGlobal>(
     })
 }
 
-/// What is to be read at a path: the files of a folder whose names end in `.json`, in the order of
-/// the bytes of their names, or else what `input_at` gives. Of a path that is there, whether the
-/// files can be read is seen when they are.
+/// Returns what is to be read at a path: for a folder, its files whose names end in `.json`, in the
+/// order of the bytes of their names; otherwise what `input_at` returns. The files are not opened
+/// yet, so whether each can be read is known only when it is read.
 pub fn inputs_at<R: Files + io::Input + AllocGlobal>(
     rt: &R,
     path: &str,
@@ -422,7 +426,7 @@ pub fn inputs_at<R: Files + io::Input + AllocGlobal>(
     })
 }
 
-/// What a fault of a file means for the input of a path.
+/// Returns the fault of an input for the fault of its file.
 fn input_fault(fault: FolderFault, path: String, entry: Option<String>) -> InputFault {
     match fault {
         FolderFault::OutOfMemory => InputFault::OutOfMemory,
@@ -434,9 +438,9 @@ fn input_fault(fault: FolderFault, path: String, entry: Option<String>) -> Input
     }
 }
 
-/// The bytes of an input, up to `READ_LIMIT` of them. A folder cannot be read, nor what is no file
-/// in a folder, as a pipe, since it could be waited for without an end; a pipe that was named itself
-/// is read until it ends.
+/// Reads up to `READ_LIMIT` bytes of an input. A folder is refused as `Unreadable`, and so is
+/// anything other than a file in a folder, such as a pipe, because reading it could wait forever. A
+/// pipe that was named by its own path is read until it ends.
 pub fn read_input<R: Files + AllocGlobal>(rt: &R, origin: Origin) -> Result<Vec<u8>, InputFault>
     ensures { IfOk result (IsReadFrom origin) }
 {
@@ -453,10 +457,10 @@ pub fn read_input<R: Files + AllocGlobal>(rt: &R, origin: Origin) -> Result<Vec<
     }
 }
 
-/// Replaces what a file has, whole: who reads it sees what it had before or these bytes, and no part of
-/// them. They are written at `beside`, a path in the same folder, and that file then gets the name of
-/// the other one (POSIX, `rename`). After an error the file is as it was, and another one may be left
-/// at `beside`.
+/// Replaces the content of a file in one step: a reader sees the content before or these bytes,
+/// never a part of them. The bytes are written to `beside`, a path in the same folder, which is
+/// then renamed to the file's name (POSIX, `rename`). After an error the file is as it was, and a
+/// file may be left at `beside`.
 pub fn replace_file<R: Files>(
     rt: &R,
     path: &str,

@@ -1,10 +1,10 @@
--- HTML as a template with holes: what its parts are, and the bytes that they are written as.
+-- HTML as a template with holes: its parts, and the bytes as which they are written.
 use Rattle.std.specs.Prelude.{ℕ, List, [], ◌∷◌, ◌++◌, decimal}
 use Rattle.wh_html.specs.Escaping.{escaped}
 use Rattle.wh_html.specs.Times.{stamp_text, span_text}
 
--- a template: fixed markup; a number, a time or one of a few words; a text by at most so many
--- characters; one template and then another
+-- a template: nothing; fixed markup; a number, a time or one of a few words; a text of which at most so many characters
+-- are shown; one template and then another
 pub data Html : Type 0 where
   nothing : Html
   markup : List ℕ → Html

@@ -4,12 +4,12 @@ use Rattle.std.specs.List.{list_all}
 use Rattle.std.specs.Str.{chars, bytes_eq}
 use Rattle.wh_html.specs.Escaping.{seen, escaped_first, escaped}
 
--- a byte that no reader of HTML takes for more than itself, but for the `&` of a reference: neither
--- `<`, `>` nor a quotation mark, and no control character of ASCII
+-- a byte that no reader of HTML takes for markup (the `&` of a reference aside): neither `<`, `>` nor a quotation mark,
+-- and no control character of ASCII
 abbrev pub is_harmless : ℕ → Bool
 is_harmless b = nat_le 32 b && not (b == 127) && not (b == 60) && not (b == 62) && not (b == 34) && not (b == 39)
 
--- no text has any other byte within HTML
+-- a text within HTML has no other bytes
 abbrev pub TextsAreHarmless : Type 0
 TextsAreHarmless = (most : ℕ) (text : List ℕ) → list_all is_harmless (escaped most text) ≡ true
 
@@ -20,7 +20,7 @@ referred_by name =
     else (if bytes_eq name (codes "gt") then 62 ∷ [] else (if bytes_eq name (codes "quot") then 34 ∷ []
     else (if bytes_eq name (codes "#39") then 39 ∷ [] else []))))
 
--- what a reader of HTML makes of one more byte, after the name so far of a reference, if it is in one
+-- what a reader of HTML adds for one more byte, given the name so far of the reference that it is in, if any
 abbrev pub read_byte : Option (List ℕ) → ℕ → List ℕ
 read_byte None b = if b == 38 then [] else b ∷ []
 read_byte (Some name) b = if b == 59 then referred_by name else []
@@ -30,7 +30,7 @@ abbrev pub name_after : Option (List ℕ) → ℕ → Option (List ℕ)
 name_after None b = if b == 38 then Some [] else None
 name_after (Some name) b = if b == 59 then None else Some (name ++ b ∷ [])
 
--- what a reader of HTML makes of text without tags
+-- how a reader of HTML reads text without tags
 abbrev pub read_from : Option (List ℕ) → List ℕ → List ℕ
 read_from name [] = []
 read_from name (b ∷ bs) = read_byte name b ++ read_from (name_after name b) bs

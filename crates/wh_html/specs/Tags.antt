@@ -1,7 +1,7 @@
 -- The tags of HTML.
 use Rattle.std.specs.Prelude.{ℕ, ◌==◌, ◌||◌, not, Bool, false, if◌then◌else◌, List, [], ◌∷◌, ◌++◌}
 
--- whether a reader is within a tag after one more byte
+-- whether a position is within a tag after one more byte
 abbrev pub within_after : Bool → ℕ → Bool
 within_after within b = if within then not (b == 62) else b == 60
 

@@ -42,7 +42,7 @@ year_of day =
     let year = since_march day / 146_097 * 400 + years_before in_era in
     if nat_lt (months_before in_era) 10 then year else year + 1
 
--- a fraction of a second in milliseconds, if there is one
+-- the fraction of a second in milliseconds; nothing if it is 0
 abbrev pub fraction_text : ℕ → List ℕ
 fraction_text millis = if millis == 0 then [] else codes "." ++ (two (millis / 10) ++ decimal (millis % 10))
 
@@ -59,7 +59,7 @@ instant_text millis =
     decimal (year_of day)
     ++ (codes "-" ++ (two (month_of day) ++ (codes "-" ++ (two (day_of day) ++ (codes " " ++ clock_text millis)))))
 
--- a time in milliseconds from 1970-01-01T00:00:00Z, in UTC; a later one as the end of the year 9999
+-- a time in milliseconds from 1970-01-01T00:00:00Z, in UTC; a time after the year 9999 as the end of that year
 abbrev pub stamp_text : (millis : ℕ) → List ℕ
 stamp_text millis = instant_text (min millis last_time)
 

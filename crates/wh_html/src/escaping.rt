@@ -8,21 +8,21 @@ ghost use Rattle.wh_html.specs.Escaping.{is_unseen, seen, reference_of, escaped_
 use std::fmt;
 use wh_events::Text;
 
-/// A text within HTML, by its first characters. `&`, `<`, `>` and quotation marks stand as
-/// character references (<https://html.spec.whatwg.org/multipage/syntax.html#character-references>).
-/// In place of a control character of ASCII stands its picture (U+2400 to U+2421), and U+FFFD in
-/// place of another one, and of one that turns the direction of writing. A text that is longer ends
-/// with `…`.
+/// The first characters of a text, escaped for HTML. `&`, `<`, `>` and quotation marks are written
+/// as character references
+/// (<https://html.spec.whatwg.org/multipage/syntax.html#character-references>). A control character
+/// of ASCII is replaced by its picture (U+2400 to U+2421); another control character, or one that
+/// changes the direction of writing, by U+FFFD. If the text is longer, `…` follows.
 #[derive(Drop)]
 pub struct Escaped<'a> {
     /// The text.
     pub text: &'a Text,
-    /// How many of its characters are shown at most.
+    /// The most characters of it that are shown.
     pub most: usize,
 }
 
-/// Whether the character would not be seen as what it is: a control character beyond ASCII, or one
-/// that turns the direction of writing.
+/// Returns whether a character would not be seen as what it is: a control character beyond ASCII,
+/// or one that changes the direction of writing.
 fn is_unseen(c: char) -> bool
     ensures { result ≡ is_unseen c }
 {
@@ -37,7 +37,7 @@ fn is_unseen(c: char) -> bool
     )
 }
 
-/// A character as it is shown.
+/// Returns a character as it is shown.
 fn seen(c: char) -> char
     ensures { result ≡ seen c }
 {
@@ -52,7 +52,7 @@ fn seen(c: char) -> char
     }
 }
 
-/// The character reference of a character that is shown, if it can't stand as itself.
+/// Returns the character reference of a character that HTML can't have as itself, if it is one.
 fn reference_of(c: char) -> Option<&'static str>
     ensures { MatchOption result (reference_of c ≡ None) (λ reference. reference_of c ≡ Some reference.now) }
 {
@@ -82,7 +82,7 @@ impl fmt::Display for EscapedChar {
     }
 }
 
-/// Writes the first characters of a text.
+/// Writes the first `most` characters of a text.
 #[tactic(auto, unfolding(crate::specs::Escaping::escaped_first))]
 fn write_first<W: fmt::Write>(text: &str, most: usize, f: &mut fmt::Formatter<W>) -> fmt::Result
     ensures { DisplaysOnOk W.write_str_gives f.old result (Some (escaped_first most text.now)) f.new }
@@ -94,14 +94,14 @@ fn write_first<W: fmt::Write>(text: &str, most: usize, f: &mut fmt::Formatter<W>
     Ok(())
 }
 
-/// How many characters a text has.
+/// Returns how many characters a text has.
 fn char_count(text: &str) -> usize
     ensures { result ≡ length (chars text.now) }
 {
     text.chars().count()
 }
 
-/// What stands after the first characters of a text: `…` where it has more.
+/// Returns `…` if a text has more than `most` characters, and nothing otherwise.
 fn rest_of(text: &str, most: usize) -> &'static str
     ensures { result.now ≡ rest_of most text.now }
 {

@@ -6,7 +6,7 @@ pub fn texts_are_harmless()
     ensures { TextsAreHarmless }
 {}
 
-/// Who reads HTML reads the first characters of a text back, each as it is shown.
+/// A reader of HTML reads the first characters of an escaped text back, each as it is shown.
 pub fn texts_are_read()
     ensures { TextsAreRead }
 {}

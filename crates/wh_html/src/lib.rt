@@ -1,5 +1,5 @@
-//! Texts and times within HTML. Whatever a text holds stands there as text: `laws` says what that
-//! means. `specs/Html.antt` has what HTML is to contracts: a template with holes.
+//! Texts and times within HTML. A text within HTML is read as text, whatever it holds: `laws` says
+//! what that means. `specs/Html.antt` defines HTML for contracts: a template with holes.
 #![tactic(auto)]
 
 mod escaping;

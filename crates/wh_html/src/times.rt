@@ -5,7 +5,7 @@ ghost use Rattle.wh_html.specs.Times.{two, years_before, year_of, month_of, day_
 
 use std::fmt;
 
-/// The last time that a text says: the end of the year 9999, in milliseconds from
+/// The latest time that is written: the end of the year 9999, in milliseconds from
 /// 1970-01-01T00:00:00Z.
 pub const LAST_TIME: u64 = 253_402_300_799_999;
 
@@ -31,7 +31,7 @@ impl fmt::Display for Two {
     }
 }
 
-/// The whole years before a day of an era: 400 years from a first of March on.
+/// Returns the whole years before a day of an era: of 400 years that begin on a first of March.
 fn years_before(day: u64) -> u64
     requires { day < 146_097 }
     ensures { result ≡ years_before day }
@@ -39,8 +39,8 @@ fn years_before(day: u64) -> u64
     (day + day / 36_524).saturating_sub(day / 1_460 + day / 146_096) / 365
 }
 
-/// The date of a day, counted from 1970-01-01. Years are counted from March on, so that a leap day
-/// is the last of its year.
+/// Returns the date of a day, counted from 1970-01-01. Years are counted from March on, so that a
+/// leap day is the last of its year.
 fn date_of(day: u64) -> Date
     requires { day < 3_000_000 }
     ensures year { result.year ≡ year_of day }
@@ -86,7 +86,7 @@ impl fmt::Display for Fraction {
     }
 }
 
-/// The time of day at so many milliseconds, in UTC.
+/// The time of day of a time in milliseconds, in UTC.
 #[derive(Clone, Copy)]
 struct Clock(u64);
 
@@ -104,7 +104,7 @@ impl fmt::Display for Clock {
 }
 
 /// A time in milliseconds from 1970-01-01T00:00:00Z, in UTC: `2024-05-01 10:00:03.250`, with no
-/// fraction where it is a whole second. A later time than `LAST_TIME` is said as that.
+/// fraction if it is a whole second. A time later than `LAST_TIME` is written as `LAST_TIME`.
 #[derive(Clone, Copy)]
 pub struct Stamp(pub u64);
 
