@@ -15,14 +15,14 @@ use Rattle.wh_json.specs.Events.{type_name, rule_for, attributes_of, event_numbe
 abbrev pub attributes_in : Data → Option Data
 attributes_in d = option_and_then (λ rule. attributes_of rule d) (rule_for d)
 
--- the text that a marker, or an event of another type, names first; empty where there is none
+-- the name of a marker, or the first text of an event of another type; empty if it is absent
 abbrev pub first_text : Rule → Option Data → List ℕ
 first_text rule attributes =
     if rule.marks then text_of (field (codes "markerName") attributes)
     else text_of (read_path rule.first attributes)
 
--- what is read of an event by the rule of its type: a text that is absent is empty, a reference that is absent or no
--- number is 0, and payloads and versions are left out
+-- what is read of an event by the rule of its type: an absent text is empty, a reference is 0 if it is absent or no
+-- number, and payloads and versions are omitted
 abbrev pub partial_fields : Rule → Option Data → Fields
 partial_fields rule attributes = record {
   reference = unwrap_or (number_or_zero (read_path rule.reference attributes)) 0;
@@ -36,12 +36,12 @@ partial_fields rule attributes = record {
 abbrev pub partial_kind : Data → Rule → EventKind
 partial_kind d rule = rule.kind (partial_fields rule (attributes_of rule d))
 
--- the whole kind, where the reader reads the event, or else what its type makes of it
+-- the whole kind, if the reader reads the event, or else the kind that its type gives
 abbrev pub kind_from : Result Event ReadFault → Option EventKind → Option EventKind
 kind_from (Ok event) other = Some event.body
 kind_from (Err fault) other = other
 
--- the fault, where the reader refuses the event
+-- the fault, if the reader refuses the event
 abbrev pub fault_from : Result Event ReadFault → Option ReadFault
 fault_from (Ok event) = None
 fault_from (Err fault) = Some fault
@@ -50,7 +50,7 @@ fault_from (Err fault) = Some fault
 abbrev pub name_of : Data → List ℕ
 name_of d = option_map_or (λ rule. rule.name) (rule_for d) (type_name d)
 
--- what can be read of the event at a place, after the number before
+-- what can be read of the event at a place, which follows the event with the number before
 abbrev pub partial_event : ℕ → Option ℕ → Data → PartialEvent
 partial_event at before d = record {
   number = event_number d;

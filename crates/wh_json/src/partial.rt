@@ -15,26 +15,26 @@ use serde_json::Value;
 use std::alloc::Global;
 use wh_events::{EventKind, EventNo, Items, OutOfMemory, Text};
 
-/// What can be read of an event of a history that may hold anything.
+/// What can be read of an event, whatever the history holds in its place.
 #[derive(Drop)]
 pub struct PartialEvent {
     /// Its number, if it is one from 1 to 2^63 - 1.
     pub number: Option<EventNo>,
     /// When it happened, in nanoseconds since 1970-01-01T00:00:00Z, if `eventTime` is an instant.
     pub time: Option<i128>,
-    /// The plain name of its type, as `TimerStarted`; that which the event gives, where the type is
-    /// not read; empty where there is none.
+    /// The plain name of its type, such as `TimerStarted`. If the type is not read, the name that
+    /// the event gives; empty if it gives none.
     pub name: Text,
-    /// What happened, where its type is read. Of an event with a fault a text that is absent is
-    /// empty, a reference is 0 where it is absent or no number, and there are no payloads; a marker
-    /// has its name in place of a change id, and the version 0.
+    /// What happened, if its type is read. In an event with a fault an absent text is empty, a
+    /// reference is 0 if it is absent or no number, and there are no payloads; a marker has its
+    /// name in place of a change id, and the version 0.
     pub kind: Option<EventKind>,
-    /// Why `read_members` refuses the event after that before it, if it does. `at` in it is the place
-    /// that was given.
+    /// Why `read_members` refuses the event after the one before it, if it does. The place `at` in
+    /// it is the one that was given.
     pub fault: Option<ReadFault>,
 }
 
-/// The attributes of an event whose type is read, wherever they are no null.
+/// Returns the attributes of an event whose type is read, if they are present and not null.
 pub fn attributes_in(member: &Value) -> Option<&Value>
     ensures { option_map (λ v. view v.now) result ≡ attributes_in (view member.now) }
 {
@@ -42,14 +42,15 @@ pub fn attributes_in(member: &Value) -> Option<&Value>
     field(Some(member), row.attributes)
 }
 
-/// A text of its own.
+/// Copies a text. Fails with `OutOfMemory` if there was no memory for it.
 fn copied(alloc: Global, text: &str) -> Result<Text, OutOfMemory>
     ensures { IfOk result (λ copy. copy ≡ text.now) }
 {
     Ok(Text::new(String::from_str(alloc, text)?))
 }
 
-/// The text that a marker, or an event of another type, names first.
+/// Returns the name of a marker, or the first text of an event of another type. Returns the empty
+/// text if it is absent.
 fn first_text<'v>(row: &TypeRow, attributes: Option<&'v Value>) -> &'v str
     ensures { result.now ≡ first_text (rule_of row.now) (option_map (λ v. view v.now) attributes.entry) }
 {
@@ -60,7 +61,7 @@ fn first_text<'v>(row: &TypeRow, attributes: Option<&'v Value>) -> &'v str
     }
 }
 
-/// What is read of an event by the row of its type.
+/// Returns what is read of an event by the row of its type.
 fn partial_fields(
     alloc: Global,
     row: &TypeRow,
@@ -81,7 +82,7 @@ fn partial_fields(
     })
 }
 
-/// The kind of an event by the row of its type, if the type is read.
+/// Returns the kind of an event by the row of its type, if the type is read.
 fn partial_kind(alloc: Global, member: &Value) -> Result<Option<EventKind>, OutOfMemory>
     ensures { IfOk result (λ kind.
         kind ≡ option_map (partial_kind (view member.now)) (rule_for (view member.now))) }
@@ -93,7 +94,8 @@ fn partial_kind(alloc: Global, member: &Value) -> Result<Option<EventKind>, OutO
     Ok(Some(kind_of(row.event_type, fields)))
 }
 
-/// The kind and the fault of the event at a place, after the number before.
+/// Returns the kind and the fault of the event at a place, which follows the event with the number
+/// before.
 fn kind_and_fault(
     alloc: Global,
     at: u64,
@@ -114,7 +116,7 @@ fn kind_and_fault(
     }
 }
 
-/// The plain name of a type that is read, or else the name that the event gives.
+/// Returns the plain name of a type that is read, or else the name that the event gives.
 fn name_of(member: &Value) -> &str
     ensures { result.now ≡ name_of (view member.now) }
 {
@@ -124,8 +126,9 @@ fn name_of(member: &Value) -> &str
     }
 }
 
-/// What can be read of the event of a history at a place, counted from 1, after an event of the
-/// number before, if that has one. `OutOfMemory` where there was no memory for it.
+/// Returns what can be read of the event at a place of a history, counted from 1, after an event
+/// with the number `before`, if that one has a number. Fails with `OutOfMemory` if there was no
+/// memory for it.
 pub fn partial_event(
     alloc: Global,
     at: u64,
