@@ -1,7 +1,8 @@
 //! A list that only contracts see.
 //!
-//! A source that serves for days can't keep all that it was sent, but what a contract says of it is
-//! the list of just that. So it keeps a list of no bytes, which grows by what a call is shown.
+//! A source that runs for days can't keep everything that it was sent, yet its contracts are about
+//! the list of all of it. So it keeps this list, which takes no memory: each call appends the value
+//! that it is shown, for contracts alone.
 #![tactic(auto)]
 
 ghost use Rattle.std.specs.Prelude.{◌≡◌, ◌++◌, ◌∷◌, [], List};
@@ -10,9 +11,10 @@ ghost use base.Fml.{ftrue};
 
 use std::marker::{Model, PhantomData, Send};
 
-/// A list of values of which nothing is kept. No code can read it.
+/// A list of values that takes no memory. No code can read it.
 pub struct GhostList<T> {
     marker: PhantomData<T>,
+    /// The values, in the order in which they were appended.
     pub ghost items: { List T } by { coded_list T.code },
 }
 
@@ -21,7 +23,7 @@ impl<T> Model for GhostList<T> {
 }
 
 impl<T> GhostList<T> {
-    /// An empty list.
+    /// Returns an empty list.
     pub fn new() -> GhostList<T>
         ensures { result.items ≡ [] }
     {
@@ -30,7 +32,7 @@ impl<T> GhostList<T> {
         }
     }
 
-    /// The list with one value more at its end.
+    /// Returns the list with the value appended.
     pub fn with(&self, value: &T) -> GhostList<T>
         ensures { result.items ≡ self.now.items ++ value.now ∷ [] }
     {

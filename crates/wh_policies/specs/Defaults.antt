@@ -1,4 +1,4 @@
--- Policies that leave to the server what they can.
+-- Policies that leave to the server whatever they can.
 use Rattle.std.specs.Prelude.{ℕ, [], None, true}
 use Rattle.wh_policies.specs.declared.policies.RetryPolicy.{RetryPolicy}
 use Rattle.wh_policies.specs.declared.policies.ActivityPolicy.{ActivityPolicy}
@@ -7,7 +7,7 @@ use Rattle.wh_policies.specs.declared.policies.ContinuePolicy.{ContinuePolicy}
 use Rattle.wh_policies.specs.declared.policies.FailurePolicy.{FailurePolicy}
 use Rattle.wh_policies.specs.declared.policies.Policies.{Policies}
 
--- at most so many attempts
+-- at most this many attempts
 abbrev pub retry : ℕ → RetryPolicy
 retry attempts = record {
   maximum_attempts = attempts;
@@ -17,7 +17,7 @@ retry attempts = record {
   non_retryable = [];
 }
 
--- so many seconds for each attempt, and at most so many attempts
+-- this Start-To-Close Timeout in seconds, and at most this many attempts
 abbrev pub activity : ℕ → ℕ → ActivityPolicy
 activity seconds attempts = record {
   task_queue = None;
@@ -39,14 +39,14 @@ child = record {
   retry = None;
 }
 
--- a failure of no type, after which a run may be tried again
+-- a failure without a type, after which a run may be retried
 abbrev pub failure : FailurePolicy
 failure = record { failure_type = None; retryable = true }
 
 abbrev pub continued : ContinuePolicy
 continued = record { task_queue = None; run_timeout = None; task_timeout = None; retry = None }
 
--- for each activity so many seconds an attempt and at most so many attempts; nothing else, and no row
+-- for each activity this Start-To-Close Timeout in seconds and at most this many attempts; nothing else, and no row
 abbrev pub policies : ℕ → ℕ → Policies
 policies seconds attempts = record {
   activities = record { rows = []; otherwise = activity seconds attempts };

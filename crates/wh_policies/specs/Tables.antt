@@ -13,6 +13,6 @@ abbrev pub policy_or : {P : Type 0} → P → Option (PolicyRow P) → P
 policy_or otherwise None = otherwise
 policy_or otherwise (Some row) = row.policy
 
--- the policy of the first row that has the name, else the policy of all others
+-- the policy of the first row that has the name, otherwise the policy of all other names
 abbrev pub policy_of : {P : Type 0} → PolicyTable P → List ℕ → P
 policy_of table name = policy_or table.otherwise (first_row name table.rows)

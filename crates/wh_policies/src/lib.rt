@@ -1,8 +1,8 @@
-//! What a server is asked for with the commands of a workflow, by the names in the commands: how long
-//! an activity may take and how it is tried again, what becomes of a child when its parent closes, of
-//! which type a failure is. A workflow gives none of it, and replay sees none of it.
+//! The options that go to the server with a workflow's commands, by the names in the commands: how
+//! long an activity may take and how it is retried, what becomes of a child when its parent closes,
+//! which type a failure has. Workflow code sets none of them, and replay does not see them.
 //!
-//! Where a policy says nothing of a thing, that is left to the server, and nothing is written of it.
+//! An option that a policy omits is not sent, and the server decides.
 #![tactic(auto)]
 
 mod policies;

@@ -1,4 +1,4 @@
-//! What each kind of command is asked for.
+//! The options of each kind of command.
 
 ghost use Rattle.std.specs.Prelude.{◌≡◌, [], None};
 ghost use Rattle.wh_policies.specs.Defaults as plain;
@@ -7,37 +7,38 @@ use crate::table::PolicyTable;
 use std::alloc::Global;
 use wh_events::{Items, Text};
 
-/// How what failed is tried again (Temporal documentation, "Retry Policies").
+/// How a failed activity or workflow is retried (Temporal documentation, "Retry Policies").
 #[derive(Debug, Drop)]
 pub struct RetryPolicy {
-    /// How often it is tried at most; 0 leaves it to the server, which tries without end.
+    /// The maximum number of attempts; 0 leaves it to the server, which retries without limit.
     pub maximum_attempts: u32,
-    /// How many seconds pass before it is tried a second time.
+    /// The seconds before the second attempt.
     pub initial_interval: Option<u32>,
-    /// How many seconds pass at most between two tries.
+    /// The maximum seconds between two attempts.
     pub maximum_interval: Option<u32>,
-    /// By how much each interval is longer than the one before: a finite number of at least 1.
+    /// The factor by which each interval is longer than the one before: a finite number of at least
+    /// 1.
     pub backoff_coefficient: Option<f64>,
-    /// The types of failures after which it is not tried again.
+    /// The types of failures that are not retried.
     pub non_retryable: Items<Text>,
 }
 
-/// What is asked for with an activity (Temporal documentation, "Detecting Activity failures"). Each
-/// time is in seconds.
+/// The options of an activity (Temporal documentation, "Detecting Activity failures"). Each time is
+/// in seconds.
 #[derive(Debug, Drop)]
 pub struct ActivityPolicy {
-    /// The Task Queue that it is given to; `None` for the worker's own.
+    /// The Task Queue that it is scheduled on; `None` for the worker's own.
     pub task_queue: Option<Text>,
-    /// How long it may wait for a worker.
+    /// Schedule-To-Start Timeout: how long it may wait for a worker.
     pub schedule_to_start: Option<u32>,
-    /// How long one attempt may take. The server needs this time or `schedule_to_close`, so it is
-    /// always written.
+    /// Start-To-Close Timeout: how long one attempt may take. The server needs this time or
+    /// `schedule_to_close`, so this one is always sent.
     pub start_to_close: u32,
-    /// How long it may take with all its attempts.
+    /// Schedule-To-Close Timeout: how long it may take with all its attempts.
     pub schedule_to_close: Option<u32>,
-    /// How long it may be silent between two heartbeats.
+    /// Heartbeat Timeout: how long it may take between two heartbeats.
     pub heartbeat: Option<u32>,
-    /// How it is tried again.
+    /// How it is retried.
     pub retry: RetryPolicy,
 }
 
@@ -46,81 +47,81 @@ pub struct ActivityPolicy {
 pub enum ParentClosePolicy {
     /// It is terminated.
     Terminate,
-    /// It goes on.
+    /// It keeps running.
     Abandon,
     /// It is asked to cancel.
     RequestCancel,
 }
 
-/// Whether a child may have the id of a run that is closed (Temporal documentation, "Workflow Id
-/// Reuse Policy").
+/// Whether a child may have the id of a closed run (Temporal documentation, "Workflow Id Reuse
+/// Policy").
 #[derive(Clone, Copy, PartialEq, Eq, Debug)]
 pub enum IdReusePolicy {
     /// It may.
     AllowDuplicate,
-    /// Only where that run did not complete.
+    /// Only if that run did not complete.
     AllowDuplicateFailedOnly,
     /// It may not.
     RejectDuplicate,
 }
 
-/// What is asked for with a child workflow (Temporal documentation, "Child Workflows"). Each time is
-/// in seconds.
+/// The options of a child workflow (Temporal documentation, "Child Workflows"). Each time is in
+/// seconds.
 #[derive(Debug, Drop)]
 pub struct ChildPolicy {
     /// The Task Queue of its tasks; `None` for the worker's own.
     pub task_queue: Option<Text>,
-    /// How long it may take with all its runs.
+    /// Workflow Execution Timeout: how long it may take with all its runs.
     pub execution_timeout: Option<u32>,
-    /// How long one run of it may take.
+    /// Workflow Run Timeout: how long one of its runs may take.
     pub run_timeout: Option<u32>,
-    /// How long one of its workflow tasks may take.
+    /// Workflow Task Timeout: how long one of its workflow tasks may take.
     pub task_timeout: Option<u32>,
     /// What becomes of it when its parent closes.
     pub parent_close: Option<ParentClosePolicy>,
-    /// Whether it may have the id of a run that is closed.
+    /// Whether it may have the id of a closed run.
     pub id_reuse: Option<IdReusePolicy>,
-    /// How it is tried again; `None` for not at all.
+    /// How it is retried; `None` if it is not.
     pub retry: Option<RetryPolicy>,
 }
 
-/// Of which type the failure of a run is (Temporal documentation, "Failures").
+/// The type of a run's failure (Temporal documentation, "Failures").
 #[derive(Debug, Drop)]
 pub struct FailurePolicy {
-    /// Its type, which retry policies name.
+    /// Its type, which retry policies refer to.
     pub failure_type: Option<Text>,
-    /// Whether the run may be tried again, if its retry policy says so.
+    /// Whether the run may be retried, if its retry policy says so.
     pub retryable: bool,
 }
 
-/// What is asked for with the run that continues one as new (Temporal documentation,
+/// The options of the run that continues another as new (Temporal documentation,
 /// "Continue-As-New"). Each time is in seconds.
 #[derive(Debug, Drop)]
 pub struct ContinuePolicy {
     /// The Task Queue of its tasks; `None` for the worker's own.
     pub task_queue: Option<Text>,
-    /// How long it may take.
+    /// Workflow Run Timeout: how long it may take.
     pub run_timeout: Option<u32>,
-    /// How long one of its workflow tasks may take.
+    /// Workflow Task Timeout: how long one of its workflow tasks may take.
     pub task_timeout: Option<u32>,
-    /// How it is tried again; `None` for the retry policy of the run that it continues.
+    /// How it is retried; `None` for the retry policy of the run that it continues.
     pub retry: Option<RetryPolicy>,
 }
 
-/// What a server is asked for with the commands of workflows.
+/// The options of the commands of workflows.
 #[derive(Debug, Drop)]
 pub struct Policies {
-    /// Of activities, by type.
+    /// Those of activities, by activity type.
     pub activities: PolicyTable<ActivityPolicy>,
-    /// Of child workflows, by type.
+    /// Those of child workflows, by workflow type.
     pub children: PolicyTable<ChildPolicy>,
-    /// Of failures of runs, by message.
+    /// Those of failures of runs, by message.
     pub failures: PolicyTable<FailurePolicy>,
-    /// Of runs that continue others as new, by type.
+    /// Those of runs that continue others as new, by workflow type.
     pub continued: PolicyTable<ContinuePolicy>,
 }
 
-/// A table without a row.
+/// Returns a table without rows.
 fn table_of<P>(alloc: Global, otherwise: P) -> PolicyTable<P>
     ensures rows { result.rows ≡ [] }
     ensures otherwise { result.otherwise ≡ otherwise }
@@ -132,7 +133,7 @@ fn table_of<P>(alloc: Global, otherwise: P) -> PolicyTable<P>
 }
 
 impl RetryPolicy {
-    /// At most so many attempts; all else is left to the server.
+    /// Returns a policy with a maximum number of attempts; the rest is left to the server.
     pub fn attempts(alloc: Global, maximum_attempts: u32) -> RetryPolicy
         ensures { result ≡ plain.retry maximum_attempts }
     {
@@ -147,7 +148,8 @@ impl RetryPolicy {
 }
 
 impl ActivityPolicy {
-    /// So many seconds for each attempt and at most so many attempts; all else is left to the server.
+    /// Returns a policy with a Start-To-Close Timeout in seconds and a maximum number of attempts;
+    /// the rest is left to the server.
     pub fn plain(alloc: Global, start_to_close: u32, attempts: u32) -> ActivityPolicy
         ensures { result ≡ plain.activity start_to_close attempts }
     {
@@ -163,7 +165,7 @@ impl ActivityPolicy {
 }
 
 impl ChildPolicy {
-    /// All is left to the server.
+    /// Returns a policy that leaves everything to the server.
     pub fn plain() -> ChildPolicy
         ensures { result ≡ plain.child }
     {
@@ -180,7 +182,7 @@ impl ChildPolicy {
 }
 
 impl FailurePolicy {
-    /// A failure of no type, after which the run may be tried again.
+    /// Returns the policy of a failure without a type, after which the run may be retried.
     pub fn plain() -> FailurePolicy
         ensures { result ≡ plain.failure }
     {
@@ -192,7 +194,7 @@ impl FailurePolicy {
 }
 
 impl ContinuePolicy {
-    /// All is left to the server, or as the run that is continued has it.
+    /// Returns a policy that leaves everything to the server, or as in the run that is continued.
     pub fn plain() -> ContinuePolicy
         ensures { result ≡ plain.continued }
     {
@@ -206,8 +208,8 @@ impl ContinuePolicy {
 }
 
 impl Policies {
-    /// For each activity so many seconds an attempt and at most so many attempts; no row, and all
-    /// else is left to the server.
+    /// Returns policies without rows: a Start-To-Close Timeout in seconds and a maximum number of
+    /// attempts for each activity; the rest is left to the server.
     pub fn plain(alloc: Global, start_to_close: u32, attempts: u32) -> Policies
         ensures { result ≡ plain.policies start_to_close attempts }
     {

@@ -1,4 +1,4 @@
--- What stands at the keys of a table.
+-- The values of a table's keys.
 use Rattle.std.specs.Prelude.{◌≡◌, ℕ, ℤ, pos, negsuc, List, Bool, nat_le, ◌&&◌, Option, Some, None, option_and_then, if◌then◌else◌}
 use Rattle.toml.specs.Data.{Data, Members, table, as_bool, as_integer, as_str}
 
@@ -10,7 +10,7 @@ natural (negsuc n) = None
 abbrev pub if_within : ℕ → ℕ → ℕ → Option ℕ
 if_within least most n = if nat_le least n && nat_le n most then Some n else None
 
--- a whole number, if it is within limits
+-- the value as a whole number within limits
 abbrev pub number_in : ℕ → ℕ → Data → Option ℕ
 number_in least most value = option_and_then (if_within least most) (option_and_then natural (as_integer value))
 
@@ -18,7 +18,7 @@ number_in least most value = option_and_then (if_within least most) (option_and_
 abbrev pub seconds_in : Data → Option ℕ
 seconds_in value = number_in 1 4294967295 value
 
--- the number is the one that stands there, or the one that holds otherwise where nothing does
+-- the number is the key's value, within limits; if there is no value it is the default
 abbrev pub GivesNumber : ℕ → ℕ → ℕ → Option Data → ℕ → Type 0
 GivesNumber least most otherwise None number = number ≡ otherwise
 GivesNumber least most otherwise (Some value) number = number_in least most value ≡ Some number
@@ -35,7 +35,7 @@ abbrev pub GivesText : Option (List ℕ) → Option Data → Option (List ℕ) �
 GivesText otherwise None text = text ≡ otherwise
 GivesText otherwise (Some value) text = (t : List ℕ) × (text ≡ Some t) × (as_str value ≡ Some t)
 
--- what stands there is the table, or nothing does and there is none
+-- the value is the table, or there is neither
 abbrev pub HasTable : Option Members → Option Data → Type 0
 HasTable None found = found ≡ None
 HasTable (Some members) found = found ≡ Some (table members)

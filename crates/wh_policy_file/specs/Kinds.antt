@@ -1,4 +1,4 @@
--- What the tables of each kind give.
+-- How the policies of each kind are read from a table.
 use Rattle.std.specs.Prelude.{◌≡◌, ℕ, List, [], ◌∷◌, Bool, ◌||◌, bytes_eq, codes, Option, Some, None, if◌then◌else◌}
 use Rattle.toml.specs.Data.{Data, Members, as_str, get_member}
 use Rattle.wh_policies.specs.declared.policies.ActivityPolicy.{ActivityPolicy}
@@ -20,9 +20,12 @@ knows_activity key =
 
 pub record GivesActivity (members : Members) (otherwise policy : ActivityPolicy) : Type 0 where
   pub queue : GivesText otherwise.task_queue (get_member (codes "task_queue") members) policy.task_queue
-  pub to_start : GivesSeconds otherwise.schedule_to_start (get_member (codes "schedule_to_start") members) policy.schedule_to_start
-  pub attempt : GivesNumber 1 4294967295 otherwise.start_to_close (get_member (codes "start_to_close") members) policy.start_to_close
-  pub to_close : GivesSeconds otherwise.schedule_to_close (get_member (codes "schedule_to_close") members) policy.schedule_to_close
+  pub to_start : GivesSeconds otherwise.schedule_to_start
+      (get_member (codes "schedule_to_start") members) policy.schedule_to_start
+  pub attempt : GivesNumber 1 4294967295 otherwise.start_to_close
+      (get_member (codes "start_to_close") members) policy.start_to_close
+  pub to_close : GivesSeconds otherwise.schedule_to_close
+      (get_member (codes "schedule_to_close") members) policy.schedule_to_close
   pub heartbeat : GivesSeconds otherwise.heartbeat (get_member (codes "heartbeat") members) policy.heartbeat
   pub retry : GivesRetryAt otherwise.retry (get_member (codes "retry") members) policy.retry
 
@@ -35,7 +38,8 @@ close_named text =
 abbrev pub GivesClose : Option ParentClosePolicy → Option Data → Option ParentClosePolicy → Type 0
 GivesClose otherwise None policy = policy ≡ otherwise
 GivesClose otherwise (Some value) policy =
-    (text : List ℕ) × (p : ParentClosePolicy) × (as_str value ≡ Some text) × (close_named text ≡ Some p) × (policy ≡ Some p)
+    (text : List ℕ) × (p : ParentClosePolicy) × (as_str value ≡ Some text)
+    × (close_named text ≡ Some p) × (policy ≡ Some p)
 
 abbrev pub reuse_named : List ℕ → Option IdReusePolicy
 reuse_named text =
@@ -46,7 +50,8 @@ reuse_named text =
 abbrev pub GivesReuse : Option IdReusePolicy → Option Data → Option IdReusePolicy → Type 0
 GivesReuse otherwise None policy = policy ≡ otherwise
 GivesReuse otherwise (Some value) policy =
-    (text : List ℕ) × (p : IdReusePolicy) × (as_str value ≡ Some text) × (reuse_named text ≡ Some p) × (policy ≡ Some p)
+    (text : List ℕ) × (p : IdReusePolicy) × (as_str value ≡ Some text)
+    × (reuse_named text ≡ Some p) × (policy ≡ Some p)
 
 abbrev pub knows_child : List ℕ → Bool
 knows_child key =
@@ -56,7 +61,8 @@ knows_child key =
 
 pub record GivesChild (members : Members) (otherwise policy : ChildPolicy) : Type 0 where
   pub queue : GivesText otherwise.task_queue (get_member (codes "task_queue") members) policy.task_queue
-  pub execution : GivesSeconds otherwise.execution_timeout (get_member (codes "execution_timeout") members) policy.execution_timeout
+  pub execution : GivesSeconds otherwise.execution_timeout
+      (get_member (codes "execution_timeout") members) policy.execution_timeout
   pub run : GivesSeconds otherwise.run_timeout (get_member (codes "run_timeout") members) policy.run_timeout
   pub task : GivesSeconds otherwise.task_timeout (get_member (codes "task_timeout") members) policy.task_timeout
   pub parent_close : GivesClose otherwise.parent_close (get_member (codes "parent_close") members) policy.parent_close

@@ -1,4 +1,4 @@
--- What a text gives.
+-- How policies are read from a text.
 use Rattle.std.specs.Prelude.{◌≡◌, ◌<◌, ℕ, List, Bool, ◌||◌, bytes_eq, codes, length, Some, None}
 use Rattle.std.specs.Str.{IsUtf8}
 use Rattle.toml.specs.Data.{Members}
@@ -18,14 +18,19 @@ knows_table key =
     || (bytes_eq key (codes "failures") || (bytes_eq key (codes "failure")
     || (bytes_eq key (codes "continuations") || bytes_eq key (codes "continuation")))))))
 
--- what a document gives, where these hold otherwise
+-- the policies are read from a document with these defaults
 pub record GivesPolicies (document : Members) (otherwise policies : Policies) : Type 0 where
-  pub activities : GivesTable GivesActivity (codes "activities") (codes "activity") otherwise.activities.otherwise document policies.activities
-  pub children : GivesTable GivesChild (codes "children") (codes "child") otherwise.children.otherwise document policies.children
-  pub failures : GivesTable GivesFailure (codes "failures") (codes "failure") otherwise.failures.otherwise document policies.failures
-  pub continued : GivesTable GivesContinuation (codes "continuations") (codes "continuation") otherwise.continued.otherwise document policies.continued
+  pub activities : GivesTable GivesActivity (codes "activities") (codes "activity")
+      otherwise.activities.otherwise document policies.activities
+  pub children : GivesTable GivesChild (codes "children") (codes "child")
+      otherwise.children.otherwise document policies.children
+  pub failures : GivesTable GivesFailure (codes "failures") (codes "failure")
+      otherwise.failures.otherwise document policies.failures
+  pub continued : GivesTable GivesContinuation (codes "continuations") (codes "continuation")
+      otherwise.continued.otherwise document policies.continued
 
--- the text is TOML whose tables are known, and gives these policies, where activities have these seconds and attempts otherwise
+-- the text is TOML with known tables, from which these policies are read; by default an attempt of an activity has
+-- these seconds, and an activity these attempts
 pub record IsRead (seconds attempts : ℕ) (text : List ℕ) (policies : Policies) : Type 0 where
   pub document : Members
   pub parsed : parse_document text ≡ Some document

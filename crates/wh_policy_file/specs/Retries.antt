@@ -1,4 +1,4 @@
--- What a table says of retries.
+-- How a retry policy is read from a table.
 use Rattle.std.specs.Prelude.{◌≡◌, ℕ, Float, List, [], ◌∷◌, Bool, ◌||◌, bytes_eq, codes, Option, Some, None, ⊤}
 use Rattle.toml.specs.Data.{Data, Items, no_items, item, Members, no_members, array, as_float, get_member, string, table}
 use Rattle.wh_policies.specs.declared.policies.RetryPolicy.{RetryPolicy}
@@ -21,28 +21,32 @@ GivesCoefficient otherwise None coefficient = coefficient ≡ otherwise
 GivesCoefficient otherwise (Some value) coefficient =
     (x : Float) × (coefficient ≡ Some x) × (as_float value ≡ Some x)
 
--- the keys of a table of retries
+-- the keys of a retry policy
 abbrev pub knows_retry : List ℕ → Bool
 knows_retry key =
     bytes_eq key (codes "maximum_attempts") || (bytes_eq key (codes "initial_interval")
     || (bytes_eq key (codes "maximum_interval") || (bytes_eq key (codes "backoff_coefficient")
     || bytes_eq key (codes "non_retryable"))))
 
--- what a table of retries gives, where this holds otherwise
+-- a retry policy is read from a table with these defaults
 pub record GivesRetry (members : Members) (otherwise retry : RetryPolicy) : Type 0 where
-  pub attempts : GivesNumber 0 2147483647 otherwise.maximum_attempts (get_member (codes "maximum_attempts") members) retry.maximum_attempts
-  pub initial : GivesSeconds otherwise.initial_interval (get_member (codes "initial_interval") members) retry.initial_interval
-  pub maximum : GivesSeconds otherwise.maximum_interval (get_member (codes "maximum_interval") members) retry.maximum_interval
-  pub coefficient : GivesCoefficient otherwise.backoff_coefficient (get_member (codes "backoff_coefficient") members) retry.backoff_coefficient
+  pub attempts : GivesNumber 0 2147483647 otherwise.maximum_attempts
+      (get_member (codes "maximum_attempts") members) retry.maximum_attempts
+  pub initial : GivesSeconds otherwise.initial_interval
+      (get_member (codes "initial_interval") members) retry.initial_interval
+  pub maximum : GivesSeconds otherwise.maximum_interval
+      (get_member (codes "maximum_interval") members) retry.maximum_interval
+  pub coefficient : GivesCoefficient otherwise.backoff_coefficient
+      (get_member (codes "backoff_coefficient") members) retry.backoff_coefficient
   pub types : GivesTypes otherwise.non_retryable (get_member (codes "non_retryable") members) retry.non_retryable
 
--- what stands at a key gives this policy; where nothing does, what an empty table would give
+-- the policy is read from the key's table; a missing table counts as an empty one
 abbrev pub GivesRetryAt : RetryPolicy → Option Data → RetryPolicy → Type 0
 GivesRetryAt otherwise None retry = GivesRetry no_members otherwise retry
 GivesRetryAt otherwise (Some (table members)) retry = GivesRetry members otherwise retry
 GivesRetryAt otherwise (Some _) retry = ⊥
 
--- the same where there may be none
+-- the same if there may be no policy, and no defaults
 abbrev pub GivesRetryIfAny : Option RetryPolicy → Option Data → Option RetryPolicy → Type 0
 GivesRetryIfAny None None found = found ≡ None
 GivesRetryIfAny (Some otherwise) given (Some retry) = GivesRetryAt otherwise given retry

@@ -1,48 +1,48 @@
-//! Why a text gives no policies.
+//! Why a text is no policy file.
 
 use std::alloc::{AllocError, AllocFailed, Global};
 use wh_events::{OutOfMemory, Text};
 
-/// Why a text gives no policies. Lines are counted from 1.
+/// Why a text is no policy file. Lines are counted from 1.
 #[derive(Debug, Drop)]
 pub enum PolicyFault {
     /// It has more than 65,536 bytes.
     TooLong,
-    /// It is no text in UTF-8.
+    /// It is not UTF-8.
     NoText,
-    /// It is no TOML.
+    /// It is not TOML.
     NoToml {
-        /// The line in which it stops being TOML.
+        /// The line of the syntax error.
         line: u64,
         /// What is wrong there.
         reason: Text,
     },
-    /// A key is not known.
+    /// A key is unknown.
     UnknownKey {
-        /// The key, below the keys of its tables, with a point between each two.
+        /// The key with the keys of its tables before it, separated by points.
         key: Text,
-        /// The line in which it, and what stands at it, ends.
+        /// The line in which the key's value ends.
         line: u64,
     },
-    /// What stands at a key is of another type, or out of its range.
+    /// The value of a key has the wrong type, or is out of range.
     BadValue {
-        /// The key, below the keys of its tables, with a point between each two.
+        /// The key with the keys of its tables before it, separated by points.
         key: Text,
-        /// The line in which it, and what stands at it, ends.
+        /// The line in which the key's value ends.
         line: u64,
     },
-    /// There was no memory. This can come in place of all policies and of every fault.
+    /// There was no memory. This can replace the policies and every other fault.
     OutOfMemory,
 }
 
-/// Why a table gives nothing.
+/// Why a table can't be read.
 #[derive(Debug, Drop)]
 pub(crate) enum KeyFault {
-    /// A key of it is not known.
+    /// One of its keys is unknown.
     Unknown { key: Text },
-    /// What stands at a key of it is of another type, or out of its range.
+    /// The value of one of its keys has the wrong type, or is out of range.
     Bad { key: Text },
-    /// There was no memory. This can come in place of every fault.
+    /// There was no memory. This can replace every other fault.
     OutOfMemory,
 }
 
@@ -79,12 +79,12 @@ impl From<OutOfMemory> for KeyFault {
     }
 }
 
-/// The key, below the key of its table.
+/// Returns a key with the key of its table before it.
 fn below(alloc: Global, table: &str, key: &str) -> Result<Text, AllocError> {
     Ok(Text::new(format!(in alloc; "{table}.{key}")?))
 }
 
-/// A key that is not known.
+/// Returns the fault of an unknown key.
 pub(crate) fn unknown_key(alloc: Global, key: &str) -> KeyFault {
     match String::from_str(alloc, key) {
         Ok(key) => KeyFault::Unknown {
@@ -94,7 +94,7 @@ pub(crate) fn unknown_key(alloc: Global, key: &str) -> KeyFault {
     }
 }
 
-/// A key with a bad value.
+/// Returns the fault of a key with a bad value.
 pub(crate) fn bad_value(alloc: Global, key: &str) -> KeyFault {
     match String::from_str(alloc, key) {
         Ok(key) => KeyFault::Bad {
@@ -104,7 +104,7 @@ pub(crate) fn bad_value(alloc: Global, key: &str) -> KeyFault {
     }
 }
 
-/// The fault of a key of a table, told with the key of the table.
+/// Adds the key of a table to the fault of one of the table's keys.
 pub(crate) fn within(alloc: Global, table: &str, fault: KeyFault) -> KeyFault {
     match fault {
         KeyFault::Unknown { key } => match below(alloc, table, key.get()) {

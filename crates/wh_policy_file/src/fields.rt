@@ -1,4 +1,4 @@
-//! Reads what stands at the keys of a table.
+//! Reads the values of a table's keys.
 
 ghost use Rattle.std.specs.Prelude.{◌≡◌, IfOk, IfSome, IfNone, false, map, option_map};
 ghost use Rattle.toml.specs.Data.{as_str, get_member};
@@ -11,14 +11,14 @@ use std::alloc::Global;
 use toml::{Table, Value};
 use wh_events::Text;
 
-/// The value at a key.
+/// Returns the value of a key, if the table has the key.
 pub(crate) fn value_at<'a>(table: &'a Table, key: &str) -> Option<&'a Value>
     ensures { option_map (λ v. view v.now) result ≡ get_member key.now (table_view table.now) }
 {
     table.get(key)
 }
 
-/// The whole number that a value is, if it is within limits.
+/// Returns a value as a whole number, if it is one within the limits.
 fn number_in(value: &Value, least: u32, most: u32) -> Option<u32>
     ensures { result ≡ number_in least most (view value.now) }
 {
@@ -30,7 +30,8 @@ fn number_in(value: &Value, least: u32, most: u32) -> Option<u32>
     }
 }
 
-/// The whole number at a key, else the one that holds otherwise.
+/// Returns the whole number of a key, or `otherwise` if the table does not have the key. `Bad` if
+/// the value is not a whole number within the limits.
 pub(crate) fn number_at(
     alloc: Global,
     table: &Table,
@@ -50,7 +51,8 @@ pub(crate) fn number_at(
     }
 }
 
-/// The seconds at a key, else those that hold otherwise.
+/// Returns the seconds of a key, or `otherwise` if the table does not have the key. `Bad` if the
+/// value is not a whole number from 1 to `u32::MAX`.
 pub(crate) fn seconds_at(
     alloc: Global,
     table: &Table,
@@ -68,7 +70,8 @@ pub(crate) fn seconds_at(
     }
 }
 
-/// The truth at a key, else the one that holds otherwise.
+/// Returns the boolean of a key, or `otherwise` if the table does not have the key. `Bad` if the
+/// value is not a boolean.
 pub(crate) fn truth_at(
     alloc: Global,
     table: &Table,
@@ -86,7 +89,7 @@ pub(crate) fn truth_at(
     }
 }
 
-/// A copy of a text, if there is one.
+/// Copies a text, if there is one.
 fn copy_of(text: &Option<Text>) -> Result<Option<Text>, KeyFault>
     ensures { IfOk result (λ copy. copy ≡ text.now) }
 {
@@ -96,14 +99,15 @@ fn copy_of(text: &Option<Text>) -> Result<Option<Text>, KeyFault>
     }
 }
 
-/// The text that a value is.
+/// Returns a value as a text, if it is a string.
 pub(crate) fn text_in(value: &Value) -> Option<&str>
     ensures { option_map (λ t. t.now) result ≡ as_str (view value.now) }
 {
     value.as_str()
 }
 
-/// The text at a key, else the one that holds otherwise.
+/// Returns the text of a key, or `otherwise` if the table does not have the key. `Bad` if the value
+/// is not a string.
 pub(crate) fn text_at(
     alloc: Global,
     table: &Table,
@@ -121,7 +125,7 @@ pub(crate) fn text_at(
     }
 }
 
-/// The table at a key, if anything stands there.
+/// Returns the table of a key, or `None` if the key is missing. `Bad` if the value is not a table.
 pub(crate) fn table_at<'a>(
     alloc: Global,
     table: &'a Table,

@@ -70,7 +70,7 @@ impl FromTable for ActivityPolicy {
     }
 }
 
-/// What becomes of a child whose parent closes, by its name.
+/// Returns the Parent Close Policy of a name.
 fn close_named(text: &str) -> Option<ParentClosePolicy>
     ensures { result ≡ close_named text.now }
 {
@@ -82,7 +82,7 @@ fn close_named(text: &str) -> Option<ParentClosePolicy>
     }
 }
 
-/// What becomes of a child whose parent closes, else as it is otherwise.
+/// Reads the Parent Close Policy, or returns `otherwise` if the table does not have the key.
 fn close_at(
     alloc: Global,
     table: &Table,
@@ -102,7 +102,7 @@ fn close_at(
     }
 }
 
-/// Whether a child may have the id of a run that is closed, by its name.
+/// Returns the Workflow Id Reuse Policy of a name.
 fn reuse_named(text: &str) -> Option<IdReusePolicy>
     ensures { result ≡ reuse_named text.now }
 {
@@ -114,7 +114,7 @@ fn reuse_named(text: &str) -> Option<IdReusePolicy>
     }
 }
 
-/// Whether a child may have the id of a run that is closed, else as it is otherwise.
+/// Reads the Workflow Id Reuse Policy, or returns `otherwise` if the table does not have the key.
 fn reuse_at(
     alloc: Global,
     table: &Table,

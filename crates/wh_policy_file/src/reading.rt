@@ -1,4 +1,4 @@
-//! What a table gives.
+//! Reads a value from a table.
 
 ghost use Rattle.std.specs.Prelude.{◌≡◌, IfNone, IfOk};
 ghost use Rattle.toml.specs.View.{table_view};
@@ -8,7 +8,7 @@ use crate::fault::{KeyFault, unknown_key};
 use std::alloc::Global;
 use toml::Table;
 
-/// What a table gives, where something holds already.
+/// A value that is read from a table and its defaults.
 pub(crate) trait FromTable: Sized + Drop {
     ghost use Rattle.std.specs.Prelude.{ℕ, List, Bool};
     ghost use Rattle.toml.specs.Data.{Members};
@@ -16,20 +16,20 @@ pub(crate) trait FromTable: Sized + Drop {
     /// The keys that such a table may have.
     ghost known: { List ℕ → Bool };
 
-    /// What such a table gives where this holds otherwise.
+    /// What is read from such a table with these defaults.
     ghost gives: { Members → Self → Self → Type 0 };
 
-    /// Whether such a table may have the key.
+    /// Returns whether such a table may have the key.
     fn knows(key: &str) -> bool
         ensures { result ≡ known key.now };
 
-    /// What the keys of the table give; what they leave out is as it is otherwise. Whether it has
-    /// other keys is not asked.
+    /// Reads the keys of the table; for those that it omits `otherwise` holds. Does not check for
+    /// unknown keys.
     fn read(alloc: Global, table: &Table, otherwise: &Self) -> Result<Self, KeyFault>
         ensures { IfOk result (gives (table_view table.now) otherwise.now) };
 }
 
-/// A key of the table that is not known, if there is one.
+/// Returns an unknown key of the table, if there is one.
 fn unknown_in<P: FromTable>(table: &Table) -> Option<&str>
     ensures { IfNone result (AllKnown P.known (table_view table.now)) }
 {
@@ -41,7 +41,7 @@ fn unknown_in<P: FromTable>(table: &Table) -> Option<&str>
     None
 }
 
-/// What the table gives, of which each key has to be known.
+/// Reads the table. `Unknown` if it has an unknown key.
 pub(crate) fn given<P: FromTable>(
     alloc: Global,
     table: &Table,

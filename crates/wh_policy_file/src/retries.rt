@@ -1,4 +1,4 @@
-//! Reads how something is tried again.
+//! Reads retry policies.
 
 ghost use Rattle.std.specs.Prelude.{◌≡◌, IfOk, IfSome, None, Some, codes};
 ghost use Rattle.toml.specs.Data.{as_str, get_member};
@@ -15,8 +15,8 @@ use toml::{Table, Value};
 use wh_events::{Items, OutOfMemory, Text};
 use wh_policies::RetryPolicy;
 
-/// By how much intervals grow, else the factor that holds otherwise. It is a finite number of at
-/// least 1.
+/// Reads the factor by which intervals grow, or returns `otherwise` if the table does not have the
+/// key. `Bad` if it is not a finite number of at least 1.
 fn coefficient_at(
     alloc: Global,
     table: &Table,
@@ -40,7 +40,7 @@ fn coefficient_at(
     }
 }
 
-/// The text that a value is.
+/// Copies a value as a text, if it is a string.
 fn text_of(alloc: Global, value: &Value) -> Result<Option<Text>, OutOfMemory>
     ensures { IfOk result (λ text. IfSome text (λ t. as_str (view value.now) ≡ Some t)) }
 {
@@ -50,7 +50,7 @@ fn text_of(alloc: Global, value: &Value) -> Result<Option<Text>, OutOfMemory>
     }
 }
 
-/// The texts that all the values are, if each one is a text.
+/// Copies the values as texts, if each one is a string.
 fn texts_of(alloc: Global, values: &Array) -> Result<Option<Vec<Text>>, OutOfMemory>
     ensures { IfOk result (λ texts. IfSome texts (λ ts. AreTexts (array_view values.now) ts.items)) }
 {
@@ -64,7 +64,8 @@ fn texts_of(alloc: Global, values: &Array) -> Result<Option<Vec<Text>>, OutOfMem
     Ok(Some(texts))
 }
 
-/// The types of failures after which nothing is tried again, else those that hold otherwise.
+/// Reads the types of failures that are not retried, or returns `otherwise` if the table does not
+/// have the key.
 fn types_at(alloc: Global, table: &Table, otherwise: &Items<Text>) -> Result<Items<Text>, KeyFault>
     ensures { IfOk result (GivesTypes otherwise.now (get_member (codes "non_retryable") (table_view table.now))) }
 {
@@ -80,7 +81,7 @@ fn types_at(alloc: Global, table: &Table, otherwise: &Items<Text>) -> Result<Ite
     }
 }
 
-/// The most attempts that fit the server's number.
+/// The maximum number of attempts that the server's number can hold.
 const MOST_ATTEMPTS: u32 = 2_147_483_647;
 
 impl FromTable for RetryPolicy {
@@ -120,7 +121,7 @@ impl FromTable for RetryPolicy {
     }
 }
 
-/// How something is tried again, else as it is otherwise.
+/// Reads the retry policy with these defaults.
 pub(crate) fn retry_at(
     alloc: Global,
     table: &Table,
@@ -137,7 +138,7 @@ pub(crate) fn retry_at(
     }
 }
 
-/// How something is tried again, where nothing holds otherwise: not at all, unless the table says how.
+/// Reads a retry policy without defaults: `None` if the table does not have one.
 fn retry_anew(alloc: Global, table: &Table) -> Result<Option<RetryPolicy>, KeyFault>
     ensures { IfOk result (GivesRetryIfAny None (get_member (codes "retry") (table_view table.now))) }
 {
@@ -150,8 +151,9 @@ fn retry_anew(alloc: Global, table: &Table) -> Result<Option<RetryPolicy>, KeyFa
     }
 }
 
-/// How something is tried again, if it is: as it is otherwise, or as often as the server will where
-/// nothing holds otherwise and the table does not say.
+/// Reads a retry policy that may be missing: with the defaults if there are any; without them it is
+/// `None` unless the table has one, in which the number of attempts is left to the server unless it
+/// says so.
 pub(crate) fn retry_if_any(
     alloc: Global,
     table: &Table,

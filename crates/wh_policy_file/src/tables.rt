@@ -1,4 +1,4 @@
-//! Reads the tables of a text.
+//! Reads the tables of a document.
 
 ghost use Rattle.std.specs.Prelude.{◌≡◌, IfOk, string_bytes};
 ghost use Rattle.toml.specs.View.{table_view, view};
@@ -13,7 +13,7 @@ use toml::{Table, Value};
 use wh_events::{Items, Text};
 use wh_policies::{Policies, PolicyRow, PolicyTable};
 
-/// The row of a name, whose table this is.
+/// Reads the row of a name from its table.
 fn row_given<P: FromTable>(
     alloc: Global,
     name: &String,
@@ -34,7 +34,7 @@ fn row_given<P: FromTable>(
     }
 }
 
-/// A row for each member of the table.
+/// Reads a row from each member of the table.
 fn rows_given<P: FromTable>(
     alloc: Global,
     table: &Table,
@@ -49,7 +49,7 @@ fn rows_given<P: FromTable>(
     Ok(rows)
 }
 
-/// The policy of all names. Where there is no table, it is what an empty one gives.
+/// Reads the policy of all names. A missing table counts as an empty one.
 fn all_given<P: FromTable>(
     alloc: Global,
     document: &Table,
@@ -67,7 +67,7 @@ fn all_given<P: FromTable>(
     }
 }
 
-/// The rows of all names that have one.
+/// Reads the rows of all names that have one.
 fn each_given<P: FromTable>(
     alloc: Global,
     document: &Table,
@@ -86,7 +86,7 @@ fn each_given<P: FromTable>(
     }
 }
 
-/// The policies of a kind, where this one holds otherwise.
+/// Reads the policies of one kind with these defaults.
 fn table_given<P: FromTable>(
     alloc: Global,
     document: &Table,

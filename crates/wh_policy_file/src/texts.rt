@@ -15,10 +15,10 @@ use toml::Table;
 use wh_events::Text;
 use wh_policies::Policies;
 
-/// How many bytes a text of policies has at most.
+/// The maximum length of a policy file in bytes.
 const MOST_BYTES: usize = 65_536;
 
-/// The text that bytes are.
+/// Returns bytes as text, if they are UTF-8.
 fn text_of(bytes: &[u8]) -> Option<&str>
     ensures text { IfSome result (λ text. text.now ≡ bytes.now) }
     ensures none { IfNone result (¬ (IsUtf8 bytes.now)) }
@@ -29,7 +29,7 @@ fn text_of(bytes: &[u8]) -> Option<&str>
     }
 }
 
-/// The line of a place in a text, counted from 1.
+/// Returns the line of a position in a text, counted from 1.
 fn line_at(text: &str, place: usize) -> u64
     requires { place ≤ length text.now }
     ensures { result ≡ line_at place text.now }
@@ -44,7 +44,7 @@ fn line_at(text: &str, place: usize) -> u64
     line
 }
 
-/// Why a text is no TOML, as far as there is memory to say it.
+/// Returns where and why a text is not TOML, or `OutOfMemory`.
 fn no_toml(alloc: Global, text: &str, error: &toml::de::Error) -> PolicyFault
     requires within { IsWithin text.now error.now }
     requires refused { ¬ (IsMemory error.now) → parse_document text.now ≡ None }
@@ -63,7 +63,7 @@ fn no_toml(alloc: Global, text: &str, error: &toml::de::Error) -> PolicyFault
     }
 }
 
-/// The document that a text is.
+/// Parses a text as TOML.
 fn document_of(alloc: Global, text: &str) -> Result<Table, PolicyFault>
     ensures ok { IfOk result (λ document. parse_document text.now ≡ Some (table_view document)) }
     ensures refused { IfErr result (IsRefused text.now) }
@@ -74,7 +74,7 @@ fn document_of(alloc: Global, text: &str) -> Result<Table, PolicyFault>
     }
 }
 
-/// The fault of a key of the first bytes of a text, if they are TOML and have one.
+/// Returns the fault of a key in the first bytes of a text, if they are TOML and have one.
 fn fault_in(alloc: Global, bytes: &[u8], plain: &Policies) -> Option<KeyFault> {
     let Ok(document) = toml::table_from_str(alloc, text_of(bytes)?) else {
         return None;
@@ -88,7 +88,7 @@ fn fault_in(alloc: Global, bytes: &[u8], plain: &Policies) -> Option<KeyFault> {
     }
 }
 
-/// The fault of a key in its line.
+/// Returns the fault of a key with its line.
 fn in_line(fault: KeyFault, line: u64) -> PolicyFault
     ensures { (text : List ℕ) → IsRefused text result }
 {
@@ -99,8 +99,8 @@ fn in_line(fault: KeyFault, line: u64) -> PolicyFault
     }
 }
 
-/// The first fault of the keys of a text, in the first line that, with those before it, has one. The
-/// whole text has this one.
+/// Returns the first fault of a text's keys: that of the shortest run of lines from the start that
+/// is TOML and has one. If no such run has one, it is `whole`, the fault of the whole text.
 fn first_fault(alloc: Global, bytes: &[u8], plain: &Policies, whole: KeyFault) -> PolicyFault
     ensures { (text : List ℕ) → IsRefused text result }
 {
@@ -116,9 +116,10 @@ fn first_fault(alloc: Global, bytes: &[u8], plain: &Policies, whole: KeyFault) -
     in_line(whole, line)
 }
 
-/// The policies that a text in TOML 1.1 gives, beside these seconds for an attempt of each activity
-/// and this number of attempts. The fault is that of the first line with one; a text that is no TOML
-/// is refused before. Nothing is given then.
+/// Reads policies from a text in TOML 1.1. Unless it says otherwise, each activity has this
+/// Start-To-Close Timeout in seconds and this maximum number of attempts. A text that is not TOML
+/// is refused as such; otherwise the fault is that of the first line with one. After an error there
+/// are no policies.
 pub fn read_policies(
     alloc: Global,
     bytes: &[u8],

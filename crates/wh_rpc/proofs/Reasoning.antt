@@ -1,4 +1,4 @@
--- The reason for which a line says nothing is the first that applies.
+-- The reason why a line is malformed is the first that applies.
 use Rattle.std.proofs.Common.{◌≡◌, ◌≢◌, ◌⊎◌, ℕ, zero, suc, ◌<◌, ℤ, ◌&&◌, Bool, true, false, cond, List, length, codes, nat_lt, is_some, Option, Some, None, Result, Ok, Err, refl, sym, ap, subst, ◌∙◌, arith, inl, inr}
 use Rattle.std.specs.Str.{bytes_eq, is_utf8}
 use Rattle.std.specs.Option.{ok_or}

@@ -1,4 +1,4 @@
--- Why a line says nothing: each reason by itself, and their order.
+-- Why a line is malformed: each reason by itself, and their order.
 use Rattle.std.specs.Prelude.{◌≡◌, ◌≢◌, ◌↔◌, ◌<◌, ◌⊎◌, ℕ, List, length, codes, Some, None, Ok, Err, IsUtf8}
 use Rattle.serde_json.specs.Data.{Data}
 use Rattle.serde_json.specs.Find.{get, as_object, as_str}
@@ -7,11 +7,11 @@ use Rattle.wh_rpc.specs.declared.bad_line.BadLine.{BadLine}
 use Rattle.wh_rpc.specs.declared.bad_line.BadLine.TheVariants as bad
 use Rattle.wh_rpc.specs.Responses.{Meaning, code_of, id_of, message_of, longest, meaning}
 
--- without a method it has to be a response
+-- without a method the line has to be a response
 abbrev pub HasNoMethod : Data → Type 0
 HasNoMethod d = get (codes "method") d ≡ None
 
--- the reason lies in the value of the line
+-- the value of the line has this fault
 abbrev pub IsFaulty : BadLine → Data → Type 0
 IsFaulty bad.TooLong d = ⊥
 IsFaulty bad.NotUtf8 d = ⊥
@@ -26,11 +26,11 @@ IsFaulty bad.BadError d = HasNoMethod d
     × ((error : Data) × (get (codes "error") d ≡ Some error) × ((code_of error ≡ None) ⊎ (message_of error ≡ None)))
 IsFaulty bad.OutOfMemory d = ⊥
 
--- the line has a value, in which the reason lies
+-- the line parses as a value with this fault
 abbrev pub HasFault : BadLine → List ℕ → Type 0
 HasFault reason bytes = (d : Data) × (read bytes ≡ Some d) × IsFaulty reason d
 
--- the reason applies to the line, whatever others do
+-- the reason applies to the line, whether or not others do
 abbrev pub Applies : BadLine → List ℕ → Type 0
 Applies bad.TooLong bytes = longest < length bytes
 Applies bad.NotUtf8 bytes = ¬ IsUtf8 bytes
@@ -55,11 +55,11 @@ pub record IsFirst (reason : BadLine) (bytes : List ℕ) : Type 0 where
   pub applies : Applies reason bytes
   pub first : (other : BadLine) → rank other < rank reason → ¬ Applies other bytes
 
--- a line says nothing for the first reason that applies to it
+-- a line is malformed for the first reason that applies to it
 abbrev pub ReasonsComeInOrder : Type 0
 ReasonsComeInOrder = (bytes : List ℕ) (reason : BadLine) → (meaning bytes ≡ Err reason) ↔ IsFirst reason bytes
 
--- to a line that says something no reason applies
+-- no reason applies to a line that says something
 abbrev pub MeaningsHaveNoFault : Type 0
 MeaningsHaveNoFault =
     (bytes : List ℕ) (said : Meaning) (reason : BadLine) → meaning bytes ≡ Ok said → ¬ Applies reason bytes

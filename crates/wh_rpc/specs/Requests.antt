@@ -8,7 +8,7 @@ request_data id method params =
     object (member (codes "id") (number (unsigned id)) (member (codes "jsonrpc") (string (codes "2.0"))
     (member (codes "method") (string method) (member (codes "params") params no_members))))
 
--- no byte is a control, so none ends a line
+-- no byte is a control character, so none ends a line
 abbrev pub IsOneLine : List ℕ → Type 0
 IsOneLine [] = Unit {0}
 IsOneLine (byte ∷ bytes) = (32 ≤ byte) × IsOneLine bytes

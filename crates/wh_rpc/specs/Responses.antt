@@ -1,4 +1,4 @@
--- What a line of the bridge says.
+-- What the lines of the bridge say.
 use Rattle.std.specs.Prelude.{◌≡◌, ◌≢◌, ℕ, ℤ, ◌&&◌, List, Bool, codes, Option, Some, None, Result, Ok, Err, nat_lt, length, is_some, option_and_then, string_bytes, if◌then◌else◌}
 use Rattle.std.specs.Option.{ok_or}
 use Rattle.std.specs.Str.{bytes_eq, is_utf8}
@@ -16,12 +16,12 @@ use Rattle.wh_rpc.specs.declared.response.Line.TheVariants as lines
 
 -- ---- Lines as data
 
--- what a response says
+-- the outcome of a response
 pub data Answer : Type 0 where
   given : Data → Answer
   refused : ℤ → List ℕ → Answer
 
--- what a line says: this answer to the call of this id, or that the bridge shuts down
+-- what a line says: the answer to the call of an id, or that the bridge shuts down
 pub data Meaning : Type 0 where
   answers : ℕ → Answer → Meaning
   shutdown : Meaning
@@ -39,18 +39,18 @@ line_seen lines.Shutdown = shutdown
 
 -- ---- Reading
 
--- go on with the value, or stop at the fault
+-- continue with the value, or stop with the fault
 infixl 10 ◌>>=◌
 abbrev pub ◌>>=◌ : {A B : Type 0} → Result A BadLine → (A → Result B BadLine) → Result B BadLine
 (Ok x) >>= f = f x
 (Err e) >>= f = Err e
 
--- what a call returned, seen by view, is what reading gives, unless memory ran out
+-- the function's result, seen by view, is what reading yields, unless memory ran out
 abbrev pub Gives : {X Y : Type 0} → (X → Y) → Result X BadLine → Result Y BadLine → Type 0
 Gives view (Ok x) read = read ≡ Ok (view x)
 Gives view (Err e) read = e ≢ bad.OutOfMemory → read ≡ Err e
 
--- the number of 64 bits that a value is
+-- the code of an error: a signed 64-bit number
 abbrev pub code_of : Data → Option ℤ
 code_of error = option_and_then as_i64 (option_and_then as_number (get (codes "code") error))
 
@@ -76,7 +76,7 @@ outcome_by None None = Err bad.NoOutcome
 unfoldable pub outcome_of : Data → Result Answer BadLine
 outcome_of d = outcome_by (get (codes "error") d) (get (codes "result") d)
 
--- not both a result and an error
+-- both a result and an error
 abbrev pub has_two : Data → Bool
 has_two d = is_some (get (codes "result") d) && is_some (get (codes "error") d)
 
@@ -103,7 +103,7 @@ said_by d = if is_some (as_object d) then notice_or_response (get (codes "method
 abbrev pub text_of : List ℕ → Result (List ℕ) BadLine
 text_of bytes = if is_utf8 bytes then Ok bytes else Err bad.NotUtf8
 
--- the most bytes of a line
+-- the maximum length of a line in bytes
 abbrev pub longest : ℕ
 longest = 134217728
 

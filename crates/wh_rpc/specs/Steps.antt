@@ -2,8 +2,8 @@
 use Rattle.std.specs.Prelude.{◌≡◌, ◌≢◌, ◌⊎◌, ℕ, ◌+◌, ◌≤◌, Bool, true, false, List, [], ◌∷◌, Option, Some, None, ⊤, slice_get, if◌then◌else◌}
 use Rattle.wh_rpc.specs.Tables.{Table, IsFirst, Opens, Takes, Drains, Closes, refuses, is_id}
 
--- what happened: a call, or a poll, was opened under an id; a response came for an id, and was given
--- to what waited under it; the bridge shut down; all calls ended
+-- a step: a call or a poll was opened under an id; a response came for an id and was delivered to what waited under it;
+-- the bridge shut down; all calls ended
 pub data Step (T : Type 0) : Type 0 where
   opened : Bool → T → ℕ → Step T
   answered : ℕ → Option T → Step T
@@ -24,7 +24,7 @@ DoesAll {T} first (step ∷ steps) last = (next : Table T) × Does first step ne
 
 -- ---- Ids
 
--- the ids that were given, in their order
+-- the assigned ids, in their order
 abbrev pub ids_given : {T : Type 0} → List (Step T) → List ℕ
 ids_given [] = []
 ids_given (opened is_poll waiter id ∷ steps) = id ∷ ids_given steps
@@ -32,7 +32,7 @@ ids_given (answered id found ∷ steps) = ids_given steps
 ids_given (drained ∷ steps) = ids_given steps
 ids_given (closed ∷ steps) = ids_given steps
 
--- ids are given one after the other, from the first table's next one upwards, so none is given twice
+-- ids are assigned one after the other, from the first table's next id upwards, so none is assigned twice
 abbrev pub IdsRunUpwards : Type 0 → Type 0
 IdsRunUpwards T =
     (first last : Table T) (steps : List (Step T)) (i id : ℕ) → DoesAll first steps last
@@ -61,15 +61,15 @@ abbrev pub IsOpen : {T : Type 0} → ℕ → T → List (Step T) → Type 0
 IsOpen id waiter [] = ⊥
 IsOpen id waiter (step ∷ steps) = (IsOpening id waiter step × StaysOpen id steps) ⊎ IsOpen id waiter steps
 
--- the response that comes for an id after some steps is given to a waiter exactly where the call of
--- that id was opened for it and is open still
+-- the response that comes for an id after some steps is delivered to a waiter exactly if the call of that id was opened
+-- for it and is still open
 abbrev pub ResponsesFindTheirCalls : Type 0 → Type 0
 ResponsesFindTheirCalls T =
     (first middle last : Table T) (steps : List (Step T)) (id : ℕ) (waiter : T) (found : Option T)
     → IsFirst first → DoesAll first steps middle → Takes middle last id found
     → (found ≡ Some waiter → IsOpen id waiter steps) × (IsOpen id waiter steps → found ≡ Some waiter)
 
--- how many responses for the id were given to a waiter
+-- how many responses for the id were delivered to a waiter
 abbrev pub times_given : {T : Type 0} → ℕ → List (Step T) → ℕ
 times_given id [] = 0
 times_given id (opened is_poll waiter given ∷ steps) = times_given id steps
@@ -78,7 +78,7 @@ times_given id (answered given None ∷ steps) = times_given id steps
 times_given id (drained ∷ steps) = times_given id steps
 times_given id (closed ∷ steps) = times_given id steps
 
--- of all responses for an id at most one is given to a waiter
+-- of all responses for an id at most one is delivered to a waiter
 abbrev pub ResponsesAreGivenOnce : Type 0 → Type 0
 ResponsesAreGivenOnce T =
     (first last : Table T) (steps : List (Step T)) (id : ℕ)
@@ -86,7 +86,7 @@ ResponsesAreGivenOnce T =
 
 -- ---- The end
 
--- the ids that polls were given
+-- the ids of polls
 abbrev pub polls_given : {T : Type 0} → List (Step T) → List ℕ
 polls_given [] = []
 polls_given (opened true waiter id ∷ steps) = id ∷ polls_given steps
@@ -95,15 +95,14 @@ polls_given (answered id found ∷ steps) = polls_given steps
 polls_given (drained ∷ steps) = polls_given steps
 polls_given (closed ∷ steps) = polls_given steps
 
--- after the calls have ended none is opened, and each one that is asked for is refused
+-- after the calls have ended none is opened, and every attempt is refused
 abbrev pub EndedCallsStayEnded : Type 0 → Type 0
 EndedCallsStayEnded T =
     (first middle last : Table T) (steps : List (Step T)) (is_poll : Bool)
     → Closes first middle → DoesAll middle steps last
     → (ids_given steps ≡ []) × (refuses is_poll last ≡ true)
 
--- after the bridge gave notice that it shuts down no poll is opened, and each one that is asked for
--- is refused
+-- after the bridge sent notice that it shuts down no poll is opened, and every attempt is refused
 abbrev pub PollsEndAtShutdown : Type 0 → Type 0
 PollsEndAtShutdown T =
     (first middle last : Table T) (steps : List (Step T))

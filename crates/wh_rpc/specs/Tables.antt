@@ -2,8 +2,8 @@
 use Rattle.std.specs.Prelude.{◌≡◌, ℕ, ◌+◌, ◌-◌, ◌^◌, ◌==◌, ◌||◌, ◌&&◌, Bool, true, false, Option, Some, None, if◌then◌else◌}
 use Rattle.std.specs.Ordering.{nat_cmp, is_eq}
 
--- the id that is given next, whether no call is opened any more, whether no poll is, and what waits
--- for the response of each id
+-- the next id; whether no call can be opened from now on; whether no poll can; and what waits for the response of each
+-- id
 pub record Table (T : Type 0) : Type 0 where
   pub next : ℕ
   pub closed : Bool
@@ -24,11 +24,11 @@ pub record IsFirst {T : Type 0} (t : Table T) : Type 0 where
   pub serving : t.draining ≡ false
   pub empty : (id : ℕ) → t.waiter id ≡ None
 
--- no call is opened: the table is closed, or it drains and the call is a poll, or the ids are spent
+-- no call is opened: the table is closed, or it is draining and the call is a poll, or the ids are used up
 abbrev pub refuses : {T : Type 0} → Bool → Table T → Bool
 refuses is_poll t = t.closed || (is_poll && t.draining) || (t.next == 2 ^ 64 - 1)
 
--- the call gets the next id, which it waits under, and the next id is one more
+-- the call gets the next id and waits under it, and the next id grows by one
 pub record Opens {T : Type 0} (old new : Table T) (is_poll : Bool) (waiter : T) (id : ℕ) : Type 0 where
   pub open_still : refuses is_poll old ≡ false
   pub numbered : id ≡ old.next
@@ -45,11 +45,11 @@ pub record Takes {T : Type 0} (old new : Table T) (id : ℕ) (found : Option T) 
   pub draining : new.draining ≡ old.draining
   pub waits : (other : ℕ) → new.waiter other ≡ (if is_id id other then None else old.waiter other)
 
--- no poll is opened any more, and nothing else changes
+-- no poll can be opened from now on, and nothing else changes
 abbrev pub Drains : {T : Type 0} → Table T → Table T → Type 0
 Drains old new = new ≡ record old { draining = true }
 
--- no call is opened any more, and nothing waits
+-- no call can be opened from now on, and nothing waits
 pub record Closes {T : Type 0} (old new : Table T) : Type 0 where
   pub next : new.next ≡ old.next
   pub closed : new.closed ≡ true

@@ -18,20 +18,21 @@ written (answers id (refused code message)) =
     object (member (codes "error") (error_data code message) (member (codes "id") (number (unsigned id))
     (member (codes "jsonrpc") (string (codes "2.0")) no_members)))
 written shutdown =
-    object (member (codes "jsonrpc") (string (codes "2.0")) (member (codes "method") (string (codes "shutdown")) no_members))
+    object (member (codes "jsonrpc") (string (codes "2.0"))
+    (member (codes "method") (string (codes "shutdown")) no_members))
 
--- the number has 64 bits
+-- the number fits in 64 bits, signed
 abbrev pub IsShort : ℤ → Type 0
 IsShort (pos n) = n < 2 ^ 63
 IsShort (negsuc n) = n < 2 ^ 63
 
--- the code of an error has 64 bits
+-- the code of an error fits in 64 bits
 abbrev pub HasShortCode : Meaning → Type 0
 HasShortCode (answers id (given result)) = ⊤
 HasShortCode (answers id (refused code message)) = IsShort code
 HasShortCode shutdown = ⊤
 
--- a line that reads as something written says what was written
+-- a text that parses as a written response or shutdown means that response or shutdown
 abbrev pub WrittenLinesReadBack : Type 0
 WrittenLinesReadBack =
     (said : Meaning) (bytes : List ℕ) → HasShortCode said → length bytes ≤ longest → IsUtf8 bytes

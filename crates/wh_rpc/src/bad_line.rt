@@ -1,4 +1,4 @@
-//! Why a line of the bridge says nothing.
+//! Why a line of the bridge is malformed.
 
 ghost use Rattle.std.specs.Prelude.{◌≡◌};
 ghost use Rattle.wh_rpc.specs.declared.bad_line.BadLine.TheVariants.{OutOfMemory};
@@ -6,38 +6,38 @@ ghost use Rattle.wh_rpc.specs.declared.bad_line.BadLine.TheVariants.{OutOfMemory
 use std::alloc::AllocError;
 use thiserror::Error;
 
-/// Why a line is neither a response nor a notice. Where several reasons apply, it is the first of
-/// them in this order.
+/// Why a line is neither a response nor a notice. If several reasons apply, it is the first of them
+/// in this order.
 #[derive(Clone, Copy, PartialEq, Eq, Debug, Error)]
 pub enum BadLine {
     /// It has more than `MAX_LINE` bytes.
     #[error("it is too long")]
     TooLong,
-    /// Its bytes are no text in UTF-8.
+    /// Its bytes are not UTF-8.
     #[error("it is no UTF-8")]
     NotUtf8,
-    /// Its text is no JSON (RFC 8259), or nests deeper than 127.
+    /// Its text is not JSON (RFC 8259), or nests deeper than 127.
     #[error("it is no JSON")]
     NotJson,
-    /// Its value is no object.
+    /// Its value is not an object.
     #[error("it is no object")]
     NotObject,
-    /// It has a `method`, which is not `shutdown`.
+    /// It has a `method` other than `shutdown`.
     #[error("it is neither a response nor a shutdown")]
     NotResponse,
     /// It has both a `result` and an `error`.
     #[error("it has both a result and an error")]
     TwoOutcomes,
-    /// Its `id` is absent, or no whole number below 2^64.
+    /// Its `id` is missing, or is not a whole number below 2^64.
     #[error("its id is no number")]
     BadId,
     /// It has neither a `result` nor an `error`.
     #[error("it has neither a result nor an error")]
     NoOutcome,
-    /// Its `error` has no `code` that is a number of 64 bits, or no `message` that is a text.
+    /// Its `error` has no `code` that is a signed 64-bit number, or no `message` that is a string.
     #[error("its error has no code and message")]
     BadError,
-    /// A growth was refused. This can come in place of every reason but the first two.
+    /// An allocation failed. This can replace every reason but the first two.
     #[error("out of memory")]
     OutOfMemory,
 }

@@ -1,4 +1,4 @@
-//! Why a call has no outcome.
+//! Why a call got no response.
 
 ghost use Rattle.std.specs.Prelude.{◌≡◌};
 ghost use Rattle.wh_rpc.specs.declared.call_fault.CallFault.TheVariants.{OutOfMemory};
@@ -6,17 +6,18 @@ ghost use Rattle.wh_rpc.specs.declared.call_fault.CallFault.TheVariants.{OutOfMe
 use std::alloc::AllocError;
 use thiserror::Error;
 
-/// Why a call has no outcome.
+/// Why a call got no response.
 #[derive(Clone, Copy, PartialEq, Eq, Debug, Error)]
 pub enum CallFault {
-    /// There are no more responses: the bridge has closed the connection, or what was written to it
-    /// before was lost. For a poll also: the bridge shuts down.
+    /// No more responses will come: the bridge has closed the connection, or an earlier request
+    /// could not be written. For a poll also: the bridge is shutting down.
     #[error("the bridge has closed")]
     Closed,
-    /// The request could not be written. Part of it may be written, so no later one is.
+    /// The request could not be written. Part of it may have been, so no request is written after
+    /// it.
     #[error("cannot write to the bridge")]
     Output,
-    /// An allocation was refused. No byte of the request was written.
+    /// An allocation failed. No byte of the request was written.
     #[error("out of memory")]
     OutOfMemory,
 }

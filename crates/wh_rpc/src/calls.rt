@@ -1,4 +1,4 @@
-//! Calls by many threads over one connection.
+//! Calls that many threads make over one connection.
 
 use crate::call_fault::CallFault;
 use crate::open_calls::OpenCalls;
@@ -11,14 +11,14 @@ use std::alloc::Global;
 use std::io::Write;
 use std::sync::{Mutex, Wait};
 
-/// What calls go through. Many threads share it.
+/// Makes calls over a connection. Many threads share one.
 pub trait Caller {
-    /// Where calls take memory.
+    /// Returns the allocator that calls use.
     fn allocator(&self) -> Global;
 
-    /// Sends a request, waits for its response, and gives its id and what the response says.
-    /// `Closed` where no response will come, `Output` where the request could not be written,
-    /// `OutOfMemory` where there was no memory for it.
+    /// Sends a request, waits for its response and returns its id and outcome. `Closed` if no
+    /// response will come, `Output` if the request could not be written, `OutOfMemory` if there was
+    /// no memory for it.
     fn call<R: Wait>(
         &self,
         rt: &R,
@@ -26,7 +26,7 @@ pub trait Caller {
         params: Value,
     ) -> Result<(u64, Outcome), CallFault>;
 
-    /// As `call`, but `Closed` also once the bridge gave notice that it shuts down.
+    /// As `call`, but also `Closed` once the bridge has sent notice that it shuts down.
     fn poll<R: Wait>(
         &self,
         rt: &R,
@@ -34,18 +34,19 @@ pub trait Caller {
         params: Value,
     ) -> Result<(u64, Outcome), CallFault>;
 
-    /// Gives a response to the call of its id. False where that call is not open: it was never
-    /// sent, or it has its response, or all calls have ended.
+    /// Delivers a response to the call of its id. Returns false if that call is not open: it was
+    /// never sent, or it has its response, or all calls have ended.
     fn deliver<R: Wait>(&self, rt: &R, response: Response) -> bool;
 
-    /// From now on each new poll is `Closed`. Those that are open wait on for their responses.
+    /// Lets each new poll fail with `Closed` from now on. Open polls keep waiting for their
+    /// responses.
     fn shut_down<R: Wait>(&self, rt: &R);
 
-    /// From now on each call is `Closed`, those that wait and new ones.
+    /// Ends all calls: those that wait and all new ones fail with `Closed`.
     fn close<R: Wait>(&self, rt: &R);
 }
 
-/// The calls over one connection: requests go to the writer, a line each.
+/// The calls over one connection. Each request is one line that the writer is given.
 #[derive(Drop)]
 pub struct Calls<W> {
     alloc: Global,
@@ -54,7 +55,7 @@ pub struct Calls<W> {
 }
 
 impl<W: Write + Drop> Calls<W> {
-    /// No call was sent.
+    /// Returns the calls over a new connection; none is open.
     pub fn new(alloc: Global, out: W) -> Calls<W> {
         Calls {
             alloc,
@@ -63,7 +64,7 @@ impl<W: Write + Drop> Calls<W> {
         }
     }
 
-    /// Takes a call out that was not sent.
+    /// Removes an open call that was not sent.
     fn give_up<R: Wait>(&self, rt: &R, id: u64) {
         drop(self.open.lock(rt).take(id));
     }

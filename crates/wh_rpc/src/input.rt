@@ -1,4 +1,4 @@
-//! The lines of an input.
+//! Reads the lines of an input.
 
 ghost use Rattle.std.specs.Prelude.{◌≡◌, ◌≤◌, ◌==◌, ◌||◌, IfOk, IfSome, OnOk, Some};
 ghost use Rattle.std.specs.Prelude.{length, min, option_map, take};
@@ -12,14 +12,15 @@ use std::alloc::Global;
 use std::io;
 use std::io::{BufRead, ErrorKind};
 
-/// The first bytes, at most so many.
+/// Returns the first bytes, at most `room` of them.
 fn at_most(bytes: &[u8], room: usize) -> &[u8]
     ensures { result.now ≡ take (min room (length bytes.now)) bytes.now }
 {
     &bytes[..room.min(bytes.len())]
 }
 
-/// How many bytes there are up to and with the first line end, or in all, and whether there is one.
+/// Returns how many bytes there are up to and including the first line feed, or in all if there is
+/// none, and whether there is one.
 fn line_length(bytes: &[u8]) -> (usize, bool)
     ensures within { result.0 ≤ length bytes.now }
     ensures through { take result.0 bytes.now ≡ take_through 10 bytes.now }
@@ -35,17 +36,17 @@ fn line_length(bytes: &[u8]) -> (usize, bool)
     (count, false)
 }
 
-/// Whether a line is read after a part of so many bytes: with its end, or none, or all that there was
-/// room for.
+/// Returns whether a line is complete after a part of `count` bytes: the part ends it, or is empty,
+/// or fills the room that was left.
 fn is_read(has_end: bool, count: usize, room: usize) -> bool
     ensures { result ≡ (has_end || ((count == 0) || (count == room))) }
 {
     has_end || count == 0 || count == room
 }
 
-/// Appends to the beginning of a line what the input shows of it, but no more than `MAX_LINE + 1`
-/// bytes in all, and takes these out of the input. Whether the line is read then: it has its end, or
-/// so many bytes, or the input has ended. After an error the line may lack its rest.
+/// Moves bytes that the input has buffered to the end of `line`, which grows to at most `MAX_LINE +
+/// 1` bytes. Returns whether the line is complete: it has its end, or that many bytes, or the input
+/// has ended. After an error the rest of the line may be missing.
 fn read_on<B: BufRead>(input: &mut B, line: &mut Vec<u8>) -> io::Result<bool>
     requires { length line.old.items ≤ longest }
     ensures { IfOk result
@@ -63,9 +64,8 @@ fn read_on<B: BufRead>(input: &mut B, line: &mut Vec<u8>) -> io::Result<bool>
     Ok(is_read(has_end, count, room))
 }
 
-/// Takes the bytes of the next line out of the input, up to and with its end, but at most
-/// `MAX_LINE + 1` of them. There are none at the end of the input. After an error some of the input
-/// may be lost.
+/// Takes the next line out of the input, up to and including its end, but at most `MAX_LINE + 1`
+/// bytes of it. At the end of the input it is empty. After an error some of the input may be lost.
 fn read_part<B: BufRead>(alloc: Global, input: &mut B) -> io::Result<Vec<u8>>
     ensures bytes { IfOk result (λ line. IfSome (B.remaining input.old) (λ bytes. line.items ≡ read_of bytes)) }
     ensures left { IfOk result (λ line. Consumes (B.remaining input.old) (B.remaining input.new) line.items) }
@@ -79,7 +79,7 @@ fn read_part<B: BufRead>(alloc: Global, input: &mut B) -> io::Result<Vec<u8>>
     Err(io::Error::from(ErrorKind::TimedOut))
 }
 
-/// The line without its end, if it has one.
+/// Returns the line without its line feed, if it has one.
 fn without_end(mut line: Vec<u8>) -> Vec<u8>
     ensures { result.items ≡ strip_last 10 line.items }
 {
@@ -89,9 +89,9 @@ fn without_end(mut line: Vec<u8>) -> Vec<u8>
     line
 }
 
-/// Takes the next line out of the input, without its end, or gives `None` at the end of the input. Of
-/// a line with more than `MAX_LINE` bytes it gives the first `MAX_LINE + 1`, and the rest of it is
-/// left. After an error some of the input may be lost.
+/// Takes the next line out of the input and returns it without its end, or `None` at the end of the
+/// input. Of a line of more than `MAX_LINE` bytes it returns the first `MAX_LINE + 1` and leaves
+/// the rest in the input. After an error some of the input may be lost.
 pub(crate) fn next_line<B: BufRead>(alloc: Global, input: &mut B) -> io::Result<Option<Vec<u8>>>
     ensures line { IfOk result (λ line. IfSome (B.remaining input.old)
         (λ bytes. option_map (λ line. line.items) line ≡ next_of bytes)) }

@@ -1,8 +1,8 @@
-//! Calls of JSON-RPC 2.0 by many threads over one connection, one object a line.
+//! JSON-RPC 2.0 calls that many threads make over one connection, one object a line.
 //!
 //! The host sends requests and the bridge answers them, in any order. A response goes to the call
-//! of its id, once. The bridge can give notice that it shuts down, and its end is the end of all
-//! calls.
+//! of its id, once. The bridge can send notice that it shuts down, and when the connection closes
+//! all calls end.
 #![tactic(auto)]
 
 mod bad_line;

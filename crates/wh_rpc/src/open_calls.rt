@@ -8,7 +8,7 @@ use crate::call_fault::CallFault;
 use std::alloc::Global;
 use std::collections::BTreeMap;
 
-/// The open calls: what waits for the response of each, by its id.
+/// The open calls: what waits for each response, by the id of the call.
 #[derive(Drop)]
 pub(crate) struct OpenCalls<T> {
     next: u64,
@@ -18,7 +18,7 @@ pub(crate) struct OpenCalls<T> {
 }
 
 impl<T: Drop> OpenCalls<T> {
-    /// No call is open, and 1 is the first id.
+    /// Returns a table without calls, whose first id is 1.
     pub(crate) fn new(alloc: Global) -> OpenCalls<T>
         ensures { IsFirst (table_of result) }
     {
@@ -30,9 +30,9 @@ impl<T: Drop> OpenCalls<T> {
         }
     }
 
-    /// Opens a call under the next id, which no call had. `Closed` where the table is closed, where
-    /// it drains and the call is a poll, and after 2^64 - 2 calls; `OutOfMemory` where there was no
-    /// memory. After an error the table is as it was.
+    /// Opens a call under the next id, which no call had, and returns the id. `Closed` if the table
+    /// is closed, if it is draining and the call is a poll, and after 2^64 - 2 calls; `OutOfMemory`
+    /// if there was no memory. After an error the table is unchanged.
     pub(crate) fn open(&mut self, is_poll: bool, waiter: T) -> Result<u64, CallFault>
         ensures opens { IfOk result (Opens (table_of self.old) (table_of self.new) is_poll waiter) }
         ensures refuses { (refuses is_poll (table_of self.old) ≡ true) ↔ (result ≡ Err CallFault.Closed) }
@@ -49,21 +49,21 @@ impl<T: Drop> OpenCalls<T> {
         Ok(id)
     }
 
-    /// Takes out what waits under an id, if it is open.
+    /// Removes the call of an id and returns what waits for its response, if it is open.
     pub(crate) fn take(&mut self, id: u64) -> Option<T>
         ensures { Takes (table_of self.old) (table_of self.new) id result }
     {
         self.waiting.remove(&id)
     }
 
-    /// Polls are opened no more.
+    /// Lets no poll be opened from now on.
     pub(crate) fn drain(&mut self)
         ensures { Drains (table_of self.old) (table_of self.new) }
     {
         self.draining = true;
     }
 
-    /// Takes out all calls, and none is opened any more.
+    /// Removes all calls and lets none be opened from now on.
     pub(crate) fn close(&mut self)
         ensures { Closes (table_of self.old) (table_of self.new) }
     {

@@ -1,4 +1,4 @@
-//! Lines, written one after another.
+//! Writes lines, one after another.
 
 ghost use Rattle.std.specs.Prelude.{◌≡◌, ◌++◌, ◌∷◌, [], OnOk, OnErr, IsErr, true, false, string_bytes};
 ghost use Rattle.std.specs.Io.KnownBytes.{Appends};
@@ -6,7 +6,8 @@ ghost use Rattle.std.specs.Io.KnownBytes.{Appends};
 use std::io;
 use std::io::Write;
 
-/// Writes a line and its end, and flushes. After an error part of the line may be written.
+/// Writes a line and a line feed, and flushes. After an error part of the line may have been
+/// written.
 fn write_line<W: Write>(out: &mut W, line: &str) -> io::Result<()>
     ensures { OnOk result (Appends (W.contents out.old) (W.contents out.new) (line.now ++ 10 ∷ [])) }
 {
@@ -15,7 +16,7 @@ fn write_line<W: Write>(out: &mut W, line: &str) -> io::Result<()>
     out.flush()
 }
 
-/// A writer of lines, which writes none after one that could not be written.
+/// Writes lines, and none after one that could not be written.
 #[derive(Drop)]
 pub(crate) struct Output<W> {
     out: W,
@@ -23,15 +24,15 @@ pub(crate) struct Output<W> {
 }
 
 impl<W: Write> Output<W> {
-    /// Lines for this writer.
+    /// Returns an output that writes to `out`.
     pub(crate) fn new(out: W) -> Output<W>
         ensures { (result.out ≡ out) × (result.failed ≡ false) }
     {
         Output { out, failed: false }
     }
 
-    /// Writes a line with its end, and flushes. False where it could not be written, now or before:
-    /// part of the line may be written then, and nothing is written from then on.
+    /// Writes a line and a line feed, and flushes. Returns false if the line, or one before it,
+    /// could not be written: part of it may have been, and nothing is written from then on.
     pub(crate) fn put(&mut self, line: &str) -> bool
         ensures whole { result ≡ true
             → Appends (W.contents self.old.out) (W.contents self.new.out) (line.now ++ 10 ∷ []) }

@@ -1,4 +1,4 @@
-//! The reading of what the bridge writes.
+//! Reads the lines that the bridge writes.
 
 ghost use Rattle.std.specs.Prelude.{◌≡◌, true, IfSome, if◌then◌else◌};
 ghost use Rattle.wh_rpc.specs.Private.Losses.{EndsAtLoss, IsFollowed, may_be_response};
@@ -13,25 +13,25 @@ use std::io::BufRead;
 use std::sync::Wait;
 use thiserror::Error;
 
-/// How many lines that reach no call are reported one by one.
+/// How many skipped lines are reported one by one.
 const MOST_REPORTED: u64 = 100;
 
-/// Why a line reaches no call, and what follows.
+/// Why a line is skipped, or ends the connection.
 #[derive(Debug, Drop, Error)]
 enum Unused {
-    /// It says nothing.
+    /// It is malformed.
     #[error("is passed over: {0}")]
     Unread(BadLine),
-    /// No call of its id is open.
+    /// It is a response, and no call of its id is open.
     #[error("is passed over: no call waits for id {id}")]
     NotOpen { id: u64 },
-    /// It can't be read, and may have been a response.
+    /// It is malformed, and may have been a response.
     #[error("ends the connection: {0}")]
     Lost(BadLine),
 }
 
-/// Whether a line that says nothing may have been a response, whose call would wait for ever: it is
-/// too long, there was no memory for it, or it begins as an object of JSON and can't be read.
+/// Returns whether a malformed line may have been a response, whose call would then wait forever:
+/// it is too long, there was no memory for it, or it begins with `{` and is not UTF-8 or not JSON.
 fn may_be_response(fault: BadLine, bytes: &[u8]) -> bool
     ensures { result ≡ may_be_response fault bytes.now }
 {
@@ -47,7 +47,7 @@ fn may_be_response(fault: BadLine, bytes: &[u8]) -> bool
     }
 }
 
-/// Does what a line says.
+/// Delivers a response, or lets polls fail after a shutdown.
 fn act_on<R: Wait, C: Caller>(rt: &R, calls: &C, line: Line) -> Result<(), Unused> {
     match line {
         Line::Shutdown => {
@@ -65,7 +65,7 @@ fn act_on<R: Wait, C: Caller>(rt: &R, calls: &C, line: Line) -> Result<(), Unuse
     }
 }
 
-/// Why a line that says nothing is not used.
+/// Returns whether a malformed line is skipped or ends the connection.
 fn unusable(fault: BadLine, bytes: &[u8]) -> Unused
     ensures { result ≡ (if may_be_response fault bytes.now then Unused.Lost fault else Unused.Unread fault) }
 {
@@ -91,14 +91,15 @@ fn take_line<R: Wait, C: Caller>(
     }
 }
 
-/// How many lines were read, and how many of them reached no call.
+/// How many lines were read, and how many of them were not used.
 #[derive(Drop)]
 struct Counts {
     lines: u64,
     unused: u64,
 }
 
-/// Reports why a line reaches no call, unless many did, and counts it.
+/// Counts a line that is not used, and reports why on standard error, if fewer than `MOST_REPORTED`
+/// were reported before.
 fn report<R: Eprint, N: Display>(rt: &R, name: &N, counts: &mut Counts, why: &Unused) {
     if counts.unused < MOST_REPORTED {
         let number = counts.lines;
@@ -107,7 +108,7 @@ fn report<R: Eprint, N: Display>(rt: &R, name: &N, counts: &mut Counts, why: &Un
     counts.unused = counts.unused.saturating_add(1);
 }
 
-/// Reports how many lines were passed over that were not reported one by one.
+/// Reports how many more lines were not used than were reported one by one.
 fn report_rest<R: Eprint, N: Display>(rt: &R, name: &N, counts: &Counts) {
     if MOST_REPORTED < counts.unused {
         let more = counts.unused - MOST_REPORTED;
@@ -115,8 +116,8 @@ fn report_rest<R: Eprint, N: Display>(rt: &R, name: &N, counts: &Counts) {
     }
 }
 
-/// Takes the next line of the input. Whether another one may follow: not at the end of the input, nor
-/// after a line that may have been a response and is lost.
+/// Reads the next line of the input and does what it says. Returns whether to go on: not at the end
+/// of the input, nor after a malformed line that may have been a response.
 fn take_next<R: Wait + Eprint, N: Display, B: BufRead, C: Caller>(
     rt: &R,
     alloc: Global,
@@ -140,14 +141,17 @@ fn take_next<R: Wait + Eprint, N: Display, B: BufRead, C: Caller>(
     }
 }
 
-/// Reads lines to the end of the input, and gives each response to the call of its id. A line that
-/// says nothing, or whose call is not open, changes nothing: it is reported on standard error after
-/// the name, the first hundred of them each with its number and the reason, and at the end how many
-/// more there were. Once the bridge gives notice that it shuts down, new polls are `Closed`. At the
-/// end of the input, and where it cannot be read, each call is `Closed`, those that wait and new
-/// ones. So it is after a line that may have been a response and is lost, which is reported too: one
-/// of more than `MAX_LINE` bytes, one for which there was no memory, one that begins with `{` and is
-/// no JSON. Nothing after such a line is read.
+/// Reads lines to the end of the input and delivers each response to the call of its id.
+///
+/// A line that is malformed, or whose call is not open, changes nothing. It is reported on standard
+/// error after the name: the first hundred of them each with its number and the reason, and at the
+/// end how many more there were. Once the bridge sends notice that it shuts down, new polls fail
+/// with `Closed`.
+///
+/// At the end of the input, and if it cannot be read, all calls end: those that wait and all new
+/// ones fail with `Closed`. So they do after a malformed line that may have been a response, which
+/// is reported too: one of more than `MAX_LINE` bytes, one for which there was no memory, one that
+/// begins with `{` and is not JSON. Nothing after such a line is read.
 pub fn read_lines<R: Wait + Eprint, N: Display, B: BufRead + Drop, C: Caller>(
     rt: &R,
     alloc: Global,

@@ -1,4 +1,4 @@
-//! The text of a request.
+//! Writes requests.
 
 ghost use Rattle.std.specs.Prelude.{◌≡◌, ◌<◌, Some, false, IfOk, string_bytes};
 ghost use Rattle.serde_json.specs.Data.{depth};
@@ -10,16 +10,16 @@ ghost use Rattle.wh_rpc.specs.Requests.{request_data, IsOneLine};
 use serde_json::{Value, json};
 use std::alloc::{AllocError, Global};
 
-/// A request as a value.
+/// Returns a request as a JSON value.
 fn request_value(alloc: Global, id: u64, method: &str, params: Value) -> Result<Value, AllocError>
     ensures { IfOk result (λ value. view value ≡ request_data id method.now (view params)) }
 {
     json!(in alloc; {"id": id, "jsonrpc": "2.0", "method": method, "params": params})
 }
 
-/// The text of a request, without a line end. It is one line: no byte in it is below 32. Of parameters
-/// that hold no float it is compact. It reads as the request, unless the parameters nest deeper than
-/// 126. An error where there was no memory for it.
+/// Returns the text of a request, without a line feed. It is one line: no byte in it is below 32.
+/// If the parameters hold no float it is compact. It reads back as the request, unless the
+/// parameters nest deeper than 126. An error if there was no memory for it.
 pub fn request_text(
     alloc: Global,
     id: u64,

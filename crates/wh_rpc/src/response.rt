@@ -1,4 +1,4 @@
-//! What a line of the bridge says.
+//! Reads a line of the bridge.
 
 ghost use Rattle.std.specs.Prelude.{◌≡◌, ◌≢◌, codes, option_map, IfOk, IfErr, Some, None, is_some};
 ghost use Rattle.std.specs.Option.{ok_or};
@@ -14,42 +14,42 @@ use serde_json::Value;
 use serde_json::error::Category;
 use std::alloc::Global;
 
-/// The most bytes of a line: 128 MiB.
+/// The maximum length of a line in bytes: 128 MiB.
 pub const MAX_LINE: usize = 134_217_728;
 
-/// What the bridge says to a call.
+/// How the bridge answers a call.
 #[derive(Debug, Drop)]
 pub enum Outcome {
-    /// The call was done, with this result.
+    /// The call succeeded, with this result.
     Given(Value),
-    /// The call was refused.
+    /// The call failed.
     Refused {
-        /// Why, as a number.
+        /// The error code.
         code: i64,
-        /// Why, in words.
+        /// The error message.
         message: String,
     },
 }
 
-/// What the bridge says to the call of this id.
+/// The response to a call.
 #[derive(Debug, Drop)]
 pub struct Response {
     /// The id of the call.
     pub id: u64,
-    /// What is said to it.
+    /// How the bridge answers it.
     pub outcome: Outcome,
 }
 
-/// What a line says.
+/// What a line of the bridge says.
 #[derive(Debug, Drop)]
 pub enum Line {
-    /// The answer to a call.
+    /// The response to a call.
     Response(Response),
     /// The bridge shuts down.
     Shutdown,
 }
 
-/// The refusal that an error is.
+/// Reads the member `error`.
 #[tactic(auto, unfolding(crate::specs::Responses::refusal_of))]
 fn refusal_in(alloc: Global, error: &Value) -> Result<Outcome, BadLine>
     ensures { Gives answer_seen result (refusal_of (view error.now)) }
@@ -64,7 +64,7 @@ fn refusal_in(alloc: Global, error: &Value) -> Result<Outcome, BadLine>
     Ok(Outcome::Refused { code, message })
 }
 
-/// The member `result`, if there is one.
+/// Returns the member `result`, if there is one.
 fn result_in(value: Value) -> Option<Value>
     ensures { option_map view result ≡ get (codes "result") (view value) }
 {
@@ -74,7 +74,7 @@ fn result_in(value: Value) -> Option<Value>
     }
 }
 
-/// The outcome that an object says: its error, or else its result.
+/// Reads the outcome of a response: its error, or else its result.
 #[tactic(auto, unfolding(crate::specs::Responses::outcome_of))]
 fn outcome_in(alloc: Global, value: Value) -> Result<Outcome, BadLine>
     ensures { Gives answer_seen result (outcome_of (view value)) }
@@ -88,14 +88,14 @@ fn outcome_in(alloc: Global, value: Value) -> Result<Outcome, BadLine>
     }
 }
 
-/// Whether an object has both a result and an error.
+/// Returns whether an object has both a result and an error.
 fn has_two(value: &Value) -> bool
     ensures { result ≡ has_two (view value.now) }
 {
     value.get("result").is_some() && value.get("error").is_some()
 }
 
-/// The id of an object.
+/// Reads the id of a response.
 fn id_in(value: &Value) -> Result<u64, BadLine>
     ensures { Gives (λ id. id) result (ok_or (id_of (view value.now)) BadLine.BadId) }
 {
@@ -105,7 +105,7 @@ fn id_in(value: &Value) -> Result<u64, BadLine>
     }
 }
 
-/// The response that an object is.
+/// Reads an object as a response.
 #[tactic(auto, unfolding(crate::specs::Responses::response_of))]
 fn response_in(alloc: Global, value: Value) -> Result<Response, BadLine>
     ensures { Gives response_seen result (response_of (view value)) }
@@ -118,7 +118,7 @@ fn response_in(alloc: Global, value: Value) -> Result<Response, BadLine>
     Ok(Response { id, outcome })
 }
 
-/// The notice that a method's name is.
+/// Reads a notice, by the name of its method.
 fn notice_in(name: Option<&str>) -> Result<Line, BadLine>
     ensures { Gives line_seen result (notice_by (option_map (λ name. name.now) name.entry)) }
 {
@@ -128,7 +128,7 @@ fn notice_in(name: Option<&str>) -> Result<Line, BadLine>
     }
 }
 
-/// What a value says.
+/// Reads the value of a line.
 #[tactic(auto, unfolding(crate::specs::Responses::said_by))]
 fn line_in(alloc: Global, value: Value) -> Result<Line, BadLine>
     ensures { Gives line_seen result (said_by (view value)) }
@@ -143,7 +143,7 @@ fn line_in(alloc: Global, value: Value) -> Result<Line, BadLine>
     Ok(Line::Response(response))
 }
 
-/// The text that bytes are.
+/// Returns bytes as text.
 fn text_in(bytes: &[u8]) -> Result<&str, BadLine>
     ensures { Gives (λ text. text.now) result (text_of bytes.now) }
 {
@@ -153,7 +153,7 @@ fn text_in(bytes: &[u8]) -> Result<&str, BadLine>
     }
 }
 
-/// The value of a text.
+/// Parses a text as JSON.
 fn value_in(alloc: Global, text: &str) -> Result<Value, BadLine>
     ensures { Gives view result (ok_or (read text.now) BadLine.NotJson) }
 {
@@ -166,8 +166,8 @@ fn value_in(alloc: Global, text: &str) -> Result<Value, BadLine>
     }
 }
 
-/// Reads a line, given without its end. It gives what the line says, or the first reason why it
-/// says nothing. `OutOfMemory` can come in place of both, but of the first two reasons.
+/// Reads a line, which is given without its end. Returns what the line says, or the first reason
+/// why it is malformed. `OutOfMemory` can replace both, except the first two reasons.
 #[tactic(auto, unfolding(crate::specs::Responses::meaning))]
 pub fn read_line(alloc: Global, bytes: &[u8]) -> Result<Line, BadLine>
     ensures { Gives line_seen result (meaning bytes.now) }

@@ -1,4 +1,4 @@
--- Lines that may have been responses, and are lost.
+-- Malformed lines that may have been responses, and so are lost.
 use Rattle.std.specs.Prelude.{◌≡◌, ◌==◌, ℕ, List, [], ◌∷◌, Bool, true, false, Option, Some, Result, Ok, Err, ⊤}
 use Rattle.wh_rpc.specs.declared.bad_line.BadLine.{BadLine}
 use Rattle.wh_rpc.specs.declared.bad_line.BadLine.TheVariants as bad
@@ -7,12 +7,12 @@ use Rattle.wh_rpc.specs.declared.reader.Unused.TheVariants.{Unread, NotOpen, Los
 use Rattle.wh_rpc.specs.Responses.{Meaning, meaning}
 use Rattle.wh_rpc.specs.Private.Input.{next_of, after_read}
 
--- a text begins as an object of JSON
+-- the text begins as a JSON object
 abbrev pub begins_object : List ℕ → Bool
 begins_object [] = false
 begins_object (byte ∷ bytes) = byte == 123
 
--- a line that says nothing for this reason may have been a response
+-- a line that is malformed for this reason may have been a response
 abbrev pub may_be_response : BadLine → List ℕ → Bool
 may_be_response bad.TooLong bytes = true
 may_be_response bad.NotUtf8 bytes = begins_object bytes
@@ -25,7 +25,7 @@ may_be_response bad.NoOutcome bytes = false
 may_be_response bad.BadError bytes = false
 may_be_response bad.OutOfMemory bytes = true
 
--- a line that means this may have been a response, and is lost
+-- by what was read from it, the line may have been a response, and is lost
 abbrev pub lost_by : Result Meaning BadLine → List ℕ → Bool
 lost_by (Ok said) bytes = false
 lost_by (Err fault) bytes = may_be_response fault bytes
@@ -40,11 +40,11 @@ Ends (Err (Unread fault)) = ⊥
 Ends (Err (NotOpen id)) = ⊥
 Ends (Err (Lost fault)) = ⊤
 
--- the connection ends at a line that is lost
+-- the connection ends after a line that is lost
 abbrev pub EndsAtLoss : List ℕ → Result Unit Unused → Type 0
 EndsAtLoss bytes result = is_lost bytes ≡ true → Ends result
 
--- a line of the input was read, which is not lost, and what is left begins after it
+-- the next line of the input is not lost, and what remains begins after it
 pub record IsFollowed (bytes : List ℕ) (rest : Option (List ℕ)) : Type 0 where
   pub line : List ℕ
   pub next : next_of bytes ≡ Some line

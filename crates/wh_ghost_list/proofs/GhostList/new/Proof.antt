@@ -1,4 +1,4 @@
--- `new` picks the empty list for the items of a value of no bytes.
+-- `new`: the items, which take no memory, are the empty list.
 use Rattle.std.proofs.Common.{[], ◌∷◌, refl}
 use seplogic.Ra.Ura.{Ura}
 use mir.Syntax.{Fn, a_type}

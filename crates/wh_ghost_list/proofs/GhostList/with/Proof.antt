@@ -1,4 +1,4 @@
--- `with` picks, for the items of a value of no bytes, those of the list that it is shown and one more.
+-- `with`: the items, which take no memory, are those of the given list and the value.
 use Rattle.std.proofs.Common.{List, [], ◌∷◌, ◌++◌, refl}
 use seplogic.Ra.Ura.{Ura}
 use mir.Syntax.{Fn, a_type}
