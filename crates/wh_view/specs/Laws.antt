@@ -1,4 +1,4 @@
--- What holds of the view of a history that the reader reads.
+-- What holds of the view of a history that the reader accepts.
 use Rattle.std.specs.Prelude.{◌≡◌, ℕ, List, map, Some, None, Ok}
 use Rattle.wh_events.specs.declared.event.Event.{Event}
 use Rattle.wh_json.specs.Events.{history}

@@ -1,4 +1,4 @@
--- What can be asked of a view and its events.
+-- Parts of a view and of its events.
 use Rattle.std.specs.Prelude.{ℕ, ◌-◌, ◌&&◌, List, [], Bool, true, false, Option, Some, None, slice_get, is_none, option_and_then, unwrap_or}
 use Rattle.wh_events.specs.declared.kind.EventKind.{EventKind}
 use Rattle.wh_events.specs.declared.kind.EventKind.TheVariants as kinds
@@ -9,7 +9,7 @@ use Rattle.wh_view.specs.declared.view.ViewedEvent.{ViewedEvent}
 use Rattle.wh_view.specs.declared.view.ViewedThing.{ViewedThing}
 use Rattle.wh_view.specs.Parts.{part_of}
 
--- the id that an event of the kind gives to what it opens, or the name of a signal or a marker
+-- the id under which an event of the kind opens something, or the name of a signal or a marker
 abbrev pub id_in : EventKind → List ℕ
 id_in (kinds.ActivityTaskScheduled id _) = id
 id_in (kinds.TimerStarted id) = id
@@ -20,7 +20,7 @@ id_in (kinds.MarkerRecorded change_id _) = change_id
 id_in (kinds.WorkflowExecutionSignaled name _) = name
 id_in _ = []
 
--- the type that an event of the kind names, or the signal that it sends
+-- the type that an event of the kind names, or the name of the signal that it sends
 abbrev pub type_in : EventKind → List ℕ
 type_in (kinds.WorkflowExecutionStarted workflow _) = workflow
 type_in (kinds.StartChildWorkflowExecutionInitiated _ workflow) = workflow
@@ -28,7 +28,7 @@ type_in (kinds.ActivityTaskScheduled _ activity) = activity
 type_in (kinds.SignalExternalWorkflowExecutionInitiated _ signal) = signal
 type_in _ = []
 
--- those of an event, empty where its kind is not known
+-- the id and the type of an event, empty if its kind is not known
 abbrev pub id_of_kind : Option EventKind → List ℕ
 id_of_kind None = []
 id_of_kind (Some kind) = id_in kind
@@ -47,7 +47,7 @@ event_type event = type_of_kind event.read.kind
 abbrev pub index_of : ViewedEvent → ℕ
 index_of event = event.place - 1
 
--- what there is, if there is one
+-- the inner value, if there is one
 abbrev pub flattened : Option (Option ℕ) → Option ℕ
 flattened None = None
 flattened (Some o) = o
@@ -61,11 +61,11 @@ abbrev pub opened_by : List ViewedEvent → ViewedEvent → Option ViewedThing �
 opened_by events event None = event
 opened_by events event (Some thing) = unwrap_or (slice_get events thing.opened) event
 
--- the event that opened the thing of an event; the event itself where there is none
+-- the event that opened the thing of an event; the event itself if it has no thing
 abbrev pub opening_of : View → ViewedEvent → ViewedEvent
 opening_of view event = opened_by view.events event (thing_of view event)
 
--- the task in which an event stands
+-- the number of the task to which an event belongs
 abbrev pub task_of : View → ViewedEvent → ℕ
 task_of view event = unwrap_or (slice_get view.tasks (index_of event)) 0
 
@@ -74,6 +74,6 @@ abbrev pub refers : Part → Bool
 refers (parts.Refers _ _ _) = true
 refers _ = false
 
--- an event refers to a thing that none of the events before it opened
+-- an event refers to a thing that no event before it opened
 abbrev pub lacks_thing : View → ViewedEvent → Bool
 lacks_thing view event = refers (part_of event.read.kind) && is_none (thing_of view event)

@@ -1,4 +1,4 @@
--- What an event is to the things of its history, and to its workflow tasks.
+-- How an event changes the things of its history, and how it concerns its workflow tasks.
 use Rattle.std.specs.Prelude.{ℕ, ◌==◌, Bool, true, false, Option, Some, None}
 use Rattle.wh_events.specs.declared.place.Thing.{Thing}
 use Rattle.wh_events.specs.declared.place.Thing.TheVariants as things
@@ -17,7 +17,7 @@ use Rattle.wh_view.specs.declared.parts.Part.TheVariants as parts
 use Rattle.wh_view.specs.declared.parts.Word.{Word}
 use Rattle.wh_view.specs.declared.parts.Word.TheVariants as words
 
--- what is opened under an id
+-- the kind of thing that is opened under an id
 abbrev pub kind_of_thing : Thing → ThingKind
 kind_of_thing things.Activity = kinds.Activity
 kind_of_thing things.Timer = kinds.Timer
@@ -31,19 +31,19 @@ plain_part (WorkflowExecutionSignaled _ _) = parts.Happens kinds.Signal
 plain_part (MarkerRecorded _ _) = parts.Happens kinds.Marker
 plain_part _ = parts.Other
 
--- the part of an event by its role
+-- the part of an event, by its role
 abbrev pub part_by : Role → EventKind → Part
 part_by (Opens thing id) kind = parts.Opens (kind_of_thing thing)
 part_by (Refers thing number effect) kind = parts.Refers (kind_of_thing thing) number effect
 part_by (CancelsChild workflow_id) kind = parts.Opens kinds.CancelRequest
 part_by Plain kind = plain_part kind
 
--- the part of an event, if its type is read
+-- the part of an event, if its type is supported
 abbrev pub part_of : Option EventKind → Part
 part_of None = parts.Other
 part_of (Some kind) = part_by (role_of kind) kind
 
--- a command gave the event, as far as is known
+-- the event records a command, as far as is known
 abbrev pub commanded_kind : Option EventKind → Bool
 commanded_kind None = false
 commanded_kind (Some kind) = is_commanded_class (class_of kind)
@@ -51,7 +51,7 @@ commanded_kind (Some kind) = is_commanded_class (class_of kind)
 unfoldable pub is_commanded : ViewedEvent → Bool
 is_commanded event = commanded_kind event.read.kind
 
--- a workflow task is completed with the event
+-- the event completes a workflow task
 abbrev pub completing_kind : Option EventKind → Bool
 completing_kind None = false
 completing_kind (Some kind) = is_task_completed_kind kind
@@ -59,7 +59,7 @@ completing_kind (Some kind) = is_task_completed_kind kind
 unfoldable pub completes_task : ViewedEvent → Bool
 completes_task event = completing_kind event.read.kind
 
--- what an event of the class is to a workflow, but for one that completes a task
+-- how an event of the class concerns the workflow, the completion of a task aside
 abbrev pub class_word : Class → Word
 class_word Start = words.Told
 class_word Outside = words.Told
@@ -68,13 +68,13 @@ class_word Task = words.Other
 class_word Inert = words.Other
 class_word Close = words.Other
 
--- what an event of the kind is to a workflow: that a worker has taken an activity gives no job
+-- how an event of the kind concerns the workflow: the start of an activity by a worker is no activation job
 abbrev pub word_of_kind : EventKind → Word
 word_of_kind WorkflowTaskCompleted = words.Completes
 word_of_kind (ActivityTaskStarted _) = words.Other
 word_of_kind kind = class_word (class_of kind)
 
--- what an event is to its workflow, as far as its type is read
+-- how an event concerns its workflow, if its type is supported
 abbrev pub word_by : Option EventKind → Word
 word_by None = words.Other
 word_by (Some kind) = word_of_kind kind

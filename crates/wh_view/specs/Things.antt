@@ -15,17 +15,17 @@ abbrev pub opened_thing : ThingKind → Option ℕ → ℕ → ViewedThing
 opened_thing kind number at =
     record { kind = kind; number = number; opened = at; started = None; cancelling = None; ended = None }
 
--- a thing that is over with the event that opened it
+-- a thing that the event at the index both opens and ends
 abbrev pub lone_thing : ThingKind → Option ℕ → ℕ → ViewedThing
 lone_thing kind number at = record (opened_thing kind number at) { ended = Some at }
 
--- the thing after the event at the index refers to it; only the first event of each effect is kept
+-- the thing as it is after the event at the index referred to it; only the first event of each effect is kept
 abbrev pub with_effect : Effect → ℕ → ViewedThing → ViewedThing
 with_effect Starts at thing = record thing { started = or_else thing.started (Some at) }
 with_effect Cancels at thing = record thing { cancelling = or_else thing.cancelling (Some at) }
 with_effect Closes at thing = record thing { ended = or_else thing.ended (Some at) }
 
--- the number is that
+-- there is a number, and it is that one
 abbrev pub is_number : ℕ → Option ℕ → Bool
 is_number number None = false
 is_number number (Some other) = other == number
@@ -41,27 +41,27 @@ abbrev pub is_of_kind : ThingKind → Option ViewedThing → Bool
 is_of_kind kind None = false
 is_of_kind kind (Some thing) = same_kind kind thing.kind
 
--- the index, if the thing there is of the kind
+-- the index, if the thing at it is of the kind
 abbrev pub if_of_kind : ThingKind → List ViewedThing → ℕ → Option ℕ
 if_of_kind kind things index = if is_of_kind kind (slice_get things index) then Some index else None
 
--- the thing that a reference names: the last one that an event of the number opened, if it is of the kind
+-- the thing to which a reference points: the last one that an event of the number opened, if it is of the kind
 abbrev pub found : ThingKind → ℕ → List ViewedThing → Option ℕ
 found kind number things = option_and_then (if_of_kind kind things) (last_from number 0 things)
 
--- what is gathered of the first events of a history: the things, and for each event its thing
+-- the things that the first events of a history opened, and for each of these events the index of its thing
 pub record Gathered : Type 0 where
   pub things : List ViewedThing
   pub links : List (Option ℕ)
 
--- one more thing
+-- one more thing, and the event that opened it
 abbrev pub with_thing : ViewedThing → Gathered → Gathered
 with_thing thing g = record {
   things = g.things ++ thing ∷ [];
   links = g.links ++ Some (length g.things) ∷ [];
 }
 
--- the things with this one at the index
+-- the things, with the effect of an event on the one at the index
 abbrev pub changed_at : Effect → ℕ → ℕ → List ViewedThing → Option ViewedThing → List ViewedThing
 changed_at effect at index things None = things
 changed_at effect at index things (Some thing) = slice_set things index (with_effect effect at thing)
@@ -74,7 +74,7 @@ with_reference effect at (Some index) g = record {
   links = g.links ++ Some index ∷ [];
 }
 
--- one more event at an index, of a number and a part
+-- one more event at an index, with its number and its part
 abbrev pub with_part : ℕ → Option ℕ → Part → Gathered → Gathered
 with_part at number (Opens kind) g = with_thing (opened_thing kind number at) g
 with_part at number (Happens kind) g = with_thing (lone_thing kind number at) g
@@ -85,15 +85,15 @@ with_part at number Other g = record g { links = g.links ++ None ∷ [] }
 abbrev pub with_event : ℕ → ViewedEvent → Gathered → Gathered
 with_event at event g = with_part at event.read.number (part_of event.read.kind) g
 
--- nothing is gathered yet
+-- no event was gathered yet
 abbrev pub nothing_gathered : Gathered
 nothing_gathered = record { things = []; links = [] }
 
--- what is gathered with more events, the first of them at the index
+-- what was gathered, with more events, the first of them at the index
 unfoldable pub gathered_from : ℕ → List ViewedEvent → Gathered → Gathered
 gathered_from at [] g = g
 gathered_from at (event ∷ events) g = gathered_from (at + 1) events (with_event at event g)
 
--- what is gathered of all events
+-- the things of all events
 abbrev pub gathered : List ViewedEvent → Gathered
 gathered events = gathered_from 0 events nothing_gathered

@@ -1,4 +1,4 @@
--- What the bytes of a history hold.
+-- The view of the bytes of a history.
 use Rattle.std.specs.Prelude.{◌≡◌, ℕ, ◌+◌, List, [], ◌∷◌, codes, map, Option, Some, None, Result, Ok, if◌then◌else◌}
 use Rattle.serde_json.specs.Data.{Data}
 use Rattle.wh_json.specs.declared.fault.ReadFault.{ReadFault}
@@ -16,16 +16,16 @@ use Rattle.wh_view.specs.Parts.{completes_task, is_commanded}
 use Rattle.wh_view.specs.Things.{gathered}
 use Rattle.wh_view.specs.Unsupported.{unsupported_kinds}
 
--- what is read of the members from a place on, each after the number of the member before
+-- how the members from a place on are read, each after the number of the member before
 unfoldable pub reads_from : ℕ → Option ℕ → List Data → List PartialEvent
 reads_from at before [] = []
 reads_from at before (d ∷ ds) = partial_event at before d ∷ reads_from (at + 1) (event_number d) ds
 
--- what is read of each event
+-- how each event is read
 abbrev pub reads_of : List ViewedEvent → List PartialEvent
 reads_of events = map (λ event. event.read) events
 
--- what is viewed of the member of a history at a place, counted from 1, beside what is read of it
+-- the event is the view of the member of a history's list at a place, counted from 1; `reads_from` says how it is read
 pub record IsEventOf (at : ℕ) (d : Data) (event : ViewedEvent) : Type 0 where
   pub place : event.place ≡ at
   pub moment : event.moment ≡ text_of (field (codes "eventTime") (Some d))
@@ -39,8 +39,8 @@ pub record IsEventOf (at : ℕ) (d : Data) (event : ViewedEvent) : Type 0 where
 abbrev pub AreEventsOf : List Data → List ViewedEvent → Type 0
 AreEventsOf members events = Each IsEventOf 1 members events
 
--- the task in which an event stands, where so many were completed before it: one that a command gave stands in the
--- last of these, and any other in the next one
+-- the number of the task to which an event belongs, if so many were completed before it: an event that records a
+-- command belongs to the last of these, and any other to the next one
 abbrev pub task_of : ℕ → ViewedEvent → ℕ
 task_of completed event = if is_commanded event then completed else completed + 1
 
@@ -48,12 +48,12 @@ task_of completed event = if is_commanded event then completed else completed + 
 abbrev pub completed_with : ℕ → ViewedEvent → ℕ
 completed_with completed event = if completes_task event then completed + 1 else completed
 
--- the tasks in which events stand, where so many tasks were completed before them
+-- the tasks to which events belong, if so many tasks were completed before them
 unfoldable pub tasks_from : ℕ → List ViewedEvent → List ℕ
 tasks_from completed [] = []
 tasks_from completed (event ∷ events) = task_of completed event ∷ tasks_from (completed_with completed event) events
 
--- what is viewed of the members of a history
+-- the view of the members of a history's list
 pub record IsViewOf (members : List Data) (view : View) : Type 0 where
   pub events : AreEventsOf members view.events
   pub reads : reads_of view.events ≡ reads_from 1 None members
@@ -62,13 +62,13 @@ pub record IsViewOf (members : List Data) (view : View) : Type 0 where
   pub tasks : view.tasks ≡ tasks_from 0 view.events
   pub unsupported : view.unsupported ≡ unsupported_kinds view.events
 
--- the members of the history that the bytes write, or why there are none
+-- the members of the list of the history that the bytes encode, or why there are none
 abbrev pub members_of : List ℕ → Result (List Data) ReadFault
 members_of bytes = do
   d ← document_within bytes
   or_fault NoEvents (events_in d)
 
--- what is viewed of the bytes
+-- the view of the bytes of a history
 pub record IsViewIn (bytes : List ℕ) (view : View) : Type 0 where
   pub members : List Data
   pub reads : members_of bytes ≡ Ok members

@@ -1,4 +1,4 @@
-//! What the JSON of an event holds beside what replay needs.
+//! Reads from the JSON of an event what replay does not need.
 
 ghost use Rattle.std.specs.Prelude.{◌≡◌, [], ◌∷◌, Some, codes, option_map, option_and_then, IfOk, map};
 ghost use Rattle.serde_json.specs.View.{view};
@@ -15,7 +15,7 @@ use std::alloc::Global;
 use wh_events::{OutOfMemory, Text};
 use wh_json::{field, list_in, number_of, text_of};
 
-/// The attempt that attributes name, 0 where they name none.
+/// Returns the attempt in an event's attributes, 0 if they have none.
 pub(crate) fn attempt_of(attributes: Option<&Value>) -> u64
     ensures { result ≡ attempt_of (option_map (λ v. view v.now) attributes.entry) }
 {
@@ -25,7 +25,7 @@ pub(crate) fn attempt_of(attributes: Option<&Value>) -> u64
     }
 }
 
-/// The text, or the other one where it is empty.
+/// Returns the text, or the other one if it is empty.
 #[tactic(auto, unfolding(crate::specs::Details::first_text))]
 fn first_text<'v>(text: &'v str, other: &'v str) -> &'v str
     ensures { result.now ≡ first_text text.now other.now }
@@ -33,14 +33,14 @@ fn first_text<'v>(text: &'v str, other: &'v str) -> &'v str
     if text.is_empty() { other } else { text }
 }
 
-/// The message of the failure under a name.
+/// Returns the message of the failure under a member's name.
 fn message_of<'v>(attributes: Option<&'v Value>, name: &str) -> &'v str
     ensures { result.now ≡ message_of (option_map (λ v. view v.now) attributes.entry) name.now }
 {
     text_of(field(field(attributes, name), "message"))
 }
 
-/// Why something failed, as far as attributes say it.
+/// Returns why something failed, as far as the attributes say it.
 pub(crate) fn failure_of<'v>(attributes: Option<&'v Value>) -> &'v str
     ensures { result.now ≡ failure_of (option_map (λ v. view v.now) attributes.entry) }
 {
@@ -51,14 +51,14 @@ pub(crate) fn failure_of<'v>(attributes: Option<&'v Value>) -> &'v str
     first_text(message, first_text(last, first_text(reason, cause)))
 }
 
-/// How long a timer is to take.
+/// Returns the duration of a timer.
 pub(crate) fn duration_of<'v>(attributes: Option<&'v Value>) -> &'v str
     ensures { result.now ≡ duration_of (option_map (λ v. view v.now) attributes.entry) }
 {
     text_of(field(attributes, "startToFireTimeout"))
 }
 
-/// What holds the values of an event.
+/// Returns the member that holds the values of an event.
 pub(crate) fn values_of<'v>(attributes: Option<&'v Value>) -> Option<&'v Value>
     ensures { option_map (λ v. view v.now) result ≡ values_of (option_map (λ v. view v.now) attributes.entry) }
 {
@@ -71,14 +71,14 @@ pub(crate) fn values_of<'v>(attributes: Option<&'v Value>) -> Option<&'v Value>
     }
 }
 
-/// A value as JSON.
+/// Returns a value as JSON.
 pub(crate) fn json_of(alloc: Global, value: &Value) -> Result<Text, OutOfMemory>
     ensures { IfOk result (λ text. IsJsonOf (view value.now) text) }
 {
     Ok(Text::new(value.to_string(alloc)?))
 }
 
-/// The text that the bytes are, if they are one in UTF-8.
+/// Returns the bytes as text, if they are UTF-8.
 fn text_in(bytes: Vec<u8>) -> Option<Text>
     ensures { result ≡ if_text bytes.items }
 {
@@ -88,7 +88,7 @@ fn text_in(bytes: Vec<u8>) -> Option<Text>
     }
 }
 
-/// The text that stands in base64, if it is one.
+/// Decodes base64, and returns the text that it holds, if it holds one.
 fn decoded(alloc: Global, content: &str) -> Result<Option<Text>, OutOfMemory>
     ensures { IfOk result (λ text. text ≡ decoded content.now) }
 {
@@ -99,7 +99,7 @@ fn decoded(alloc: Global, content: &str) -> Result<Option<Text>, OutOfMemory>
     }
 }
 
-/// The content of a payload, where it is a text.
+/// Returns the content of a payload, if it is a text.
 fn decoded_text(alloc: Global, payload: &Value) -> Result<Option<Text>, OutOfMemory>
     ensures { IfOk result (λ text. text ≡ decoded_text (view payload.now)) }
 {
@@ -112,7 +112,7 @@ fn decoded_text(alloc: Global, payload: &Value) -> Result<Option<Text>, OutOfMem
     }
 }
 
-/// A value as text: the content of a payload, where it is a text, or else the value as JSON.
+/// Returns a value as text: the content of a payload if it is a text, or else the value as JSON.
 fn value_text(alloc: Global, shorthand: bool, value: &Value) -> Result<Text, OutOfMemory>
     ensures { IfOk result (λ text. IsValueOf shorthand (view value.now) text) }
 {
@@ -124,7 +124,7 @@ fn value_text(alloc: Global, shorthand: bool, value: &Value) -> Result<Text, Out
     json_of(alloc, value)
 }
 
-/// Each of the values as text.
+/// Returns each of the values as text.
 fn value_texts(alloc: Global, shorthand: bool, values: &[Value]) -> Result<Vec<Text>, OutOfMemory>
     ensures { IfOk result (λ texts. Each (λ _. IsValueOf shorthand) 0 (map view values.now) texts.items) }
 {
@@ -136,7 +136,7 @@ fn value_texts(alloc: Global, shorthand: bool, values: &[Value]) -> Result<Vec<T
     Ok(texts)
 }
 
-/// A value alone, as text.
+/// Returns a list of one value, as text.
 fn lone_text(alloc: Global, value: &Value) -> Result<Vec<Text>, OutOfMemory>
     ensures { IfOk result (λ texts. Each (λ _. IsJsonOf) 0 (view value.now ∷ []) texts.items) }
 {
@@ -146,7 +146,7 @@ fn lone_text(alloc: Global, value: &Value) -> Result<Vec<Text>, OutOfMemory>
     Ok(texts)
 }
 
-/// The members of the list `payloads` of a value.
+/// Returns the items of the list `payloads` of a value.
 fn payload_list<'v>(value: &'v Value) -> Option<&'v [Value]>
     ensures { option_map (λ values. map view values.now) result
         ≡ option_and_then list_in (field (codes "payloads") (Some (view value.now))) }
@@ -154,7 +154,7 @@ fn payload_list<'v>(value: &'v Value) -> Option<&'v [Value]>
     list_in(field(Some(value), "payloads")?)
 }
 
-/// The payloads that a value holds, as texts; a value that has none of them alone.
+/// Returns the payloads that a value holds, as texts; if it has no list of them, the value itself.
 fn payloads_in(alloc: Global, value: &Value) -> Result<Vec<Text>, OutOfMemory>
     ensures { IfOk result (λ texts. ArePayloadsOr
         (option_and_then list_in (field (codes "payloads") (Some (view value.now)))) (view value.now) texts.items) }
@@ -165,8 +165,8 @@ fn payloads_in(alloc: Global, value: &Value) -> Result<Vec<Text>, OutOfMemory>
     }
 }
 
-/// The values that a value holds, as texts: those of a list, or of the list `payloads` of an
-/// object; a value of another form alone.
+/// Returns the values that a value holds, as texts: the items of a list, or of the list `payloads`
+/// of an object; a value of another form is returned itself.
 fn values_in(alloc: Global, value: &Value) -> Result<Vec<Text>, OutOfMemory>
     ensures { IfOk result (λ texts. AreValuesIn (view value.now) texts.items) }
 {
@@ -176,7 +176,7 @@ fn values_in(alloc: Global, value: &Value) -> Result<Vec<Text>, OutOfMemory>
     }
 }
 
-/// The values of an event by its attributes, as texts.
+/// Returns the values of an event from its attributes, as texts.
 pub(crate) fn payload_texts(
     alloc: Global,
     attributes: Option<&Value>,

@@ -15,13 +15,13 @@ use std::collections::BTreeMap;
 use std::marker::Model;
 use wh_events::{Effect, EventNo, Items, OutOfMemory};
 
-/// What is gathered of the first events of a history. Contracts see the things, and for each event
-/// the index of its thing.
+/// The things that the first events of a history opened. Contracts see the things, and for each
+/// event the index of its thing.
 #[derive(Drop)]
 pub(crate) struct Gathering {
     things: Vec<ViewedThing>,
     links: Vec<Option<usize>>,
-    /// For each number of an event that opened something the index of the last thing so opened.
+    /// For the number of each event that opened something, the index of the last thing it opened.
     indices: BTreeMap<u64, usize>,
 }
 
@@ -38,7 +38,7 @@ impl Model for Gathering {
     ghost invariant = { λ g. AreIndices g.things.items (λ number. tree.get nat_cmp g.indices number) };
 }
 
-/// A thing that the event at the index has just opened.
+/// Returns a thing that the event at the index has just opened.
 fn opened_thing(kind: ThingKind, number: Option<EventNo>, at: usize) -> ViewedThing
     ensures { result ≡ things.opened_thing kind number at }
 {
@@ -52,7 +52,7 @@ fn opened_thing(kind: ThingKind, number: Option<EventNo>, at: usize) -> ViewedTh
     }
 }
 
-/// A thing that is over with the event at the index, which opened it.
+/// Returns a thing that the event at the index both opens and ends.
 fn lone_thing(kind: ThingKind, number: Option<EventNo>, at: usize) -> ViewedThing
     ensures { result ≡ things.lone_thing kind number at }
 {
@@ -61,7 +61,7 @@ fn lone_thing(kind: ThingKind, number: Option<EventNo>, at: usize) -> ViewedThin
     thing
 }
 
-/// The thing after the event at the index refers to it.
+/// Returns the thing as it is after the event at the index referred to it.
 fn with_effect(effect: Effect, at: usize, thing: ViewedThing) -> ViewedThing
     ensures { result ≡ things.with_effect effect at thing }
 {
@@ -74,7 +74,7 @@ fn with_effect(effect: Effect, at: usize, thing: ViewedThing) -> ViewedThing
     changed
 }
 
-/// Keeps the index of one more thing under the number of the event that opened it.
+/// Stores the index of a new thing under the number of the event that opened it.
 fn keep_index(
     indices: &mut BTreeMap<u64, usize>,
     number: Option<EventNo>,
@@ -91,7 +91,7 @@ fn keep_index(
     Ok(())
 }
 
-/// Changes the thing at the index, to which the event at the other index refers.
+/// Changes the thing at `index`, to which the event at `at` refers.
 fn change(list: &mut Vec<ViewedThing>, effect: Effect, at: usize, index: usize)
     ensures changed { list.new.items
         ≡ things.changed_at effect at index list.old.items (slice_get list.old.items index) }
@@ -108,7 +108,7 @@ impl Gathering {
     ghost use Rattle.wh_view.specs.Things.{nothing_gathered, with_thing, with_reference, with_part};
     ghost use Rattle.wh_view.specs.Things.{with_event, found, gathered};
 
-    /// Nothing is gathered yet. It takes no memory.
+    /// Returns a gathering of no events. It takes no memory.
     pub(crate) fn new(alloc: Global) -> Self
         ensures { result ≡ nothing_gathered }
     {
@@ -119,7 +119,7 @@ impl Gathering {
         }
     }
 
-    /// The index of the thing that a reference names.
+    /// Returns the index of the thing to which a reference points.
     fn find(&self, kind: ThingKind, number: u64) -> Option<usize>
         ensures { result ≡ found kind number self.now.things }
     {
@@ -130,7 +130,7 @@ impl Gathering {
         }
     }
 
-    /// Takes one more thing, which its event opened.
+    /// Adds a thing, which the next event opened.
     fn add(&mut self, thing: ViewedThing) -> Result<(), OutOfMemory>
         ensures { IfOk result (λ _. self.new ≡ with_thing thing self.old) }
     {
@@ -142,7 +142,7 @@ impl Gathering {
         Ok(())
     }
 
-    /// Takes one more event, which refers to the thing at the index, or to none.
+    /// Adds the next event, which refers to the thing at the index, or to none.
     fn refer(&mut self, effect: Effect, at: usize, index: Option<usize>) -> Result<(), OutOfMemory>
         ensures { IfOk result (λ _. self.new ≡ with_reference effect at index self.old) }
     {
@@ -159,7 +159,7 @@ impl Gathering {
         }
     }
 
-    /// Takes one more event, at an index among the events.
+    /// Adds the next event, which stands at index `at`.
     pub(crate) fn take(&mut self, at: usize, event: &ViewedEvent) -> Result<(), OutOfMemory>
         ensures { IfOk result (λ _. self.new ≡ with_event at event.now self.old) }
     {
@@ -181,7 +181,7 @@ impl Gathering {
         }
     }
 
-    /// What was gathered: the things and the links.
+    /// Returns the things, and for each event the index of its thing.
     pub(crate) fn into_parts(self) -> (Items<ViewedThing>, Items<Option<usize>>)
         ensures things { result.0 ≡ self.things }
         ensures links { result.1 ≡ self.links }
@@ -190,7 +190,7 @@ impl Gathering {
     }
 }
 
-/// What is gathered of all events.
+/// Gathers the things of all events.
 #[tactic(auto, unfolding(crate::specs::Things::gathered_from))]
 pub(crate) fn gathered(alloc: Global, events: &[ViewedEvent]) -> Result<Gathering, OutOfMemory>
     ensures { IfOk result (λ g. g ≡ things.gathered events.now) }

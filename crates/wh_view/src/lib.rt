@@ -1,5 +1,5 @@
-//! What a history holds, without code for its workflow: each event as far as it can be read, the
-//! things that events opened, started and ended, and the workflow tasks.
+//! Reads what any history holds, even if its workflow type is not registered: each event as far as
+//! it can be read, the things that events opened, started and ended, and the workflow tasks.
 #![tactic(auto)]
 
 mod details;

@@ -1,4 +1,4 @@
-//! What can be asked of a view and its events.
+//! Looks up parts of a view and of its events.
 
 ghost use Rattle.std.specs.Prelude.{◌≡◌};
 ghost use Rattle.wh_view.specs.Lookups.{id_in, type_in};
@@ -7,7 +7,8 @@ use crate::parts::{Part, part_of};
 use crate::view::{View, ViewedEvent, ViewedThing};
 use wh_events::EventKind;
 
-/// The id that an event of the kind gives to what it opens, or the name of a signal or a marker.
+/// Returns the id under which an event of the kind opens something, or the name of a signal or a
+/// marker.
 fn id_in(kind: &EventKind) -> &str
     ensures { result.now ≡ id_in kind.now }
 {
@@ -23,7 +24,7 @@ fn id_in(kind: &EventKind) -> &str
     }
 }
 
-/// The type that an event of the kind names, or the signal that it sends.
+/// Returns the type that an event of the kind names, or the name of the signal that it sends.
 fn type_in(kind: &EventKind) -> &str
     ensures { result.now ≡ type_in kind.now }
 {
@@ -40,8 +41,8 @@ impl ViewedEvent {
     ghost use Rattle.std.specs.Prelude.{◌≡◌};
     ghost use Rattle.wh_view.specs.Lookups.{event_id, event_type, index_of};
 
-    /// The id under which the event opens a thing, or the name of a signal or a marker; empty where
-    /// there is none.
+    /// Returns the id under which the event opens a thing, or the name of a signal or a marker;
+    /// empty if it has none.
     pub fn id(&self) -> &str
         ensures { result.now ≡ event_id self.now }
     {
@@ -51,8 +52,8 @@ impl ViewedEvent {
         }
     }
 
-    /// The workflow type or the activity type that the event names, or the signal that it sends;
-    /// empty where there is none.
+    /// Returns the workflow type or the activity type that the event names, or the name of the
+    /// signal that it sends; empty if it has none.
     pub fn type_name(&self) -> &str
         ensures { result.now ≡ event_type self.now }
     {
@@ -62,7 +63,7 @@ impl ViewedEvent {
         }
     }
 
-    /// The index of the event among those of its view: its place less 1.
+    /// Returns the index of the event among those of its view: its place less 1.
     pub fn index(&self) -> usize
         ensures { result ≡ index_of self.now }
     {
@@ -74,7 +75,7 @@ impl View {
     ghost use Rattle.std.specs.Prelude.{◌≡◌};
     ghost use Rattle.wh_view.specs.Lookups.{thing_of, opening_of, task_of, lacks_thing};
 
-    /// The thing that an event of the view opened, started, canceled or ended.
+    /// Returns the thing that an event of the view opened, started, canceled or ended.
     pub fn thing_of(&self, event: &ViewedEvent) -> Option<ViewedThing>
         ensures { result ≡ thing_of self.now event.now }
     {
@@ -82,7 +83,7 @@ impl View {
         self.things.get().get(link?).copied()
     }
 
-    /// The event that opened the thing of an event; the event itself where there is none.
+    /// Returns the event that opened the thing of an event; the event itself if it has no thing.
     pub fn opening_of<'v>(&'v self, event: &'v ViewedEvent) -> &'v ViewedEvent
         ensures { result.now ≡ opening_of self.now event.now }
     {
@@ -92,14 +93,15 @@ impl View {
         }
     }
 
-    /// The task in which an event of the view stands, 0 where it is none of its events.
+    /// Returns the number of the task to which an event of the view belongs, 0 if it is none of its
+    /// events.
     pub fn task_of(&self, event: &ViewedEvent) -> usize
         ensures { result ≡ task_of self.now event.now }
     {
         self.tasks.get().get(event.index()).copied().unwrap_or(0)
     }
 
-    /// Whether an event of the view refers to a thing that none of the events before it opened.
+    /// Returns whether an event of the view refers to a thing that no event before it opened.
     pub fn lacks_thing(&self, event: &ViewedEvent) -> bool
         ensures { result ≡ lacks_thing self.now event.now }
     {

@@ -1,4 +1,4 @@
-//! What an event is to the things of its history.
+//! How an event changes the things of its history.
 
 ghost use Rattle.std.specs.Prelude.{◌≡◌};
 ghost use Rattle.wh_view.specs.Parts.{kind_of_thing, plain_part, part_of, class_word, word_of_kind, rank, same_kind};
@@ -6,7 +6,7 @@ ghost use Rattle.wh_view.specs.Parts.{kind_of_thing, plain_part, part_of, class_
 use crate::view::{ThingKind, ViewedEvent};
 use wh_events::{Class, Effect, EventKind, Role, Thing};
 
-/// What an event is to the things of its history.
+/// How an event changes the things of its history.
 #[derive(Clone, Copy, Debug)]
 pub enum Part {
     /// It opens a thing.
@@ -14,16 +14,16 @@ pub enum Part {
         /// What it opens.
         kind: ThingKind,
     },
-    /// It is a thing of its own, which is over with it.
+    /// It is a thing of its own, which it both opens and ends.
     Happens {
         /// What it is.
         kind: ThingKind,
     },
     /// It refers to a thing by the number of the event that opened it.
     Refers {
-        /// What it names.
+        /// The kind of thing to which it refers.
         kind: ThingKind,
-        /// The number of the event that opened it, 0 where the reference is absent or no number.
+        /// The number of the event that opened it, 0 if the reference is absent or no number.
         number: u64,
         /// What it does to the thing.
         effect: Effect,
@@ -32,20 +32,20 @@ pub enum Part {
     Other,
 }
 
-/// What an event is to a workflow and its worker.
+/// How an event concerns the workflow and its worker.
 #[derive(Clone, Copy)]
 pub enum Word {
-    /// The workflow is told it: it is a job of the next task.
+    /// It becomes an activation job of the next task (`told` in reports).
     Told,
-    /// The workflow gave it: a command of its task is recorded so.
+    /// It records a command with which the workflow completed its task (`gives` in reports).
     Gives,
-    /// A workflow task is completed with it.
+    /// It completes a workflow task.
     Completes,
-    /// None of these, or its type is not read.
+    /// None of these, or its type is not supported.
     Other,
 }
 
-/// What is opened under an id.
+/// Returns the kind of thing that is opened under an id.
 fn kind_of_thing(thing: Thing) -> ThingKind
     ensures { result ≡ kind_of_thing thing }
 {
@@ -58,7 +58,7 @@ fn kind_of_thing(thing: Thing) -> ThingKind
     }
 }
 
-/// The part of an event that opens nothing and refers to nothing.
+/// Returns the part of an event that opens nothing and refers to nothing.
 fn plain_part(kind: &EventKind) -> Part
     ensures { result ≡ plain_part kind.now }
 {
@@ -73,7 +73,7 @@ fn plain_part(kind: &EventKind) -> Part
     }
 }
 
-/// The part of an event.
+/// Returns the part of an event.
 pub(crate) fn part_of(event: &ViewedEvent) -> Part
     ensures { result ≡ part_of event.now.read.kind }
 {
@@ -104,7 +104,8 @@ impl ViewedEvent {
     ghost use Rattle.std.specs.Prelude.{◌≡◌};
     ghost use Rattle.wh_view.specs.Parts.{is_commanded, completes_task};
 
-    /// Whether a command gave the event, as far as is known: not where its type is not read.
+    /// Returns whether the event records a command, as far as is known: `false` if its type is not
+    /// supported.
     #[tactic(auto, unfolding(crate::specs::Parts::is_commanded))]
     pub fn is_commanded(&self) -> bool
         ensures { result ≡ is_commanded self.now }
@@ -115,7 +116,7 @@ impl ViewedEvent {
         }
     }
 
-    /// Whether a workflow task is completed with the event.
+    /// Returns whether the event completes a workflow task.
     #[tactic(auto, unfolding(crate::specs::Parts::completes_task))]
     pub fn completes_task(&self) -> bool
         ensures { result ≡ completes_task self.now }
@@ -124,7 +125,7 @@ impl ViewedEvent {
     }
 }
 
-/// What an event of the class is to a workflow, but for one that completes a task.
+/// Returns how an event of the class concerns the workflow, the completion of a task aside.
 fn class_word(class: Class) -> Word
     ensures { result ≡ class_word class }
 {
@@ -135,7 +136,7 @@ fn class_word(class: Class) -> Word
     }
 }
 
-/// What an event of the kind is to a workflow.
+/// Returns how an event of the kind concerns the workflow.
 fn word_of_kind(kind: &EventKind) -> Word
     ensures { result ≡ word_of_kind kind.now }
 {
@@ -150,9 +151,10 @@ impl ViewedEvent {
     ghost use Rattle.std.specs.Prelude.{◌≡◌};
     ghost use Rattle.wh_view.specs.Parts.{word_of};
 
-    /// What the event is to its workflow: told is what gives a job of the next task, as the start of
-    /// the run, a signal, and what became of an activity, a timer, a child or a request, but not that
-    /// a worker has taken an activity.
+    /// Returns how the event concerns its workflow. `Told` are the events that become an activation
+    /// job of the next task, such as the start of the run, a signal, and what happened to an
+    /// activity, a timer, a child workflow or a request, but not the start of an activity by a
+    /// worker.
     #[tactic(auto, unfolding(crate::specs::Parts::word_of))]
     pub fn word(&self) -> Word
         ensures { result ≡ word_of self.now }
@@ -164,7 +166,7 @@ impl ViewedEvent {
     }
 }
 
-/// A number for each kind.
+/// Returns a number for each kind.
 fn rank(kind: ThingKind) -> u8
     ensures { result ≡ rank kind }
 {
@@ -179,7 +181,7 @@ fn rank(kind: ThingKind) -> u8
     }
 }
 
-/// Whether two kinds are the same.
+/// Returns whether two kinds are the same.
 pub(crate) fn same_kind(one: ThingKind, other: ThingKind) -> bool
     ensures { result ≡ same_kind one other }
 {

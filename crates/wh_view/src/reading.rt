@@ -1,4 +1,4 @@
-//! Views a history.
+//! Reads a history into a view.
 
 ghost use Rattle.std.specs.Prelude.{◌≡◌, ◌≢◌, ◌<◌, ◌^◌, IfOk, IfErr, map, None, Err};
 ghost use Rattle.serde_json.specs.View.{view};
@@ -14,14 +14,15 @@ use std::alloc::Global;
 use wh_events::{EventNo, Items, OutOfMemory, Text};
 use wh_json::{ReadFault, attributes_in, events_in, field, partial_event, read_document, text_of};
 
-/// A text of its own.
+/// Copies a text.
 fn copied(alloc: Global, text: &str) -> Result<Text, OutOfMemory>
     ensures { IfOk result (λ copy. copy ≡ text.now) }
 {
     Ok(Text::new(String::from_str(alloc, text)?))
 }
 
-/// What is viewed of the member of a history at a place, counted from 1, after the number before.
+/// Views one member of a history's list. `place` is its place, counted from 1, and `before` the
+/// number of the member before.
 fn event_of(
     alloc: Global,
     place: u64,
@@ -50,14 +51,14 @@ fn event_of(
     })
 }
 
-/// The number of an event, if it has one.
+/// Returns the number of an event, if it has one.
 fn number_of(event: &ViewedEvent) -> Option<EventNo>
     ensures { result ≡ event.now.read.number }
 {
     event.read.number
 }
 
-/// The events of the members of a history.
+/// Views the members of a history's list as events.
 fn events_of(alloc: Global, members: &[Value]) -> Result<Vec<ViewedEvent>, OutOfMemory>
     ensures parts { IfOk result (λ events. views.AreEventsOf (map view members.now) events.items) }
     ensures reads { IfOk result (λ events.
@@ -73,7 +74,8 @@ fn events_of(alloc: Global, members: &[Value]) -> Result<Vec<ViewedEvent>, OutOf
     Ok(events)
 }
 
-/// The task in which an event stands, where so many were completed before it.
+/// Returns the number of the task to which an event belongs, if `completed` tasks were completed
+/// before it.
 fn task_of(completed: usize, event: &ViewedEvent) -> usize
     requires { completed < 2 ^ 63 }
     ensures { result ≡ views.task_of completed event.now }
@@ -85,7 +87,7 @@ fn task_of(completed: usize, event: &ViewedEvent) -> usize
     }
 }
 
-/// The tasks in which the events stand.
+/// Returns the number of each event's task.
 #[tactic(auto, unfolding(crate::specs::Views::tasks_from))]
 fn tasks(alloc: Global, events: &[ViewedEvent]) -> Result<Vec<usize>, OutOfMemory>
     ensures { IfOk result (λ tasks. tasks.items ≡ views.tasks_from 0 events.now) }
@@ -99,7 +101,7 @@ fn tasks(alloc: Global, events: &[ViewedEvent]) -> Result<Vec<usize>, OutOfMemor
     Ok(tasks)
 }
 
-/// What is viewed of the members of a history.
+/// Views the members of a history's list.
 fn view_members(alloc: Global, members: &[Value]) -> Result<View, OutOfMemory>
     ensures { IfOk result (views.IsViewOf (map view members.now)) }
 {
@@ -117,16 +119,17 @@ fn view_members(alloc: Global, members: &[Value]) -> Result<View, OutOfMemory>
 }
 
 /// Views a workflow history in the JSON form of the Temporal CLI's export: an object with a list
-/// `events`, or such a list. Its events may be of any type, lack fields, and stand in any order:
-/// what the reader of histories would refuse is kept with its fault (`PartialEvent::fault`), one
-/// that is out of order also, and the rest of the event is viewed as far as it can be.
+/// `events`, or such a list. Its events may be of any type, lack fields, and stand in any order: if
+/// the reader of histories would refuse an event, also one that is out of order, the reason is kept
+/// with it (`PartialEvent::fault`), and the rest of the event is viewed as far as possible.
 ///
-/// Each event of the list is viewed, once and in its place. A thing is opened by an event, and
-/// started, canceled and ended by the first later events that name its number: where several
-/// events of that number opened something, the last one before.
+/// Each event of the list is viewed once and keeps its place. A thing is opened by an event, and
+/// started, canceled and ended by the first later events that refer to that event's number. If
+/// several events of that number opened something, the last one before counts.
 ///
-/// `TooLong`, `BadJson` or `NoEvents`, in that order, where there is no list of events. Want of
-/// memory can come in place of each of them but `TooLong`, and of the view.
+/// Returns `TooLong`, `BadJson` or `NoEvents`, checked in that order, if there is no list of
+/// events. `OutOfMemory` is returned in place of a view or of any of these but `TooLong` if memory
+/// runs out.
 pub fn view_of(alloc: Global, bytes: &[u8]) -> Result<View, ReadFault>
     ensures ok { IfOk result (views.IsViewIn bytes.now) }
     ensures err { IfErr result (λ e. e ≢ ReadFault.OutOfMemory → views.members_of bytes.now ≡ Err e) }

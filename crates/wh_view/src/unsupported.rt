@@ -9,7 +9,7 @@ use std::alloc::Global;
 use wh_events::OutOfMemory;
 use wh_json::ReadFault;
 
-/// Whether an event is refused since its type is not supported, or its marker.
+/// Returns whether an event is refused because its type, or its marker's name, is not supported.
 fn is_unsupported(fault: &Option<ReadFault>) -> bool
     ensures { result ≡ is_unsupported fault.now }
 {
@@ -19,7 +19,7 @@ fn is_unsupported(fault: &Option<ReadFault>) -> bool
     )
 }
 
-/// Whether two events are refused for the same type, or for markers of the same name.
+/// Returns whether two events are refused for the same type, or for markers of the same name.
 fn same_kind(one: &Option<ReadFault>, other: &Option<ReadFault>) -> bool
     ensures { result ≡ same_kind one.now other.now }
 {
@@ -36,7 +36,7 @@ fn same_kind(one: &Option<ReadFault>, other: &Option<ReadFault>) -> bool
     }
 }
 
-/// Whether the first event of a kind is refused for the same.
+/// Returns whether the first event of a kind is refused for the same reason.
 fn is_of(events: &[ViewedEvent], fault: &Option<ReadFault>, kind: &UnsupportedKind) -> bool
     ensures { result ≡ same_kind (fault_at events.now kind.now.first) fault.now }
 {
@@ -46,14 +46,14 @@ fn is_of(events: &[ViewedEvent], fault: &Option<ReadFault>, kind: &UnsupportedKi
     }
 }
 
-/// Whether one of the kinds is that of an event.
+/// Returns whether an event is of one of the kinds.
 fn is_among(events: &[ViewedEvent], fault: &Option<ReadFault>, kinds: &[UnsupportedKind]) -> bool
     ensures { result ≡ is_among events.now fault.now kinds.now }
 {
     kinds.iter().any(|kind| is_of(events, fault, kind))
 }
 
-/// How many events are refused for the same.
+/// Returns how many events are refused for the same reason.
 fn count_of(events: &[ViewedEvent], fault: &Option<ReadFault>) -> usize
     ensures { result ≡ count_by (λ event. same_kind fault.now event.read.fault) events.now }
 {
@@ -63,7 +63,7 @@ fn count_of(events: &[ViewedEvent], fault: &Option<ReadFault>) -> usize
         .count()
 }
 
-/// Adds the kind of the event at an index, if it is another one.
+/// Adds the kind of the event at an index, if it is a new one.
 fn add_kind(
     events: &[ViewedEvent],
     fault: &Option<ReadFault>,
@@ -79,7 +79,7 @@ fn add_kind(
     Ok(())
 }
 
-/// The kinds of events that are not supported, in the order in which they come.
+/// Returns the kinds of events that are not supported, in the order of their first events.
 pub(crate) fn unsupported_kinds(
     alloc: Global,
     events: &[ViewedEvent],

@@ -1,9 +1,9 @@
--- What the table of indices beside the things holds.
+-- What the table of indices beside the list of things holds.
 use Rattle.std.specs.Prelude.{◌≡◌, ℕ, List, Option, Some, None, if◌then◌else◌}
 use Rattle.wh_view.specs.declared.view.ViewedThing.{ViewedThing}
 use Rattle.wh_view.specs.Things.{last_from, is_number}
 
--- under each number stands the index of the last of the things that an event of it opened
+-- under each number is the index of the last of the things that an event of that number opened
 abbrev pub AreIndices : List ViewedThing → (ℕ → Option ℕ) → Type 0
 AreIndices things index_of = (number : ℕ) → index_of number ≡ last_from number 0 things
 
