@@ -18,12 +18,12 @@ use Rattle.wh_tester.specs.Json.{escaped}
 use Rattle.wh_tester.specs.Report.{shown}
 use Rattle.wh_view_report.specs.Words.{mark_words}
 
--- the number of an event, if it has one, as a member after another one
+-- the number of an event, if it has one, as a further member of an object
 abbrev pub number_member : Option ℕ → List ℕ
 number_member None = []
 number_member (Some number) = codes ",\"event\":" ++ decimal number
 
--- what an event is to the worker
+-- how an event concerns the worker, in a word
 abbrev pub side_word : Word → List ℕ
 side_word words.Completes = codes "completes"
 side_word words.Gives = codes "gives"
@@ -33,7 +33,7 @@ side_word words.Other = codes "other"
 abbrev pub side_of : ViewedEvent → List ℕ
 side_of event = side_word (word_of event)
 
--- what a thing is, in Temporal's words
+-- the kind of a thing, in Temporal's words
 abbrev pub kind_word : ThingKind → List ℕ
 kind_word kinds.Activity = codes "activity"
 kind_word kinds.Timer = codes "timer"
@@ -47,12 +47,12 @@ kind_word kinds.Marker = codes "marker"
 abbrev pub place_at : View → Option ℕ → Option ℕ
 place_at view index = option_map (λ event. event.place) (option_and_then (slice_get view.events) index)
 
--- the place of an event, as a member after another one
+-- the place of an event, as a further member of an object
 abbrev pub place_member : List ℕ → Option ℕ → List ℕ
 place_member key None = []
 place_member key (Some place) = codes ",\"" ++ (key ++ (codes "\":" ++ decimal place))
 
--- a thing, as a member after another one
+-- a thing, as a further member of an object
 abbrev pub thing_member : View → Option ViewedThing → List ℕ
 thing_member view None = []
 thing_member view (Some thing) =
@@ -62,12 +62,12 @@ thing_member view (Some thing) =
     ++ (place_member (codes "cancelling") (place_at view thing.cancelling)
     ++ (place_member (codes "ended") (place_at view thing.ended) ++ codes "}"))))))
 
--- what is not as it should be with an event, as a member after another one
+-- what is wrong with an event, as a further member of an object
 abbrev pub mark_member : List ℕ → List ℕ
 mark_member [] = []
 mark_member (c ∷ cs) = codes ",\"mark\":\"" ++ ((c ∷ cs) ++ codes "\"")
 
--- the thing of an event, as a member after another one
+-- the thing of an event, as a further member of an object
 abbrev pub linked_member : View → ViewedEvent → List ℕ
 linked_member view event = thing_member view (thing_of view event)
 
@@ -81,14 +81,15 @@ first_members place number task side mark =
 -- the object of an event
 unfoldable pub event_object : View → ViewedEvent → List ℕ
 event_object view event =
-    codes "{" ++ (first_members event.place event.read.number (task_of view event) (side_of event) (mark_words view event)
+    codes "{"
+    ++ (first_members event.place event.read.number (task_of view event) (side_of event) (mark_words view event)
     ++ (linked_member view event ++ (codes ",\"recorded\":" ++ (event.json ++ codes "}\n"))))
 
--- the object of an event, if it stands in one of the tasks
+-- the object of an event, if it belongs to one of the tasks
 abbrev pub within_object : View → Span → ViewedEvent → List ℕ
 within_object view span event = if is_within view span event then event_object view event else []
 
--- the object of counts
+-- the object with the counts
 abbrev pub counts_object : (events tasks things : ℕ) → List ℕ
 counts_object events tasks things =
     codes "{\"events\":" ++ (decimal events ++ (codes ",\"tasks\":" ++ (decimal tasks
@@ -97,12 +98,12 @@ counts_object events tasks things =
 abbrev pub head_object : View → List ℕ
 head_object view = counts_object (length view.events) (completed_count view.events) (length view.things)
 
--- the name of a marker, if there is one, as a member after another one
+-- the name of a marker, if there is one, as a further member of an object
 abbrev pub marker_member : List ℕ → List ℕ
 marker_member [] = []
 marker_member (c ∷ cs) = codes ",\"marker\":\"" ++ (escaped (shown (c ∷ cs)) ++ codes "\"")
 
--- the object of a kind that is not supported, by its first event
+-- the object of a kind that is not supported, from its first event
 unfoldable pub kind_object : View → (count : ℕ) → ViewedEvent → List ℕ
 kind_object view count event =
     codes "{\"mark\":\"" ++ (mark_words view event ++ (codes "\",\"type\":\"" ++ (escaped (shown event.read.name)
@@ -116,7 +117,7 @@ kind_object_at view count (Some event) = kind_object view count event
 abbrev pub unsupported_object : View → UnsupportedKind → List ℕ
 unsupported_object view kind = kind_object_at view kind.count (slice_get view.events kind.first)
 
--- the first objects: counts, and an object for each kind that is not supported
+-- the first objects: the counts, and an object for each kind that is not supported
 abbrev pub top_objects : View → List ℕ
 top_objects view = head_object view ++ flat_map (unsupported_object view) view.unsupported
 
@@ -124,6 +125,6 @@ top_objects view = head_object view ++ flat_map (unsupported_object view) view.u
 unfoldable pub span_objects : View → Span → List ℕ
 span_objects view span = top_objects view ++ flat_map (within_object view span) view.events
 
--- the whole
+-- the whole report
 abbrev pub view_objects : View → Selection → List ℕ
 view_objects view selection = span_objects view (span_of view selection)

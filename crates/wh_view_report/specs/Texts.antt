@@ -1,4 +1,4 @@
--- The text of a view, a line an event.
+-- The text of a view, one line for each event.
 use Rattle.std.specs.Prelude.{ℕ, ◌+◌, ◌-◌, ◌==◌, ◌&&◌, decimal, length, slice_get, List, [], ◌∷◌, ◌++◌, codes, Bool, true, false, not, nat_le, is_some, Option, Some, None, count_by, if◌then◌else◌}
 use Rattle.std.specs.List.{flat_map}
 use Rattle.wh_events.specs.declared.kind.EventKind.{EventKind}
@@ -38,7 +38,7 @@ has_selected view (Around number) = is_some (numbered_in number view.events)
 abbrev pub span_around : ℕ → Span
 span_around task = record { first = task - 2; more = task - (task - 2) + 2 }
 
--- the tasks round that of an event
+-- the tasks around that of an event
 abbrev pub span_at : View → Option ViewedEvent → Span
 span_at view (Some event) = span_around (task_of view event)
 span_at view None = record { first = 0; more = 0 }
@@ -49,12 +49,12 @@ span_of view All = record { first = 0; more = length view.events }
 span_of view (Last tasks) = record { first = completed_count view.events + 1 - tasks; more = length view.events }
 span_of view (Around number) = span_at view (numbered_in number view.events)
 
--- the event stands in one of the tasks
+-- the event belongs to one of the tasks
 abbrev pub is_within : View → Span → ViewedEvent → Bool
 is_within view span event =
     nat_le span.first (task_of view event) && nat_le (task_of view event - span.first) span.more
 
--- how many events stand in other tasks
+-- how many events belong to other tasks
 abbrev pub left_out : View → Span → ℕ
 left_out view span = count_by (λ event. not (is_within view span event)) view.events
 
@@ -72,13 +72,14 @@ event_line view event =
     ++ (label_text (codes " ") event.moment
     ++ (link_text view event ++ (attempt_text event.attempt
     ++ (label_text (codes ", ") event.duration
-    ++ (label_text (codes ", because ") event.failure ++ (label_text (codes ", ") (mark_words view event) ++ 10 ∷ [])))))))))))
+    ++ (label_text (codes ", because ") event.failure
+    ++ (label_text (codes ", ") (mark_words view event) ++ 10 ∷ [])))))))))))
 
 -- the lines of an event
 abbrev pub event_text : View → ViewedEvent → List ℕ
 event_text view event = event_line view event ++ flat_map value_line event.payloads
 
--- a workflow task is scheduled or started, which stands in no line
+-- the event is a workflow task that is scheduled or started, which has no line
 abbrev pub quiet_kind : Option EventKind → Bool
 quiet_kind (Some WorkflowTaskScheduled) = true
 quiet_kind (Some WorkflowTaskStarted) = true
@@ -87,7 +88,7 @@ quiet_kind _ = false
 abbrev pub is_quiet : ViewedEvent → Bool
 is_quiet event = quiet_kind event.read.kind
 
--- the event stands in one of the tasks, and in a line
+-- the event belongs to one of the tasks, and has a line
 abbrev pub is_shown : View → Span → ViewedEvent → Bool
 is_shown view span event = is_within view span event && not (is_quiet event)
 
@@ -100,7 +101,7 @@ abbrev pub workflow_type : Option ViewedEvent → List ℕ
 workflow_type None = []
 workflow_type (Some event) = event_type event
 
--- the line of a workflow type and counts
+-- the line with a workflow type and the counts
 abbrev pub counts_line : List ℕ → (events tasks things : ℕ) → List ℕ
 counts_line kind events tasks things =
     cut kind ++ (codes ": " ++ (decimal events ++ (codes " events, " ++ (decimal tasks ++ (codes " tasks completed, "
@@ -112,11 +113,11 @@ head_line view =
     counts_line (workflow_type (slice_get view.events 0)) (length view.events) (completed_count view.events)
     (length view.things)
 
--- the type of an event, and the name of a marker after it
+-- the type of an event, followed by the name of a marker
 abbrev pub kind_name : ViewedEvent → List ℕ
 kind_name event = cut event.read.name ++ label_text (codes " ") (event_id event)
 
--- the line of a kind that is not supported, by its first event
+-- the line of a kind that is not supported, from its first event
 unfoldable pub kind_line : View → (count : ℕ) → ViewedEvent → List ℕ
 kind_line view count event =
     mark_words view event ++ (codes ": " ++ (kind_name event ++ (codes ", " ++ (decimal count
@@ -129,7 +130,7 @@ kind_line_at view count (Some event) = kind_line view count event
 abbrev pub unsupported_line : View → UnsupportedKind → List ℕ
 unsupported_line view kind = kind_line_at view kind.count (slice_get view.events kind.first)
 
--- the first lines: counts, and a line for each kind that is not supported
+-- the first lines: the counts, and a line for each kind that is not supported
 abbrev pub top_text : View → List ℕ
 top_text view = head_line view ++ flat_map (unsupported_line view) view.unsupported
 

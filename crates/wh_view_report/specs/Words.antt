@@ -1,4 +1,4 @@
--- What is said of an event of a view.
+-- The words of a report for an event of a view.
 use Rattle.std.specs.Prelude.{ℕ, ◌-◌, ◌==◌, List, [], ◌++◌, codes, decimal, Bool, Option, Some, None, slice_get, option_and_then, if◌then◌else◌}
 use Rattle.wh_json.specs.declared.fault.ReadFault.{ReadFault}
 use Rattle.wh_json.specs.declared.fault.ReadFault.TheVariants as faults
@@ -18,7 +18,7 @@ numbered None place = codes "(place " ++ (decimal place ++ codes ")")
 abbrev pub number_text : ViewedEvent → List ℕ
 number_text event = numbered event.read.number event.place
 
--- a reference to an event after a label; nothing where there is none
+-- a label and a reference to an event; nothing if there is none
 abbrev pub labelled : List ℕ → Option ViewedEvent → List ℕ
 labelled label None = []
 labelled label (Some event) = label ++ number_text event
@@ -26,13 +26,13 @@ labelled label (Some event) = label ++ number_text event
 abbrev pub reference_text : List ℕ → View → Option ℕ → List ℕ
 reference_text label view index = labelled label (option_and_then (slice_get view.events) index)
 
--- the event that ends a thing, for a line of the event at a place; nothing where it is that event
+-- the event that ends a thing, for a line of the event at a place; nothing if it is that event
 abbrev pub ended_text : View → ℕ → Option ℕ → List ℕ
 ended_text view place None = codes ", not ended"
 ended_text view place (Some index) =
     if index == place - 1 then [] else reference_text (codes ", ended ") view (Some index)
 
--- what an event has to do with a thing: the line of the one that opened it has the others, and those have it
+-- how an event is linked with a thing: the line of the event that opened it names the other events, and theirs names it
 abbrev pub linked : View → ViewedEvent → Option ViewedThing → List ℕ
 linked view event None = []
 linked view event (Some thing) =
@@ -44,7 +44,7 @@ linked view event (Some thing) =
 abbrev pub link_text : View → ViewedEvent → List ℕ
 link_text view event = linked view event (thing_of view event)
 
--- what the reader refuses of an event
+-- the words for what the reader of histories refuses
 abbrev pub fault_words : ReadFault → List ℕ
 fault_words (faults.BadNumber at) = codes "bad number"
 fault_words (faults.OutOfOrder at) = codes "out of order"
@@ -59,7 +59,7 @@ fault_words faults.BadJson = []
 fault_words faults.NoEvents = []
 fault_words faults.OutOfMemory = []
 
--- what is not as it should be with an event
+-- what is wrong with an event
 abbrev pub marked : Option ReadFault → Bool → List ℕ
 marked (Some fault) lacks = fault_words fault
 marked None lacks = if lacks then codes "opened by no event" else []
@@ -67,11 +67,11 @@ marked None lacks = if lacks then codes "opened by no event" else []
 abbrev pub mark_words : View → ViewedEvent → List ℕ
 mark_words view event = marked event.read.fault (lacks_thing view event)
 
--- the attempt of an event, where it names one
+-- the attempt of an event, if it names one
 abbrev pub attempt_text : ℕ → List ℕ
 attempt_text attempt = if attempt == 0 then [] else codes ", attempt " ++ decimal attempt
 
--- what an event is to its workflow, before its type
+-- how an event concerns its workflow, before its type
 abbrev pub start_by : ℕ → Word → List ℕ
 start_by task words.Completes = codes "task " ++ (decimal task ++ codes ": ")
 start_by task words.Gives = codes "  gives "

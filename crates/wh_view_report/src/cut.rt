@@ -1,4 +1,4 @@
-//! Texts as they are shown: cut at a width.
+//! Texts as reports show them: cut after 80 characters.
 
 ghost use Rattle.std.specs.Prelude.{◌≡◌, ◌∷◌, [], Some, length};
 ghost use Rattle.std.specs.Fmt.{DisplaysOnOk};
@@ -10,7 +10,7 @@ use std::fmt;
 /// The most characters of a text that are shown.
 pub(crate) const WIDTH: usize = 80;
 
-/// A character as it is shown.
+/// Returns a character as it is shown.
 fn shown_char(c: char) -> char
     ensures { result ∷ [] ≡ shown_char c }
 {
@@ -41,14 +41,14 @@ impl fmt::Display for Front<'_> {
     }
 }
 
-/// How many characters a text has.
+/// Returns how many characters a text has.
 fn char_count(text: &str) -> usize
     ensures { result ≡ length (chars text.now) }
 {
     text.chars().count()
 }
 
-/// That a text of so many characters goes on.
+/// What follows the front of a text of so many characters: their number, if there are more than 80.
 #[derive(Clone, Copy)]
 struct Rest(usize);
 
@@ -65,8 +65,8 @@ impl fmt::Display for Rest {
     }
 }
 
-/// A text by its first 80 characters, with `?` in place of each one that is not between the space
-/// and `~`; after a text of more characters than that stands how many it has.
+/// The first 80 characters of a text, with `?` for each one that is not between the space and `~`.
+/// If the text is longer, the number of its characters follows.
 #[derive(Drop)]
 pub(crate) struct Cut<'a>(pub(crate) &'a str);
 
@@ -81,7 +81,7 @@ impl fmt::Display for Cut<'_> {
     }
 }
 
-/// A text after a label; nothing where the text is empty.
+/// A text after a label; nothing if the text is empty.
 #[derive(Drop)]
 pub(crate) struct Label<'a>(pub(crate) &'static str, pub(crate) &'a str);
 

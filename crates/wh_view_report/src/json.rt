@@ -1,4 +1,4 @@
-//! A view as lines of JSON.
+//! Writes a view as lines of JSON.
 
 ghost use Rattle.std.specs.Prelude.{◌≡◌, OnOk, Some, option_map};
 ghost use Rattle.std.specs.List.{flat_map};
@@ -13,7 +13,7 @@ use wh_events::EventNo;
 use wh_tester::EscapedName;
 use wh_view::{ThingKind, UnsupportedKind, View, ViewedEvent, Word};
 
-/// The number of an event, as a member after another one.
+/// The number of an event, as a further member of an object.
 #[derive(Clone, Copy)]
 struct NumberMember(Option<EventNo>);
 
@@ -31,7 +31,7 @@ impl fmt::Display for NumberMember {
     }
 }
 
-/// What an event is to the worker.
+/// Returns how an event concerns the worker, in a word.
 fn side_of(event: &ViewedEvent) -> &'static str
     ensures { result.now ≡ json.side_of event.now }
 {
@@ -43,7 +43,7 @@ fn side_of(event: &ViewedEvent) -> &'static str
     }
 }
 
-/// What a thing is, in Temporal's words.
+/// Returns the kind of a thing, in Temporal's words.
 fn kind_word(kind: ThingKind) -> &'static str
     ensures { result.now ≡ json.kind_word kind }
 {
@@ -58,7 +58,7 @@ fn kind_word(kind: ThingKind) -> &'static str
     }
 }
 
-/// The place of the event at an index.
+/// Returns the place of the event at an index.
 fn place_at(view: &View, index: Option<usize>) -> Option<u64>
     ensures { result ≡ json.place_at view.now index }
 {
@@ -68,7 +68,7 @@ fn place_at(view: &View, index: Option<usize>) -> Option<u64>
     }
 }
 
-/// The place of an event, as a member after another one.
+/// The place of an event, as a further member of an object.
 #[derive(Clone, Copy)]
 struct PlaceMember(&'static str, Option<u64>);
 
@@ -86,7 +86,7 @@ impl fmt::Display for PlaceMember {
     }
 }
 
-/// The thing of an event, as a member after another one.
+/// The thing of an event, as a further member of an object.
 #[derive(Drop)]
 struct ThingMember<'a>(&'a View, &'a ViewedEvent);
 
@@ -109,7 +109,7 @@ impl fmt::Display for ThingMember<'_> {
     }
 }
 
-/// What is not as it should be with an event, as a member after another one.
+/// What is wrong with an event, as a further member of an object.
 #[derive(Clone, Copy)]
 struct MarkMember(&'static str);
 
@@ -182,7 +182,7 @@ fn write_events<O: Write>(view: &View, span: Span, writer: &mut O) -> io::Result
     Ok(())
 }
 
-/// Writes the object of counts.
+/// Writes the object with the counts.
 fn write_counts<O: Write>(
     events: usize,
     tasks: usize,
@@ -198,7 +198,7 @@ fn write_counts<O: Write>(
     )
 }
 
-/// Writes the object of counts of a view.
+/// Writes the object with the counts of a view.
 fn write_head<O: Write>(view: &View, writer: &mut O) -> io::Result<()>
     ensures { OnOk result (Appends (O.contents writer.old) (O.contents writer.new) (json.head_object view.now)) }
 {
@@ -211,7 +211,7 @@ fn write_head<O: Write>(view: &View, writer: &mut O) -> io::Result<()>
     )
 }
 
-/// The name of a marker, as a member after another one.
+/// The name of a marker, as a further member of an object.
 #[derive(Drop)]
 struct MarkerMember<'a>(&'a str);
 
@@ -227,7 +227,7 @@ impl fmt::Display for MarkerMember<'_> {
     }
 }
 
-/// Writes the object of a kind that is not supported, by its first event.
+/// Writes the object of a kind that is not supported, from its first event.
 #[tactic(auto, unfolding(crate::specs::Json::kind_object))]
 fn write_kind_of<O: Write>(
     view: &View,
@@ -270,7 +270,7 @@ fn write_kinds<O: Write>(view: &View, writer: &mut O) -> io::Result<()>
     Ok(())
 }
 
-/// Writes the first objects: what is counted, and what is not supported.
+/// Writes the first objects: the counts, and what is not supported.
 fn write_top<O: Write>(view: &View, writer: &mut O) -> io::Result<()>
     ensures { OnOk result (Appends (O.contents writer.old) (O.contents writer.new) (json.top_objects view.now)) }
 {
@@ -288,16 +288,17 @@ fn write_span<O: Write>(view: &View, span: Span, writer: &mut O) -> io::Result<(
     write_events(view, span, writer)
 }
 
-/// Writes a view as lines of JSON (RFC 8259): an object on each line, with no spaces between its
-/// parts, and one line feed after it. First are the counts of the whole history,
-/// `{"events":N,"tasks":N,"things":N}`, where `tasks` are those that were completed. Then each type
+/// Writes a view as lines of JSON (RFC 8259): one object a line, with no spaces between its parts,
+/// and one line feed after it. First come the counts of the whole history,
+/// `{"events":N,"tasks":N,"things":N}`; `tasks` counts those that were completed. Then each type
 /// that the reader of histories does not support has an object,
-/// `{"mark":"not supported","type":"NAME","events":N,"place":P}`, with how many events are of it and the
-/// place of the first; a name of markers has `marker not supported`, and `marker` after the type. Then
-/// each event of the tasks that are selected has an object, in the order of the history, with these members:
+/// `{"mark":"not supported","type":"NAME","events":N,"place":P}`, with the number of its events and
+/// the place of the first. A name of markers that is not supported has the mark
+/// `marker not supported`, and a member `marker` after the type. Then each event of the selected
+/// tasks has an object, in the order of the history, with these members:
 /// - `place`, counted from 1, and `event`, its number, if it has one;
-/// - `task`, that in which it stands, and `is`: `told`, `completes`, `gives` or `other`;
-/// - `mark`, what is not as it should be;
+/// - `task`, to which it belongs, and `is`: `told`, `completes`, `gives` or `other`;
+/// - `mark`, what is wrong with it;
 /// - `thing`, if it has one: its `kind` and the places of the events that `opened`, `started`,
 ///   canceled (`cancelling`) and `ended` it;
 /// - `recorded`, the whole event as the history has it.

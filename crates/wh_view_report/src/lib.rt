@@ -1,5 +1,5 @@
-//! Writes a view of any history, as text and as lines of JSON: all of it, its last tasks, or those
-//! round an event.
+//! Writes a view of any history, as text and as lines of JSON: all of it, its last tasks, or the
+//! tasks around an event.
 #![tactic(auto)]
 
 mod cut;

@@ -1,4 +1,4 @@
-//! The text of a view, a line an event.
+//! Writes a view as text, one line for each event.
 
 ghost use Rattle.std.specs.Prelude.{◌≡◌, OnOk, Some, option_map, slice_get};
 ghost use Rattle.std.specs.List.{flat_map};
@@ -15,31 +15,31 @@ use wh_view::{UnsupportedKind, View, ViewedEvent};
 /// Which tasks of a view are written.
 #[derive(Clone, Copy, Debug)]
 pub enum Selection {
-    /// All of them.
+    /// All tasks.
     All,
-    /// The last so many that are completed, and what stands after them.
+    /// The last so many completed tasks, and what follows them.
     Last(usize),
-    /// That in which the event of the number stands, with the two before and the two after it.
+    /// The task of the event with the number, with the two tasks before and the two after it.
     Around(EventNo),
 }
 
-/// A task, and so many after it.
+/// A range of tasks: one, and so many after it.
 #[derive(Clone, Copy)]
 pub struct Span {
     /// The number of the first task.
     pub first: usize,
-    /// How many tasks are after it.
+    /// How many tasks follow it.
     pub more: usize,
 }
 
-/// How many tasks are completed by events.
+/// Returns how many tasks the events complete.
 pub fn completed_count(events: &[ViewedEvent]) -> usize
     ensures { result ≡ texts.completed_count events.now }
 {
     events.iter().filter(|event| event.completes_task()).count()
 }
 
-/// Whether the event has the number.
+/// Returns whether the event has the number.
 fn has_number(event: &ViewedEvent, number: EventNo) -> bool
     ensures { result ≡ texts.has_number number event.now }
 {
@@ -49,7 +49,7 @@ fn has_number(event: &ViewedEvent, number: EventNo) -> bool
     }
 }
 
-/// The first event that has the number.
+/// Returns the first event that has the number.
 #[tactic(auto, unfolding(crate::specs::Texts::numbered_in))]
 fn numbered_in(events: &[ViewedEvent], number: EventNo) -> Option<&ViewedEvent>
     ensures { option_map (λ event. event.now) result ≡ texts.numbered_in number events.now }
@@ -62,8 +62,8 @@ fn numbered_in(events: &[ViewedEvent], number: EventNo) -> Option<&ViewedEvent>
     None
 }
 
-/// Whether a view has what is selected: an event of the number round which tasks are selected; all
-/// and the last tasks are always there.
+/// Returns whether a view has what is selected. All tasks and the last tasks are always there;
+/// tasks around an event are there if an event has its number.
 pub fn has_selected(view: &View, selection: Selection) -> bool
     ensures { result ≡ texts.has_selected view.now selection }
 {
@@ -73,7 +73,7 @@ pub fn has_selected(view: &View, selection: Selection) -> bool
     }
 }
 
-/// A task with the two before and the two after it.
+/// Returns a task with the two before and the two after it.
 fn span_around(task: usize) -> Span
     ensures { result ≡ texts.span_around task }
 {
@@ -84,7 +84,7 @@ fn span_around(task: usize) -> Span
     }
 }
 
-/// The tasks that are selected.
+/// Returns the tasks that are selected.
 pub(crate) fn span_of(view: &View, selection: Selection) -> Span
     ensures { result ≡ texts.span_of view.now selection }
 {
@@ -105,7 +105,7 @@ pub(crate) fn span_of(view: &View, selection: Selection) -> Span
     }
 }
 
-/// Whether an event stands in one of the tasks.
+/// Returns whether an event belongs to one of the tasks.
 pub(crate) fn is_within(view: &View, span: Span, event: &ViewedEvent) -> bool
     ensures { result ≡ texts.is_within view.now span event.now }
 {
@@ -113,7 +113,7 @@ pub(crate) fn is_within(view: &View, span: Span, event: &ViewedEvent) -> bool
     span.first <= task && task - span.first <= span.more
 }
 
-/// Writes the values of an event, a line each.
+/// Writes the values of an event, one line each.
 fn write_values<O: Write>(values: &[Text], writer: &mut O) -> io::Result<()>
     ensures { OnOk result
         (Appends (O.contents writer.old) (O.contents writer.new) (flat_map texts.value_line values.now)) }
@@ -125,7 +125,7 @@ fn write_values<O: Write>(values: &[Text], writer: &mut O) -> io::Result<()>
     Ok(())
 }
 
-/// Whether an event stands in no line: a workflow task that is scheduled or started.
+/// Returns whether an event has no line: `WorkflowTaskScheduled` and `WorkflowTaskStarted`.
 pub fn is_quiet(event: &ViewedEvent) -> bool
     ensures { result ≡ texts.is_quiet event.now }
 {
@@ -159,7 +159,7 @@ fn write_line<O: Write>(view: &View, event: &ViewedEvent, writer: &mut O) -> io:
     )
 }
 
-/// Writes the lines of an event: one that says what it is, and one for each of its values.
+/// Writes the lines of an event: one for the event itself, and one for each of its values.
 fn write_event<O: Write>(view: &View, event: &ViewedEvent, writer: &mut O) -> io::Result<()>
     ensures { OnOk result
         (Appends (O.contents writer.old) (O.contents writer.new) (texts.event_text view.now event.now)) }
@@ -168,7 +168,7 @@ fn write_event<O: Write>(view: &View, event: &ViewedEvent, writer: &mut O) -> io
     write_values(event.payloads.get(), writer)
 }
 
-/// Whether an event is written.
+/// Returns whether an event is written.
 fn is_shown(view: &View, span: Span, event: &ViewedEvent) -> bool
     ensures { result ≡ texts.is_shown view.now span event.now }
 {
@@ -188,7 +188,7 @@ fn write_events<O: Write>(view: &View, span: Span, writer: &mut O) -> io::Result
     Ok(())
 }
 
-/// How many events stand in other tasks.
+/// Returns how many events belong to other tasks.
 fn left_out(view: &View, span: Span) -> usize
     ensures { result ≡ texts.left_out view.now span }
 {
@@ -199,7 +199,7 @@ fn left_out(view: &View, span: Span) -> usize
         .count()
 }
 
-/// The workflow type that the first event names; empty where it names none.
+/// Returns the workflow type that the first event names; empty if it names none.
 pub fn workflow_type(events: &[ViewedEvent]) -> &str
     ensures { result.now ≡ texts.workflow_type (slice_get events.now 0) }
 {
@@ -209,7 +209,7 @@ pub fn workflow_type(events: &[ViewedEvent]) -> &str
     }
 }
 
-/// Writes the line of a workflow type and counts.
+/// Writes the line with a workflow type and the counts.
 fn write_counts<O: Write>(
     kind: &str,
     events: usize,
@@ -227,7 +227,7 @@ fn write_counts<O: Write>(
     )
 }
 
-/// Writes the line with the workflow type and what is counted.
+/// Writes the line with the workflow type and the counts of a view.
 fn write_head<O: Write>(view: &View, writer: &mut O) -> io::Result<()>
     ensures { OnOk result (Appends (O.contents writer.old) (O.contents writer.new) (texts.head_line view.now)) }
 {
@@ -241,7 +241,7 @@ fn write_head<O: Write>(view: &View, writer: &mut O) -> io::Result<()>
     )
 }
 
-/// The type of an event, and the name of a marker after it.
+/// The type of an event, followed by the name of a marker.
 #[derive(Drop)]
 struct KindName<'a>(&'a ViewedEvent);
 
@@ -255,7 +255,7 @@ impl fmt::Display for KindName<'_> {
     }
 }
 
-/// Writes the line of a kind that is not supported, by its first event.
+/// Writes the line of a kind that is not supported, from its first event.
 #[tactic(auto, unfolding(crate::specs::Texts::kind_line))]
 fn write_kind_of<O: Write>(
     view: &View,
@@ -294,7 +294,7 @@ fn write_kinds<O: Write>(view: &View, writer: &mut O) -> io::Result<()>
     Ok(())
 }
 
-/// Writes the first lines: what is counted, and what is not supported.
+/// Writes the first lines: the counts, and what is not supported.
 fn write_top<O: Write>(view: &View, writer: &mut O) -> io::Result<()>
     ensures { OnOk result (Appends (O.contents writer.old) (O.contents writer.new) (texts.top_text view.now)) }
 {
@@ -302,7 +302,7 @@ fn write_top<O: Write>(view: &View, writer: &mut O) -> io::Result<()>
     write_kinds(view, writer)
 }
 
-/// Writes that so many events are left out, if there are some.
+/// Writes how many events are left out, if some are.
 fn write_left<O: Write>(left: usize, writer: &mut O) -> io::Result<()>
     ensures { OnOk result (Appends (O.contents writer.old) (O.contents writer.new) (texts.left_line left)) }
 {
@@ -323,22 +323,22 @@ fn write_span<O: Write>(view: &View, span: Span, writer: &mut O) -> io::Result<(
     write_left(left_out(view, span), writer)
 }
 
-/// Writes a view as text. The first line has the workflow type and counts. Then there is a line for
-/// each type, or name of markers, that the reader of histories does not support, with how many events
-/// are of it and the number of the first, whichever tasks are selected. Then there is a line for
-/// each event of the tasks that are selected, in the order of the history, but for workflow tasks
-/// that are scheduled or started:
-/// - `  told TYPE ..` of what the workflow is given in the next task,
-/// - `task N: WorkflowTaskCompleted ..` where a task is answered,
-/// - `  gives TYPE ..` of what a command of that task gave.
+/// Writes a view as text. The first line has the workflow type and the counts. Then each type, or
+/// name of markers, that the reader of histories does not support has a line, with the number of
+/// its events and the number of the first one, whichever tasks are selected. Then each event of the
+/// selected tasks has a line, in the order of the history, except `WorkflowTaskScheduled` and
+/// `WorkflowTaskStarted`:
+/// - `  told TYPE ..` for an event that becomes an activation job of the next task,
+/// - `task N: WorkflowTaskCompleted ..` for the completion of a task,
+/// - `  gives TYPE ..` for an event that records a command of that task.
 ///
-/// After the type stand the id and the type of its thing, the number as `(event N)`, the time as the
-/// history writes it, the events that started, canceled, ended or opened its thing, the attempt, how
-/// long it is to take, why it failed, and what the reader of histories refuses of it. Each value
-/// of the event follows on a line of its own. A text is shown by its first 80 characters; after a
-/// longer one stands how many it has. The last line says how many events stand in other
-/// tasks, if there are some; where no event has the number that is asked for these are all but
-/// those of commands before the first task.
+/// After the type come the id and the type of the event's thing, its number as `(event N)`, its
+/// time as the history writes it, the events that started, canceled, ended or opened the thing, the
+/// attempt, the duration of a timer, why something failed, and what is wrong with the event. Each
+/// value of the event follows on a line of its own. Of a text the first 80 characters are shown; if
+/// it is longer, the number of its characters follows. The last line says how many events belong to
+/// other tasks, if there are some. If tasks around an event are selected and no event has its
+/// number, these are all events but those that record commands before the first completed task.
 ///
 /// After an error some of the text may have been written.
 pub fn write_view<O: Write>(view: &View, selection: Selection, writer: &mut O) -> io::Result<()>

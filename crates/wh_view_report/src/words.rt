@@ -1,4 +1,4 @@
-//! What is said of an event of a view.
+//! The words of a report for an event of a view.
 
 ghost use Rattle.std.specs.Prelude.{◌≡◌, Some};
 ghost use Rattle.wh_view_report.specs.Words.{number_text, reference_text, ended_text, link_text};
@@ -8,7 +8,7 @@ use std::fmt;
 use wh_json::ReadFault;
 use wh_view::{View, ViewedEvent, Word};
 
-/// The number of an event; its place, where it has no number.
+/// The number of an event, or its place if it has no number.
 #[derive(Drop)]
 pub(crate) struct Number<'a>(pub(crate) &'a ViewedEvent);
 
@@ -29,7 +29,7 @@ impl fmt::Display for Number<'_> {
     }
 }
 
-/// A reference to the event at an index, after a label; nothing where there is none.
+/// A label and a reference to the event at an index; nothing if there is none.
 #[derive(Drop)]
 struct Reference<'a>(&'static str, &'a View, Option<usize>);
 
@@ -51,7 +51,7 @@ impl fmt::Display for Reference<'_> {
     }
 }
 
-/// The event that ends a thing, at an index, for a line of the event at a place.
+/// The event, by its index, that ends a thing; for a line of the event at a place.
 #[derive(Drop)]
 struct Ended<'a>(&'a View, u64, Option<usize>);
 
@@ -72,7 +72,7 @@ impl fmt::Display for Ended<'_> {
     }
 }
 
-/// What an event has to do with its thing.
+/// How an event is linked with its thing and the other events of that thing.
 #[derive(Drop)]
 pub(crate) struct Link<'a>(pub(crate) &'a View, pub(crate) &'a ViewedEvent);
 
@@ -95,7 +95,7 @@ impl fmt::Display for Link<'_> {
     }
 }
 
-/// What the reader refuses of an event.
+/// Returns the words for what the reader of histories refuses.
 fn fault_words(fault: &ReadFault) -> &'static str
     ensures { result.now ≡ fault_words fault.now }
 {
@@ -113,8 +113,8 @@ fn fault_words(fault: &ReadFault) -> &'static str
     }
 }
 
-/// What is not as it should be with an event: what the reader of histories refuses of it, or that no
-/// event opened what it refers to; empty where it is as it should be.
+/// Returns what is wrong with an event: what the reader of histories refuses in it, or that no
+/// event opened the thing to which it refers; empty if nothing is wrong.
 pub fn mark_of(view: &View, event: &ViewedEvent) -> &'static str
     ensures { result.now ≡ mark_words view.now event.now }
 {
@@ -128,7 +128,7 @@ pub fn mark_of(view: &View, event: &ViewedEvent) -> &'static str
     }
 }
 
-/// The attempt of an event, after other words; nothing where it names none, which is 0.
+/// The attempt of an event, after other words; nothing if it is 0, which means that it names none.
 #[derive(Clone, Copy)]
 pub struct Attempt(pub u64);
 
@@ -144,7 +144,7 @@ impl fmt::Display for Attempt {
     }
 }
 
-/// What an event is to its workflow, before its type.
+/// How an event concerns its workflow, before its type.
 #[derive(Drop)]
 pub(crate) struct Start<'a>(pub(crate) &'a View, pub(crate) &'a ViewedEvent);
 
