@@ -1,4 +1,4 @@
--- What a step appends to the commands that stand there already.
+-- What a step appends to the commands that are there already.
 use Rattle.std.proofs.Common.{◌≡◌, List, ◌++◌, length, drop, refl, sym, ap, subst, ◌∙◌}
 use Rattle.std.proofs.lemmas.List.{drop_at}
 use Rattle.wh_workflow.specs.declared.command.Command.{Command}

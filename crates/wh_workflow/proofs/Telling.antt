@@ -1,4 +1,4 @@
--- Each event tells a workflow once, and the start is told at the first cut.
+-- Each event gives a workflow its job once, and the start is given at the first cut.
 use Rattle.std.proofs.Common.{◌≡◌, ℕ, zero, suc, ◌<◌, false, List, [], ◌∷◌, ◌++◌, length, Some, refl, ap, ◌∙◌, inl, inr, arith, slice_get, IsTrue, length-append}
 use Rattle.wh_events.specs.declared.event.Event.{Event}
 use Rattle.wh_events.specs.declared.kind.EventKind.{EventKind}

@@ -1,4 +1,4 @@
--- Where commands first differ from a record, said of their places.
+-- Where commands first differ from a record, stated by their places.
 use Rattle.std.specs.Prelude.{◌≡◌, ℕ, ◌+◌, ◌<◌, ◌↔◌, List, length, take, Some, None, IsTrue, slice_get}
 use Rattle.wh_events.specs.declared.event.Event.{Event}
 use Rattle.wh_workflow.specs.declared.command.Command.{Command}
@@ -6,7 +6,7 @@ use Rattle.wh_workflow.specs.declared.fault.Mismatch.{Mismatch}
 use Rattle.wh_workflow.specs.declared.fault.Mismatch.TheVariants.{Different, CommandMissing, CommandExtra}
 use Rattle.wh_workflow.specs.Names.{names, mismatch}
 
--- wherever a command and an event have the same place, they are named alike
+-- each command and the event with the same place are named alike
 abbrev pub AreNamedAlike : List Event → List Command → List Event → Type 0
 AreNamedAlike history commands events =
     (i : ℕ) (command : Command) (event : Event) → slice_get commands i ≡ Some command → slice_get events i ≡ Some event
@@ -17,8 +17,8 @@ pub record IsMatch (history : List Event) (commands : List Command) (events : Li
   pub equally_long : length commands ≡ length events
   pub alike : AreNamedAlike history commands events
 
--- the difference is the first: those before it are named alike, and there a pair is not, or no
--- command is left for an event, or no event for a command, counted from 1
+-- the difference is the first: the commands and events before it are named alike, and there a pair is not, or an event
+-- has no command, or a command, counted from 1, has no event
 abbrev pub IsFirstDifference : List Event → List Command → List Event → Mismatch → Type 0
 IsFirstDifference history commands events (Different number) =
     (i : ℕ) × (command : Command) × (event : Event) × (slice_get commands i ≡ Some command)
@@ -30,7 +30,7 @@ IsFirstDifference history commands events (CommandMissing number) =
 IsFirstDifference history commands events (CommandExtra index) =
     (index ≡ length events + 1) × (length events < length commands) × AreNamedAlike history commands events
 
--- commands have no mismatch exactly where they match, and else the first difference
+-- commands have no mismatch exactly when they match; else the mismatch is the first difference
 abbrev pub FirstDifferenceDecides : Type 0
 FirstDifferenceDecides = (history : List Event) (commands : List Command) (events : List Event)
     → ((mismatch history commands events ≡ None) ↔ IsMatch history commands events)

@@ -1,4 +1,4 @@
--- Which events give a workflow a job, and where its start stands.
+-- Which events give a workflow a job, and at which cut the start is given.
 use Rattle.std.specs.Prelude.{◌≡◌, ℕ, ◌<◌, Bool, true, false, not, ◌&&◌, ◌||◌, List, [], ◌∷◌, ◌++◌, length, if◌then◌else◌, IsTrue}
 use Rattle.wh_events.specs.declared.event.Event.{Event}
 use Rattle.wh_events.specs.declared.kind.EventKind.{EventKind}
@@ -9,12 +9,12 @@ use Rattle.wh_events.specs.Places.{is_start, is_start_class}
 use Rattle.wh_events.specs.InPlace.{InPlace}
 use Rattle.wh_workflow.specs.Jobs.{start_job, signal_job, outside_job, jobs_by}
 
--- the workflow was signalled
+-- the event is a signal to the workflow
 abbrev pub is_signal : EventKind → Bool
 is_signal (WorkflowExecutionSignaled _ _) = true
 is_signal _ = false
 
--- an activity was started, of which the workflow gets no job
+-- the event is the start of an activity, for which the workflow gets no job
 abbrev pub is_untold : EventKind → Bool
 is_untold (ActivityTaskStarted _) = true
 is_untold _ = false
@@ -22,8 +22,8 @@ is_untold _ = false
 abbrev pub one_if : Bool → ℕ
 one_if test = if test then 1 else 0
 
--- an event gives one job: the start, as a start; a signal, among the signals; any other outside
--- event but the start of an activity, among the others. No other event gives one
+-- an event gives one job: the start, as a start; a signal, among the signals; any other outside event except the start
+-- of an activity, among the others; no other event gives one
 pub record TellsOnce (seen : List Event) (kind : EventKind) : Type 0 where
   pub start : length (start_job kind) ≡ one_if (is_start_class (class_of kind))
   pub signal : length (signal_job kind) ≡ one_if (is_signal kind)
@@ -34,7 +34,7 @@ pub record TellsOnce (seen : List Event) (kind : EventKind) : Type 0 where
 abbrev pub EachTellsOnce : Type 0
 EachTellsOnce = (seen : List Event) (kind : EventKind) → TellsOnce seen kind
 
--- in a history in place the start is given at the first cut alone, before which no events have passed
+-- in a history in place the start is given only at the first cut, the one that no events precede
 abbrev pub StartsOnce : Type 0
 StartsOnce =
     (passed between : List Event) (cut : Event) → InPlace (passed ++ (between ++ cut ∷ [])) → ¬ IsTrue (is_start cut)

@@ -1,4 +1,4 @@
--- What is sent of the commands that an activation issues, said of each with those before and after it.
+-- What is sent of the commands that an activation issues, stated over each of them with those before and after it.
 use Rattle.std.specs.Prelude.{◌≡◌, ℕ, ◌↔◌, ◌⊎◌, Bool, false, List, [], ◌∷◌, ◌++◌, length, Some, if◌then◌else◌, slice_get}
 use Rattle.wh_events.specs.declared.place.Thing.{Thing}
 use Rattle.wh_workflow.specs.declared.command.Command.{Command}
@@ -6,8 +6,8 @@ use Rattle.wh_workflow.specs.Scripts.{ActivationContext, Act, act_of, reduced}
 use Rattle.wh_workflow.specs.Scripts.Act.{Opening, Cancelling, Asking}
 use Rattle.wh_workflow.specs.CommandFaults.{IsOfCut, Does, IsLeftOpen, IsLateCancel}
 
--- a command between earlier and later ones is not sent: an opening that a later one cancels, the
--- next cancel of what an earlier one opens, a late cancel, and an ask
+-- a command between earlier and later ones is not sent: an opening that a later one cancels, the next cancel of what an
+-- earlier one opens, a late cancel, or an ask
 abbrev pub IsDropped : ActivationContext → List Command → List Command → Act → Type 0
 IsDropped context earlier later (Opening thing id) = Does later (Cancelling thing id)
 IsDropped context earlier later (Cancelling thing id) =
@@ -20,7 +20,7 @@ abbrev pub marked : List Bool → List Command → List Command
 marked (mark ∷ marks) (command ∷ rest) = if mark then command ∷ marked marks rest else marked marks rest
 marked _ _ = []
 
--- the issued commands that have a mark are sent, and exactly those that are dropped have none
+-- exactly the issued commands that have a mark are sent, and exactly the dropped ones have none
 pub record SendsTheRest (context : ActivationContext) (issued : List Command) : Type 0 where
   pub marks : List Bool
   pub each : length marks ≡ length issued
@@ -28,7 +28,7 @@ pub record SendsTheRest (context : ActivationContext) (issued : List Command) : 
   pub dropped : (earlier later : List Command) (command : Command) → issued ≡ earlier ++ command ∷ later
       → (slice_get marks (length earlier) ≡ Some false) ↔ IsDropped context earlier later (act_of command)
 
--- at a cut all the issued commands but the dropped ones are sent, in their order
+-- at a cut all issued commands except the dropped ones are sent, in their order
 abbrev pub SendsAllButDropped : Type 0
 SendsAllButDropped =
     (context : ActivationContext) (issued : List Command) → IsOfCut context → SendsTheRest context issued

@@ -1,4 +1,4 @@
-//! Workflows: what they are given, what they answer, and the law that each keeps.
+//! Workflows: what they are given, what they return, and the law that each of them keeps.
 #![tactic(auto)]
 
 mod command;
