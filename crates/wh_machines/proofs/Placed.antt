@@ -1,4 +1,4 @@
--- What it says of an event to be in place after others.
+-- What follows from an event being in place after others.
 use Rattle.std.proofs.Common.{◌≡◌, ℕ, ◌+◌, ◌<◌, Bool, true, false, not, zero, suc, List, [], ◌∷◌, ◌++◌, length, take, get_or, None, is_none, eqb, ltb, ◌||◌, refl, append-nil, append_assoc, arith}
 use Rattle.std.proofs.lemmas.Bool.{eqb-true}
 use Rattle.std.proofs.lemmas.List.{length_push}

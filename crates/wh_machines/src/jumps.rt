@@ -1,11 +1,11 @@
-//! Short ways back over the things of one kind and id.
+//! Jumps back over the things of one kind and id.
 
 ghost use Rattle.std.specs.Prelude.{◌≡◌, IfSome, IsSome};
 ghost use Rattle.wh_machines.specs.Private.Jumps.{jump_at, back_by, IsShort};
 
 use wh_events::EventNo;
 
-/// A short way back from a thing to an earlier one of its kind and id.
+/// A jump from a thing back to an earlier one of its kind and id.
 #[derive(Clone, Copy, Debug)]
 pub(crate) struct Jump {
     /// The number of that earlier thing.
@@ -14,10 +14,10 @@ pub(crate) struct Jump {
     pub(crate) depth: u64,
 }
 
-/// The jump of what opens nothing, or nothing that was opened before.
+/// The jump of an event that opens nothing, or the first thing of its kind and id.
 pub(crate) const NO_JUMP: Jump = Jump { to: None, depth: 0 };
 
-/// Where the jump of the event of the number goes.
+/// Returns the number to which the jump of the event of the number goes.
 fn target(jumps: &[Jump], number: EventNo) -> Option<EventNo>
     ensures { result ≡ jump_at jumps.now number }
 {
@@ -27,7 +27,7 @@ fn target(jumps: &[Jump], number: EventNo) -> Option<EventNo>
     }
 }
 
-/// How many things are before the event of the number.
+/// Returns how many things of the same kind and id are before the event of the number.
 fn depth(jumps: &[Jump], number: EventNo) -> u64 {
     match jumps.get((number.get() - 1) as usize) {
         Some(jump) => jump.depth,
@@ -35,9 +35,10 @@ fn depth(jumps: &[Jump], number: EventNo) -> u64 {
     }
 }
 
-/// The jump of a thing that comes next after the one of the number. It goes there, or, where two
-/// jumps from there are equally long, past both: so a walk back takes steps in proportion to the
-/// logarithm of what it passes (E. W. Myers, "An applicative random-access stack", 1983).
+/// Returns the jump of the thing that follows the one of the number. The jump goes to that one, or,
+/// if two jumps from there are equally long, past both. So a walk back takes steps in proportion to
+/// the logarithm of the things that it skips (E. W. Myers, "An applicative random-access stack",
+/// 1983).
 pub(crate) fn jump_to(jumps: &[Jump], previous: EventNo) -> Jump
     ensures some { IsSome result.to }
     ensures short { IfSome result.to (IsShort jumps.now previous) }
@@ -61,8 +62,8 @@ pub(crate) fn jump_to(jumps: &[Jump], previous: EventNo) -> Jump
     }
 }
 
-/// The next thing of a walk back from one past the place: where its jump goes, if that is past the
-/// place too, else the one before it.
+/// Returns the next thing of a walk back from a thing past the place: the one to which its jump
+/// goes, if that is past the place too, else the one before it.
 pub(crate) fn step_back(
     jumps: &[Jump],
     number: EventNo,

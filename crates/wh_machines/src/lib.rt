@@ -1,4 +1,4 @@
-//! What a history has opened and where each thing stands, kept in tables beside its events.
+//! What a history has opened and the status of each thing, kept in tables beside the events.
 #![tactic(auto)]
 
 mod fault;

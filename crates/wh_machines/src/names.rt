@@ -14,12 +14,15 @@ use wh_events::{EventNo, OutOfMemory, Thing};
 /// ids.
 #[derive(Debug, Drop)]
 pub(crate) struct Names {
+    /// The last activity under each id.
     pub(crate) activities: BTreeMap<String, EventNo>,
+    /// The last timer under each id.
     pub(crate) timers: BTreeMap<String, EventNo>,
+    /// The last child under each workflow id.
     pub(crate) children: BTreeMap<String, EventNo>,
 }
 
-/// Sets the last thing of an id.
+/// Sets the last thing of an id. After `OutOfMemory` nothing has changed.
 fn put(
     names: &mut BTreeMap<String, EventNo>,
     id: String,
@@ -36,7 +39,7 @@ fn put(
 impl Names {
     ghost use Rattle.wh_machines.specs.Private.Tables.{named_in};
 
-    /// No thing has an id yet. It takes no memory.
+    /// Returns a table in which no id has a thing. It takes no memory.
     pub(crate) fn new(alloc: Global) -> Self
         ensures { (thing : Thing) (id : List ℕ) → named_in result thing id ≡ None }
     {
@@ -47,7 +50,7 @@ impl Names {
         }
     }
 
-    /// The last thing of a kind under an id.
+    /// Returns the last thing of a kind under an id, if the ids of the kind are kept.
     pub(crate) fn last(&self, thing: Thing, id: &str) -> Option<EventNo>
         ensures { result ≡ named_in self.now thing id.now }
     {
@@ -59,7 +62,8 @@ impl Names {
         }
     }
 
-    /// Sets the last thing of a kind under an id, if the ids of the kind are kept.
+    /// Sets the last thing of a kind under an id, if the ids of the kind are kept. After
+    /// `OutOfMemory` nothing has changed.
     pub(crate) fn set(
         &mut self,
         alloc: Global,

@@ -1,4 +1,4 @@
-//! Notes an event in the tables.
+//! Enters an event in the tables.
 
 ghost use Rattle.std.specs.Prelude.{◌≡◌, ℕ, List, None, OnOk, OnErr};
 ghost use Rattle.wh_events.specs.Kinds.{role_seen};
@@ -11,7 +11,8 @@ use crate::openings::Openings;
 use std::alloc::Global;
 use wh_events::{Effect, EventNo, OutOfMemory, Role, Thing};
 
-/// Notes an event of that number and role in the tables. Without memory they stay as they were.
+/// Enters an event of that number and role in the tables. After `OutOfMemory` they are as they
+/// were.
 pub(crate) fn note(
     alloc: Global,
     openings: &mut Openings,

@@ -9,17 +9,21 @@ use wh_events::{Effect, EventNo, Status};
 /// A thing that an event opened, and the numbers of the first events that changed it.
 #[derive(Clone, Copy, Debug)]
 pub(crate) struct Opening {
+    /// The number of the event that opened the thing.
     pub(crate) number: EventNo,
+    /// The first event that started it.
     pub(crate) started: Option<EventNo>,
+    /// The first event that asked for it to be canceled.
     pub(crate) cancelling: Option<EventNo>,
+    /// The first event that closed it.
     pub(crate) closed: Option<EventNo>,
     /// The thing of the same kind that was opened under the same id before.
     pub(crate) previous: Option<EventNo>,
 }
 
 impl Opening {
-    /// What the event of the number opened, of which nothing more is known; `previous` is the
-    /// opening of its kind and id before it.
+    /// Returns the thing that the event of the number opened, with no later event. `previous` is
+    /// the opening of its kind and id before it.
     pub(crate) fn new(number: EventNo, previous: Option<EventNo>) -> Self
         ensures { result ≡ new_opening number previous }
     {
@@ -32,7 +36,7 @@ impl Opening {
         }
     }
 
-    /// Keeps the event of the number, if it is the first with this effect.
+    /// Keeps the event of the number, if it is the first one with this effect.
     pub(crate) fn mark(&mut self, effect: Effect, by: EventNo)
         ensures { self.new ≡ with_effect effect by self.old }
     {
@@ -43,7 +47,7 @@ impl Opening {
         }
     }
 
-    /// Where the thing stood after the event at the place.
+    /// Returns the status of the thing after the event at the place.
     pub(crate) fn status_up_to(&self, place: u64) -> Status
         ensures { result ≡ status_up_to place self.now }
     {
@@ -59,7 +63,7 @@ impl Opening {
     }
 }
 
-/// The number, if it is not past the place.
+/// Returns the number, if it is not past the place.
 fn kept_up_to(place: u64, number: Option<EventNo>) -> Option<EventNo>
     ensures { result ≡ up_to place number }
 {

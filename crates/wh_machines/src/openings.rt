@@ -9,17 +9,19 @@ use std::alloc::Global;
 use std::collections::BTreeMap;
 use wh_events::{Effect, EventNo, OutOfMemory};
 
-/// The things that the events opened, each found by the number of its event.
+/// The things that the events opened. Each is found by the number of its event.
 #[derive(Debug, Drop)]
 pub(crate) struct Openings {
+    /// The things, each under a key.
     pub(crate) entries: Slab<Opening>,
+    /// The key of the thing that the event of each number opened.
     pub(crate) keys: BTreeMap<u64, usize>,
 }
 
 impl Openings {
     ghost use Rattle.wh_machines.specs.Private.Tables.{IsSound, opening_in};
 
-    /// Nothing is opened yet. It takes no memory.
+    /// Returns a table without things. It takes no memory.
     pub(crate) fn new(alloc: Global) -> Self
         ensures sound { IsSound result }
         ensures empty { (number : ℕ) → opening_in result number ≡ None }
@@ -30,7 +32,7 @@ impl Openings {
         }
     }
 
-    /// The thing that the event of the number opened.
+    /// Returns the thing that the event of the number opened.
     pub(crate) fn find(&self, number: u64) -> Option<Opening>
         ensures { result ≡ opening_in self.now number }
     {
@@ -38,7 +40,8 @@ impl Openings {
         self.entries.get(key).copied()
     }
 
-    /// Enters an opening whose number is not there. After `OutOfMemory` the table is as it was.
+    /// Enters an opening whose number is not in the table. After `OutOfMemory` the table is as it
+    /// was.
     pub(crate) fn insert(&mut self, opening: Opening) -> Result<(), OutOfMemory>
         requires sound { IsSound self.old }
         requires unknown { opening_in self.old opening.number ≡ None }
@@ -54,7 +57,7 @@ impl Openings {
         Ok(())
     }
 
-    /// Takes back the thing that the event of the number opened.
+    /// Removes the thing that the event of the number opened.
     pub(crate) fn remove(&mut self, number: u64)
         requires { IsSound self.old }
         ensures sound { IsSound self.new }
@@ -66,7 +69,7 @@ impl Openings {
         }
     }
 
-    /// Marks the thing that the event of the number opened, if there is one.
+    /// Marks the thing that the event of the number opened, if there is one, with an effect.
     pub(crate) fn mark(&mut self, number: u64, effect: Effect, by: EventNo)
         requires { IsSound self.old }
         ensures sound { IsSound self.new }

@@ -1,4 +1,4 @@
-//! What the place of an event depends on.
+//! What decides whether an event is in place.
 
 ghost use Rattle.std.specs.Prelude.{◌≡◌};
 ghost use Rattle.wh_events.specs.Kinds.{role_seen};
@@ -7,21 +7,21 @@ ghost use Rattle.wh_events.specs.Places as places;
 
 use wh_events::{Class, Event, Role, Thing};
 
-/// Whether the event starts the run.
+/// Returns whether the event starts the run.
 pub(crate) fn is_start(event: &Event) -> bool
     ensures { result ≡ places.is_start event.now }
 {
     matches!(event.class(), Class::Start)
 }
 
-/// Whether open things of this kind have different ids.
+/// Returns whether open things of this kind have different ids.
 pub(crate) fn is_named(thing: Thing) -> bool
     ensures { result ≡ places.is_named thing }
 {
     matches!(thing, Thing::Activity | Thing::Timer | Thing::Child)
 }
 
-/// Whether an event of the role opens such a thing.
+/// Returns whether an event of the role opens such a thing.
 fn opens_thing(thing: Thing, role: Role<'_>) -> bool
     ensures { result ≡ places.is_thing thing (opened_thing (role_seen role.entry)) }
 {
@@ -32,7 +32,7 @@ fn opens_thing(thing: Thing, role: Role<'_>) -> bool
     }
 }
 
-/// Whether the event of the number opens such a thing.
+/// Returns whether the event of the number opens such a thing.
 pub(crate) fn opens_at(events: &[Event], thing: Thing, number: u64) -> bool
     ensures { result ≡ places.is_thing thing (opened_thing (role_at events.now number)) }
 {

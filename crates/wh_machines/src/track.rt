@@ -50,8 +50,8 @@ impl Model for Track {
     ghost invariant = { λ t. IsTracked t.events.items t.over t.openings t.names t.jumps.items };
 }
 
-/// Makes room for an event of that number and role, and notes it in the tables. Without memory
-/// nothing of it stays.
+/// Makes room for an event of that number and role, and enters it in the tables. After
+/// `OutOfMemory` the tables are as they were.
 fn admit(
     alloc: Global,
     events: &mut Vec<Event>,
@@ -81,7 +81,7 @@ fn admit(
 }
 
 impl Track {
-    /// A track without events. It takes no memory until the first push.
+    /// Returns a track without events. It takes no memory until the first push.
     pub fn new(alloc: Global) -> Self
         ensures { result ≡ [] }
     {
@@ -95,9 +95,9 @@ impl Track {
         }
     }
 
-    /// Takes an event that is in place after those before it. `Place` where it is not, with the
-    /// least fault that it has; this comes before `OutOfMemory`, for which nothing stays of the
-    /// event in the tables. After either the track is as it was, and the event is dropped.
+    /// Appends an event that is in place after those before it. Fails with `Place` if it is not,
+    /// with the least fault that it has. `Place` comes before `OutOfMemory`. After either the track
+    /// is as it was, its tables too, and the event is dropped.
     pub fn push(&mut self, event: Event) -> Result<(), PushFault>
         ensures fault { (fault : PlaceFault) → (result ≡ Err (PushFault.Place fault))
             ↔ (places.place_fault self.old event ≡ Some fault) }
@@ -133,7 +133,7 @@ impl Track {
         }
     }
 
-    /// How many events are held, at most 51,200. They are in place.
+    /// Returns how many events are held, at most 51,200. They are in place.
     pub fn len(&self) -> usize
         ensures len { result ≡ length self.now }
         ensures in_place { places.fault_after [] self.now ≡ None }
@@ -141,14 +141,14 @@ impl Track {
         self.events.len()
     }
 
-    /// Whether no event is held.
+    /// Returns whether no event is held.
     pub fn is_empty(&self) -> bool
         ensures { IsTrue result ↔ (self.now ≡ []) }
     {
         self.events.is_empty()
     }
 
-    /// All events. They are in place.
+    /// Returns all events. They are in place.
     pub fn events(&self) -> &[Event]
         ensures events { result.now ≡ self.now }
         ensures in_place { places.fault_after [] self.now ≡ None }
@@ -156,8 +156,8 @@ impl Track {
         self.events.as_slice()
     }
 
-    /// Where the thing that the event of the number opened stands after all events; `None` where
-    /// there is no such event or it opened nothing.
+    /// Returns the status of the thing that the event of the number opened, after all events.
+    /// Returns `None` if there is no such event or it opened nothing.
     pub fn status(&self, number: EventNo) -> Option<Status>
         ensures { result ≡ machines.status_at self.now number }
     {
@@ -165,22 +165,24 @@ impl Track {
         Some(opening.status_up_to(self.events.len() as u64))
     }
 
-    /// The number of the open thing of a kind and an id; `None` where each of them is closed.
+    /// Returns the number of the open thing of a kind and an id, or `None` if each of them is
+    /// closed.
     pub fn open_named(&self, kind: OpenKind, id: &str) -> Option<EventNo>
         ensures { result ≡ machines.open_named self.now (thing_of kind) id.now }
     {
         self.open_thing(kind.thing(), id)
     }
 
-    /// The number of the last thing that was opened of a kind under an id, be it open or closed.
+    /// Returns the number of the last thing that was opened of a kind under an id, whether it is
+    /// open or closed.
     pub fn last_named(&self, kind: OpenKind, id: &str) -> Option<EventNo>
         ensures { result ≡ machines.last_named self.now (thing_of kind) id.now }
     {
         self.names.last(kind.thing(), id)
     }
 
-    /// The last thing of a kind and an id among the events up to the number `place`, and where it
-    /// stands there, as if no event followed.
+    /// Returns the last thing of a kind and an id among the events up to the number `place`, and
+    /// its status there, as if no event followed.
     pub fn last_at(&self, kind: OpenKind, id: &str, place: u64) -> Option<(EventNo, Status)>
         ensures { result ≡ last_at self.now (thing_of kind) id.now place }
     {
@@ -195,7 +197,7 @@ impl Track {
         None
     }
 
-    /// The event of a number, if it is held.
+    /// Returns the event of a number, if it is held.
     pub fn event(&self, number: EventNo) -> Option<&Event>
         ensures { option_copied result ≡ slice_get self.now (number - 1) }
     {
@@ -207,8 +209,8 @@ impl Track {
         }
     }
 
-    /// The events strictly between two numbers, of which 0 stands before the first event and one
-    /// more than their count after the last.
+    /// Returns the events strictly between two numbers. Number 0 stands before the first event, and
+    /// one more than their count after the last.
     pub fn between(&self, from: u64, to: u64) -> &[Event]
         requires rising { from < to }
         requires within { to ≤ length self.now + 1 }
@@ -217,8 +219,8 @@ impl Track {
         &self.events[from as usize..(to - 1) as usize]
     }
 
-    /// A track of the same events. `OutOfMemory` where there was no memory for it; this one stays as
-    /// it is.
+    /// Returns a track of the same events. Fails with `OutOfMemory` if there was no memory for it;
+    /// this track stays as it is.
     pub fn try_copy(&self) -> Result<Self, OutOfMemory>
         ensures { IfOk result (λ copy. copy ≡ self.now) }
     {
@@ -227,7 +229,7 @@ impl Track {
         Ok(copy)
     }
 
-    /// The events, in their order, without copies.
+    /// Returns the events in their order, without copies.
     pub fn into_events(self) -> Vec<Event>
         ensures { result.items ≡ self }
     {
@@ -235,7 +237,8 @@ impl Track {
         events
     }
 
-    /// Pushes copies of the events onto a track without events.
+    /// Pushes copies of the events onto a track without events. After `OutOfMemory` some of them
+    /// may be there.
     fn copy_into(&self, copy: &mut Track) -> Result<(), OutOfMemory>
         requires { copy.old ≡ [] }
         ensures { OnOk result (copy.new ≡ self.now) }
@@ -250,7 +253,7 @@ impl Track {
         Ok(())
     }
 
-    /// The number of the open thing of a kind and an id.
+    /// Returns the number of the open thing of a kind and an id.
     fn open_thing(&self, thing: Thing, id: &str) -> Option<EventNo>
         requires { places.is_named thing ≡ true }
         ensures { result ≡ machines.open_named self.now thing id.now }
@@ -264,7 +267,7 @@ impl Track {
         }
     }
 
-    /// How a walk back gets on from what an event of the role opens.
+    /// Returns the jump of the thing that an event of the role opens next.
     fn jump_of(&self, role: Role<'_>) -> Jump
         ensures { IfSome result.to (IsAlike self.now (role_seen role.entry)) }
     {
@@ -277,7 +280,7 @@ impl Track {
         }
     }
 
-    /// The least fault that the event, which has the role, has after those before it.
+    /// Returns the least fault of the event, which has the role, after those before it.
     #[tactic(auto, unfolding(wh_events::specs::Places::place_fault))]
     fn place_fault(&self, event: &Event, role: Role<'_>) -> Option<PlaceFault>
         requires { role_seen role ≡ role_of event.now.body }
@@ -302,7 +305,7 @@ impl Track {
         None
     }
 
-    /// The least fault that lies in what an event of the role does to the things of the events.
+    /// Returns the least fault in what an event of the role does to the things of the events.
     fn role_fault(&self, role: Role<'_>) -> Option<PlaceFault>
         ensures { result ≡ places.role_fault self.now (role_seen role.entry) }
     {
@@ -326,7 +329,7 @@ impl Track {
         }
     }
 
-    /// Why a thing can't be referred to.
+    /// Returns why an event can't refer to a thing.
     #[tactic(auto, unfolding(wh_events::specs::Places::reference_fault))]
     fn reference_fault(&self, thing: Thing, number: u64) -> Option<PlaceFault>
         ensures { result ≡ places.reference_fault self.now thing number }
@@ -340,7 +343,7 @@ impl Track {
         }
     }
 
-    /// The fault of a reference to a thing that is closed.
+    /// Returns the fault of a reference to a thing, if the thing is closed.
     fn closed_fault(&self, number: u64) -> Option<PlaceFault>
         requires opens { is_some (machines.opened_thing (machines.role_at self.now number)) ≡ true }
         requires positive { 0 < number }

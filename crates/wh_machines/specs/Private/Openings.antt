@@ -1,4 +1,4 @@
--- What is kept of each thing that a history opens, as its events tell it.
+-- What is kept of each thing that a history opens, by its events.
 use Rattle.std.specs.Prelude.{ℕ, ◌-◌, Bool, List, [], ◌∷◌, ◌++◌, take, Option, Some, None, if◌then◌else◌, eqb, leb, is_some}
 use Rattle.wh_events.specs.declared.event.Event.{Event}
 use Rattle.wh_events.specs.declared.place.Status.{Status}
@@ -20,11 +20,11 @@ first_by test before (event ∷ rest) =
 abbrev pub closes_test : ℕ → List Event → Event → Bool
 closes_test number before event = closes number event
 
--- the event starts it
+-- the event starts what the event of the number opened
 abbrev pub starts_test : ℕ → List Event → Event → Bool
 starts_test number before event = starts number event
 
--- the event asks for it to be canceled
+-- the event asks for what the event of the number opened to be canceled
 abbrev pub cancels_test : ℕ → List Event → Event → Bool
 cancels_test number before event = cancels_number before number (role_of event.body)
 
@@ -42,14 +42,14 @@ opening_with events number previous = record {
   previous = previous;
 }
 
--- the opening by an event of this role, if that opens something
+-- the opening by an event of this role, if the event opens something
 abbrev pub opened_by : List Event → ℕ → Role → Option Opening
 opened_by events number (Opens thing id) =
     Some (opening_with events number (named_of (take (number - 1) events) thing id))
 opened_by events number (CancelsChild workflow_id) = Some (opening_with events number None)
 opened_by events number _ = None
 
--- what the events tell of the thing that the event of the number opened, if it opened one
+-- what the events say of the thing that the event of the number opened, if it opened one
 abbrev pub opening_of : List Event → ℕ → Option Opening
 opening_of events number = if eqb number 0 then None else opened_by events number (role_at events number)
 
@@ -58,7 +58,7 @@ abbrev pub up_to : ℕ → Option ℕ → Option ℕ
 up_to place None = None
 up_to place (Some number) = if leb number place then Some number else None
 
--- where the thing stood after the event at the place
+-- the status of the thing after the event at the place
 abbrev pub status_up_to : ℕ → Opening → Status
 status_up_to place opening =
     status_by (up_to place opening.closed) (is_some (up_to place opening.cancelling))

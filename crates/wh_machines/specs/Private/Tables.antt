@@ -31,12 +31,12 @@ abbrev pub has_number : ℕ → Option Opening → Bool
 has_number number None = false
 has_number number (Some opening) = eqb number opening.number
 
--- each number's key is that of its entry, and each entry is found by its number
+-- the key of each number is that of an entry with this number, and each entry is found by its number
 pub record IsKeyed (keys : ℕ → Option ℕ) (entries : ℕ → Option Opening) : Type 0 where
   pub keyed : (number key : ℕ) → keys number ≡ Some key → has_number number (entries key) ≡ true
   pub entered : (key : ℕ) (opening : Opening) → entries key ≡ Some opening → keys opening.number ≡ Some key
 
--- the map of the openings' numbers and their entries fit each other
+-- the map of the numbers and the entries of the openings fit each other
 abbrev pub IsSound : Openings → Type 0
 IsSound openings = IsKeyed (key_of openings) (entry_at openings)
 
@@ -47,7 +47,7 @@ named_in names Timer id = tree.get_by_text names.timers id
 named_in names Child id = tree.get_by_text names.children id
 named_in names _ id = None
 
--- the events are in place, and the tables hold what they tell
+-- the events are in place, and the tables hold what the events say
 pub record IsTracked (events : List Event) (over : Bool) (openings : Openings) (names : Names)
     (jumps : List Jump) : Type 0 where
   pub placed : fault_after [] events ≡ None
