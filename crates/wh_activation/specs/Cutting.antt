@@ -10,11 +10,11 @@ abbrev pub jobs_in : List Event → List Event → Option Event → List Job
 jobs_in seen between None = []
 jobs_in seen between (Some cut) = jobs_of seen between cut
 
--- the jobs of the cut of the last number, where the cut before has the first, or there is none and the first is 0
+-- the jobs of the cut with the second number; the first is that of the cut before, or 0 if there is none
 abbrev pub jobs_at : List Event → ℕ → ℕ → List Job
 jobs_at events from to = jobs_in (take to events) (events_between events from to) (slice_get events (to - 1))
 
--- the list of a value that may be there
+-- the list of an optional value
 abbrev pub listed : {A : Type 0} → Option A → List A
 listed None = []
 listed (Some x) = x ∷ []

@@ -10,14 +10,14 @@ use wh_events::{Event, EventKind, EventNo, OutOfMemory, Text, opened_id};
 use wh_machines::Track;
 use wh_workflow::{ActivityEnd, ChildEnd, Job};
 
-/// A copy of the id under which the event of the number opened something.
+/// Copies the id under which the event of the number opened something.
 fn copy_id(alloc: Global, events: &[Event], number: u64) -> Result<Text, OutOfMemory>
     ensures { IfOk result (λ text. text ≡ id_at events.now number) }
 {
     Ok(Text::new(String::from_str(alloc, opened_id(events, number))?))
 }
 
-/// A copy of the signal that the event of the number sends.
+/// Copies the name of the signal that the event of the number sends.
 fn copy_signal(alloc: Global, events: &[Event], number: u64) -> Result<Text, OutOfMemory>
     ensures { IfOk result (λ text. text ≡ signal_at events.now number) }
 {
@@ -29,7 +29,7 @@ fn copy_signal(alloc: Global, events: &[Event], number: u64) -> Result<Text, Out
     Ok(Text::new(String::new(alloc)))
 }
 
-/// The job of the event that starts the run.
+/// Returns the job of the event that starts the run.
 fn start_job(kind: &EventKind) -> Result<Option<Job>, OutOfMemory>
     ensures { IfOk result (λ job. listed job ≡ start_job kind.now) }
 {
@@ -41,7 +41,7 @@ fn start_job(kind: &EventKind) -> Result<Option<Job>, OutOfMemory>
     Ok(Some(Job::Start { workflow, input }))
 }
 
-/// The job of a signal.
+/// Returns the job of a signal.
 fn signal_job(kind: &EventKind) -> Result<Option<Job>, OutOfMemory>
     ensures { IfOk result (λ job. listed job ≡ signal_job kind.now) }
 {
@@ -53,7 +53,7 @@ fn signal_job(kind: &EventKind) -> Result<Option<Job>, OutOfMemory>
     Ok(Some(Job::Signal { name, input }))
 }
 
-/// The job of the end of the activity that the event of the number scheduled.
+/// Returns the job for the end of the activity that the event of the number scheduled.
 fn activity_job(
     alloc: Global,
     seen: &[Event],
@@ -66,7 +66,7 @@ fn activity_job(
     Ok(Some(Job::Activity { id, end }))
 }
 
-/// The job of the end of the child that the event of the number initiated.
+/// Returns the job for the end of the child that the event of the number initiated.
 fn child_job(
     alloc: Global,
     seen: &[Event],
@@ -79,7 +79,7 @@ fn child_job(
     Ok(Some(Job::Child { workflow_id, end }))
 }
 
-/// The job that the signal which the event of the number initiated was delivered.
+/// Returns the job which says that the signal that the event of the number initiated was delivered.
 fn sent_job(alloc: Global, seen: &[Event], number: u64) -> Result<Option<Job>, OutOfMemory>
     ensures { IfOk result (λ job. job ≡ Some (SignalSent (id_at seen.now number) (signal_at seen.now number))) }
 {
@@ -91,7 +91,8 @@ fn sent_job(alloc: Global, seen: &[Event], number: u64) -> Result<Option<Job>, O
     }))
 }
 
-/// The job that the signal which the event of the number initiated was not delivered.
+/// Returns the job which says that the signal that the event of the number initiated could not be
+/// delivered.
 fn unsent_job(alloc: Global, seen: &[Event], number: u64) -> Result<Option<Job>, OutOfMemory>
     ensures { IfOk result (λ job. job ≡ Some (SignalFailed (id_at seen.now number) (signal_at seen.now number))) }
 {
@@ -103,7 +104,7 @@ fn unsent_job(alloc: Global, seen: &[Event], number: u64) -> Result<Option<Job>,
     }))
 }
 
-/// The job of another outside event.
+/// Returns the job of another outside event.
 fn outside_job(alloc: Global, seen: &[Event], kind: &EventKind) -> Result<Option<Job>, OutOfMemory>
     ensures { IfOk result (λ job. listed job ≡ outside_job seen.now kind.now) }
 {
@@ -199,7 +200,7 @@ fn outside_job(alloc: Global, seen: &[Event], kind: &EventKind) -> Result<Option
     }
 }
 
-/// Adds the job, if there is one.
+/// Appends the job, if there is one.
 fn push_job(jobs: &mut Vec<Job>, job: Option<Job>) -> Result<(), OutOfMemory>
     ensures { OnOk result (jobs.new.items ≡ jobs.old.items ++ listed job) }
 {
@@ -209,7 +210,7 @@ fn push_job(jobs: &mut Vec<Job>, job: Option<Job>) -> Result<(), OutOfMemory>
     Ok(())
 }
 
-/// The jobs of a cut, where the first events are those up to and with the cut, and the others those
+/// Returns the jobs of a cut. `seen` holds the events up to and with the cut, and `between` those
 /// since the cut before.
 fn jobs_of(
     alloc: Global,
@@ -233,8 +234,8 @@ fn jobs_of(
     Ok(jobs)
 }
 
-/// The events strictly between two numbers, of which the second is at most one more than the last:
-/// none where the first is not below it.
+/// Returns the events strictly between two numbers, the second of which is at most one more than
+/// the last. There are none if the first number is not below the second.
 #[tactic(auto, using(std::proofs::lemmas::List::drop_min))]
 fn between(events: &[Event], from: u64, to: EventNo) -> &[Event]
     requires { to ≤ length events.now + 1 }
@@ -245,17 +246,18 @@ fn between(events: &[Event], from: u64, to: EventNo) -> &[Event]
     &before[first..]
 }
 
-/// The jobs that a workflow is given at the cut `to`, the WorkflowTaskStarted of a workflow task,
-/// where `from` is the cut before, or 0 for the first: the time of the cut, the start where the run
-/// starts since the cut before, the signals since then in the order of the history, and then the
-/// other outside events since then in that order, except that an activity was started. (Temporal
-/// documentation, workflow tasks: <https://docs.temporal.io/tasks#workflow-task>; events:
+/// Returns the jobs that a workflow is given at the cut `to`, the WorkflowTaskStarted of a workflow
+/// task. `from` is the cut before, or 0 for the first cut. The jobs are the time of the cut, the
+/// start if the run starts since the cut before, the signals since then in the order of the
+/// history, and then the other outside events since then in that order, except starts of
+/// activities. (Temporal documentation, workflow tasks:
+/// <https://docs.temporal.io/tasks#workflow-task>; events:
 /// <https://docs.temporal.io/references/events>.)
 ///
-/// It is not looked at whether either is a cut, and later events change nothing. Where `from` is
-/// not below `to`, no event stands between them, and the time is the only job; where the track
-/// holds no event `to`, there is no job. `OutOfMemory` where the allocator refused a growth;
-/// nothing was kept, and the track is as it was.
+/// Neither number is checked to be a cut, and later events change nothing. If `from` is not below
+/// `to`, no event stands between them, and the time is the only job. If the track holds no event
+/// `to`, there is no job. Fails with `OutOfMemory` if the allocator refused memory; nothing is kept
+/// then, and the track is as it was.
 pub fn jobs(alloc: Global, track: &Track, from: u64, to: EventNo) -> Result<Vec<Job>, OutOfMemory>
     ensures { IfOk result (λ jobs. jobs.items ≡ jobs_at track.now from to) }
 {

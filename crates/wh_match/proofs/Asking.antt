@@ -1,4 +1,4 @@
--- What a script holds after an ask, and the marker of its version where one is issued.
+-- What a script holds after an ask, and the marker of its version if one is issued.
 use Rattle.std.proofs.Common.{◌≡◌, ℕ, ℤ, ◌+◌, Bool, true, false, ◌||◌, List, [], ◌∷◌, ◌++◌, length, refl, sym, ap, ◌∙◌, append_assoc}
 use Rattle.std.proofs.lemmas.List.{append-nil}
 use Rattle.wh_workflow.specs.declared.command.Command.{Command}

@@ -1,4 +1,4 @@
--- What a script sends is what is sent at its context, where its marks are of that context.
+-- What a script sends is what is to be sent in its context, if its marks are of that context.
 use Rattle.std.proofs.Common.{◌≡◌, ℕ, ◌+◌, ◌-◌, ◌<◌, Bool, true, false, cond, List, [], ◌∷◌, ◌++◌, length, get_or, take, drop, refl, sym, ap, ◌∙◌, append_assoc, arith}
 use Rattle.std.proofs.lemmas.List.{append-nil, take_more, drop_more, take_rest}
 use Rattle.wh_workflow.specs.declared.command.Command.{Command}

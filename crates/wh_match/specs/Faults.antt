@@ -1,4 +1,4 @@
--- The workflow faults of commands, where it is known how things stand at the cut.
+-- The workflow faults of calls of a script.
 use Rattle.std.specs.Prelude.{Option, Some, None, Result, Ok, Err}
 use Rattle.wh_workflow.specs.declared.fault.WorkflowFault.{WorkflowFault}
 use Rattle.wh_match.specs.declared.fault.ScriptFault.{ScriptFault}

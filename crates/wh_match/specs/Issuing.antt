@@ -8,8 +8,8 @@ use Rattle.wh_workflow.specs.Scripts.{ActivationContext, Settled, Choice, Act, a
 use Rattle.wh_workflow.specs.Scripts.Act.{Opening, Cancelling, Asking}
 use Rattle.wh_workflow.specs.Activations.{marker_if}
 
--- the commands that the activation at a cut has issued, with the asks and the markers, and of each
--- whether it was a late cancel when it was issued
+-- the commands that the activation at a cut has issued, with the asks and the markers, and for each of them whether it
+-- was a late cancel when it was issued
 pub record Issuing : Type 0 where
   -- the number of the cut before, or 0
   pub previous : ℕ
@@ -17,31 +17,31 @@ pub record Issuing : Type 0 where
   pub issued : List Command
   pub late : List Bool
 
--- what an activation knows at the cut of a number, after the cut before
+-- what an activation knows at the cut with a number, after the cut before
 abbrev pub context_at : List Event → ℕ → ℕ → Option (List Event) → ActivationContext
 context_at events previous cut recorded =
     record { seen = take cut events; between = events_between events previous cut; recorded = recorded }
 
--- what it knows where these commands are issued
+-- what the activation of a script knows
 abbrev pub context_in : List Event → Issuing → Option (List Event) → ActivationContext
 context_in events script recorded = context_at events script.previous script.cut recorded
 
--- a command that does this is a late cancel after the earlier ones
+-- a command that does this after the earlier ones is a late cancel
 abbrev pub is_late_act : ActivationContext → List Command → Act → Bool
 is_late_act context earlier (Cancelling thing id) = is_late context earlier thing id
 is_late_act context earlier _ = false
 
--- of each of the commands after the earlier ones, whether it is a late cancel
+-- for each of the commands after the earlier ones, whether it is a late cancel
 abbrev pub late_after : ActivationContext → List Command → List Command → List Bool
 late_after context earlier [] = []
 late_after context earlier (command ∷ rest) =
     is_late_act context earlier (act_of command) ∷ late_after context (earlier ++ command ∷ []) rest
 
--- of each of the issued commands, whether it is a late cancel
+-- for each of the issued commands, whether it is a late cancel
 abbrev pub late_marks : ActivationContext → List Command → List Bool
 late_marks context issued = late_after context [] issued
 
--- with one more command
+-- the script with one more command
 abbrev pub with_issued : Issuing → Command → Bool → Issuing
 with_issued script command late =
     record {
@@ -51,16 +51,16 @@ with_issued script command late =
       late = script.late ++ late ∷ [];
     }
 
--- where a marker is issued, that it is no late cancel
+-- the mark of a marker, if one is issued: no late cancel
 abbrev pub unmarked_if : Bool → List Bool
 unmarked_if true = false ∷ []
 unmarked_if false = []
 
--- the version of an ask where this is recorded, and whether a marker is issued for it
+-- the version of an ask with this record, and whether a marker is issued for it
 abbrev pub choice_in : Option (List Event) → Settled → List ℕ → ℤ → Choice
 choice_in recorded settled change_id high = choice_by (lookup_version change_id settled) recorded change_id high
 
--- with an ask and the marker that is issued for it, if any
+-- the script with an ask, and with the marker that is issued for it, if any
 abbrev pub with_asked : Issuing → List ℕ → ℤ → ℤ → Choice → Issuing
 with_asked script change_id low high choice = record {
   previous = script.previous;
@@ -69,8 +69,8 @@ with_asked script change_id low high choice = record {
   late = (script.late ++ false ∷ []) ++ unmarked_if choice.marked;
 }
 
--- what does this between earlier and later commands is sent: no opening that a later command
--- cancels, no cancel of what an earlier one opened, no late cancel and no ask
+-- a command that does this between earlier and later ones is sent: it is no opening that a later command cancels, no
+-- cancel of what an earlier one opened, no late cancel and no ask
 abbrev pub is_sent_by : Bool → List Command → List Command → Act → Bool
 is_sent_by late earlier later (Opening thing id) = not (some_act (act_cancels thing id) later)
 is_sent_by late earlier later (Cancelling thing id) = not (left_open thing id earlier) && not late
@@ -84,6 +84,6 @@ sent_by earlier (late ∷ marks) (command ∷ later) =
     else sent_by (earlier ++ command ∷ []) marks later
 sent_by earlier _ _ = []
 
--- what is sent of the issued commands, each marked whether it came late
+-- what is sent of the issued commands, each marked by whether it came late
 abbrev pub reduced_by : List Bool → List Command → List Command
 reduced_by marks issued = sent_by [] marks issued

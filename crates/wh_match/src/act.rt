@@ -10,24 +10,36 @@ use wh_workflow::Command;
 /// What a command does to the things of the run.
 #[derive(Clone, Copy)]
 pub(crate) enum Act<'a> {
+    /// Opens a thing.
     Opens {
+        /// The kind of the thing.
         kind: OpenKind,
+        /// Its id.
         id: &'a str,
     },
+    /// Cancels a thing.
     Cancels {
+        /// The kind of the thing.
         kind: OpenKind,
+        /// Its id.
         id: &'a str,
     },
+    /// Closes the run.
     Closes,
+    /// Asks for the version of a change.
     Asks {
+        /// The name of the change.
         change_id: &'a str,
+        /// The least version that the code can run.
         min: i32,
+        /// The greatest version that the code can run.
         max: i32,
     },
+    /// Does none of these.
     Other,
 }
 
-/// What the command does.
+/// Returns what the command does.
 pub(crate) fn read_act(command: &Command) -> Act<'_>
     ensures { act_seen result ≡ act_of command.now }
 {
@@ -73,7 +85,7 @@ pub(crate) fn read_act(command: &Command) -> Act<'_>
     }
 }
 
-/// Whether the command opens a thing of the kind under the id.
+/// Returns whether the command opens a thing of the kind under the id.
 fn opens(kind: OpenKind, id: &str, command: &Command) -> bool
     ensures { result ≡ act_opens (thing_of kind) id.now (act_of command.now) }
 {
@@ -85,7 +97,7 @@ fn opens(kind: OpenKind, id: &str, command: &Command) -> bool
     }
 }
 
-/// Whether the command cancels the thing of the kind with the id.
+/// Returns whether the command cancels the thing of the kind with the id.
 fn cancels(kind: OpenKind, id: &str, command: &Command) -> bool
     ensures { result ≡ act_cancels (thing_of kind) id.now (act_of command.now) }
 {
@@ -97,14 +109,14 @@ fn cancels(kind: OpenKind, id: &str, command: &Command) -> bool
     }
 }
 
-/// Whether the command closes the run.
+/// Returns whether the command closes the run.
 pub(crate) fn closes(command: &Command) -> bool
     ensures { result ≡ act_closes (act_of command.now) }
 {
     matches!(read_act(command), Act::Closes)
 }
 
-/// Whether one of the commands opens it.
+/// Returns whether one of the commands opens the thing.
 pub(crate) fn some_opens(kind: OpenKind, id: &str, commands: &[Command]) -> bool
     ensures { result ≡ some_act (act_opens (thing_of kind) id.now) commands.now }
 {
@@ -116,7 +128,7 @@ pub(crate) fn some_opens(kind: OpenKind, id: &str, commands: &[Command]) -> bool
     false
 }
 
-/// Whether one of the commands cancels it.
+/// Returns whether one of the commands cancels the thing.
 pub(crate) fn some_cancels(kind: OpenKind, id: &str, commands: &[Command]) -> bool
     ensures { result ≡ some_act (act_cancels (thing_of kind) id.now) commands.now }
 {
@@ -128,7 +140,7 @@ pub(crate) fn some_cancels(kind: OpenKind, id: &str, commands: &[Command]) -> bo
     false
 }
 
-/// Whether one of the commands opens it, and no later one cancels it.
+/// Returns whether one of the commands opens the thing, and no later one cancels it.
 pub(crate) fn left_open(kind: OpenKind, id: &str, commands: &[Command]) -> bool
     ensures { result ≡ left_open (thing_of kind) id.now commands.now }
 {
@@ -143,7 +155,7 @@ pub(crate) fn left_open(kind: OpenKind, id: &str, commands: &[Command]) -> bool
     open
 }
 
-/// Whether one of the commands opens it, and a later one cancels it.
+/// Returns whether one of the commands opens the thing, and a later one cancels it.
 pub(crate) fn withdrawn(kind: OpenKind, id: &str, commands: &[Command]) -> bool
     ensures { result ≡ withdrawn (thing_of kind) id.now commands.now }
 {

@@ -7,22 +7,27 @@ ghost use Rattle.wh_match.specs.Issuing.{choice_in};
 use crate::versions::Versions;
 use wh_events::{Event, EventKind};
 
-/// What an ask asks: for a version of a change in a range.
+/// What an ask asks for: a version of a change in a range.
 #[derive(Clone, Copy)]
 pub(crate) struct Question<'a> {
+    /// The name of the change.
     pub(crate) change_id: &'a str,
+    /// The least version that the code can run.
     pub(crate) min: i32,
+    /// The greatest version that the code can run.
     pub(crate) max: i32,
 }
 
 /// The version of an ask, and whether a marker is issued for it.
 #[derive(Clone, Copy)]
 pub(crate) struct Chosen {
+    /// The version.
     pub(crate) version: i32,
+    /// Whether a marker is issued for it.
     pub(crate) marked: bool,
 }
 
-/// The version of the first marker of the change among the events.
+/// Returns the version of the first marker of the change among the events.
 fn first_marker(change_id: &str, events: &[Event]) -> Option<i32>
     ensures { result ≡ first_marker change_id.now (commanded events.now) }
 {

@@ -1,15 +1,15 @@
-//! Why a script does not take a command.
+//! Why a script refuses a command.
 use std::alloc::AllocError;
 use wh_events::OutOfMemory;
 use wh_workflow::WorkflowFault;
 
-/// Why a script did not take a command. The script, and the versions that were handed in, are as
-/// they were before; the command is dropped.
+/// Why a script refused a command. The script, and the versions that were passed, are as they were
+/// before; the command is dropped.
 #[derive(Clone, Copy, Debug, PartialEq, Eq)]
 pub enum ScriptFault {
-    /// The command can't stand after those before it: the least fault that it has.
+    /// The command is invalid after those before it; this is the least fault that it has.
     Workflow(WorkflowFault),
-    /// The command could stand, but the allocator refused a growth.
+    /// The command is valid, but the allocator refused memory.
     OutOfMemory,
 }
 

@@ -1,4 +1,4 @@
-//! Which commands can stand, by how their things stand at the cut.
+//! Which commands are valid, by how the things stand at the cut.
 ghost use Rattle.std.specs.Prelude.{◌≡◌, IfOk};
 ghost use Rattle.std.specs.Result.{result_err};
 ghost use Rattle.wh_machines.specs.Lookups.{thing_of};
@@ -10,7 +10,7 @@ use crate::standing::Standing;
 use wh_events::OpenKind;
 use wh_workflow::{Command, WorkflowFault};
 
-/// Whether a thing that stands so at the cut is still open after the earlier commands.
+/// Returns whether a thing that stands so at the cut is still open after the earlier commands.
 fn still_open(standing: Standing, earlier: &[Command], kind: OpenKind, id: &str) -> bool
     ensures { result ≡ still_open_by standing earlier.now (thing_of kind) id.now }
 {
@@ -19,14 +19,14 @@ fn still_open(standing: Standing, earlier: &[Command], kind: OpenKind, id: &str)
             && !(matches!(kind, OpenKind::Timer) && some_cancels(kind, id, earlier)))
 }
 
-/// Whether a cancel comes late: what it cancels was closed by an outside event of this activation.
+/// Returns whether a cancel comes late: an outside event of this activation closed what it cancels.
 fn is_late(standing: Standing, earlier: &[Command], kind: OpenKind, id: &str) -> bool
     ensures { result ≡ is_late_by standing earlier.now (thing_of kind) id.now }
 {
     !standing.is_open && !some_opens(kind, id, earlier) && standing.is_ended
 }
 
-/// Whether the activity or child was canceled before.
+/// Returns whether the activity or child was canceled before.
 fn is_canceled(standing: Standing, earlier: &[Command], kind: OpenKind, id: &str) -> bool
     ensures { result ≡ is_canceled_by standing earlier.now (thing_of kind) id.now }
 {
@@ -34,7 +34,7 @@ fn is_canceled(standing: Standing, earlier: &[Command], kind: OpenKind, id: &str
         && (standing.is_cancelling || (standing.is_open && some_cancels(kind, id, earlier)))
 }
 
-/// Why a thing can't be opened.
+/// Returns why a command can't open a thing.
 pub(crate) fn opening_fault(
     standing: Standing,
     earlier: &[Command],
@@ -52,7 +52,7 @@ pub(crate) fn opening_fault(
     }
 }
 
-/// Judges a cancel: whether it comes late, or why it can't be issued.
+/// Judges a cancel: returns whether it comes late, or why it is invalid.
 pub(crate) fn judge_cancel(
     standing: Standing,
     earlier: &[Command],

@@ -1,4 +1,4 @@
-//! The commands of an activation: which of them can stand, what is sent of them, and whether a
+//! The commands of an activation: which of them are valid, what is sent of them, and whether a
 //! record matches them.
 #![tactic(auto)]
 

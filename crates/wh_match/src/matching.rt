@@ -9,7 +9,7 @@ use wh_events::{Class, Event};
 use wh_machines::Track;
 use wh_workflow::{Command, Mismatch};
 
-/// The first difference between commands and the commanded events.
+/// Returns the first difference between commands and the commanded events.
 fn mismatch(history: &[Event], commands: &[Command], events: &[Event]) -> Option<Mismatch>
     ensures { result ≡ mismatch history.now commands.now (commanded events.now) }
 {
@@ -37,16 +37,16 @@ fn mismatch(history: &[Event], commands: &[Command], events: &[Event]) -> Option
     None
 }
 
-/// Whether commands match the record that stands strictly between two events of the track: its
-/// commanded events there are as many as the commands, and each command and the event in its place
-/// are named alike. Commands and events are compared by kind and name, and not by input, result or
-/// time. (Temporal documentation, commands: <https://docs.temporal.io/references/commands>; the
-/// check that replay makes:
+/// Compares commands with the record strictly between two events of the track. They match if the
+/// record has as many commanded events as there are commands, and each command and the event in its
+/// place are named alike. Commands and events are compared by kind and name, and not by input,
+/// result or time. (Temporal documentation, commands:
+/// <https://docs.temporal.io/references/commands>; the check that replay makes:
 /// <https://docs.temporal.io/workflow-definition#deterministic-constraints>.)
 ///
-/// `from` is below `to`, which is at most one more than the count of the events; 0 stands before
-/// the first event. `Mismatch` says where both differ first; nothing is changed, and no memory is
-/// taken.
+/// `from` is below `to`, which is at most one more than the count of the events. Number 0 stands
+/// before the first event. `Mismatch` says where both differ first. Nothing is changed, and no
+/// memory is taken.
 pub fn matches(commands: &[Command], track: &Track, from: u64, to: u64) -> Result<(), Mismatch>
     requires rising { from < to }
     requires within { to ≤ length track.now + 1 }

@@ -30,20 +30,20 @@ use wh_events::{Event, EventNo, OpenKind, OutOfMemory, Text};
 use wh_machines::Track;
 use wh_workflow::{Command, WorkflowFault};
 
-/// The most commands of one activation, markers aside: a limit of this project.
+/// The most commands of one activation, not counting markers: a limit of this project.
 const MOST_COMMANDS: usize = 4096;
 
-/// The commands that one activation gives, the asks and the markers among them, in their order:
-/// which of them can stand, and what is sent of them (Temporal documentation, commands:
+/// The commands of one activation in their order, with the asks and the markers: which of them are
+/// valid, and what is sent of them (Temporal documentation, commands:
 /// <https://docs.temporal.io/references/commands>).
 #[derive(Debug, Drop)]
 pub struct Script {
     previous: u64,
     cut: EventNo,
     issued: Vec<Command>,
-    /// Of each issued command, whether it was a late cancel.
+    /// For each issued command, whether it was a late cancel.
     late: Vec<bool>,
-    /// How many of the issued commands are no markers.
+    /// How many of the issued commands are not markers.
     count: usize,
     /// Whether one of them closes the run.
     closed: bool,
@@ -67,8 +67,8 @@ impl Model for Script {
 }
 
 impl Script {
-    /// Nothing is issued yet at the cut, where `previous` is the cut before, or 0 for the first. It
-    /// takes no memory until the first command.
+    /// Returns a script of the cut in which nothing is issued yet. `previous` is the cut before, or
+    /// 0 for the first cut. It takes no memory until the first command.
     pub fn new(alloc: Global, previous: u64, cut: EventNo) -> Self
         ensures { result ≡ record { previous = previous; cut = cut; issued = []; late = [] } }
     {
@@ -83,13 +83,13 @@ impl Script {
         }
     }
 
-    /// Takes the next command, which is neither an ask nor a marker, and judges it by how things
-    /// stood at the cut and by the commands before it; later events of the track change nothing.
-    /// Where the cut before is not below the cut, no event stands between them; where the track
+    /// Issues the next command, which is neither an ask nor a marker. The command is judged by how
+    /// things stood at the cut and by the commands before it; later events of the track change
+    /// nothing. If the cut before is not below the cut, no event stands between them. If the track
     /// does not hold the cut, all its events are seen, and those after the cut before are between.
     ///
-    /// `Workflow` where the command can't stand, with the least fault that it has; this comes
-    /// before `OutOfMemory`. After either the script is as it was.
+    /// Fails with `Workflow` if the command is invalid, with the least fault that it has.
+    /// `Workflow` comes before `OutOfMemory`. After either the script is as it was.
     pub fn issue(&mut self, track: &Track, command: Command) -> Result<(), ScriptFault>
         requires not_ask { is_ask command ≡ false }
         requires not_marker { is_marker command ≡ false }
@@ -110,16 +110,16 @@ impl Script {
         }
     }
 
-    /// Asks for the version of a change between `min` and `max`, where `recorded` is what stands in
-    /// the history between the completion of the cut and the next completed task or the end, or
+    /// Asks for the version of a change between `min` and `max`, and returns it. `recorded` holds
+    /// the events between the completion of the cut and the next completed task or the end, or is
     /// `None` for a live cut. The first rule that applies decides: the version that is settled;
-    /// that of the first marker of the change in the record, for which a marker is issued; -1 where
-    /// the cut is recorded; and else `max`, for which a marker is issued. The version is settled
-    /// from then on, and the ask counts as a command. (Temporal documentation, patching and
+    /// that of the first marker of the change in the record, for which a marker is issued; -1 if
+    /// the cut is recorded; else `max`, for which a marker is issued. The version is settled from
+    /// then on, and the ask counts as a command. (Temporal documentation, patching and
     /// `GetVersion`: <https://docs.temporal.io/patching>.)
     ///
-    /// `Workflow` where the ask can't stand, with the least fault that it has; this comes before
-    /// `OutOfMemory`. After either the script and the versions are as they were.
+    /// Fails with `Workflow` if the ask is invalid, with the least fault that it has. `Workflow`
+    /// comes before `OutOfMemory`. After either the script and the versions are as they were.
     pub fn ask(
         &mut self,
         recorded: Option<&[Event]>,
@@ -153,17 +153,18 @@ impl Script {
         self.answer(recorded, versions, question)
     }
 
-    /// What is sent of the commands so far, in their order: all but the asks, the openings that a
-    /// later command cancels together with the next cancel of each, and the late cancels, which
-    /// came after an outside event of this activation had closed what they cancel. `OutOfMemory`
-    /// where the allocator refused a growth; the commands are dropped.
+    /// Returns what is sent of the commands so far, in their order: all except the asks, the
+    /// openings that a later command cancels together with the next cancel of each, and the late
+    /// cancels, which came after an outside event of this activation had closed what they cancel.
+    /// Fails with `OutOfMemory` if the allocator refused memory; the commands are dropped.
     pub fn reduced(self) -> Result<Vec<Command>, OutOfMemory>
         ensures { IfOk result (λ sent. sent.items ≡ reduced_by self.late self.issued) }
     {
         reduce(self.alloc, self.late.as_slice(), self.issued.as_slice())
     }
 
-    /// Adds a command that can stand, marked whether it is a late cancel.
+    /// Adds a valid command, and marks whether it is a late cancel. After `OutOfMemory` the script
+    /// is as it was.
     fn push(&mut self, command: Command, late: bool) -> Result<(), OutOfMemory>
         requires unfaulted { early_fault self.old.issued ≡ None }
         requires not_marker { is_marker command ≡ false }
@@ -185,7 +186,7 @@ impl Script {
         }
     }
 
-    /// Answers a question by a version.
+    /// Answers a question with a version. On an error the script and the versions are as they were.
     fn answer(
         &mut self,
         recorded: Option<&[Event]>,
@@ -225,7 +226,7 @@ impl Script {
         Ok(chosen.version)
     }
 
-    /// Why no command can follow those so far.
+    /// Returns why no command can follow those so far.
     fn early_fault(&self) -> Option<WorkflowFault>
         ensures { result ≡ early_fault self.now.issued }
     {
@@ -238,7 +239,7 @@ impl Script {
         }
     }
 
-    /// The least fault of an ask that gets this version.
+    /// Returns the least fault of an ask that gets this version.
     fn ask_fault(&self, chosen: Chosen, question: Question) -> Option<WorkflowFault>
         ensures { let fault = range_fault chosen.version question.entry.min question.entry.max in
             result ≡ or_else (early_fault self.now.issued) fault }
@@ -249,14 +250,15 @@ impl Script {
         }
     }
 
-    /// How the things of a kind under an id stand at the cut.
+    /// Returns how the things of a kind under an id stand at the cut.
     fn standing(&self, track: &Track, kind: OpenKind, id: &str) -> Standing
         ensures { result ≡ standing_of (context_in track.now self.now None) (thing_of kind) id.now }
     {
         standing_at(track, self.previous, self.cut, kind, id)
     }
 
-    /// Judges what the command does: whether it is a late cancel, or the fault that lies in it.
+    /// Judges what the command does: returns whether it is a late cancel, or the fault in what it
+    /// does.
     #[tactic(auto, unfolding(wh_workflow::specs::Scripts::opening_fault, wh_workflow::specs::Scripts::cancel_fault))]
     fn judge_act(&self, track: &Track, command: &Command) -> Result<bool, WorkflowFault>
         requires not_ask { is_ask command.now ≡ false }
@@ -280,8 +282,8 @@ impl Script {
         }
     }
 
-    /// Judges the command after those so far: whether it is a late cancel, or the least fault that
-    /// it has.
+    /// Judges the command after those so far: returns whether it is a late cancel, or the least
+    /// fault that it has.
     fn judge(&self, track: &Track, command: &Command) -> Result<bool, WorkflowFault>
         requires not_ask { is_ask command.now ≡ false }
         ensures fault { (recorded : Option (List Event)) (settled : Settled) →
@@ -297,7 +299,7 @@ impl Script {
     }
 }
 
-/// Makes room for so many more commands and their marks.
+/// Makes room for this many more commands and their marks.
 fn make_room(
     issued: &mut Vec<Command>,
     late: &mut Vec<bool>,
@@ -313,7 +315,7 @@ fn make_room(
     Ok(())
 }
 
-/// Why this version of a change can't be asked for.
+/// Returns why an ask with this range, which gets this version, is invalid.
 fn range_fault(chosen: Chosen, question: Question) -> Option<WorkflowFault>
     ensures { result ≡ range_fault chosen.version question.entry.min question.entry.max }
 {
@@ -327,7 +329,7 @@ fn range_fault(chosen: Chosen, question: Question) -> Option<WorkflowFault>
     }
 }
 
-/// An ask, and the marker of its version, where one is issued.
+/// Returns an ask, and the marker of its version, if one is issued.
 fn asked_commands(
     alloc: Global,
     question: Question,
@@ -352,7 +354,8 @@ fn asked_commands(
     Ok(asked)
 }
 
-/// Settles the version of an ask, and makes the commands that it issues.
+/// Settles the version of an ask, and returns the commands that it issues. After `OutOfMemory` no
+/// version has been settled.
 fn settle_asked(
     alloc: Global,
     versions: &mut Versions,
@@ -371,8 +374,7 @@ fn settle_asked(
     Ok(asked)
 }
 
-/// Marks an ask, and its marker where one is issued: neither is a late cancel. There is room for
-/// both.
+/// Marks an ask, and its marker if one is issued, as no late cancels. There is room for both.
 fn push_marks(late: &mut Vec<bool>, marked: bool)
     requires { vec_len late.old + 2 ≤ vec_capacity late.old }
     ensures { late.new.items ≡ (late.old.items ++ false ∷ []) ++ unmarked_if marked }
@@ -383,7 +385,7 @@ fn push_marks(late: &mut Vec<bool>, marked: bool)
     }
 }
 
-/// Adds commands for which there is room.
+/// Appends commands for which there is room.
 fn append_reserved(items: &mut Vec<Command>, mut more: Vec<Command>)
     requires { vec_len items.old + vec_len more ≤ vec_capacity items.old }
     ensures { items.new.items ≡ items.old.items ++ more.items }

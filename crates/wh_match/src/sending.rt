@@ -8,7 +8,7 @@ use std::alloc::Global;
 use wh_events::OutOfMemory;
 use wh_workflow::Command;
 
-/// Whether a command that stands between earlier and later ones is sent.
+/// Returns whether a command between earlier and later ones is sent.
 fn is_sent(late: bool, earlier: &[Command], later: &[Command], command: &Command) -> bool
     ensures { result ≡ is_sent_by late earlier.now later.now (act_of command.now) }
 {
@@ -20,7 +20,7 @@ fn is_sent(late: bool, earlier: &[Command], later: &[Command], command: &Command
     }
 }
 
-/// What is sent of the issued commands, each marked whether it was a late cancel.
+/// Returns what is sent of the issued commands; `late` says of each whether it was a late cancel.
 pub(crate) fn reduce(
     alloc: Global,
     late: &[bool],

@@ -20,7 +20,7 @@ pub(crate) struct Standing {
     pub(crate) is_ended: bool,
 }
 
-/// Whether the event of the number is an outside one.
+/// Returns whether the event of the number is an outside one.
 fn is_outside_at(events: &[Event], number: u64) -> bool
     ensures { result ≡ is_outside_in (slice_get events.now (number - 1)) }
 {
@@ -30,8 +30,8 @@ fn is_outside_at(events: &[Event], number: u64) -> bool
     }
 }
 
-/// Whether an outside event of the number stands strictly between two others, where the events are
-/// in place.
+/// Returns whether the event of the number is an outside one strictly between two others. The
+/// events are in place.
 fn is_outside_between(events: &[Event], previous: u64, cut: u64, number: u64) -> bool
     requires placed { fault_after [] events.now ≡ None }
     ensures { result ≡ has_outside (Some number) (events_between events.now previous cut) }
@@ -45,7 +45,7 @@ fn is_outside_between(events: &[Event], previous: u64, cut: u64, number: u64) ->
     }
 }
 
-/// How things stand at a cut whose last one has the status there.
+/// Returns how things stand at a cut, if the last of them has the status there.
 fn standing_by(events: &[Event], previous: u64, cut: u64, status: Status) -> Standing
     requires placed { fault_after [] events.now ≡ None }
     ensures { result ≡ standing_by (events_between events.now previous cut) status }
@@ -64,7 +64,7 @@ fn standing_by(events: &[Event], previous: u64, cut: u64, status: Status) -> Sta
     }
 }
 
-/// How the things of a kind under an id stand at a cut after the cut before.
+/// Returns how the things of a kind under an id stand at a cut, after the cut before.
 pub(crate) fn standing_at(
     track: &Track,
     previous: u64,

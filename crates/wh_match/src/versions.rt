@@ -7,7 +7,7 @@ use std::collections::BTreeMap;
 use std::marker::Model;
 use wh_events::{OutOfMemory, Text};
 
-/// The settled versions by change id: a change keeps the version that its first ask got (Temporal
+/// The settled versions by change id. A change keeps the version that its first ask got (Temporal
 /// documentation, patching and `GetVersion`: <https://docs.temporal.io/patching>). Contracts see
 /// the list of the pairs.
 #[derive(Debug, Drop)]
@@ -32,7 +32,7 @@ impl Model for Versions {
 }
 
 impl Versions {
-    /// No version is settled. It takes no memory until the first is settled.
+    /// Returns versions of which none is settled. They take no memory until the first is settled.
     pub fn new(alloc: Global) -> Self
         ensures { result ≡ [] }
     {
@@ -43,15 +43,16 @@ impl Versions {
         }
     }
 
-    /// The settled version of a change, if there is one. -1 is the code before the change.
+    /// Returns the settled version of a change, if there is one. Version -1 is the code before the
+    /// change.
     pub fn get(&self, change_id: &str) -> Option<i32>
         ensures { result ≡ lookup_version change_id.now self.now }
     {
         self.by_change.get(change_id).copied()
     }
 
-    /// Settles the version of a change, unless it is settled. After `OutOfMemory` nothing has
-    /// changed.
+    /// Settles the version of a change, unless it is settled already. After `OutOfMemory` nothing
+    /// has changed.
     pub(crate) fn settle(&mut self, change_id: &str, version: i32) -> Result<(), OutOfMemory>
         ensures ok { OnOk result (self.new ≡ with_version self.old change_id.now version) }
         ensures err { OnErr result (self.new ≡ self.old) }

@@ -1,4 +1,5 @@
--- In a history whose events have the numbers of their places, the cuts after a number are those of the rest from there on.
+-- In a history whose events have the numbers of their places, the cuts after a number are those of the events after
+-- that place.
 use Rattle.std.proofs.Common.{◌≡◌, ℕ, zero, suc, ◌+◌, ◌-◌, ◌≤◌, Bool, true, false, cond, List, [], ◌∷◌, drop, Some, slice_get, refl, ◌∙◌, arith}
 use Rattle.std.specs.Prelude.{nat_lt}
 use Rattle.std.proofs.lemmas.Bool.Decides.{nat_tests}

@@ -22,11 +22,11 @@ first_after from (number ∷ rest) = if nat_lt from number then Some number else
 abbrev pub next_cut : List Event → ℕ → Option ℕ
 next_cut events from = first_after from (cuts events)
 
--- there is an event, it starts a task, and no event that is not inert is in the rest
+-- there is an event, it starts a task, and the rest has only inert events
 abbrev pub is_live_before : Option Event → List Event → Bool
 is_live_before None rest = false
 is_live_before (Some event) rest = is_task_started event && is_none (next_core rest)
 
--- the event in the place starts a task, and no event that is not inert follows it
+-- the event at the place starts a task, and only inert events follow it
 abbrev pub is_live : List Event → ℕ → Bool
 is_live events place = is_live_before (slice_get events (place - 1)) (drop place events)

@@ -4,7 +4,8 @@ ghost use Rattle.wh_events.specs.Cuts.{next_core, is_task_started, is_cut};
 
 use wh_events::{Class, Event, EventKind};
 
-/// The first event that is not inert. It looks at the inert ones before it alone.
+/// Returns the first event that is not inert. It reads only that event and the inert ones before
+/// it.
 pub(crate) fn next_core(events: &[Event]) -> Option<&Event>
     ensures { option_copied result ≡ next_core events.now }
 {
@@ -16,14 +17,14 @@ pub(crate) fn next_core(events: &[Event]) -> Option<&Event>
     None
 }
 
-/// Whether the event starts a workflow task.
+/// Returns whether the event starts a workflow task.
 pub(crate) fn is_task_started(event: &Event) -> bool
     ensures { result ≡ is_task_started event.now }
 {
     matches!(event.body, EventKind::WorkflowTaskStarted)
 }
 
-/// Whether the event is a cut of a history that goes on with the rest.
+/// Returns whether the event is a cut of a history that continues with the rest.
 pub(crate) fn is_cut(event: &Event, rest: &[Event]) -> bool
     ensures { result ≡ is_cut event.now rest.now }
 {

@@ -7,21 +7,21 @@ use crate::cut;
 use std::alloc::Global;
 use wh_events::{Event, EventNo, OutOfMemory};
 
-/// The number of the first cut after the first `from` events, which is the first cut after the
-/// number `from` in a history whose event i has number i; `None` where no cut follows. The first
-/// cut of all is that after 0.
+/// Returns the number of the first cut after the first `from` events. In a history whose event i
+/// has number i, that is the first cut after the number `from`. Returns `None` if no cut follows.
+/// The first cut of all is the one after 0.
 ///
-/// A cut is the place of a WorkflowTaskStarted that completes, or that the history ends in: the
-/// event after it, inert ones left out, is a WorkflowTaskCompleted, or there is none. A task that
+/// A cut is the place of a WorkflowTaskStarted whose task is completed or that the history ends in:
+/// the next event that is not inert is a WorkflowTaskCompleted, or there is none. A task that
 /// failed or timed out is no cut; its events belong to the next one. See
 /// <https://docs.temporal.io/tasks#workflow-task>.
 ///
-/// It needs no memory, and looks only at the events from `from` to the cut and at the inert ones
-/// after that.
+/// It needs no memory, and reads only the events from `from` to the cut and the inert ones after
+/// that.
 pub fn next_cut(events: &[Event], from: u64) -> Option<EventNo>
     ensures next { result ≡ first_of (cuts (drop from events.now)) }
 
-    // In a history whose event i has number i, that is the first cut with a greater number.
+    // In a history whose event i has number i, it is the first cut with a greater number.
     ensures after { IsNumbered events.now → result ≡ next_cut events.now from }
 {
     if from >= events.len() as u64 {
@@ -30,8 +30,8 @@ pub fn next_cut(events: &[Event], from: u64) -> Option<EventNo>
     first_cut(&events[from as usize..])
 }
 
-/// Whether the event in the place is a live cut: a WorkflowTaskStarted after which there are inert
-/// events alone.
+/// Returns whether the event at the place is a live cut: a WorkflowTaskStarted that only inert
+/// events follow.
 pub fn is_live(events: &[Event], cut: EventNo) -> bool
     ensures { result ≡ is_live events.now cut }
 {
@@ -42,14 +42,15 @@ pub fn is_live(events: &[Event], cut: EventNo) -> bool
     is_live_before(&events[(place - 1) as usize], &events[place as usize..])
 }
 
-/// Whether the event is a live cut of a history that goes on with the rest.
+/// Returns whether the event is a live cut of a history that continues with the rest.
 fn is_live_before(event: &Event, rest: &[Event]) -> bool
     ensures { result ≡ is_live_before (Some event.now) rest.now }
 {
     cut::is_task_started(event) && cut::next_core(rest).is_none()
 }
 
-/// The numbers of all cuts, in their order. `OutOfMemory` where there was no memory for the list.
+/// Returns the numbers of all cuts, in their order. Fails with `OutOfMemory` if there was no memory
+/// for the list.
 pub fn cuts(alloc: Global, events: &[Event]) -> Result<Vec<EventNo>, OutOfMemory>
     ensures { IfOk result (λ numbers. numbers.items ≡ cuts events.now) }
 {
@@ -62,7 +63,7 @@ pub fn cuts(alloc: Global, events: &[Event]) -> Result<Vec<EventNo>, OutOfMemory
     Ok(numbers)
 }
 
-/// The number of the first cut.
+/// Returns the number of the first cut.
 fn first_cut(events: &[Event]) -> Option<EventNo>
     ensures { result ≡ first_of (cuts events.now) }
 {

@@ -1,4 +1,4 @@
--- How a thing stands at a cut, and what the code's word for what a command does stands for.
+-- How a thing stands at a cut, and what a value of the code's type `Act` stands for.
 use Rattle.std.specs.Prelude.{ℕ, Bool, true, false, List, Option, Some, None}
 use Rattle.wh_events.specs.declared.event.Event.{Event}
 use Rattle.wh_events.specs.declared.place.Status.{Status}
@@ -13,7 +13,7 @@ use Rattle.wh_match.specs.declared.act.Act.{Act as CodeAct}
 use Rattle.wh_match.specs.declared.act.Act.TheVariants.{Opens, Cancels, Closes, Asks, Other}
 use Rattle.wh_match.specs.declared.standing.Standing.{Standing}
 
--- what the code's word stands for
+-- what a value of the code's type stands for
 abbrev pub act_seen : CodeAct → Act
 act_seen (Opens kind id) = Opening (thing_of kind) id.now
 act_seen (Cancels kind id) = Cancelling (thing_of kind) id.now
