@@ -1,5 +1,5 @@
--- A live script that ends in a fault is the recorded one too: only the version that an ask gets
--- depends on the record, and live no ask is at fault for the version that it gets unsettled.
+-- A live script that ends in a fault is the recorded one too. Only the version that an ask gets depends on the record,
+-- and in a live activation an ask for a change that is not settled has no fault for the version that it gets.
 use Rattle.std.proofs.Common.{◌≡◌, ◌⊎◌, ℕ, Bool, true, false, ◌||◌, cond, List, [], ◌∷◌, ◌++◌, Option, Some, None, is_some, ℤ, pos, negsuc, refl, sym, ap, subst, ◌∙◌, inl, inr, arith, append_assoc, append-nil, IsTrue}
 use Rattle.std.specs.Prelude.{int_lt, leb, length}
 use Rattle.std.proofs.lemmas.Int.{ints}

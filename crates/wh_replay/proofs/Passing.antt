@@ -1,5 +1,5 @@
--- Replay of a whole history gives what its tasks leave where all of them pass, and else the fault of
--- the first that fails.
+-- Replay of a whole history gives what its tasks leave if all of them pass, and else the fault of the first one that
+-- fails.
 use Rattle.std.proofs.Common.{◌≡◌, ℕ, ◌⊎◌, Bool, true, false, cond, List, [], ◌∷◌, ◌++◌, Option, Some, None, Result, Ok, Err, refl, sym, ap, subst, ◌∙◌, inl, inr, append_assoc, append-nil}
 use Rattle.wh_events.specs.declared.event.Event.{Event}
 use Rattle.wh_events.specs.Machines.{machines_of}

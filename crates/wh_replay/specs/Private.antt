@@ -1,4 +1,5 @@
--- What no contract of a public item cites: only those of private functions, and what types keep over private fields.
+-- What no contract of a public item cites: what only contracts of private functions cite, and invariants over private
+-- fields of types.
 pub mod Activating
 pub mod Advances
 pub mod Runs

@@ -1,5 +1,5 @@
--- A run: a history that ends in a started task, with what its replay gives. How a run begins, and
--- how new events advance it.
+-- A run: a history that ends in a started task, with what its replay gives. How a run begins, and how new events
+-- advance it.
 use Rattle.std.specs.Prelude.{◌≡◌, ℕ, ◌+◌, ◌≤◌, Bool, false, ◌&&◌, List, [], ◌∷◌, ◌++◌, length, Option, Some, None, Result, Ok, Err, IsOkAnd, if◌then◌else◌, eqb, is_none}
 use Rattle.wh_events.specs.declared.event.Event.{Event}
 use Rattle.wh_events.specs.declared.key.RunKey.{RunKey}
@@ -16,8 +16,8 @@ use Rattle.wh_replay.specs.declared.fault.Fault.{Fault}
 use Rattle.wh_replay.specs.declared.fault.Fault.TheVariants.{NotATask}
 use Rattle.wh_replay.specs.Replays.{ReplayResult, Replayed, replay, replay_tasks, replay_after, ends_in_task}
 
--- what contracts see of a replayed history: its events, and what their replay gives but the state,
--- which has a type of each workflow's own
+-- what contracts see of a replayed history: its events, and what their replay gives except the state, whose type
+-- depends on the workflow
 pub record HistoryView : Type 0 where
   pub events : List Event
   pub machines : List Machine
@@ -52,13 +52,13 @@ abbrev pub status_in : List Machine → ℕ → Option Status
 status_in [] number = None
 status_in (machine ∷ rest) number = if eqb machine.number number then Some machine.status else status_in rest number
 
--- the first of the new events has the number after that many held ones
+-- the first of the new events has the number that follows that many held ones
 abbrev pub follows : ℕ → List Event → Bool
 follows held [] = false
 follows held (event ∷ _) = eqb event.number (held + 1)
 
 module _ {S : Type 0} where
-  -- replay of a history that has to end in a started task
+  -- replay of a history that must end in a started task
   abbrev pub run_of : Program S → List Event → Result (Replayed S) Fault
   run_of program events = if ends_in_task events then replay program events 0 else Err NotATask
 
@@ -68,26 +68,26 @@ module _ {S : Type 0} where
     pub settled : history.settled ≡ replayed.settled
     pub unsent : history.unsent ≡ replayed.unsent
 
-  -- the history ends in a started task, replay of its events from the first has no fault and gives
-  -- what it shows, and it has at most the most events
+  -- the history ends in a started task, replay of its events from the first one has no fault and gives what it shows,
+  -- and it has at most the most events that a run may have
   pub record IsReplayed (program : Program S) (history : HistoryView) : Type 0 where
     pub replays : IsOkAnd (run_of program history.events) (Shows history)
     pub most : length history.events ≤ most_events
 
-  -- the steps that tasks counted, from 0 on
+  -- the steps that the tasks counted, from 0 on
   abbrev pub counted : Result (ReplayResult S) Fault → ℕ
   counted (Ok left) = left.meter
   counted (Err _) = 0
 
-  -- the steps of all cuts of a history, no further than the top
+  -- the steps of all cuts of a history, but at most 2^64 - 1
   abbrev pub steps : Program S → List Event → ℕ
   steps program events = counted (replay_tasks program events 0)
 
-  -- what the new events make of what the held ones left, on this meter: its commands were sent
+  -- what the new events make of what the held ones left, with this meter; the commands that were unsent are sent
   abbrev pub going_on : Program S → List Event → List Event → ℕ → ReplayResult S → Result (ReplayResult S) Fault
   going_on program held new meter kept = replay_after program held [] new (record kept { unsent = []; meter = meter })
 
-  -- the steps of the cuts after the held events alone, no further than the top
+  -- the steps of the cuts after the held events alone, but at most 2^64 - 1
   abbrev pub new_steps : Program S → List Event → List Event → ℕ
   new_steps program held new = counted (and_then (replay_tasks program held 0) (going_on program held new 0))
 
@@ -100,7 +100,7 @@ module _ {S : Type 0} where
   abbrev pub confirms : Program S → List Event → List Event → Bool
   confirms program held new = is_recorded new && is_matched held new (replay_tasks program held 0)
 
-  -- the steps by which advancing raises the meter
+  -- how far advancing raises the meter
   abbrev pub advance_steps : Program S → List Event → List Event → ℕ
   advance_steps program held new =
       if confirms program held new then new_steps program held new else steps program (held ++ new)

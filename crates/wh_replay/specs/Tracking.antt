@@ -1,4 +1,4 @@
--- Events that are taken one after another, up to the first that is not in place.
+-- Events that are appended one after another, up to the first one that is not in place.
 use Rattle.std.specs.Prelude.{◌≡◌, ℕ, ◌+◌, length, List, ◌++◌, Option, Some, None, Result, Ok, Err}
 use Rattle.wh_events.specs.declared.event.Event.{Event}
 use Rattle.wh_events.specs.declared.place.PlaceFault.{PlaceFault}
@@ -13,11 +13,11 @@ abbrev pub in_place : Option (ℕ × PlaceFault) → List Event → Result (List
 in_place None events = Ok events
 in_place (Some fault) events = Err (PlaceFaulty fault.0 fault.1)
 
--- the events with the new ones after them, or the first fault of the places of these
+-- the events with the new ones after them, or the first fault of the places of the new ones
 abbrev pub joined : List Event → List Event → Result (List Event) Fault
 joined before new = in_place (fault_after before new) (before ++ new)
 
--- the new events are taken, or those before the first that is not in place
+-- all new events are appended, or those before the first one that is not in place
 abbrev pub Takes : {A : Type 0} → List Event → List Event → List Event → Result A PushFault → Type 0
 Takes before new after (Ok _) = (fault_after before new ≡ None) × (after ≡ before ++ new)
 Takes before new after (Err (Place fault)) = fault_after before new ≡ Some (length after + 1, fault)

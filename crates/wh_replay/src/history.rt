@@ -18,7 +18,7 @@ use wh_machines::Track;
 use wh_workflow::{Command, Meter, Workflow};
 
 /// A history that ends in a started workflow task, with what its replay gives. Contracts see the
-/// events, the machines (each event that opened something with its status), the settled versions
+/// events, the machines (each event that opened something, with its status), the settled versions
 /// and the unsent commands.
 #[derive(Drop)]
 pub struct ReplayedHistory<W: Workflow> {
@@ -38,7 +38,8 @@ impl<W: Workflow> Model for ReplayedHistory<W> {
 }
 
 impl<W: Workflow> ReplayedHistory<W> {
-    /// Replays a history from its first event.
+    /// Replays a history from its first event. Fails with `Fault::NotATask` if it does not end in a
+    /// started task.
     pub(crate) fn from_first(
         alloc: Global,
         events: Vec<Event>,
@@ -51,7 +52,7 @@ impl<W: Workflow> ReplayedHistory<W> {
         if !ends_in_task(events.as_slice()) {
             return Err(RunFault::Fault(Fault::NotATask));
         }
-        // Made for the proof: its contract says that the meter fits 64 bits.
+        // Called for the proof: its contract says that the meter fits 64 bits.
         let _proof_fits = meter.count();
         let (track, walk) = replay::<W>(alloc, events, meter)?;
         Ok(ReplayedHistory {
@@ -60,7 +61,7 @@ impl<W: Workflow> ReplayedHistory<W> {
         })
     }
 
-    /// Goes on with events that end in a started task.
+    /// Continues with events that end in a started task.
     pub(crate) fn extend(
         self,
         alloc: Global,
@@ -82,7 +83,7 @@ impl<W: Workflow> ReplayedHistory<W> {
             drop(track);
             return Err(fault);
         }
-        // Made for the proof: its contract says that the meter fits 64 bits.
+        // Called for the proof: its contract says that the meter fits 64 bits.
         let _proof_fits = meter.count();
         match replay_joined::<W>(alloc, &track, held, replayed, meter) {
             Ok(walk) => Ok(ReplayedHistory {
@@ -103,7 +104,7 @@ impl<W: Workflow> ReplayedHistory<W> {
         let _track = &self.track;
     }
 
-    /// The number of events.
+    /// Returns the number of events.
     pub fn len(&self) -> usize
         ensures len { result ≡ length self.now.events }
         ensures most { result ≤ MOST_EVENTS }
@@ -111,35 +112,35 @@ impl<W: Workflow> ReplayedHistory<W> {
         self.track.len()
     }
 
-    /// The events.
+    /// Returns the events.
     pub(crate) fn events(&self) -> &[Event]
         ensures { result.now ≡ self.now.events }
     {
         self.track.events()
     }
 
-    /// Where the thing stands that the event of a number opened, if it opened one.
+    /// Returns the status of the thing that the event of a number opened, if it opened one.
     pub(crate) fn status(&self, number: EventNo) -> Option<Status>
         ensures { result ≡ status_in self.now.machines number }
     {
         self.track.status(number)
     }
 
-    /// The state of the workflow.
+    /// Returns the state of the workflow.
     pub fn state(&self) -> &W::State
         ensures { IsOkAnd (run_of W.program self.now.events) (λ replayed. result.now ≡ replayed.state) }
     {
         &self.replayed.state
     }
 
-    /// The commands that are not sent yet.
+    /// Returns the commands that are not sent yet.
     pub(crate) fn commands(&self) -> &[Command]
         ensures { result.now ≡ self.now.unsent }
     {
         self.replayed.unsent.as_slice()
     }
 
-    /// The settled version of a change.
+    /// Returns the settled version of a change, if there is one.
     pub(crate) fn version(&self, change_id: &str) -> Option<i32>
         ensures { result ≡ lookup_version change_id.now self.now.settled }
     {

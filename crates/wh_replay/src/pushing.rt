@@ -1,4 +1,4 @@
-//! Taking the events of a history, each in its place.
+//! Appends the events of a history, each in its place.
 ghost use Rattle.std.specs.Prelude.{◌≡◌};
 ghost use Rattle.wh_events.specs.Places.{history_fault};
 ghost use Rattle.wh_replay.specs.Checks.{Answers};
@@ -9,7 +9,7 @@ use std::alloc::Global;
 use wh_events::{Event, PlaceFault};
 use wh_machines::{PushFault, Track};
 
-/// Takes events, each in place after those before it, up to the first that is not.
+/// Appends events, each in place after those before it, up to the first one that is not.
 fn push_each(track: &mut Track, events: Vec<Event>) -> Result<(), PushFault>
     ensures { Takes track.old events.items track.new result }
 {
@@ -19,7 +19,7 @@ fn push_each(track: &mut Track, events: Vec<Event>) -> Result<(), PushFault>
     Ok(())
 }
 
-/// Takes events that are in place after those of the track, or says the first fault of their
+/// Appends events that are in place after those of the track, or returns the first fault of their
 /// places.
 pub(crate) fn push_all(track: &mut Track, events: Vec<Event>) -> Result<(), RunFault>
     ensures { Answers result (joined track.old events.items) (λ _. track.new) }
@@ -34,8 +34,8 @@ pub(crate) fn push_all(track: &mut Track, events: Vec<Event>) -> Result<(), RunF
     }
 }
 
-/// A track of the events of a history, or the first fault of their places, which is that of the
-/// first place where there are none. `OutOfMemory` may come in its place.
+/// Returns a track of the events of a history, or the first fault of their places. A history
+/// without events has its fault at the first place. `OutOfMemory` can replace a fault.
 pub fn track_of(alloc: Global, events: Vec<Event>) -> Result<Track, RunFault>
     ensures { Answers result (in_place (history_fault events.items) events.items) (λ track. track) }
 {

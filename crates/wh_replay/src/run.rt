@@ -17,9 +17,9 @@ use wh_workflow::{Command, Meter, Workflow};
 
 /// A run of a workflow, as far as its history was replayed: a key, a history that ends in a started
 /// workflow task, and the state, machines, versions and unsent commands that its replay gives.
-/// Contracts see the key, the held events, the machines (each event that opened something with its
+/// Contracts see the key, the held events, the machines (each event that opened something, with its
 /// status), the settled versions and the unsent commands. `invariant` says that replay of the held
-/// events from the first gives them, and `state` that it gives the state.
+/// events from the first one gives them, and `state` that it gives the state.
 #[derive(Drop)]
 pub struct Run<W: Workflow> {
     key: RunKey,
@@ -34,7 +34,8 @@ impl<W: Workflow> Model for Run<W> {
     ghost view = { λ run. run_under run.key run.history };
 }
 
-/// Why a run does not advance. The first two hand it back unchanged, the others spend it.
+/// Why a run does not advance. The first two faults return the run unchanged; after the others it
+/// is dropped.
 #[derive(Drop)]
 pub enum AdvanceFault<W: Workflow> {
     /// The new events don't end in a started workflow task.
@@ -43,12 +44,12 @@ pub enum AdvanceFault<W: Workflow> {
     Gap(Run<W>),
     /// Replay of the held events and the new ones has a fault.
     Fault(Fault),
-    /// An allocation was refused. It may come in place of any fault.
+    /// An allocation was refused. This can replace a `Fault`, but neither `NotATask` nor `Gap`.
     OutOfMemory,
 }
 
 impl<W: Workflow> AdvanceFault<W> {
-    /// The fault of a replay that spent the run.
+    /// Returns the fault of a replay after which the run is dropped.
     fn spent(fault: RunFault) -> Self
         ensures { result ≡ spent fault }
     {
@@ -59,16 +60,16 @@ impl<W: Workflow> AdvanceFault<W> {
     }
 }
 
-/// What is answered for a workflow task.
+/// The answer to a workflow task.
 #[derive(Debug, Drop)]
 pub enum Answer {
     /// The task is completed with these commands.
     Complete(Items<Command>),
-    /// The task failed by this fault.
+    /// The task failed with this fault.
     Fail(Fault),
 }
 
-/// Copies of the commands. `OutOfMemory` where an allocation was refused.
+/// Copies the commands. Fails with `OutOfMemory` if an allocation was refused.
 pub fn copy_commands(alloc: Global, commands: &[Command]) -> Result<Vec<Command>, OutOfMemory>
     ensures { IfOk result (λ copies. copies.items ≡ commands.now) }
 {
@@ -80,7 +81,7 @@ pub fn copy_commands(alloc: Global, commands: &[Command]) -> Result<Vec<Command>
 }
 
 impl Answer {
-    /// An equal answer. `OutOfMemory` where an allocation was refused.
+    /// Returns an equal answer. Fails with `OutOfMemory` if an allocation was refused.
     pub fn try_copy(&self, alloc: Global) -> Result<Self, OutOfMemory>
         ensures { IfOk result (λ copy. copy ≡ self.now) }
     {
@@ -96,7 +97,7 @@ impl Answer {
 
 impl<W: Workflow> Run<W> {
     /// Replays a history that ends in a started task, and raises the meter by the steps of all its
-    /// tasks. On an error the events are given up, and the meter may have risen.
+    /// tasks. On an error the key and the events are dropped, and the meter may have risen.
     pub fn from_first(
         alloc: Global,
         key: RunKey,
@@ -116,10 +117,10 @@ impl<W: Workflow> Run<W> {
         }
     }
 
-    /// Goes on with new events, as if the whole history were replayed from its first event. Where
-    /// they complete the last task with the commands that it left unsent, only the new tasks are
-    /// stepped, as sticky execution does (Temporal documentation). On `Fault` and `OutOfMemory` the
-    /// run is given up, and the meter may have risen.
+    /// Continues with new events, as if the whole history were replayed from its first event. If
+    /// the new events complete the last task with the commands that it left unsent, only the new
+    /// tasks are stepped, as in sticky execution (Temporal documentation). After `Fault` and
+    /// `OutOfMemory` the run is dropped, and the meter may have risen.
     pub fn advance(
         self,
         alloc: Global,
@@ -139,7 +140,7 @@ impl<W: Workflow> Run<W> {
         self.extend(alloc, events, meter)
     }
 
-    /// Goes on with events that are joined to those of the run.
+    /// Continues with events that are joined to those of the run.
     fn extend(
         self,
         alloc: Global,
@@ -161,14 +162,14 @@ impl<W: Workflow> Run<W> {
         }
     }
 
-    /// A run of the key and a replayed history.
+    /// Returns a run of the key and a replayed history.
     pub fn from_parts(key: RunKey, history: ReplayedHistory<W>) -> Self
         ensures { result ≡ run_under key history }
     {
         Run { key, history }
     }
 
-    /// The key, and the replayed history.
+    /// Returns the key and the replayed history.
     pub fn into_parts(self) -> (RunKey, ReplayedHistory<W>)
         ensures key { result.0 ≡ self.key }
         ensures history { result.1 ≡ history_of self }
@@ -176,7 +177,7 @@ impl<W: Workflow> Run<W> {
         (self.key, self.history)
     }
 
-    /// The key of the run.
+    /// Returns the key of the run.
     pub fn key(&self) -> &RunKey
         ensures { result.now ≡ self.now.key }
     {
@@ -184,14 +185,14 @@ impl<W: Workflow> Run<W> {
     }
 
     /// Does nothing. Its contract says what holds of every run: replay of its held events from the
-    /// first gives its machines, versions and unsent commands.
+    /// first one gives its machines, versions and unsent commands.
     pub fn invariant(&self)
         ensures { IsReplayed W.program (history_of self.now) }
     {
         self.history.invariant();
     }
 
-    /// The number of held events.
+    /// Returns the number of held events.
     pub fn held_len(&self) -> usize
         ensures len { result ≡ length self.now.events }
         ensures most { result ≤ MOST_EVENTS }
@@ -199,50 +200,50 @@ impl<W: Workflow> Run<W> {
         self.history.len()
     }
 
-    /// The held events.
+    /// Returns the held events.
     pub fn events(&self) -> &[Event]
         ensures { result.now ≡ self.now.events }
     {
         self.history.events()
     }
 
-    /// The held event of a number.
+    /// Returns the held event with a number, if there is one.
     pub fn event(&self, number: EventNo) -> Option<&Event>
         ensures { option_map (λ event. event.now) result ≡ slice_get self.now.events (number - 1) }
     {
         self.history.events().get((number.get() - 1) as usize)
     }
 
-    /// Where the thing stands that the held event of a number opened, if it opened one.
+    /// Returns the status of the thing that the held event of a number opened, if it opened one.
     pub fn status(&self, number: EventNo) -> Option<Status>
         ensures { result ≡ status_in self.now.machines number }
     {
         self.history.status(number)
     }
 
-    /// The state of the workflow.
+    /// Returns the state of the workflow.
     pub fn state(&self) -> &W::State
         ensures { IsOkAnd (run_of W.program self.now.events) (λ replayed. result.now ≡ replayed.state) }
     {
         self.history.state()
     }
 
-    /// The commands of the last task, which are not sent yet.
+    /// Returns the commands of the last task, which are not sent yet.
     pub fn commands(&self) -> &[Command]
         ensures { result.now ≡ self.now.unsent }
     {
         self.history.commands()
     }
 
-    /// The settled version of a change, if there is one.
+    /// Returns the settled version of a change, if there is one.
     pub fn version(&self, change_id: &str) -> Option<i32>
         ensures { result ≡ lookup_version change_id.now self.now.settled }
     {
         self.history.version(change_id)
     }
 
-    /// The answer to the last task: a copy of its commands. `OutOfMemory` where an allocation was
-    /// refused.
+    /// Returns the answer to the last task: a copy of its commands. Fails with `OutOfMemory` if an
+    /// allocation was refused.
     pub fn answer(&self, alloc: Global) -> Result<Answer, OutOfMemory>
         ensures { IfOk result (λ answer. answer ≡ Complete self.now.unsent) }
     {

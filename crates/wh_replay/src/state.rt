@@ -9,18 +9,18 @@ use wh_events::OutOfMemory;
 use wh_match::Versions;
 use wh_workflow::{Command, Workflow};
 
-/// What the tasks of a history leave. Contracts see it, on a meter, as a `ReplayResult`.
+/// What the tasks of a history leave. Contracts see it, with a meter, as a `ReplayResult`.
 #[derive(Drop)]
 pub struct ReplayState<S> {
     /// The state of the workflow.
     pub state: S,
     /// The versions that are settled.
     pub versions: Versions,
-    /// The commands of the last task, where that is live.
+    /// The commands of the last task, if that task is live.
     pub unsent: Vec<Command>,
 }
 
-/// What tasks leave of which nothing is unsent.
+/// Returns what tasks leave if nothing is unsent.
 pub fn sent_state<S>(alloc: Global, state: S, versions: Versions) -> ReplayState<S>
     ensures { (meter : ℕ) → replay_result_of result meter ≡ replay_result state versions [] meter }
 {
@@ -31,8 +31,8 @@ pub fn sent_state<S>(alloc: Global, state: S, versions: Versions) -> ReplayState
     }
 }
 
-/// What there is before the first task of a history of the workflow type `kind`. `OutOfMemory`
-/// where an allocation was refused.
+/// Returns what there is before the first task of a history of the workflow type `kind`. Fails with
+/// `OutOfMemory` if an allocation was refused.
 pub fn start<W: Workflow>(alloc: Global, kind: &str) -> Result<ReplayState<W::State>, OutOfMemory>
     requires { W.program.knows kind.now ≡ true }
     ensures { (meter : ℕ) → IfOk result (λ first. replay_result_of first meter ≡ start W.program kind.now meter) }
@@ -41,7 +41,7 @@ pub fn start<W: Workflow>(alloc: Global, kind: &str) -> Result<ReplayState<W::St
     Ok(sent_state(alloc, state, Versions::new(alloc)))
 }
 
-/// What is left as the unsent commands are sent.
+/// Returns what is left once the unsent commands are sent.
 pub(crate) fn sent<S>(alloc: Global, replayed: ReplayState<S>) -> ReplayState<S>
     ensures { (meter : ℕ) → replay_result_of result meter ≡ replay_result replayed.state replayed.versions [] meter }
 {

@@ -1,4 +1,4 @@
--- Of Activating: what only contracts of private functions cite.
+-- What only contracts of private functions cite, for Activating.
 use Rattle.std.specs.Prelude.{◌≡◌, ℕ, false, List, [], ◌∷◌}
 use Rattle.wh_workflow.specs.declared.command.Command.{Command}
 use Rattle.wh_workflow.specs.Law.{is_ask, is_marker}
@@ -13,7 +13,7 @@ abbrev pub IsPlain : List Command → Type 0
 IsPlain [] = Unit {0}
 IsPlain (command ∷ rest) = (is_ask command ≡ false) × (is_marker command ≡ false) × IsPlain rest
 
--- the fault of an activation at the cut of a number
+-- the fault of an activation at the cut with the number
 abbrev pub fault_at : ℕ → ScriptFault → RunFault
 fault_at number (Workflow fault) = Faulty (WorkflowFaulty number fault)
 fault_at number OutOfMemory = NoMemory

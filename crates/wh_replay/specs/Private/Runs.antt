@@ -1,4 +1,4 @@
--- Of Runs: what only contracts of private functions cite.
+-- What only contracts of private functions cite, for Runs.
 use Rattle.std.specs.Prelude.{◌≡◌, ℕ, ◌+◌, true, List, ◌++◌, Result, Ok, Err, if◌then◌else◌}
 use Rattle.wh_events.specs.declared.event.Event.{Event}
 use Rattle.wh_events.specs.Places.{history_fault}
@@ -16,13 +16,13 @@ module _ {S : Type 0} where
   Gives (Ok left) state settled unsent = (left.state ≡ state) × (left.settled ≡ settled) × (left.unsent ≡ unsent)
   Gives (Err fault) state settled unsent = ⊥
 
-  -- a history that ends in a started task, and what its tasks leave
+  -- the history ends in a started task, and this is what its tasks leave
   pub record IsRun (program : Program S) (events : List Event) (state : S) (settled : Settled)
       (unsent : List Command) : Type 0 where
     pub ends : ends_in_task events ≡ true
     pub gives : Gives (replay_tasks program events 0) state settled unsent
 
-  -- what advancing gives, on this meter
+  -- what advancing gives, with this meter
   abbrev pub advanced : Program S → List Event → List Event → ℕ → Result (ReplayResult S) Fault
   advanced program held new meter =
       if confirms program held new

@@ -1,4 +1,4 @@
--- Of Views: what only contracts of private functions cite.
+-- What only contracts of private functions cite, for Views.
 use Rattle.std.specs.Prelude.{List, Result}
 use Rattle.wh_events.specs.declared.event.Event.{Event}
 use Rattle.wh_events.specs.Machines.{machines_of}
@@ -20,7 +20,7 @@ abbrev pub view_of : List Event → Settled → List Command → HistoryView
 view_of events settled unsent =
     record { events = events; machines = machines_of events; settled = settled; unsent = unsent }
 
--- the history ends in a started task, and its tasks leave that
+-- the history ends in a started task, and this is what its tasks leave
 abbrev pub IsRunOf : {S : Type 0} → Program S → List Event → ReplayState S → Type 0
 IsRunOf program events replayed = IsRun program events replayed.state replayed.versions replayed.unsent.items
 
