@@ -32,7 +32,7 @@ impl Model for Versions {
 }
 
 impl Versions {
-    /// Returns versions of which none is settled. They take no memory until the first is settled.
+    /// Returns versions with none settled. They take no memory until the first is settled.
     pub fn new(alloc: Global) -> Self
         ensures { result ≡ [] }
     {
