@@ -1,4 +1,4 @@
--- Where times stand in the picture.
+-- The axis of a picture: the places of its times.
 use Rattle.std.specs.Ordering.{nat_cmp}
 use Rattle.std.specs.Prelude.{IsPermutation, IsSorted, ◌≡◌, ◌≤◌, ◌<◌, ℕ, suc, zero, ◌+◌, ◌-◌, ◌*◌, ◌/◌, ◌==◌, min, max, nat_le, nat_lt, get_or, length, if◌then◌else◌, Option, Some, None, List, [], ◌∷◌, ◌++◌, map}
 use Rattle.std.specs.List.{flat_map}
@@ -8,14 +8,14 @@ use Rattle.wh_timeline.specs.declared.page.Moment.{Moment}
 use Rattle.wh_timeline.specs.declared.axis.Stop.{Stop}
 use Rattle.wh_timeline.specs.declared.axis.Gap.{Gap}
 
--- where the first time stands, and where the last one does
+-- where the first time stands, and where the last one does, in units of the picture from the left
 abbrev pub left : ℕ
 left = 200
 
 abbrev pub right : ℕ
 right = 830
 
--- where a time stands: where the last stop does that is not later, the stops being in their order
+-- where a time stands: at the place of the last stop that is not later, if the stops are in their order
 abbrev pub place_from : (x : ℕ) → List Stop → (millis : ℕ) → ℕ
 place_from x [] millis = x
 place_from x (stop ∷ stops) millis = if nat_lt millis stop.millis then x else place_from stop.x stops millis
@@ -32,11 +32,12 @@ moment_times (Some moment) = moment.millis ∷ []
 abbrev pub lane_times : Lane → List ℕ
 lane_times lane = lane.opened.millis ∷ (moment_times lane.started ++ moment_times lane.ended)
 
--- the times at which something happens that a page shows
+-- the times of all that a page shows
 unfoldable pub times_shown : List Lane → List Task → Option Moment → List ℕ
-times_shown lanes tasks fault = flat_map lane_times lanes ++ (map (λ task. task.started.millis) tasks ++ moment_times fault)
+times_shown lanes tasks fault =
+    flat_map lane_times lanes ++ (map (λ task. task.started.millis) tasks ++ moment_times fault)
 
--- the stops go to the right from one place on, and not beyond the right end
+-- the stops go to the right from a place on, and not beyond the right end
 abbrev pub GoesRight : (x : ℕ) → List Stop → Type 0
 GoesRight x [] = x ≤ right
 GoesRight x (stop ∷ stops) = (x ≤ stop.x) × GoesRight stop.x stops
@@ -46,7 +47,7 @@ abbrev pub BeginsLeft : List Stop → Type 0
 BeginsLeft [] = Unit {0}
 BeginsLeft (stop ∷ stops) = stop.x ≡ left
 
--- the first of the times, and the last; 0 where there is none
+-- the first of the times, and the last; 0 if there is none
 abbrev pub first_of : List ℕ → ℕ
 first_of times = get_or times 0 0
 
@@ -67,7 +68,7 @@ steps_from steps before (time ∷ times) =
 abbrev pub steps_of : List ℕ → ℕ
 steps_of times = steps_from 0 (first_of times) times
 
--- how long the times between take together, each by no more than the longest
+-- the length of all steps together, each counted as the longest at most
 abbrev pub whole_from : (longest whole before : ℕ) → List ℕ → ℕ
 whole_from longest whole before [] = whole
 whole_from longest whole before (time ∷ times) =
@@ -76,7 +77,7 @@ whole_from longest whole before (time ∷ times) =
 abbrev pub whole_of : List ℕ → (longest : ℕ) → ℕ
 whole_of times longest = whole_from longest 0 (first_of times) times
 
--- half of the longest, where it is more than half of what is drawn to scale
+-- half of the longest, if it is more than half of the length of all steps together
 abbrev pub shorter : List ℕ → (longest : ℕ) → ℕ
 shorter times longest = if nat_le longest (whole_of times longest / 2) then longest else longest / 2
 
@@ -84,13 +85,13 @@ unfoldable pub shortened : List ℕ → (halvings longest : ℕ) → ℕ
 shortened times zero longest = longest
 shortened times (suc halvings) longest = shorter times (shortened times halvings longest)
 
--- the longest step that is drawn to scale: the time between the first and the last, halved until it is
--- no more than half of what is drawn, where there are three steps or more
+-- the longest step that is drawn to scale: the time between the first and the last; if there are three steps or more,
+-- it is halved until it is no more than half of what is drawn
 abbrev pub longest_of : List ℕ → ℕ
 longest_of times =
     let all = last_of times - first_of times in if nat_le 3 (steps_of times) then shortened times 64 all else all
 
--- a step from one place that is longer than the longest is a gap from there
+-- the gap of a step from a place, if the step is longer than the longest
 abbrev pub gap_of : (from step longest : ℕ) → Option Gap
 gap_of from step longest = if nat_lt longest step then Some (record { from = from; millis = step }) else None
 
@@ -105,36 +106,36 @@ abbrev pub AreGaps : List Stop → Type 0
 AreGaps stops =
     let times = map (λ stop. stop.millis) stops in Gaps (longest_of times) left (first_of times) stops
 
--- where the last stop is later than the first, it stands at the right end
+-- if the last stop is later than the first, it stands at the right end
 abbrev pub EndsRight : List Stop → Type 0
 EndsRight stops =
     let times = map (λ stop. stop.millis) stops in first_of times < last_of times → last_place left stops ≡ right
 
--- the part of so much room that a part of the whole has, and all of it at most
+-- the share of the room for a part of the whole, all the room at most
 abbrev pub share : (room part whole : ℕ) → ℕ
 share room part whole = if whole == 0 then 0 else min (min (room * part) 18446744073709551615 / whole) room
 
--- how many steps there are with one more of this length, and how long they are together, each by no more than the longest
+-- how many steps there are with one more of this length, and their length together, each counted as the longest at most
 abbrev pub steps_to : (steps step : ℕ) → ℕ
 steps_to steps step = min (steps + min step 1) 18446744073709551615
 
 abbrev pub length_to : (longest before step : ℕ) → ℕ
 length_to longest before step = min (before + min step longest) 18446744073709551615
 
--- where a time stands to which so many steps lead of all, so long together of the whole: each step has the same room to
--- begin with, and then more by its length; the last time stands at the right end
+-- where a time stands to which so many of all steps lead, with so much of the whole length: each step gets an equal
+-- share of 250 units, and a share by its length of 380 units; the last time stands at the right end
 abbrev pub place_after : (all whole last steps far millis : ℕ) → ℕ
 place_after all whole last steps far millis =
     if millis == last then right else left + share 250 steps all + share 380 far whole
 
--- where the next time stands, and no further left than the one before; the same time has the same place
+-- where the next time stands: no further left than the one before, and the same time at the same place
 abbrev pub next_place : (all whole longest last steps far before x millis : ℕ) → ℕ
 next_place all whole longest last steps far before x millis =
     let step = millis - before in
     if millis == before then x
     else max (place_after all whole last (steps_to steps step) (length_to longest far step) millis) x
 
--- each stop stands where the steps up to it lead, after so many that led to a time and its place
+-- each stop stands where the steps up to it lead, from a time, its place and the steps up to it on
 unfoldable pub Places : (all whole longest last steps far millis x : ℕ) → List Stop → Type 0
 Places all whole longest last steps far millis x [] = Unit {0}
 Places all whole longest last steps far millis x (stop ∷ stops) =
@@ -142,37 +143,37 @@ Places all whole longest last steps far millis x (stop ∷ stops) =
     (stop.x ≡ next_place all whole longest last steps far millis x stop.millis)
     × Places all whole longest last (steps_to steps step) (length_to longest far step) stop.millis stop.x stops
 
--- each stop stands where the steps up to it lead, by their times
+-- each stop stands where the steps up to it lead
 abbrev pub ArePlaced : List Stop → Type 0
 ArePlaced stops =
     let times = map (λ stop. stop.millis) stops in
     let longest = longest_of times in
     Places (steps_of times) (whole_of times longest) longest (last_of times) 0 0 (first_of times) left stops
 
--- where the next mark may stand: 84 units to the right of the one before
+-- where the next mark may stand: 84 units to the right of the mark before
 abbrev pub next_free : (free x : ℕ) → ℕ
 next_free free x = if nat_le free x then x + 84 else free
 
--- each stop has a mark where there is room for it
+-- each stop has a mark if there is room for it
 abbrev pub Marks : (free : ℕ) → List Stop → Type 0
 Marks free [] = Unit {0}
 Marks free (stop ∷ stops) = (stop.marked ≡ nat_le free stop.x) × Marks (next_free free stop.x) stops
 
--- stops are the axis of things, tasks and a fault: their times in order, each where it stands
+-- the stops are the axis of things, tasks and a fault: their times in order, each at its place
 pub record AreStopsOf (lanes : List Lane) (tasks : List Task) (fault : Option Moment) (stops : List Stop) : Type 0 where
-  -- the times stand in their order
+  -- the times are in their order
   pub order : IsSorted nat_cmp (map (λ stop. stop.millis) stops)
-  -- they are all that are shown
+  -- they are the times of all that is shown
   pub all : IsPermutation (times_shown lanes tasks fault) (map (λ stop. stop.millis) stops)
   -- each stands no further left than the one before
   pub places : GoesRight left stops
   -- the first stands at the left end
   pub begins : BeginsLeft stops
-  -- the last stands at the right end, where it is later than the first
+  -- the last stands at the right end, if it is later than the first
   pub ends : EndsRight stops
-  -- each stands where the steps up to it lead: each has some room, and more by its length
+  -- each stands where the steps up to it lead: each step gets some room, and more by its length
   pub stand : ArePlaced stops
   -- each step that is longer than the longest that is drawn to scale has a gap
   pub gaps : AreGaps stops
-  -- a stop has a mark where there is room for it
+  -- a stop has a mark if there is room for it
   pub marks : Marks left stops

@@ -9,7 +9,7 @@ use Rattle.wh_timeline.specs.Axes.{place_of, right}
 use Rattle.wh_timeline.specs.Words.{kind_word, outcome_class}
 use Rattle.wh_html.specs.Html.{Html, nothing, markup, plain, hole, ◌⊕◌, number, stamp, span}
 
--- what has the fault, as a class of the style sheet
+-- the class of the style sheet that marks what has the fault
 abbrev pub hit_class : Bool → List ℕ
 hit_class hit = if hit then codes " hit" else []
 
@@ -24,7 +24,7 @@ is_hit lane None = false
 is_hit lane (Some fault) =
     lane.opened.event == fault.event || (is_at fault.event lane.started || is_at fault.event lane.ended)
 
--- an event with its time, after what happened
+-- an event and its time, after the words for what happened
 abbrev pub event_html : (words : List ℕ) → Option Moment → Html
 event_html words None = nothing
 event_html words (Some moment) =
@@ -35,7 +35,7 @@ abbrev pub after_html : (opened : Moment) → Option Moment → Html
 after_html opened None = nothing
 after_html opened (Some ended) = markup (codes ", after ") ⊕ span (ended.millis - opened.millis)
 
--- the title of a lane: what it is of, and its events
+-- the title of a lane: its kind, its name and its events
 unfoldable pub title_html : Lane → Html
 title_html lane =
     markup (codes "<title>")
@@ -77,9 +77,11 @@ bars_html stops opened (Some started) ended =
 -- a dot
 abbrev pub dot_html : List Stop → Moment → Html
 dot_html stops opened =
-    markup (codes "<circle class=\"bar\" cx=\"") ⊕ number (place_of stops opened.millis) ⊕ markup (codes "\" cy=\"11\" r=\"5\"/>")
+    markup (codes "<circle class=\"bar\" cx=\"")
+    ⊕ number (place_of stops opened.millis)
+    ⊕ markup (codes "\" cy=\"11\" r=\"5\"/>")
 
--- what happens at once
+-- things of the kind happen at once
 abbrev pub is_at_once : Kind → Bool
 is_at_once Activity = false
 is_at_once Timer = false
@@ -88,22 +90,25 @@ is_at_once Signal = true
 is_at_once Request = false
 is_at_once Marker = true
 
--- the sign of a thing: a dot for what happens at once, else its bar
+-- the sign of a thing: a dot if it happens at once, or else its bar
 abbrev pub sign_html : List Stop → Lane → Html
 sign_html stops lane =
     if is_at_once lane.kind then dot_html stops lane.opened else bars_html stops lane.opened lane.started lane.ended
 
--- the classes of a thing: what it is of, how it stands, and whether it has the fault
+-- the classes of a thing in the style sheet: its kind, its outcome, and whether it has the fault
 abbrev pub classes_html : Lane → Option Moment → Html
 classes_html lane fault =
-    plain (kind_word lane.kind) ⊕ markup (codes " ") ⊕ plain (outcome_class lane.outcome) ⊕ plain (hit_class (is_hit lane fault))
+    plain (kind_word lane.kind)
+    ⊕ markup (codes " ")
+    ⊕ plain (outcome_class lane.outcome)
+    ⊕ plain (hit_class (is_hit lane fault))
 
--- how a thing stands, beside its bar
+-- the outcome of a thing in words, beside its bar
 abbrev pub said_html : List ℕ → Html
 said_html words =
     markup (codes "<text class=\"said\" x=\"846\" y=\"15\">") ⊕ hole 22 words ⊕ markup (codes "</text>")
 
--- a lane, so far from above
+-- a lane, at a distance from the top
 unfoldable pub lane_html : Option Moment → List Stop → (y : ℕ) → Lane → Html
 lane_html fault stops y lane =
     markup (codes "<g class=\"lane ")
@@ -119,7 +124,7 @@ lane_html fault stops y lane =
     ⊕ said_html lane.words
     ⊕ markup (codes "</g>\n")
 
--- where the lane below stands, 22 units further from above
+-- where the lane below stands, 22 units further down
 abbrev pub below : (y : ℕ) → ℕ
 below y = min (y + 22) 18446744073709551615
 

@@ -21,7 +21,7 @@ PlacesEnd = (stops : List Stop) → GoesRight left stops → (millis : ℕ) → 
 abbrev pub ShownAreFew : Type 0
 ShownAreFew = (page : Page) → (length (shown_lanes page) ≤ 300) × (length (shown_tasks page) ≤ 300)
 
--- a thing that the event of the fault opened, started or ended is shown where there is one
+-- if the event of the fault opened, started or ended a thing, such a thing is shown
 abbrev pub FaultIsShown : Type 0
 FaultIsShown =
     (page : Page) → list_any (λ lane. is_hit lane page.fault) page.lanes ≡ true

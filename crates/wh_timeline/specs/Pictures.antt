@@ -1,4 +1,4 @@
--- The picture: time across, a lane for each thing.
+-- The picture: time from left to right, and a lane for each thing.
 use Rattle.std.specs.Prelude.{ℕ, ◌+◌, ◌-◌, ◌*◌, ◌/◌, ◌==◌, nat_le, min, if◌then◌else◌, Option, Some, None, List, [], ◌∷◌, length, codes}
 use Rattle.wh_timeline.specs.declared.axis.Gap.{Gap}
 use Rattle.wh_timeline.specs.declared.axis.Stop.{Stop}
@@ -9,11 +9,11 @@ use Rattle.wh_timeline.specs.Axes.{place_of}
 use Rattle.wh_html.specs.Html.{Html, nothing, markup, plain, hole, ◌⊕◌, number, stamp, span, each}
 use Rattle.wh_timeline.specs.Lanes.{hit_class, lanes_html}
 
--- where a picture of so many lanes ends, from above
+-- where a picture of so many lanes ends, in units of the picture from the top
 abbrev pub bottom_of : (lanes : ℕ) → ℕ
 bottom_of lanes = 70 + 22 * min lanes 300
 
--- how many things are drawn of so many, if not all are
+-- how many of the things are drawn, if not all are
 abbrev pub undrawn_html : (lanes total : ℕ) → Html
 undrawn_html lanes total =
     if lanes == total then nothing
@@ -31,14 +31,18 @@ opening_html lanes total =
     ⊕ number lanes
     ⊕ markup (codes " things from opening to end. The table below has the same times.</desc>\n<defs><pattern id=\"gap\" width=\"6\" height=\"6\" patternUnits=\"userSpaceOnUse\" patternTransform=\"rotate(45)\"><line class=\"hatch\" y2=\"6\"/></pattern></defs>\n")
 
--- the words of a time that is drawn shorter, where there is room for them
+-- the words of a gap, if there is room for them
 abbrev pub gap_word_html : (from to millis : ℕ) → Html
 gap_word_html from to millis =
     if nat_le 48 (to - from)
-    then (markup (codes "<text class=\"scale\" x=\"") ⊕ number (from / 2 + to / 2) ⊕ markup (codes "\" y=\"34\">") ⊕ span millis ⊕ markup (codes "</text>"))
+    then (markup (codes "<text class=\"scale\" x=\"")
+    ⊕ number (from / 2 + to / 2)
+    ⊕ markup (codes "\" y=\"34\">")
+    ⊕ span millis
+    ⊕ markup (codes "</text>"))
     else nothing
 
--- a time that is drawn shorter than it was, up to a place
+-- a gap up to a place
 abbrev pub gap_html : (bottom to : ℕ) → Gap → Html
 gap_html bottom to gap =
     markup (codes "<g><title>")
@@ -53,7 +57,7 @@ gap_html bottom to gap =
     ⊕ gap_word_html gap.from to gap.millis
     ⊕ markup (codes "</g>\n")
 
--- a mark of the scale, so long after the first time
+-- a mark of the scale, with the time since the first stop
 abbrev pub mark_html : (bottom first : ℕ) → Stop → Html
 mark_html bottom first stop =
     markup (codes "<text class=\"scale\" x=\"")
@@ -72,17 +76,17 @@ mark_html bottom first stop =
 abbrev pub mark_at_html : (bottom first : ℕ) → Stop → Html
 mark_at_html bottom first stop = if stop.marked then mark_html bottom first stop else nothing
 
--- the time before a stop, if it is drawn shorter
+-- the gap before a stop, if it has one
 abbrev pub before_html : (bottom to : ℕ) → Option Gap → Html
 before_html bottom to None = nothing
 before_html bottom to (Some gap) = gap_html bottom to gap
 
--- what the scale shows at a stop
+-- the gap and the mark of the scale at a stop
 abbrev pub stop_html : (bottom first : ℕ) → Stop → Html
 stop_html bottom first stop =
     before_html bottom stop.x stop.gap ⊕ mark_at_html bottom first stop
 
--- the first of the times
+-- the first of the times; 0 if there is none
 abbrev pub first_time : List Stop → ℕ
 first_time [] = 0
 first_time (stop ∷ stops) = stop.millis
@@ -118,12 +122,12 @@ fault_html stops bottom (Some fault) =
     ⊕ number fault.event
     ⊕ markup (codes "</text></g>\n")
 
--- the end of the picture, and what its signs mean
+-- the end of the picture, with the key to its signs
 abbrev pub closing_html : Html
 closing_html =
     markup (codes "</svg>\n</div>\n<p class=\"soft key\"><span class=\"activity\">activity</span><span class=\"timer\">timer</span><span class=\"child\">child</span><span class=\"signal\">signal</span><span class=\"request\">request</span><span class=\"marker\">marker</span><span class=\"none\">pale: not started yet, still open, or canceled</span><span class=\"none\">red edge: failed</span><span class=\"none\">Time runs to the right, with some room for each step; hatched: longer than it is drawn.</span></p>\n</section>\n")
 
--- the picture of lanes, of so many in all, and of tasks
+-- the picture of lanes, out of so many things in all, and of tasks
 unfoldable pub picture_html : Option Moment → List Stop → List Lane → (total : ℕ) → List Task → Html
 picture_html fault stops lanes total tasks =
     opening_html (length lanes) total

@@ -8,16 +8,15 @@ use Rattle.wh_timeline.specs.declared.axis.Stop.{Stop}
 use Rattle.wh_timeline.specs.Axes.{AreStopsOf}
 use Rattle.wh_timeline.specs.Lanes.{is_hit}
 
--- how many of so many are left out before the first that is shown, where `at` of them stand before
--- the fault
+-- how many items are left out before the first that is shown, if `at` of them precede the fault
 abbrev pub left_out : (total at : ℕ) → ℕ
 left_out total at = min (at - 200) (total - 300)
 
--- the items that are shown after so many that are left out: 300 at most
+-- the items that are shown, 300 at most, if the first `left` are left out
 abbrev pub shown : {A : Type 0} → (left : ℕ) → List A → List A
 shown left items = take 300 (drop left items)
 
--- the number of the event round which things are shown
+-- the number of the event around which things are shown
 abbrev pub middle : Option Moment → ℕ
 middle None = 0
 middle (Some fault) = fault.event
@@ -26,8 +25,8 @@ middle (Some fault) = fault.event
 abbrev pub lanes_before : (event : ℕ) → List Lane → ℕ
 lanes_before event lanes = count_by (λ lane. nat_lt lane.opened.event event) lanes
 
--- how many of the things stand before the fault: before the first that its event opened, started or ended, or else those
--- that were opened before it
+-- how many of the things precede the fault: those before the first that its event opened, started or ended, or, if it
+-- did none of these, those that were opened before it
 abbrev pub lanes_at : Option Moment → List Lane → ℕ
 lanes_at fault lanes = unwrap_or (position (λ lane. is_hit lane fault) lanes) (lanes_before (middle fault) lanes)
 

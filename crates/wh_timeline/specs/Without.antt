@@ -1,4 +1,4 @@
--- What a page shows, with an empty text in place of each.
+-- What a page shows, with each text replaced by an empty one.
 use Rattle.std.specs.Prelude.{[], map}
 use Rattle.std.specs.Option.{option_map}
 use Rattle.wh_timeline.specs.declared.page.Fact.{Fact}
@@ -8,7 +8,7 @@ use Rattle.wh_timeline.specs.declared.page.Line.{Line}
 use Rattle.wh_timeline.specs.declared.page.Task.{Task}
 use Rattle.wh_timeline.specs.declared.page.Page.{Page}
 
--- a page with an empty text in place of each
+-- a page, and each of its parts, with each text replaced by an empty one
 abbrev pub without_fact : Fact → Fact
 without_fact fact = record { name = []; value = [] }
 

@@ -7,7 +7,7 @@ use Rattle.wh_timeline.specs.declared.page.Outcome.TheVariants.{Open, Done, Fail
 use Rattle.wh_timeline.specs.declared.page.Side.{Side}
 use Rattle.wh_timeline.specs.declared.page.Side.TheVariants.{Told, Gives, Recorded, Fault, Note}
 
--- what a lane is of, in words
+-- the kind of a lane, in words
 abbrev pub kind_word : Kind → List ℕ
 kind_word Activity = codes "activity"
 kind_word Timer = codes "timer"
@@ -16,14 +16,14 @@ kind_word Signal = codes "signal"
 kind_word Request = codes "request"
 kind_word Marker = codes "marker"
 
--- how a thing stands, as a class of the style sheet
+-- the outcome of a thing, as a class of the style sheet
 abbrev pub outcome_class : Outcome → List ℕ
 outcome_class Open = codes "open"
 outcome_class Done = codes "done"
 outcome_class Failed = codes "failed"
 outcome_class Canceled = codes "canceled"
 
--- who says a line, in a word
+-- the side of a line, in a word
 abbrev pub side_word : Side → List ℕ
 side_word Told = codes "told"
 side_word Gives = codes "gives"

@@ -1,4 +1,4 @@
-//! Where times stand in the picture.
+//! Places the times of a page on the axis of its picture.
 
 ghost use Rattle.std.specs.Prelude.{◌≡◌, ◌≤◌, ◌<◌, ◌-◌, nat_le, get_or, ◌++◌, map, IfOk, OnOk, IsPermutation, IsSorted};
 ghost use Rattle.std.specs.Ordering.{nat_cmp};
@@ -11,24 +11,25 @@ use crate::view::{shown_lanes, shown_tasks};
 use std::alloc::Global;
 use wh_events::{Items, OutOfMemory};
 
-/// Where the first time stands, from the left, in units of the picture.
+/// Where the first time stands, in units of the picture from the left.
 pub const LEFT: u64 = 200;
 
-/// How much room there is for all steps alike, and how much by their lengths.
+/// The room that all steps share equally, in units of the picture.
 const EVEN: u64 = 250;
 
+/// The room that all steps share by their lengths, in units of the picture.
 const SCALED: u64 = 380;
 
-/// Where the last time stands.
+/// Where the last time stands, in units of the picture from the left.
 pub const RIGHT: u64 = 830;
 
-/// The least room between two marks of the scale.
+/// The least distance between two marks of the scale, in units of the picture.
 const APART: u64 = 84;
 
-/// A time in which nothing happens that is drawn shorter than it was.
+/// A time without events that is drawn shorter than it was.
 #[derive(Clone, Copy)]
 pub struct Gap {
-    /// Where it begins, from the left.
+    /// Where it begins, in units of the picture from the left.
     pub from: u64,
     /// How long it was, in milliseconds.
     pub millis: u64,
@@ -39,29 +40,29 @@ pub struct Gap {
 pub struct Stop {
     /// Milliseconds from 1970-01-01T00:00:00Z.
     pub millis: u64,
-    /// Where it stands, from the left.
+    /// Where it stands, in units of the picture from the left.
     pub x: u64,
-    /// The time before it, if it is drawn shorter than it was.
+    /// The time since the stop before, if it is drawn shorter than it was.
     pub gap: Option<Gap>,
     /// Whether the scale has a mark for it.
     pub marked: bool,
 }
 
-/// Where times stand in a picture: the times at which something happens, in their order.
+/// The axis of a picture: the times at which something happens, in their order, and their places.
 #[derive(Drop)]
 pub struct Axis {
     /// The times.
     pub stops: Items<Stop>,
 }
 
-/// How the times between two stops are drawn.
+/// How the steps from one time to the next are drawn.
 #[derive(Clone, Copy)]
 struct Scale {
-    /// The longest that is drawn to scale, in milliseconds.
+    /// The longest step that is drawn to scale, in milliseconds.
     longest: u64,
-    /// How many times differ from the one before.
+    /// How many times differ from the time before.
     steps: u64,
-    /// How long all take together, each by no more than the longest.
+    /// The length of all steps together, in milliseconds, each counted as `longest` at most.
     whole: u64,
     /// The last time, in milliseconds from 1970-01-01T00:00:00Z.
     last: u64,
@@ -106,7 +107,7 @@ fn push_tasks(times: &mut Vec<u64>, tasks: &[Task]) -> Result<(), OutOfMemory>
     Ok(())
 }
 
-/// The times at which something happens, in their order.
+/// Returns the times at which something happens, in their order.
 #[tactic(auto, unfolding(crate::specs::Axes::times_shown))]
 fn times_of(
     alloc: Global,
@@ -125,7 +126,7 @@ fn times_of(
     Ok(times)
 }
 
-/// The time at a place in the list; 0 where there is none.
+/// Returns the time at a place in the list; 0 if there is none.
 fn time_at(times: &[u64], place: usize) -> u64
     ensures { result ≡ get_or times.now place 0 }
 {
@@ -135,21 +136,21 @@ fn time_at(times: &[u64], place: usize) -> u64
     }
 }
 
-/// The first of the times.
+/// Returns the first of the times; 0 if there is none.
 fn first_of(times: &[u64]) -> u64
     ensures { result ≡ first_of times.now }
 {
     time_at(times, 0)
 }
 
-/// The last of the times.
+/// Returns the last of the times; 0 if there is none.
 fn last_of(times: &[u64]) -> u64
     ensures { result ≡ last_of times.now }
 {
     time_at(times, times.len().saturating_sub(1))
 }
 
-/// How many of the times differ from the one before.
+/// Returns how many of the times differ from the one before.
 fn steps_of(times: &[u64]) -> u64
     ensures { result ≡ steps_of times.now }
 {
@@ -164,7 +165,7 @@ fn steps_of(times: &[u64]) -> u64
     steps
 }
 
-/// How long the times between take together, each by no more than the longest.
+/// Returns the length of all steps together, each counted as `longest` at most.
 fn whole_of(times: &[u64], longest: u64) -> u64
     ensures { result ≡ whole_of times.now longest }
 {
@@ -177,7 +178,8 @@ fn whole_of(times: &[u64], longest: u64) -> u64
     whole
 }
 
-/// Half of the longest step that is drawn to scale, where it is more than half of what is drawn.
+/// Returns half of `longest` if it is more than half of the length of all steps together, and
+/// `longest` otherwise.
 fn shorter(times: &[u64], longest: u64) -> u64
     ensures { result ≡ shorter times.now longest }
 {
@@ -188,7 +190,7 @@ fn shorter(times: &[u64], longest: u64) -> u64
     }
 }
 
-/// The longest step after so many halvings.
+/// Returns the longest step after up to `halvings` halvings.
 #[tactic(auto, unfolding(crate::specs::Axes::shortened))]
 fn shortened(times: &[u64], halvings: usize, all: u64) -> u64
     ensures { result ≡ shortened times.now halvings all }
@@ -200,8 +202,8 @@ fn shortened(times: &[u64], halvings: usize, all: u64) -> u64
     longest
 }
 
-/// The longest step that is drawn to scale. Where there are three steps or more, it is halved from
-/// the time between the first and the last until it is no more than half of what is drawn.
+/// Returns the longest step that is drawn to scale. If there are three steps or more, it is the
+/// time between the first and the last, halved until it is no more than half of what is drawn.
 fn longest_of(times: &[u64]) -> u64
     ensures { result ≡ longest_of times.now }
 {
@@ -213,7 +215,7 @@ fn longest_of(times: &[u64]) -> u64
     }
 }
 
-/// The scale of the times.
+/// Returns the scale of the times.
 fn scale_of(times: &[u64]) -> Scale
     ensures longest { result.longest ≡ longest_of times.now }
     ensures steps { result.steps ≡ steps_of times.now }
@@ -229,7 +231,7 @@ fn scale_of(times: &[u64]) -> Scale
     }
 }
 
-/// The part of so much room that a part of the whole has, and all of it at most.
+/// Returns the share of the room for a part of the whole, `room` at most.
 fn share(room: u64, part: u64, whole: u64) -> u64
     ensures { result ≡ share room part whole }
 {
@@ -239,7 +241,7 @@ fn share(room: u64, part: u64, whole: u64) -> u64
     (room.saturating_mul(part) / whole).min(room)
 }
 
-/// The time between two stops, if it is drawn shorter than it was.
+/// Returns the gap of a step from a place, if the step is drawn shorter than it was.
 fn gap_of(from: u64, step: u64, longest: u64) -> Option<Gap>
     ensures { result ≡ gap_of from step longest }
 {
@@ -250,14 +252,14 @@ fn gap_of(from: u64, step: u64, longest: u64) -> Option<Gap>
     }
 }
 
-/// What the steps so far take.
+/// The steps up to a time.
 #[derive(Clone, Copy)]
 struct Way {
     /// How many there are.
     steps: u64,
-    /// How long they took, each by no more than the longest that is drawn to scale.
+    /// Their length together, each counted as the longest that is drawn to scale at most.
     length: u64,
-    /// The time that they led to.
+    /// The time to which they lead.
     millis: u64,
     /// Where that time stands.
     x: u64,
@@ -265,8 +267,8 @@ struct Way {
     free: u64,
 }
 
-/// Where a time stands to which so many steps lead: each step has the same room to begin with, and
-/// then more by its length. The last time stands at the right end.
+/// Returns where a time stands to which so many steps lead. Each step gets an equal share of one
+/// room and a share by its length of another. The last time stands at the right end.
 fn place_after(steps: u64, length: u64, millis: u64, scale: Scale) -> u64
     ensures { result ≡ place_after scale.steps scale.whole scale.last steps length millis }
 {
@@ -276,7 +278,7 @@ fn place_after(steps: u64, length: u64, millis: u64, scale: Scale) -> u64
     LEFT + share(EVEN, steps, scale.steps) + share(SCALED, length, scale.whole)
 }
 
-/// Where the next mark of the scale may stand after a stop at this place.
+/// Returns where the next mark of the scale may stand after a stop at `x`.
 fn next_free(free: u64, x: u64) -> u64
     requires { x ≤ right }
     ensures { result ≡ next_free free x }
@@ -284,14 +286,14 @@ fn next_free(free: u64, x: u64) -> u64
     if free <= x { x + APART } else { free }
 }
 
-/// The way to the next time.
+/// Returns the path to the next time.
 fn way_to(way: Way, millis: u64, scale: Scale) -> Way
     requires { way.x ≤ right }
     ensures time { result.millis ≡ millis }
     ensures steps { result.steps ≡ steps_to way.steps (millis - way.millis) }
     ensures length { result.length ≡ length_to scale.longest way.length (millis - way.millis) }
-    ensures place { result.x ≡ next_place scale.steps scale.whole scale.longest scale.last way.steps way.length way.millis
-        way.x millis }
+    ensures place { result.x
+        ≡ next_place scale.steps scale.whole scale.longest scale.last way.steps way.length way.millis way.x millis }
     ensures right { (way.x ≤ result.x) × (result.x ≤ right) }
     ensures free { result.free ≡ next_free way.free result.x }
     ensures still { millis ≡ way.millis → result.x ≡ way.x }
@@ -315,7 +317,7 @@ fn way_to(way: Way, millis: u64, scale: Scale) -> Way
     }
 }
 
-/// The stop at the end of a way, from the one before.
+/// Returns the stop at the end of a path, given the path to the stop before.
 fn stop_at(before: Way, way: Way, scale: Scale) -> Stop
     ensures time { result.millis ≡ way.millis }
     ensures place { result.x ≡ way.x }
@@ -331,7 +333,7 @@ fn stop_at(before: Way, way: Way, scale: Scale) -> Stop
     }
 }
 
-/// The stops of the times.
+/// Returns the stops of the times.
 fn stops_of(alloc: Global, times: &[u64], scale: Scale) -> Result<Vec<Stop>, OutOfMemory>
     requires { scale.last ≡ last_of times.now }
     ensures times { IfOk result (λ stops. map (λ stop. stop.millis) stops.items ≡ times.now) }
@@ -359,12 +361,13 @@ fn stops_of(alloc: Global, times: &[u64], scale: Scale) -> Result<Vec<Stop>, Out
     Ok(stops)
 }
 
-/// Where the times of what a page shows stand in its picture: in their order from the left to the
-/// right, the first at the left end, and the last at the right end where it is later. Each step from
-/// one to the next has some room, and more by its length. Where there are three steps or more, the
-/// longest that is drawn to scale is the time between the first and the last, halved until it is no
-/// more than half of what is drawn; each longer step has a gap, and is drawn as the longest. A stop
-/// has a mark where the mark before is 84 units away. `OutOfMemory` where there was no memory for it.
+/// Places the times of what a page shows in its picture, in their order from left to right: the
+/// first at the left end, and the last at the right end if it is later. Each step from one time to
+/// the next gets some room, and more by its length. If there are three steps or more, the longest
+/// that is drawn to scale is the time between the first and the last, halved until it is no more
+/// than half of what is drawn; each longer step has a gap, and is drawn as long as that one. A stop
+/// has a mark if the mark before is at least 84 units away. Returns `OutOfMemory` if there is no
+/// memory for the stops.
 pub fn axis_of(alloc: Global, page: &Page) -> Result<Axis, OutOfMemory>
     ensures { IfOk result (λ axis. IsAxisOf page.now axis.stops) }
 {
@@ -376,7 +379,7 @@ pub fn axis_of(alloc: Global, page: &Page) -> Result<Axis, OutOfMemory>
     })
 }
 
-/// Where a time stands: where the last of the stops does that is not later.
+/// Returns where a time stands: at the place of the last stop that is not later.
 #[tactic(auto, unfolding(crate::specs::Axes::place_of))]
 pub(crate) fn place_of(stops: &[Stop], millis: u64) -> u64
     ensures { result ≡ place_of stops.now millis }

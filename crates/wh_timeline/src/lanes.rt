@@ -1,4 +1,4 @@
-//! The lanes of the picture.
+//! Writes the lanes of the picture.
 
 ghost use Rattle.std.specs.Prelude.{◌≡◌, ◌-◌, Some};
 ghost use Rattle.wh_html.specs.Html.{bytes};
@@ -11,10 +11,10 @@ use std::fmt;
 use wh_events::Text;
 use wh_html::{Escaped, Span, Stamp};
 
-/// How high a lane is.
+/// The height of a lane, in units of the picture.
 pub(crate) const HEIGHT: u64 = 22;
 
-/// Whether the event is that of the moment.
+/// Returns whether the event is that of the moment.
 fn is_at(event: u64, moment: Option<Moment>) -> bool
     ensures { result ≡ is_at event moment }
 {
@@ -24,7 +24,7 @@ fn is_at(event: u64, moment: Option<Moment>) -> bool
     }
 }
 
-/// Whether the event of the fault opened, started or ended the thing.
+/// Returns whether the event of the fault opened, started or ended the thing.
 pub(crate) fn is_hit(lane: &Lane, fault: Option<Moment>) -> bool
     ensures { result ≡ is_hit lane.now fault }
 {
@@ -39,21 +39,21 @@ pub(crate) fn is_hit(lane: &Lane, fault: Option<Moment>) -> bool
     }
 }
 
-/// What marks what has the fault, as a class of the style sheet.
+/// Returns the class of the style sheet that marks what has the fault.
 pub(crate) fn hit_class(hit: bool) -> &'static str
     ensures { result.now ≡ hit_class hit }
 {
     if hit { " hit" } else { "" }
 }
 
-/// How long it took from one time to another.
+/// Returns the time from one event to another; no time if the other is earlier.
 pub fn took(from: Moment, to: Moment) -> Span
     ensures { result.0 ≡ to.millis - from.millis }
 {
     Span(to.millis.saturating_sub(from.millis))
 }
 
-/// An event with its time, after what happened.
+/// An event and its time, after the words for what happened.
 #[derive(Clone, Copy)]
 struct EventWords(&'static str, Option<Moment>);
 
@@ -91,7 +91,7 @@ impl fmt::Display for After {
     }
 }
 
-/// The title of a lane: what it is of, and its events.
+/// The title of a lane: its kind, its name and its events.
 #[derive(Drop)]
 struct Title<'a>(&'a Lane);
 
@@ -121,7 +121,7 @@ impl fmt::Display for Title<'_> {
     }
 }
 
-/// A bar of this class from one place to another, at least three units wide.
+/// A bar of a class from one place to another, at least three units wide.
 #[derive(Clone, Copy)]
 struct Bar {
     class: &'static str,
@@ -143,7 +143,7 @@ impl fmt::Display for Bar {
     }
 }
 
-/// Where the bar of a thing ends: at the right end while it is open.
+/// Returns where the bar of a thing ends: at the right end while it is open.
 fn end_of(stops: &[Stop], ended: Option<Moment>) -> u64
     ensures { result ≡ end_of stops.now ended }
 {
@@ -190,14 +190,14 @@ impl fmt::Display for Bars<'_> {
     }
 }
 
-/// Whether a thing happens at once.
+/// Returns whether things of the kind happen at once.
 fn is_at_once(kind: Kind) -> bool
     ensures { result ≡ is_at_once kind }
 {
     matches!(kind, Kind::Signal | Kind::Marker)
 }
 
-/// The sign of a thing: a dot for what happens at once, else its bar.
+/// The sign of a thing: a dot if it happens at once, or else its bar.
 #[derive(Drop)]
 struct Sign<'a>(&'a [Stop], &'a Lane);
 
@@ -215,7 +215,7 @@ impl fmt::Display for Sign<'_> {
     }
 }
 
-/// The classes of a thing: what it is of, how it stands, and whether it has the fault.
+/// The classes of a thing in the style sheet: its kind, its outcome, and whether it has the fault.
 #[derive(Drop)]
 pub struct Classes<'a>(pub &'a Lane, pub Option<Moment>);
 
@@ -230,7 +230,7 @@ impl fmt::Display for Classes<'_> {
     }
 }
 
-/// How a thing stands, beside its bar.
+/// The outcome of a thing in words, beside its bar.
 #[derive(Drop)]
 struct Said<'a>(&'a Text);
 
@@ -246,7 +246,7 @@ impl fmt::Display for Said<'_> {
     }
 }
 
-/// A lane, so far from above.
+/// A lane, at a distance from the top.
 #[derive(Drop)]
 struct LaneRow<'a> {
     fault: Option<Moment>,
@@ -276,7 +276,7 @@ impl fmt::Display for LaneRow<'_> {
     }
 }
 
-/// Lanes, from so far above on.
+/// Lanes, one below the other, from a distance from the top on.
 #[derive(Drop)]
 pub(crate) struct LaneRows<'a> {
     pub(crate) fault: Option<Moment>,

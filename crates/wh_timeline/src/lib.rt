@@ -1,5 +1,5 @@
-//! What a page of a run shows, and its picture: time across, a lane for each thing that the run
-//! opened. `laws` says what holds of every axis.
+//! What a page of a run shows, and its picture: time from left to right, and a lane for each thing
+//! that the run opened. `laws` says what holds of every axis.
 #![tactic(auto)]
 
 mod axis;

@@ -5,17 +5,17 @@ ghost use Rattle.wh_timeline.specs.Words.{kind_word, outcome_class, side_word};
 
 use wh_events::{Items, Text};
 
-/// An event, and when it was recorded.
+/// An event and its time.
 #[derive(Clone, Copy)]
 pub struct Moment {
     /// The number of the event.
     pub event: u64,
-    /// Milliseconds from 1970-01-01T00:00:00Z. A time after the year 9999 is said as the end of
+    /// Milliseconds from 1970-01-01T00:00:00Z. A time after the year 9999 is shown as the end of
     /// that year.
     pub millis: u64,
 }
 
-/// What a lane is of.
+/// The kind of a thing.
 #[derive(Clone, Copy)]
 pub enum Kind {
     /// An activity.
@@ -32,73 +32,73 @@ pub enum Kind {
     Marker,
 }
 
-/// How a thing stands.
+/// The outcome of a thing.
 #[derive(Clone, Copy)]
 pub enum Outcome {
     /// It has not ended.
     Open,
-    /// It ended as it was meant to.
+    /// It ended as intended.
     Done,
-    /// It failed or timed out, or was terminated.
+    /// It failed, timed out or was terminated.
     Failed,
     /// It was canceled.
     Canceled,
 }
 
-/// A thing of a run: what stands in a lane of the picture, and in a row of the table.
+/// A thing that a run opened: a lane of the picture, and a row of the table.
 #[derive(Drop)]
 pub struct Lane {
-    /// What it is of.
+    /// Its kind.
     pub kind: Kind,
     /// Its id, or another name.
     pub name: Text,
-    /// Its type, where it has one.
+    /// Its type, if it has one.
     pub type_name: Option<Text>,
     /// The event that opened it.
     pub opened: Moment,
-    /// The event that started it, where there is one.
+    /// The event that started it, if there is one.
     pub started: Option<Moment>,
-    /// The event that ended it; `None` while it is open, and where it is over with the event that
-    /// opened it.
+    /// The event that ended it; `None` while it is open, and if the event that opened it also ended
+    /// it.
     pub ended: Option<Moment>,
-    /// How it stands.
+    /// Its outcome.
     pub outcome: Outcome,
-    /// How it stands, in words: `completed`, or the text of its failure.
+    /// Its outcome in words: `completed`, or the text of its failure.
     pub words: Text,
-    /// How often it was tried, where the history has that.
+    /// How often it was attempted, if the history has that.
     pub attempts: Option<u64>,
 }
 
-/// Who said a line.
+/// Which side a line of a task belongs to.
 #[derive(Clone, Copy)]
 pub enum Side {
-    /// The workflow was told it.
+    /// The workflow was activated with it.
     Told,
-    /// The workflow gave it.
+    /// It is a command of the workflow.
     Gives,
-    /// The history has it.
+    /// The history records it.
     Recorded,
-    /// The fault is there.
+    /// It has the fault.
     Fault,
-    /// It is about the task.
+    /// It is a note on the task.
     Note,
 }
 
 /// A line of a task.
 #[derive(Drop)]
 pub struct Line {
-    /// Who said it.
+    /// Its side.
     pub side: Side,
-    /// The number of the event that it speaks of, if it speaks of one.
+    /// The number of the event that it is about, if there is one.
     pub event: Option<u64>,
-    /// What it says.
+    /// Its text.
     pub text: Text,
 }
 
 /// A workflow task.
 #[derive(Drop)]
 pub struct Task {
-    /// What it is called.
+    /// Its heading.
     pub heading: Text,
     /// The event that started it.
     pub started: Moment,
@@ -108,19 +108,19 @@ pub struct Task {
     pub faulty: bool,
 }
 
-/// A name with what it names.
+/// A name and a value, such as the workflow type.
 #[derive(Drop)]
 pub struct Fact {
-    /// The name, as `Run id`.
+    /// The name, such as `Run id`.
     pub name: Text,
-    /// What it names.
+    /// The value.
     pub value: Text,
 }
 
 /// Where the code and the history differ.
 #[derive(Drop)]
 pub struct Difference {
-    /// The number of the event that differs, if there is one.
+    /// The number of the event at which they differ, if there is one.
     pub event: Option<u64>,
     /// What the code gives.
     pub code: Text,
@@ -131,11 +131,11 @@ pub struct Difference {
 /// What a page shows.
 #[derive(Drop)]
 pub struct Page {
-    /// What the page is called: the file, or the run.
+    /// The title of the page: the file, or the run.
     pub title: Text,
     /// The verdict, in words.
     pub verdict: Text,
-    /// Whether the verdict is good; `None` where nothing was replayed.
+    /// Whether the verdict is good; `None` if nothing was replayed.
     pub good: Option<bool>,
     /// The workflow type, ids, counts and the like.
     pub facts: Items<Fact>,
@@ -147,12 +147,12 @@ pub struct Page {
     pub lanes: Items<Lane>,
     /// The tasks, in the order of the events that started them.
     pub tasks: Items<Task>,
-    /// What else a reader has to know, as what is not supported.
+    /// What else a reader has to know, such as what is not supported.
     pub notes: Items<Text>,
 }
 
 impl Kind {
-    /// The kind in words.
+    /// Returns the kind in words.
     pub fn word(self) -> &'static str
         ensures { result.now ≡ kind_word self }
     {
@@ -168,7 +168,7 @@ impl Kind {
 }
 
 impl Outcome {
-    /// What the style sheet calls it.
+    /// Returns its class in the style sheet.
     pub fn class(self) -> &'static str
         ensures { result.now ≡ outcome_class self }
     {
@@ -182,7 +182,7 @@ impl Outcome {
 }
 
 impl Side {
-    /// Who says a line, in a word.
+    /// Returns the side in a word.
     pub fn word(self) -> &'static str
         ensures { result.now ≡ side_word self }
     {

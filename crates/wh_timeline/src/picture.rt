@@ -1,4 +1,4 @@
-//! The picture: time across, a lane for each thing.
+//! Writes the picture: time from left to right, and a lane for each thing.
 
 ghost use Rattle.std.specs.Prelude.{◌≡◌, Some};
 ghost use Rattle.wh_html.specs.Html.{bytes, each};
@@ -10,20 +10,20 @@ use crate::page::{Lane, Moment, Task};
 use std::fmt;
 use wh_html::{Escaped, Span, Stamp};
 
-/// Where the first lane begins, from above.
+/// Where the first lane begins, in units of the picture from the top.
 const TOP: u64 = 70;
 
-/// The least room for the words of a time that is drawn shorter.
+/// The least room for the words of a gap, in units of the picture.
 const GAP_WORD: u64 = 48;
 
-/// Where a picture of so many lanes ends, from above.
+/// Returns where a picture of so many lanes ends, from the top.
 fn bottom_of(lanes: usize) -> u64
     ensures { result ≡ bottom_of lanes }
 {
     TOP + HEIGHT * (lanes.min(300) as u64)
 }
 
-/// How many things are drawn of so many, if not all are.
+/// How many of the things are drawn, if not all are.
 #[derive(Clone, Copy)]
 struct Undrawn {
     lanes: usize,
@@ -46,7 +46,7 @@ impl fmt::Display for Undrawn {
     }
 }
 
-/// The beginning of the picture of so many lanes, of so many things.
+/// The beginning of a picture.
 #[derive(Clone, Copy)]
 struct Opening {
     lanes: usize,
@@ -70,7 +70,7 @@ impl fmt::Display for Opening {
     }
 }
 
-/// The words of a time that is drawn shorter, where there is room for them.
+/// The words of a gap, if there is room for them.
 #[derive(Clone, Copy)]
 struct GapWord {
     from: u64,
@@ -92,7 +92,7 @@ impl fmt::Display for GapWord {
     }
 }
 
-/// The time before a stop, if it is drawn shorter than it was.
+/// The gap before a stop, if it has one.
 #[derive(Clone, Copy)]
 struct Before {
     bottom: u64,
@@ -125,7 +125,7 @@ impl fmt::Display for Before {
     }
 }
 
-/// A mark of the scale, so long after the first time, if it has one there.
+/// A mark of the scale, with the time since the first stop; nothing if the stop has no mark.
 #[derive(Drop)]
 struct Mark<'a> {
     bottom: u64,
@@ -151,7 +151,7 @@ impl fmt::Display for Mark<'_> {
     }
 }
 
-/// What the scale shows at stops.
+/// The gaps and the marks of the scale at stops.
 #[derive(Drop)]
 struct Scale<'a> {
     bottom: u64,
@@ -180,7 +180,7 @@ impl fmt::Display for Scale<'_> {
     }
 }
 
-/// The first of the times.
+/// Returns the first of the times; 0 if there is none.
 fn first_time(stops: &[Stop]) -> u64
     ensures { result ≡ first_time stops.now }
 {
@@ -256,7 +256,7 @@ impl fmt::Display for FaultLine<'_> {
     }
 }
 
-/// The end of the picture, and what its signs mean.
+/// The end of the picture, with the key to its signs.
 const CLOSING: &str =
     "</svg>\n</div>\n<p class=\"soft key\"><span class=\"activity\">activity</span><span class=\"timer\">timer</span><span class=\"child\">child</span><span class=\"signal\">signal</span><span class=\"request\">request</span><span class=\"marker\">marker</span><span class=\"none\">pale: not started yet, still open, or canceled</span><span class=\"none\">red edge: failed</span><span class=\"none\">Time runs to the right, with some room for each step; hatched: longer than it is drawn.</span></p>\n</section>\n";
 
@@ -265,11 +265,11 @@ const CLOSING: &str =
 pub struct Picture<'a> {
     /// The event of the fault, if there is one.
     pub fault: Option<Moment>,
-    /// Where times stand.
+    /// The stops of the axis.
     pub stops: &'a [Stop],
     /// The things that are drawn.
     pub lanes: &'a [Lane],
-    /// How many things there are.
+    /// How many things there are in all.
     pub total: usize,
     /// The tasks that have a tick.
     pub tasks: &'a [Task],

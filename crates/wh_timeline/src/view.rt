@@ -1,4 +1,4 @@
-//! Which things and tasks of a run its page shows.
+//! Selects which things and tasks of a run its page shows.
 
 ghost use Rattle.std.specs.Prelude.{◌≡◌, ◌≤◌, length, nat_lt, count_by, position, take};
 ghost use Rattle.wh_timeline.specs.Lanes.{is_hit};
@@ -10,18 +10,18 @@ use crate::page::{Lane, Moment, Page, Task};
 /// The most things that the picture shows, and the most tasks.
 const MOST: usize = 300;
 
-/// How many of them stand before the event of the fault, where there are as many.
+/// How many of them precede the event of the fault, if there are as many.
 const BEFORE: usize = 200;
 
-/// How many of so many are left out before the first that is shown, where `at` of them stand before
-/// the fault.
+/// Returns how many items are left out before the first that is shown, if `at` of them precede the
+/// fault.
 fn left_out(total: usize, at: usize) -> usize
     ensures { result ≡ left_out total at }
 {
     at.saturating_sub(BEFORE).min(total.saturating_sub(MOST))
 }
 
-/// The first items, at most so many.
+/// Returns the first `most` items, or all if there are fewer.
 pub fn first_items<T>(items: &[T], most: usize) -> &[T]
     ensures { result.now ≡ take most items.now }
 {
@@ -32,7 +32,7 @@ pub fn first_items<T>(items: &[T], most: usize) -> &[T]
     }
 }
 
-/// The items that are shown after so many that are left out.
+/// Returns the items that are shown if the first `left` are left out.
 fn shown<T>(items: &[T], left: usize) -> &[T]
     requires { left ≤ length items.now }
     ensures { result.now ≡ shown left items.now }
@@ -40,7 +40,7 @@ fn shown<T>(items: &[T], left: usize) -> &[T]
     first_items(&items[left..], MOST)
 }
 
-/// How many of the things were opened before an event.
+/// Returns how many of the things were opened before an event.
 fn lanes_before(lanes: &[Lane], event: u64) -> usize
     ensures { result ≡ lanes_before event lanes.now }
 {
@@ -50,15 +50,15 @@ fn lanes_before(lanes: &[Lane], event: u64) -> usize
         .count()
 }
 
-/// The place of the first thing that the event of the fault opened, started or ended.
+/// Returns the index of the first thing that the event of the fault opened, started or ended.
 fn first_hit(lanes: &[Lane], fault: Option<Moment>) -> Option<usize>
     ensures { result ≡ position (λ lane. is_hit lane fault) lanes.now }
 {
     lanes.iter().position(|lane| is_hit(lane, fault))
 }
 
-/// How many of the things stand before the fault: before the first that its event opened, started or
-/// ended, or else those that were opened before it.
+/// Returns how many of the things precede the fault: those before the first that its event opened,
+/// started or ended, or, if it did none of these, those that were opened before it.
 fn lanes_at(lanes: &[Lane], fault: Option<Moment>) -> usize
     ensures { result ≡ lanes_at fault lanes.now }
 {
@@ -66,7 +66,7 @@ fn lanes_at(lanes: &[Lane], fault: Option<Moment>) -> usize
     first_hit(lanes, fault).unwrap_or(before)
 }
 
-/// How many of the tasks were started before an event.
+/// Returns how many of the tasks were started before an event.
 fn tasks_before(tasks: &[Task], event: u64) -> usize
     ensures { result ≡ count_by (λ task. nat_lt task.started.event event) tasks.now }
 {
@@ -76,7 +76,7 @@ fn tasks_before(tasks: &[Task], event: u64) -> usize
         .count()
 }
 
-/// The number of the event round which a page shows things.
+/// Returns the number of the event around which a page shows things: that of the fault, or 0.
 fn middle(fault: Option<Moment>) -> u64
     ensures { result ≡ middle fault }
 {
@@ -86,9 +86,9 @@ fn middle(fault: Option<Moment>) -> u64
     }
 }
 
-/// The things that a page shows: the 300 round the first that the event of the fault opened, started
-/// or ended, of which 200 stand before it where there are as many; where there is none, those round
-/// the event, or else the first.
+/// Returns the things that a page shows: the 300 around the first that the event of the fault
+/// opened, started or ended, of which 200 precede it if there are as many. If it did none of these,
+/// they are those around that event, and if there is no fault, the first 300.
 #[tactic(auto, unfolding(crate::specs::Views::shown_lanes))]
 pub fn shown_lanes(page: &Page) -> &[Lane]
     ensures { result.now ≡ shown_lanes page.now }
@@ -98,8 +98,8 @@ pub fn shown_lanes(page: &Page) -> &[Lane]
     shown(lanes, left_out(lanes.len(), at))
 }
 
-/// The tasks that a page shows: the 300 round the event of the fault, of which 200 start before it
-/// where there are as many, or else the first.
+/// Returns the tasks that a page shows: the 300 around the event of the fault, of which 200 start
+/// before it if there are as many, or the first 300 if there is no fault.
 #[tactic(auto, unfolding(crate::specs::Views::shown_tasks))]
 pub fn shown_tasks(page: &Page) -> &[Task]
     ensures { result.now ≡ shown_tasks page.now }
