@@ -1,4 +1,4 @@
--- What stands above the picture: the verdict, what the run is, and where it differs.
+-- What stands above the picture: the verdict, the facts of the run, and the difference.
 use Rattle.std.specs.Prelude.{ℕ, Bool, true, false, Option, Some, None, List, codes}
 use Rattle.wh_timeline.specs.declared.page.Fact.{Fact}
 use Rattle.wh_timeline.specs.declared.page.Difference.{Difference}
@@ -6,7 +6,7 @@ use Rattle.wh_timeline.specs.declared.page.Page.{Page}
 use Rattle.wh_page.specs.declared.style.TheConstants.{STYLE_OF_TEXT, STYLE_OF_PARTS, STYLE_OF_PICTURE}
 use Rattle.wh_html.specs.Html.{Html, nothing, markup, plain, hole, ◌⊕◌, number, each}
 
--- what stands before the body: the title of the page and the style sheet
+-- what precedes the body: the title of the page and the style sheet
 unfoldable pub head_html : Page → Html
 head_html page =
     markup (codes "<!doctype html>\n<html lang=\"en\">\n<head>\n<meta charset=\"utf-8\">\n<meta name=\"viewport\" content=\"width=device-width, initial-scale=1\">\n<meta name=\"color-scheme\" content=\"light dark\">\n<meta http-equiv=\"Content-Security-Policy\" content=\"default-src 'none'; style-src 'unsafe-inline'\">\n<title>")
@@ -19,7 +19,7 @@ head_html page =
     ⊕ markup STYLE_OF_PICTURE.now
     ⊕ markup (codes "</style>\n</head>\n<body>\n")
 
--- whether a verdict is good, as a class of the style sheet
+-- the class of a verdict in the style sheet
 abbrev pub verdict_class : Option Bool → List ℕ
 verdict_class (Some true) = codes "ok"
 verdict_class (Some false) = codes "bad"
@@ -39,9 +39,13 @@ verdict_html page =
 -- a fact
 abbrev pub fact_html : Fact → Html
 fact_html fact =
-    markup (codes "<div><dt>") ⊕ hole 300 fact.name ⊕ markup (codes "</dt><dd>") ⊕ hole 300 fact.value ⊕ markup (codes "</dd></div>\n")
+    markup (codes "<div><dt>")
+    ⊕ hole 300 fact.name
+    ⊕ markup (codes "</dt><dd>")
+    ⊕ hole 300 fact.value
+    ⊕ markup (codes "</dd></div>\n")
 
--- the event at which a difference is, if there is one
+-- the event at which a difference is found, if there is one
 abbrev pub at_html : Option ℕ → Html
 at_html None = nothing
 at_html (Some event) = markup (codes ", at event ") ⊕ number event
@@ -62,7 +66,7 @@ abbrev pub difference_html : Option Difference → Html
 difference_html None = nothing
 difference_html (Some difference) = sides_html difference
 
--- all that stands above the picture
+-- all that precedes the picture
 unfoldable pub frame_html : Page → Html
 frame_html page =
     head_html page

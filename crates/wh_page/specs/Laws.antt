@@ -13,30 +13,32 @@ use Rattle.wh_page.specs.Tables.{row_html}
 use Rattle.wh_page.specs.TaskTexts.{is_fault, shown_lines, task_html}
 use Rattle.wh_page.specs.Pages.{page_html}
 
--- two templates have the same tags wherever they stand between tags, and stand between tags
+-- two templates that begin between tags have the same tags, and both end between tags
 abbrev pub HaveSameTags : Html → Html → Type 0
 HaveSameTags one other =
     (after behind : List ℕ) → tags after ≡ tags behind → tags (bytes one ++ after) ≡ tags (bytes other ++ behind)
 
--- the tags of a page are those of the page without its texts, with more that has the same tags: no text has a part in them
+-- the tags of a page are those of the page without its texts, also with further HTML that has the same tags: no text
+-- becomes part of a tag
 abbrev pub TextsAreNoTags : Type 0
 TextsAreNoTags =
     (stops : List Stop) (page : Page) (more other : Html) → HaveSameTags more other
     → tags (bytes (page_html stops page more)) ≡ tags (bytes (page_html stops (without_texts page) other))
 
--- a task shows 40 lines at most, and that of the fault where there is one
+-- a task shows 40 lines at most, and one that has the fault, if there is one
 abbrev pub FaultHasALine : Type 0
 FaultHasALine =
     (lines : List Line) → (length (shown_lines lines) ≤ 40)
-    × (list_any (λ line. is_fault line.side) lines ≡ true → list_any (λ line. is_fault line.side) (shown_lines lines) ≡ true)
+    × (list_any (λ line. is_fault line.side) lines ≡ true
+    → list_any (λ line. is_fault line.side) (shown_lines lines) ≡ true)
 
--- a part stands in a whole, in one piece
+-- a part is contained in a whole, in one piece
 pub record StandsIn (whole part : List ℕ) : Type 0 where
   pub before : List ℕ
   pub after : List ℕ
   pub joined : whole ≡ before ++ (part ++ after)
 
--- a page has these parts
+-- a page contains these parts of it
 pub record HasParts (page : Page) (html : List ℕ) : Type 0 where
   pub verdict : StandsIn html (bytes (verdict_html page))
   pub things : All (λ lane. StandsIn html (bytes (row_html page.fault lane))) (shown_lanes page)

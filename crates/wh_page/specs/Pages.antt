@@ -9,7 +9,7 @@ use Rattle.wh_page.specs.Tables.{table_html}
 use Rattle.wh_page.specs.TaskTexts.{tasks_html, notes_html}
 use Rattle.wh_timeline.specs.Views.{shown_lanes, shown_tasks}
 
--- the page with times at these stops, but for its end
+-- the page, but for its end, with its times at these stops
 unfoldable pub body_html : List Stop → Page → Html
 body_html stops page =
     frame_html page
@@ -18,10 +18,10 @@ body_html stops page =
     ⊕ table_html page.fault (shown_lanes page) (length page.lanes)
     ⊕ tasks_html (shown_tasks page) (length page.tasks)
 
--- its end
+-- the end of a page
 abbrev pub end_html : Html
 end_html = markup (codes "</main>\n<footer class=\"soft\"><p>Times are in UTC.</p></footer>\n</body>\n</html>\n")
 
--- the page, with more before its end
+-- the page, with further HTML before its end
 abbrev pub page_html : List Stop → Page → (more : Html) → Html
 page_html stops page more = body_html stops page ⊕ more ⊕ end_html

@@ -6,7 +6,7 @@ use Rattle.wh_html.specs.Html.{Html, nothing, markup, plain, hole, ◌⊕◌, nu
 use Rattle.wh_timeline.specs.Words.{kind_word}
 use Rattle.wh_timeline.specs.Lanes.{classes_html}
 
--- how many of so many are shown
+-- how many of all things are shown, and how many are left out
 abbrev pub count_html : (shown total : ℕ) → Html
 count_html shown total =
     if shown == total
@@ -24,7 +24,8 @@ moment_html (Some moment) =
 -- a cell with how long a thing took, or an empty one
 abbrev pub took_html : (opened : Moment) → Option Moment → Html
 took_html opened None = markup (codes "<td></td>")
-took_html opened (Some ended) = markup (codes "<td class=\"time\">") ⊕ span (ended.millis - opened.millis) ⊕ markup (codes "</td>")
+took_html opened (Some ended) =
+    markup (codes "<td class=\"time\">") ⊕ span (ended.millis - opened.millis) ⊕ markup (codes "</td>")
 
 -- a type, if there is one
 abbrev pub type_html : Option (List ℕ) → Html
@@ -62,7 +63,7 @@ row_html fault lane =
     ⊕ attempts_html lane.attempts
     ⊕ markup (codes "</tr>\n")
 
--- the table of the things that are shown, of so many in all
+-- the table of the things that are shown, out of so many in all
 unfoldable pub table_html : Option Moment → List Lane → (total : ℕ) → Html
 table_html fault lanes total =
     markup (codes "<section>\n<h2 id=\"things\">What was opened</h2>\n")

@@ -30,9 +30,10 @@ line_html line =
 abbrev pub left_html : (words : List ℕ) → ℕ → Html
 left_html words left =
     if left == 0 then nothing
-    else (markup (codes "<li class=\"note\"><span class=\"side-word\">") ⊕ number left ⊕ plain words ⊕ markup (codes "</span></li>\n"))
+    else (markup (codes "<li class=\"note\"><span class=\"side-word\">")
+    ⊕ number left ⊕ plain words ⊕ markup (codes "</span></li>\n"))
 
--- the line is that of the fault
+-- the line has the fault
 abbrev pub is_fault : Side → Bool
 is_fault Told = false
 is_fault Gives = false
@@ -40,8 +41,8 @@ is_fault Recorded = false
 is_fault Fault = true
 is_fault Note = false
 
--- how many lines are left out before the 40 that are shown: 20 of these stand before the first that has the fault, where
--- there are as many, and they are the first ones where no line has it
+-- how many lines are left out before the 40 that are shown: 20 of these precede the first that has the fault, if there
+-- are as many; if no line has it, the first 40 are shown
 abbrev pub left_before : List Line → ℕ
 left_before lines = min (unwrap_or (position (λ line. is_fault line.side) lines) 0 - 20) (length lines - 40)
 
@@ -49,7 +50,7 @@ left_before lines = min (unwrap_or (position (λ line. is_fault line.side) lines
 abbrev pub shown_lines : List Line → List Line
 shown_lines lines = take 40 (drop (left_before lines) lines)
 
--- how many are left out after them
+-- how many lines are left out after those that are shown
 abbrev pub left_after : List Line → ℕ
 left_after lines = length lines - 40 - left_before lines
 
@@ -60,11 +61,11 @@ lines_html lines =
     ⊕ each line_html (shown_lines lines)
     ⊕ left_html (codes " more") (left_after lines)
 
--- a task with the fault is open, and marked
+-- the attributes that open a task with the fault, and mark it
 abbrev pub open_words : Bool → List ℕ
 open_words faulty = if faulty then codes " class=\"hit\" open" else []
 
--- a task, by 40 of its lines
+-- a task, with 40 of its lines
 unfoldable pub task_html : Task → Html
 task_html task =
     markup (codes "<details")
@@ -79,7 +80,7 @@ task_html task =
     ⊕ lines_html task.lines
     ⊕ markup (codes "</ol>\n</details>\n")
 
--- the tasks that are shown, of so many in all
+-- the tasks that are shown, out of so many in all
 unfoldable pub tasks_html : List Task → (total : ℕ) → Html
 tasks_html tasks total =
     markup (codes "<section>\n<h2>Tasks</h2>\n")
@@ -95,4 +96,6 @@ note_html note = markup (codes "<li>") ⊕ hole 300 note ⊕ markup (codes "</li
 abbrev pub notes_html : List (List ℕ) → Html
 notes_html [] = nothing
 notes_html (note ∷ notes) =
-    markup (codes "<section>\n<h2>Notes</h2>\n<ul>\n") ⊕ each note_html (note ∷ notes) ⊕ markup (codes "</ul>\n</section>\n")
+    markup (codes "<section>\n<h2>Notes</h2>\n<ul>\n")
+    ⊕ each note_html (note ∷ notes)
+    ⊕ markup (codes "</ul>\n</section>\n")

@@ -1,4 +1,4 @@
-//! What stands above the picture: the verdict, what the run is, and where it differs.
+//! Writes what stands above the picture: the verdict, the facts of the run, and the difference.
 
 ghost use Rattle.std.specs.Prelude.{◌≡◌, Some};
 ghost use Rattle.std.specs.Fmt.{DisplaysOnOk};
@@ -19,7 +19,7 @@ const VERDICT: usize = 400;
 /// The most characters of a side of a difference.
 const SIDE: usize = 2_000;
 
-/// What stands before the body: the title of the page and the style sheet.
+/// What precedes the body: the title of the page and the style sheet.
 #[derive(Drop)]
 struct Head<'a>(&'a Page);
 
@@ -43,7 +43,7 @@ impl fmt::Display for Head<'_> {
     }
 }
 
-/// Whether a verdict is good, as a class of the style sheet.
+/// Returns the class of a verdict in the style sheet.
 fn verdict_class(good: Option<bool>) -> &'static str
     ensures { result.now ≡ verdict_class good }
 {
@@ -115,7 +115,7 @@ impl fmt::Display for FactRows<'_> {
     }
 }
 
-/// The event at which a difference is, if there is one.
+/// The event at which a difference is found, if there is one.
 #[derive(Clone, Copy)]
 struct At(Option<u64>);
 
@@ -173,7 +173,7 @@ impl fmt::Display for DifferencePart<'_> {
     }
 }
 
-/// All that stands above the picture, from the first byte of the page on.
+/// All that precedes the picture, from the first byte of the page on.
 #[derive(Drop)]
 pub(crate) struct Frame<'a>(pub(crate) &'a Page);
 

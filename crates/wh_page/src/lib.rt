@@ -1,8 +1,9 @@
-//! A page of a run: one HTML file with the verdict of its replay, a picture of what it opened over
-//! time, the same times as a table, and its tasks. It needs no script, and fetches nothing.
+//! Writes the page of a run: one HTML file with the verdict of its replay, a picture of what it
+//! opened over time, the same times as a table, and its tasks. It needs no script, and loads
+//! nothing.
 //!
-//! Whatever a history holds stands in the page as text. `laws` says what that means, beside those of
-//! wh_html.
+//! A text within the page is read as text, whatever a history holds. `laws` says what that means,
+//! with the laws of wh_html.
 #![tactic(auto)]
 
 mod frame;

@@ -1,6 +1,6 @@
-//! How a page looks.
+//! The style sheet of a page.
 
-/// The colours and the text.
+/// The styles of colours and text.
 pub const STYLE_OF_TEXT: &str =
     ":root{color-scheme:light dark;--bg:#fff;--fg:#1a1f26;--soft:#57606a;--line:#d5dbe1;--panel:#f7f9fb;--activity:#1f6feb;--timer:#9a6700;--child:#8250df;--signal:#1a7f37;--request:#0a7ea4;--marker:#57606a;--bad:#cf222e;--badbg:#ffebe9;--ok:#116329;--okbg:#dafbe1}
 @media (prefers-color-scheme:dark){:root{--bg:#0e1116;--fg:#e6edf3;--soft:#9aa5b1;--line:#30363d;--panel:#161b22;--activity:#58a6ff;--timer:#d29922;--child:#bc8cff;--signal:#3fb950;--request:#39c5cf;--marker:#9aa5b1;--bad:#ff7b72;--badbg:#3d1418;--ok:#56d364;--okbg:#12301b}}
@@ -15,7 +15,7 @@ a{color:inherit}
 :focus-visible{outline:2px solid var(--activity);outline-offset:2px}
 ";
 
-/// The parts beside the picture.
+/// The styles of the parts other than the picture.
 pub const STYLE_OF_PARTS: &str =
     ".verdict{display:inline-block;margin:.6rem 0 0;padding:.2rem .8rem;border-radius:1rem;font-weight:600;overflow-wrap:anywhere}
 .ok{color:var(--ok);background:var(--okbg)}
@@ -62,7 +62,7 @@ li.fault .side-word{color:var(--bad);font-weight:600}
 @media (max-width:40rem){.sides{grid-template-columns:1fr}details li{grid-template-columns:4.5rem 1fr;gap:0 .6rem;padding:.1rem 0 .4rem}li code{grid-column:1/-1}summary .time{float:none;display:block;margin:0}}
 ";
 
-/// The picture, and the page in print.
+/// The styles of the picture, and of the page in print.
 pub const STYLE_OF_PICTURE: &str =
     ".picture{border:1px solid var(--line);border-radius:6px;background:var(--panel)}
 svg{display:block;min-width:54rem;width:100%;height:auto;font:12px system-ui,-apple-system,'Segoe UI',sans-serif;--c:var(--marker)}

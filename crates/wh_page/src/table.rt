@@ -1,4 +1,4 @@
-//! The things of a run as a table.
+//! Writes the things of a run as a table.
 
 ghost use Rattle.std.specs.Prelude.{◌≡◌, Some};
 ghost use Rattle.wh_html.specs.Html.{bytes, each};
@@ -10,7 +10,7 @@ use wh_events::Text;
 use wh_html::{Escaped, Stamp};
 use wh_timeline::{Classes, Lane, Moment, took};
 
-/// How many of so many are shown.
+/// How many of all things are shown, and how many are left out.
 #[derive(Clone, Copy)]
 pub(crate) struct Count {
     pub(crate) shown: usize,
@@ -176,7 +176,7 @@ impl fmt::Display for Rows<'_> {
     }
 }
 
-/// The table of the things that are shown, of so many in all.
+/// The table of the things that are shown, out of so many in all.
 #[derive(Drop)]
 pub(crate) struct Table<'a> {
     pub(crate) fault: Option<Moment>,

@@ -1,4 +1,4 @@
-//! The tasks of a run, and the notes.
+//! Writes the tasks of a run, and the notes.
 
 ghost use Rattle.std.specs.Prelude.{◌≡◌, Some, position};
 ghost use Rattle.wh_html.specs.Html.{bytes, each};
@@ -14,10 +14,10 @@ use wh_timeline::{Line, Side, Task, first_items};
 /// The most lines of a task that are shown.
 const LINES: usize = 40;
 
-/// How many of them stand before the line of the fault, where there are as many.
+/// How many of them precede the line of the fault, if there are as many.
 const BEFORE: usize = 20;
 
-/// The event of a line, if it has one.
+/// The event of a line, if there is one.
 #[derive(Clone, Copy)]
 struct LineEvent(Option<u64>);
 
@@ -93,21 +93,21 @@ impl fmt::Display for Left {
     }
 }
 
-/// Whether a line is that of the fault.
+/// Returns whether a line has the fault.
 fn is_fault(side: Side) -> bool
     ensures { result ≡ is_fault side }
 {
     matches!(side, Side::Fault)
 }
 
-/// The place of the first line that is that of the fault.
+/// Returns the index of the first line that has the fault.
 fn fault_line(lines: &[Line]) -> Option<usize>
     ensures { result ≡ position (λ line. is_fault line.side) lines.now }
 {
     lines.iter().position(|line| is_fault(line.side))
 }
 
-/// How many lines are left out before those that are shown.
+/// Returns how many lines are left out before those that are shown.
 fn left_before(lines: &[Line]) -> usize
     ensures { result ≡ left_before lines.now }
 {
@@ -117,21 +117,21 @@ fn left_before(lines: &[Line]) -> usize
         .min(lines.len().saturating_sub(LINES))
 }
 
-/// The lines that are shown.
+/// Returns the lines that are shown.
 fn shown_lines(lines: &[Line]) -> &[Line]
     ensures { result.now ≡ shown_lines lines.now }
 {
     first_items(&lines[left_before(lines)..], LINES)
 }
 
-/// What opens the lines of a task with the fault, and marks it.
+/// Returns the attributes that open the lines of a task with the fault, and mark it.
 fn open_words(faulty: bool) -> &'static str
     ensures { result.now ≡ open_words faulty }
 {
     if faulty { " class=\"hit\" open" } else { "" }
 }
 
-/// How many lines are left out after them.
+/// Returns how many lines are left out after those that are shown.
 fn left_after(lines: &[Line]) -> usize
     ensures { result ≡ left_after lines.now }
 {
@@ -163,7 +163,7 @@ impl fmt::Display for TaskLines<'_> {
     }
 }
 
-/// A task, by some of its lines.
+/// A task, with the lines of it that are shown.
 #[derive(Drop)]
 struct TaskPart<'a>(&'a Task);
 
@@ -203,7 +203,7 @@ impl fmt::Display for TaskParts<'_> {
     }
 }
 
-/// The tasks that are shown, of so many in all.
+/// The tasks that are shown, out of so many in all.
 #[derive(Drop)]
 pub(crate) struct Tasks<'a> {
     pub(crate) tasks: &'a [Task],

@@ -1,4 +1,4 @@
-//! A page as HTML.
+//! Writes a page as HTML.
 
 ghost use Rattle.std.specs.Prelude.{OnOk};
 ghost use Rattle.std.specs.Io.KnownBytes.{Appends};
@@ -13,7 +13,7 @@ use std::io;
 use std::io::Write;
 use wh_timeline::{Axis, Page, Picture, shown_lanes, shown_tasks};
 
-/// Writes a page with its times where the stops of an axis have them.
+/// Writes a page, but for its end, with its times at the stops of an axis.
 #[tactic(auto, unfolding(crate::specs::Pages::body_html))]
 fn write_parts<W: Write>(page: &Page, axis: &Axis, writer: &mut W) -> io::Result<()>
     ensures { let html = body_html axis.now.stops page.now in
@@ -41,9 +41,9 @@ fn write_parts<W: Write>(page: &Page, axis: &Axis, writer: &mut W) -> io::Result
     write!(writer, "{frame}{notes}{picture}{table}{tasks}")
 }
 
-/// Writes a page as one HTML file but for its end, with its times where its axis has them, which
-/// `axis_of` gives. More sections may follow, and then `write_end`. After an error some of it may
-/// have been written.
+/// Writes a page as one HTML file, but for its end. `axis` must be the axis of the page, as
+/// `axis_of` returns it; the picture has its times there. More sections may follow, and then
+/// `write_end`. After an error part of the page may have been written.
 pub fn write_body<W: Write>(page: &Page, axis: &Axis, writer: &mut W) -> io::Result<()>
     requires { IsAxisOf page.now axis.now.stops }
     ensures { let html = body_html axis.now.stops page.now in
@@ -52,7 +52,7 @@ pub fn write_body<W: Write>(page: &Page, axis: &Axis, writer: &mut W) -> io::Res
     write_parts(page, axis, writer)
 }
 
-/// Writes the end of a page. After an error some of it may have been written.
+/// Writes the end of a page. After an error part of it may have been written.
 pub fn write_end<W: Write>(writer: &mut W) -> io::Result<()>
     ensures { OnOk result (Appends (W.contents writer.old) (W.contents writer.new) (bytes end_html)) }
 {

@@ -1,4 +1,4 @@
--- What a page says of a run above its picture, and below.
+-- The facts that a page states of a run above its picture, and the notes below.
 use Rattle.std.specs.Prelude.{Option, Some, None, ℕ, Bool, ◌-◌, ◌==◌, not, count_by, get_or, length, slice_get, if◌then◌else◌, List, [], ◌∷◌, ◌++◌, codes, decimal}
 use Rattle.wh_html.specs.Times.{stamp_text, span_text}
 use Rattle.wh_timeline.specs.declared.page.Fact.{Fact}
@@ -10,19 +10,19 @@ use Rattle.wh_view_report.specs.Words.{mark_words}
 abbrev pub fact : List ℕ → List ℕ → Fact
 fact name value = record { name = name; value = value }
 
--- the last of the times, 0 where there is none
+-- the last of the times; 0 if there is none
 abbrev pub last_time : List ℕ → ℕ
 last_time times = get_or times (length times - 1) 0
 
--- when a run started, in words
+-- when a run started, as text
 abbrev pub started : List ℕ → List ℕ
 started times = stamp_text (get_or times 0 0) ++ codes " UTC"
 
--- how long it lasted, in words
+-- how long it lasted, as text
 abbrev pub lasted : List ℕ → List ℕ
 lasted times = span_text (last_time times - get_or times 0 0)
 
--- what a run is
+-- the facts of a run
 unfoldable pub facts_of : View → List ℕ → List Fact
 facts_of view times =
     fact (codes "Workflow type") (workflow_type (slice_get view.events 0))
@@ -36,15 +36,16 @@ facts_of view times =
 abbrev pub is_empty : List ℕ → Bool
 is_empty text = length text == 0
 
--- how many events are not as they should be
+-- how many events have something wrong with them
 abbrev pub marked_count : View → ℕ
 marked_count view = count_by (λ event. not (is_empty (mark_words view event))) view.events
 
--- that so many events are not as they should be, if some are
+-- the note on how many events have something wrong with them, if some have
 abbrev pub marked_note : ℕ → Option (List ℕ)
 marked_note count =
     if count == 0 then None
-    else Some (codes "Events that are not as a worker expects them: " ++ (decimal count ++ codes ". The lines of their tasks say why."))
+    else Some (codes "Events that are not as a worker expects them: "
+    ++ (decimal count ++ codes ". The lines of their tasks say why."))
 
 -- a note, if there is one
 abbrev pub note_items : Option (List ℕ) → List (List ℕ)

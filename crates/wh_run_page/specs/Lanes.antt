@@ -17,7 +17,7 @@ use Rattle.wh_view.specs.Lookups.{event_id, event_type}
 use Rattle.wh_run_page.specs.Moments.{event_at, moment_of, moment_or}
 use Rattle.wh_run_page.specs.Words.{after_label}
 
--- what a lane is of
+-- the kind of a lane
 abbrev pub lane_kind : ThingKind → Kind
 lane_kind things.Activity = kinds.Activity
 lane_kind things.Timer = kinds.Timer
@@ -27,7 +27,7 @@ lane_kind things.SignalRequest = kinds.Request
 lane_kind things.Signal = kinds.Signal
 lane_kind things.Marker = kinds.Marker
 
--- how a thing stands that ended with an event of the kind
+-- the outcome of a thing that ended with an event of the kind
 abbrev pub outcome_by : EventKind → Outcome
 outcome_by (events.ActivityTaskFailed _) = outcomes.Failed
 outcome_by (events.ActivityTaskTimedOut _) = outcomes.Failed
@@ -42,7 +42,7 @@ outcome_by (events.RequestCancelExternalWorkflowExecutionFailed _) = outcomes.Fa
 outcome_by (events.SignalExternalWorkflowExecutionFailed _) = outcomes.Failed
 outcome_by _ = outcomes.Done
 
--- that in a word
+-- that outcome in a word
 abbrev pub outcome_word : EventKind → List ℕ
 outcome_word (events.ActivityTaskFailed _) = codes "failed"
 outcome_word (events.ActivityTaskTimedOut _) = codes "timed out"
@@ -62,7 +62,7 @@ outcome_word (events.WorkflowExecutionSignaled _ _) = codes "received"
 outcome_word (events.MarkerRecorded _ _) = codes "recorded"
 outcome_word _ = codes "completed"
 
--- how a thing stands, by the kind of the event that ended it, if one did
+-- the outcome of a thing, by the kind of the event that ended it, if it is known
 abbrev pub outcome_of_kind : Option EventKind → Outcome
 outcome_of_kind None = outcomes.Done
 outcome_of_kind (Some kind) = outcome_by kind
@@ -75,7 +75,7 @@ abbrev pub word_of_kind : Option EventKind → List ℕ
 word_of_kind None = codes "ended"
 word_of_kind (Some kind) = outcome_word kind
 
--- that in words, with why it failed
+-- the outcome of a thing in words, with the reason of a failure
 abbrev pub outcome_words : Option ViewedEvent → List ℕ
 outcome_words None = codes "open"
 outcome_words (Some event) = word_of_kind event.read.kind ++ after_label (codes ": ") event.failure
@@ -103,12 +103,12 @@ abbrev pub attempt_at : Option ViewedEvent → Option ℕ
 attempt_at None = None
 attempt_at (Some event) = number_if event.attempt
 
--- there is an index, and it is that
+-- there is an index, and it is this one
 abbrev pub is_index : ℕ → Option ℕ → Bool
 is_index at None = false
 is_index at (Some index) = index == at
 
--- the index of the event that ended a thing, unless it is that which opened it
+-- the index of the event that ended a thing, unless the same event opened it
 abbrev pub later_end : ViewedThing → Option ℕ
 later_end thing = if is_index thing.opened thing.ended then None else thing.ended
 

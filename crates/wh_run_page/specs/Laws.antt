@@ -7,26 +7,26 @@ use Rattle.wh_run_page.specs.declared.tasks.Group.{Group}
 use Rattle.wh_run_page.specs.Pages.{page_of}
 use Rattle.wh_run_page.specs.Tasks.{groups_of, lines_of}
 
--- groups written out: the number of each, once for each of its events
+-- groups written out: the number of the task of each, once for each of its events
 abbrev pub written_out : List Group → List ℕ
 written_out groups = flat_map (λ group. replicate group.count group.number) groups
 
--- each group has an event, and begins where the one before ends
+-- each group has at least one event, and begins where the one before ends
 abbrev pub FollowOn : (first : ℕ) → List Group → Type 0
 FollowOn first [] = Unit {0}
 FollowOn first (group ∷ groups) = (0 < group.count) × (group.first ≡ first) × FollowOn (first + group.count) groups
 
--- the first of the groups is of another number
+-- the first of the groups has another number
 abbrev pub BeginsApart : (number : ℕ) → List Group → Type 0
 BeginsApart number [] = Unit {0}
 BeginsApart number (group ∷ groups) = group.number ≢ number
 
--- no two groups in a row are of the same number
+-- no two adjacent groups have the same number
 abbrev pub AreApart : List Group → Type 0
 AreApart [] = Unit {0}
 AreApart (group ∷ groups) = BeginsApart group.number groups × AreApart groups
 
--- the groups are the longest rows of equal numbers
+-- the groups are the longest runs of equal numbers
 pub record AreRuns (numbers : List ℕ) (groups : List Group) : Type 0 where
   pub all : written_out groups ≡ numbers
   pub follow : FollowOn 0 groups

@@ -17,19 +17,19 @@ use Rattle.wh_run_page.specs.Moments.{number_of, moment_or}
 use Rattle.wh_run_page.specs.Words.{event_words}
 use Rattle.wh_run_page.specs.declared.tasks.Group.{Group}
 
--- the event stands at the place, if there is one
+-- there is a place, and it is this one
 abbrev pub is_at : Option ℕ → ℕ → Bool
 is_at None place = false
 is_at (Some other) place = other == place
 
--- who says the line of an event
+-- the side of the line of an event
 abbrev pub side_of : Word → Side
 side_of words.Told = sides.Told
 side_of words.Gives = sides.Gives
 side_of words.Completes = sides.Recorded
 side_of words.Other = sides.Recorded
 
--- that of the event of the fault says so
+-- the side of the line of an event: `Fault` for the event of the fault
 abbrev pub side_at : Option ℕ → ViewedEvent → Side
 side_at fault event = if is_at fault event.place then sides.Fault else side_of (word_of event)
 
@@ -38,7 +38,7 @@ abbrev pub line_of : View → Option ℕ → ViewedEvent → Line
 line_of view fault event =
     record { side = side_at fault event; event = Some (number_of event); text = event_words view event }
 
--- an event has a line, unless a workflow task is scheduled or started with it; that of the fault has one
+-- an event has a line, except for a workflow task that is scheduled or started; the event of the fault always has one
 abbrev pub has_line : Option ℕ → ViewedEvent → Bool
 has_line fault event = if is_at fault event.place then true else not (is_quiet event)
 
@@ -49,12 +49,12 @@ line_if view fault event = if has_line fault event then line_of view fault event
 abbrev pub lines_of : View → Option ℕ → List ViewedEvent → List Line
 lines_of view fault events = flat_map (line_if view fault) events
 
--- the event, or else the first of the list
+-- the event, or else the first event of the list
 abbrev pub or_first : Option ViewedEvent → List ViewedEvent → Option ViewedEvent
 or_first (Some event) events = Some event
 or_first None events = slice_get events 0
 
--- the first event with which a workflow task starts, or else the first
+-- the first event with which a workflow task starts, or else the first event
 abbrev pub start_of : List ViewedEvent → Option ViewedEvent
 start_of events = or_first (first_like Start events) events
 
@@ -68,17 +68,17 @@ task_of view times fault number events =
       faulty = list_any (λ event. is_at fault event.place) events;
     }
 
--- the group of events that are followed by one of this number: the same with one more, or a new one after it
+-- the current group after the next event, of the task of this number: the same with one more, or a new one after it
 unfoldable pub next_group : Group → ℕ → Group
 next_group group number =
     if number == group.number then record group { count = group.count + 1 }
     else record { number = number; first = group.first + group.count; count = 1 }
 
--- the group that ends before an event of this number, if one does
+-- the group, if the next event, of the task of this number, does not continue it
 unfoldable pub closed_by : Group → ℕ → List Group
 closed_by group number = if number == group.number then [] else group ∷ []
 
--- the numbers of the tasks in which events stand, the same ones in a row together: those so far are of one number
+-- adjacent events with the same number in one group, by the numbers of their tasks; `group` is the current one
 unfoldable pub groups_from : Group → List ℕ → List Group
 groups_from group [] = group ∷ []
 groups_from group (number ∷ numbers) = closed_by group number ++ groups_from (next_group group number) numbers
@@ -94,6 +94,6 @@ events_of events group = take group.count (drop group.first events)
 abbrev pub task_at : View → List ℕ → Option ℕ → Group → Task
 task_at view times fault group = task_of view times fault group.number (events_of view.events group)
 
--- the tasks of a run: events in a row that stand in one task are together
+-- the tasks of a run: adjacent events that belong to one task are together
 abbrev pub tasks_of : View → List ℕ → Option ℕ → List Task
 tasks_of view times fault = map (task_at view times fault) (groups_of view.tasks)

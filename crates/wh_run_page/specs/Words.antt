@@ -1,4 +1,4 @@
--- What is said of an event on a page.
+-- The text of an event on a page.
 use Rattle.std.specs.Prelude.{ℕ, List, [], ◌∷◌, ◌++◌, codes}
 use Rattle.std.specs.List.{flat_map}
 use Rattle.wh_view.specs.declared.view.View.{View}
@@ -6,7 +6,7 @@ use Rattle.wh_view.specs.declared.view.ViewedEvent.{ViewedEvent}
 use Rattle.wh_view.specs.Lookups.{opening_of, event_id, event_type}
 use Rattle.wh_view_report.specs.Words.{attempt_text, mark_words}
 
--- a text after a label; nothing where the text is empty
+-- a text after a label; nothing if the text is empty
 abbrev pub after_label : List ℕ → List ℕ → List ℕ
 after_label label [] = []
 after_label label (c ∷ cs) = label ++ c ∷ cs
@@ -15,7 +15,7 @@ after_label label (c ∷ cs) = label ++ c ∷ cs
 abbrev pub value_text : List ℕ → List ℕ
 value_text value = codes "; " ++ value
 
--- what an event is, of what, how often it was tried, how long it is to take, why it failed, what is not as it should be
+-- the text of an event: its type, its thing, its attempt, the duration of a timer, why something failed, what is wrong
 -- with it, and its values
 unfoldable pub event_words : View → ViewedEvent → List ℕ
 event_words view event =

@@ -1,4 +1,4 @@
-//! What a page says of a run above its picture, and below.
+//! The facts that a page states of a run above its picture, and the notes below.
 
 ghost use Rattle.std.specs.Prelude.{◌≡◌, ◌++◌, ◌∷◌, [], codes, decimal, get_or, IfOk, OnOk};
 ghost use Rattle.wh_run_page.specs.Facts as facts;
@@ -25,7 +25,7 @@ fn push_fact(
     Ok(())
 }
 
-/// The first of the times; 0 where there is none.
+/// Returns the first of the times; 0 if there is none.
 fn first_time(times: &[u64]) -> u64
     ensures { result ≡ get_or times.now 0 0 }
 {
@@ -35,7 +35,7 @@ fn first_time(times: &[u64]) -> u64
     }
 }
 
-/// The last of the times; 0 where there is none.
+/// Returns the last of the times; 0 if there is none.
 fn last_time(times: &[u64]) -> u64
     ensures { result ≡ facts.last_time times.now }
 {
@@ -45,7 +45,7 @@ fn last_time(times: &[u64]) -> u64
     }
 }
 
-/// When a run started, in words.
+/// Returns when a run started, as text.
 fn started(alloc: Global, times: &[u64]) -> Result<Text, OutOfMemory>
     ensures { IfOk result (λ text. text ≡ facts.started times.now) }
 {
@@ -53,7 +53,7 @@ fn started(alloc: Global, times: &[u64]) -> Result<Text, OutOfMemory>
     Ok(Text::new(format!(in alloc; "{first} UTC")?))
 }
 
-/// How long a run lasted, in words.
+/// Returns how long a run lasted, as text.
 fn lasted(alloc: Global, times: &[u64]) -> Result<Text, OutOfMemory>
     ensures { IfOk result (λ text. text ≡ facts.lasted times.now) }
 {
@@ -61,14 +61,14 @@ fn lasted(alloc: Global, times: &[u64]) -> Result<Text, OutOfMemory>
     Ok(Text::new(format!(in alloc; "{span}")?))
 }
 
-/// A number in words.
+/// Returns a number as text.
 fn count(alloc: Global, number: usize) -> Result<Text, OutOfMemory>
     ensures { IfOk result (λ text. text ≡ decimal number) }
 {
     Ok(Text::new(format!(in alloc; "{number}")?))
 }
 
-/// What a run is.
+/// Returns the facts of a run: its workflow type, its times and its counts.
 #[tactic(auto, unfolding(crate::specs::Facts::facts_of))]
 pub(crate) fn facts_of(alloc: Global, view: &View, times: &[u64]) -> Result<Vec<Fact>, OutOfMemory>
     ensures { IfOk result (λ all. all.items ≡ facts.facts_of view.now times.now) }
@@ -93,7 +93,7 @@ pub(crate) fn facts_of(alloc: Global, view: &View, times: &[u64]) -> Result<Vec<
     Ok(all)
 }
 
-/// How many events are not as they should be.
+/// Returns how many events have something wrong with them.
 fn marked_count(view: &View) -> usize
     ensures { result ≡ facts.marked_count view.now }
 {
@@ -104,7 +104,7 @@ fn marked_count(view: &View) -> usize
         .count()
 }
 
-/// That many events are not as they should be, if some are.
+/// Returns the note on how many events have something wrong with them, if some have.
 fn marked_note(alloc: Global, count: usize) -> Result<Option<Text>, OutOfMemory>
     ensures { IfOk result (λ note. note ≡ facts.marked_note count) }
 {
@@ -127,8 +127,8 @@ fn push_note(notes: &mut Vec<Text>, note: Option<Text>) -> Result<(), OutOfMemor
     }
 }
 
-/// What else a reader has to know: a note on the verdict, if there is one, and how many events are
-/// not as they should be.
+/// Returns what else a reader has to know: a note on the verdict, if there is one, and how many
+/// events have something wrong with them, if some have.
 pub(crate) fn notes_of(
     alloc: Global,
     view: &View,

@@ -1,4 +1,4 @@
-//! What a workflow task of a page is called.
+//! The headings of the workflow tasks of a page.
 
 ghost use Rattle.std.specs.Prelude.{◌≡◌, Some, IfOk, option_map};
 ghost use Rattle.wh_run_page.specs.Headings as headings;
@@ -9,18 +9,18 @@ use std::fmt;
 use wh_events::{EventKind, OutOfMemory, Text};
 use wh_view::{View, ViewedEvent, Word};
 
-/// What is sought among the events of a task.
+/// Which events of a task are looked for.
 #[derive(Clone, Copy)]
 pub(crate) enum Sought {
-    /// That a workflow task starts.
+    /// Those with which a workflow task starts.
     Start,
-    /// What the workflow is told.
+    /// Those that become activation jobs of the workflow.
     Told,
-    /// What it gave.
+    /// Those that record its commands.
     Given,
 }
 
-/// Whether an event is what is sought.
+/// Returns whether an event is one that is looked for.
 fn is_sought(sought: Sought, event: &ViewedEvent) -> bool
     ensures { result ≡ headings.is_sought sought event.now }
 {
@@ -31,7 +31,7 @@ fn is_sought(sought: Sought, event: &ViewedEvent) -> bool
     }
 }
 
-/// The first event that is sought.
+/// Returns the first event that is looked for.
 #[tactic(auto, unfolding(crate::specs::Headings::first_like))]
 pub(crate) fn first_like<'v>(sought: Sought, events: &'v [ViewedEvent]) -> Option<&'v ViewedEvent>
     ensures { option_map (λ e. e.now) result ≡ headings.first_like sought events.now }
@@ -44,7 +44,7 @@ pub(crate) fn first_like<'v>(sought: Sought, events: &'v [ViewedEvent]) -> Optio
     None
 }
 
-/// How many events are what is sought.
+/// Returns how many events are looked for.
 fn count_like(sought: Sought, events: &[ViewedEvent]) -> usize
     ensures { result ≡ headings.count_like sought events.now }
 {
@@ -54,7 +54,7 @@ fn count_like(sought: Sought, events: &[ViewedEvent]) -> usize
         .count()
 }
 
-/// That there are more than one.
+/// How many more there are than one, if there are more.
 #[derive(Clone, Copy)]
 struct More(usize);
 
@@ -72,7 +72,7 @@ impl fmt::Display for More {
     }
 }
 
-/// The first of so many events, after a label; nothing where there is none.
+/// A label and the first of so many events; nothing if there is none.
 #[derive(Drop)]
 struct First<'a> {
     label: &'static str,
@@ -98,8 +98,8 @@ impl fmt::Display for First<'_> {
     }
 }
 
-/// What a task of these events is called: its number, what the workflow was told first, and what it
-/// gave first.
+/// Returns the heading of a task of these events: its number, the first of its activation jobs, and
+/// the first of its commands, each with how many more there are.
 #[tactic(auto, unfolding(crate::specs::Headings::heading))]
 pub(crate) fn heading(
     alloc: Global,

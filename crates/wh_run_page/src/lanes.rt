@@ -10,7 +10,7 @@ use wh_events::{EventKind, OutOfMemory, Text};
 use wh_timeline::{Kind, Lane, Outcome};
 use wh_view::{ThingKind, View, ViewedEvent, ViewedThing};
 
-/// What a lane is of.
+/// Returns the kind of a lane.
 fn lane_kind(kind: ThingKind) -> Kind
     ensures { result ≡ lanes.lane_kind kind }
 {
@@ -24,7 +24,7 @@ fn lane_kind(kind: ThingKind) -> Kind
     }
 }
 
-/// How a thing stands that ended with an event of the kind.
+/// Returns the outcome of a thing that ended with an event of the kind.
 fn outcome_by(kind: &EventKind) -> Outcome
     ensures { result ≡ lanes.outcome_by kind.now }
 {
@@ -44,7 +44,7 @@ fn outcome_by(kind: &EventKind) -> Outcome
     }
 }
 
-/// That in a word.
+/// Returns that outcome in a word.
 fn outcome_word(kind: &EventKind) -> &'static str
     ensures { result.now ≡ lanes.outcome_word kind.now }
 {
@@ -69,7 +69,7 @@ fn outcome_word(kind: &EventKind) -> &'static str
     }
 }
 
-/// How a thing stands, by the event that ended it, if one did.
+/// Returns the outcome of a thing, by the event that ended it, if there is one.
 fn outcome_at(ending: Option<&ViewedEvent>) -> Outcome
     ensures { result ≡ lanes.outcome_at (option_map (λ e. e.now) ending.entry) }
 {
@@ -82,7 +82,7 @@ fn outcome_at(ending: Option<&ViewedEvent>) -> Outcome
     }
 }
 
-/// That in a word.
+/// Returns the outcome of a thing that ended with the event, in a word.
 fn word_of(event: &ViewedEvent) -> &'static str
     ensures { result.now ≡ lanes.word_of_kind event.now.read.kind }
 {
@@ -92,7 +92,7 @@ fn word_of(event: &ViewedEvent) -> &'static str
     }
 }
 
-/// That in words, with why it failed.
+/// Returns the outcome of a thing in words, with the reason of a failure.
 fn outcome_words(alloc: Global, ending: Option<&ViewedEvent>) -> Result<Text, OutOfMemory>
     ensures { IfOk result (λ words. words ≡ lanes.outcome_words (option_map (λ e. e.now) ending.entry)) }
 {
@@ -104,7 +104,7 @@ fn outcome_words(alloc: Global, ending: Option<&ViewedEvent>) -> Result<Text, Ou
     Ok(Text::new(format!(in alloc; "{word}{failure}")?))
 }
 
-/// The id of what an event opened, if there is one.
+/// Returns the id of what an event opened; empty if there is no event.
 fn id_at<'v>(opening: Option<&'v ViewedEvent>) -> &'v str
     ensures { result.now ≡ lanes.id_at (option_map (λ e. e.now) opening.entry) }
 {
@@ -114,7 +114,7 @@ fn id_at<'v>(opening: Option<&'v ViewedEvent>) -> &'v str
     }
 }
 
-/// The type of what an event opened, if there is one.
+/// Returns the type of what an event opened; empty if there is no event.
 fn type_at<'v>(opening: Option<&'v ViewedEvent>) -> &'v str
     ensures { result.now ≡ lanes.type_at (option_map (λ e. e.now) opening.entry) }
 {
@@ -124,7 +124,7 @@ fn type_at<'v>(opening: Option<&'v ViewedEvent>) -> &'v str
     }
 }
 
-/// A text of its own, if it is not empty.
+/// Copies a text, if it is not empty.
 fn text_if(alloc: Global, text: &str) -> Result<Option<Text>, OutOfMemory>
     ensures { IfOk result (λ copy. copy ≡ lanes.text_if text.now) }
 {
@@ -134,7 +134,7 @@ fn text_if(alloc: Global, text: &str) -> Result<Option<Text>, OutOfMemory>
     Ok(Some(copied(alloc, text)?))
 }
 
-/// The attempt that an event names, if it names one.
+/// Returns the attempt that an event names, if it names one.
 fn attempt_at(starting: Option<&ViewedEvent>) -> Option<u64>
     ensures { result ≡ lanes.attempt_at (option_map (λ e. e.now) starting.entry) }
 {
@@ -148,7 +148,7 @@ fn attempt_at(starting: Option<&ViewedEvent>) -> Option<u64>
     }
 }
 
-/// The index of the event that ended a thing, unless it is that which opened it.
+/// Returns the index of the event that ended a thing, unless the same event opened it.
 fn later_end(thing: ViewedThing) -> Option<usize>
     ensures { result ≡ lanes.later_end thing }
 {
@@ -162,7 +162,7 @@ fn later_end(thing: ViewedThing) -> Option<usize>
     }
 }
 
-/// The lane of a thing.
+/// Returns the lane of a thing.
 #[tactic(auto, unfolding(crate::specs::Lanes::lane_of))]
 fn lane_of(
     alloc: Global,
@@ -192,7 +192,7 @@ fn lane_of(
     })
 }
 
-/// The lanes of all things.
+/// Returns the lanes of all things.
 pub(crate) fn lanes_of(alloc: Global, view: &View, times: &[u64]) -> Result<Vec<Lane>, OutOfMemory>
     ensures { IfOk result (λ all. all.items ≡ lanes.lanes_of view.now times.now) }
 {

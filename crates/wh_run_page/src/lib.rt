@@ -1,6 +1,6 @@
-//! The page of a run, made of the view of its history and of what is said of it: a verdict, the event
-//! that it is about, and both sides of a difference. Whatever the history holds stands in a page as
-//! texts, which are escaped where the page is written.
+//! Makes the page of a run from the view of its history and from what replay said of it: a verdict,
+//! the event that it is about, and both sides of a difference. The page holds texts of the history
+//! as they are; they are escaped when the page is written.
 #![tactic(auto)]
 
 mod facts;

@@ -1,4 +1,4 @@
-//! When the events of a history happened.
+//! The times of the events of a history.
 
 ghost use Rattle.std.specs.Prelude.{◌≡◌, get_or, IfOk, option_map};
 ghost use Rattle.wh_run_page.specs.Moments as moments;
@@ -10,13 +10,14 @@ use wh_json::ReadFault;
 use wh_timeline::Moment;
 use wh_view::ViewedEvent;
 
-/// No event.
+/// The moment of no event.
 const NO_MOMENT: Moment = Moment {
     event: 0,
     millis: 0,
 };
 
-/// A time in nanoseconds, in milliseconds.
+/// Returns a time in nanoseconds as one in milliseconds from 1970-01-01T00:00:00Z: an earlier time
+/// as 0, and a time after the year 9999 as the end of that year.
 fn millis_of(time: i128) -> u64
     ensures { result ≡ moments.millis_of time }
 {
@@ -27,7 +28,7 @@ fn millis_of(time: i128) -> u64
     }
 }
 
-/// The time of an event, or else the other.
+/// Returns the time of an event in milliseconds, or else `other`.
 fn time_or(other: u64, time: Option<i128>) -> u64
     ensures { result ≡ moments.time_or other time }
 {
@@ -37,7 +38,7 @@ fn time_or(other: u64, time: Option<i128>) -> u64
     }
 }
 
-/// The first time that an event has.
+/// Returns the first time that an event has; 0 if none has one.
 #[tactic(auto, unfolding(crate::specs::Moments::first_time))]
 fn first_time(events: &[ViewedEvent]) -> u64
     ensures { result ≡ moments.first_time events.now }
@@ -50,7 +51,7 @@ fn first_time(events: &[ViewedEvent]) -> u64
     0
 }
 
-/// The times of all events.
+/// Returns the times of all events. An event without a time has that of the event before.
 #[tactic(auto, unfolding(crate::specs::Moments::times_from))]
 pub(crate) fn times_of(alloc: Global, events: &[ViewedEvent]) -> Result<Vec<u64>, OutOfMemory>
     ensures { IfOk result (λ times. times.items ≡ moments.times_of events.now) }
@@ -64,7 +65,7 @@ pub(crate) fn times_of(alloc: Global, events: &[ViewedEvent]) -> Result<Vec<u64>
     Ok(times)
 }
 
-/// The number of an event; its place, where it has no number.
+/// Returns the number of an event, or its place if it has no number.
 fn number_or(place: u64, number: Option<EventNo>) -> u64
     ensures { result ≡ moments.number_or place number }
 {
@@ -74,15 +75,15 @@ fn number_or(place: u64, number: Option<EventNo>) -> u64
     }
 }
 
-/// Whether the number of an event does not follow that of the event before.
+/// Returns whether the number of an event does not follow that of the event before.
 fn is_out_of_order(fault: &Option<ReadFault>) -> bool
     ensures { result ≡ moments.is_out_of_order fault.now }
 {
     matches!(fault, Some(ReadFault::OutOfOrder { .. }))
 }
 
-/// The number of an event; its place, where it has no number or one that does not follow that of the
-/// event before, as the fault of such an event names it.
+/// Returns the number of an event. If it has none, or one that does not follow that of the event
+/// before, its place is returned, as in the fault of such an event.
 pub(crate) fn number_of(event: &ViewedEvent) -> u64
     ensures { result ≡ moments.number_of event.now }
 {
@@ -93,7 +94,7 @@ pub(crate) fn number_of(event: &ViewedEvent) -> u64
     }
 }
 
-/// The time at an index; 0 where there is none.
+/// Returns the time at an index; 0 if there is none.
 fn time_at(times: &[u64], index: usize) -> u64
     ensures { result ≡ get_or times.now index 0 }
 {
@@ -103,7 +104,7 @@ fn time_at(times: &[u64], index: usize) -> u64
     }
 }
 
-/// An event, and when it happened.
+/// Returns an event with its time.
 pub(crate) fn moment_of(times: &[u64], event: &ViewedEvent) -> Moment
     ensures { result ≡ moments.moment_of times.now event.now }
 {
@@ -113,7 +114,7 @@ pub(crate) fn moment_of(times: &[u64], event: &ViewedEvent) -> Moment
     }
 }
 
-/// That of an event, or of none.
+/// Returns the moment of an event, or that of no event.
 pub(crate) fn moment_or(times: &[u64], event: Option<&ViewedEvent>) -> Moment
     ensures { result ≡ moments.moment_or times.now (option_map (λ e. e.now) event.entry) }
 {
@@ -123,7 +124,7 @@ pub(crate) fn moment_or(times: &[u64], event: Option<&ViewedEvent>) -> Moment
     }
 }
 
-/// That of an event, if there is one.
+/// Returns the moment of an event, if there is one.
 pub(crate) fn moment_if(times: &[u64], event: Option<&ViewedEvent>) -> Option<Moment>
     ensures { result ≡ option_map (moments.moment_of times.now) (option_map (λ e. e.now) event.entry) }
 {
@@ -133,7 +134,7 @@ pub(crate) fn moment_if(times: &[u64], event: Option<&ViewedEvent>) -> Option<Mo
     }
 }
 
-/// The event at an index, if there is one.
+/// Returns the event at an index, if there is one.
 pub(crate) fn event_at<'v>(
     events: &'v [ViewedEvent],
     index: Option<usize>,
@@ -143,7 +144,7 @@ pub(crate) fn event_at<'v>(
     events.get(index?)
 }
 
-/// The index of a place, counted from 1.
+/// Returns the index of a place that is counted from 1.
 pub(crate) fn index_at(place: Option<u64>) -> Option<usize>
     ensures { result ≡ moments.index_at place }
 {

@@ -1,4 +1,4 @@
-//! The page of a run.
+//! Makes the page of a run.
 
 ghost use Rattle.std.specs.Prelude.{◌≡◌, IfOk};
 ghost use Rattle.wh_run_page.specs.Pages as pages;
@@ -13,7 +13,7 @@ use wh_events::{Items, OutOfMemory};
 use wh_timeline::Page;
 use wh_view::View;
 
-/// The page of a run whose events have these times.
+/// Makes the page of a run whose events have these times.
 #[tactic(auto, unfolding(crate::specs::Pages::timed_page))]
 fn timed_page(alloc: Global, view: &View, times: &[u64], said: Said) -> Result<Page, OutOfMemory>
     ensures { IfOk result (λ page. page ≡ pages.timed_page view.now times.now said) }
@@ -36,19 +36,20 @@ fn timed_page(alloc: Global, view: &View, times: &[u64], said: Said) -> Result<P
     })
 }
 
-/// The page of a run, made of the view of its history and of what is said of it.
+/// Makes the page of a run from the view of its history and from what is said of it.
 ///
-/// Its title, verdict, difference and first note are those that are said, and its fault is the event of
-/// the place that is said. Each thing of the view has a lane, in their order: with the id and the type
-/// of the event that opened it, the moments of the events that opened, started and ended it, how it
-/// stands by the event that ended it, and the attempt of that which started it. Events in a row that
-/// stand in one task are one task of the page, with a line for each event, but for workflow tasks that
-/// are scheduled or started; a line says what the workflow was told, what it gave, and what else is
-/// recorded, and the event of the fault has `Side::Fault`. An event has its number, or its place where
-/// it has none or one that does not follow the number before; one without a time has that of the event
-/// before. The work grows with the number of events.
+/// `said` has its title, verdict, difference and first note; its fault is the event at the place in
+/// `said`. Each thing of the view has a lane, in the order of the view: with the id and the type of
+/// the event that opened it, the moments of the events that opened, started and ended it, the
+/// outcome by the event that ended it, and the attempt of the event that started it. Adjacent
+/// events that belong to one task are one task of the page. Each of them has a line, except
+/// `WorkflowTaskScheduled` and `WorkflowTaskStarted`; the sides of the lines separate activation
+/// jobs, commands, and what else is recorded, and the event of the fault has a line with
+/// `Side::Fault`. An event is shown with its number, or with its place if it has no number or one
+/// that does not follow the number before. An event without a time has that of the event before.
+/// The work is proportional to the number of events.
 ///
-/// `OutOfMemory` where there was no memory for it.
+/// Returns `OutOfMemory` if there is no memory for the page.
 pub fn page_of(alloc: Global, view: &View, said: Said) -> Result<Page, OutOfMemory>
     ensures { IfOk result (λ page. page ≡ pages.page_of view.now said) }
 {

@@ -13,18 +13,18 @@ use wh_timeline::{Line, Side, Task, first_items};
 use wh_view::{View, ViewedEvent, Word};
 use wh_view_report::is_quiet;
 
-/// Events in a row that stand in one task.
+/// Adjacent events that belong to one task.
 #[derive(Clone, Copy)]
 pub(crate) struct Group {
     /// The number of the task.
     number: usize,
-    /// The index of the first.
+    /// The index of the first event.
     first: usize,
-    /// How many there are.
+    /// How many events there are.
     count: usize,
 }
 
-/// Whether the event of the fault stands at a place.
+/// Returns whether the event of the fault is at a place.
 fn is_at(fault: Option<u64>, place: u64) -> bool
     ensures { result ≡ tasks.is_at fault place }
 {
@@ -34,7 +34,7 @@ fn is_at(fault: Option<u64>, place: u64) -> bool
     }
 }
 
-/// Who says the line of an event.
+/// Returns the side of the line of an event.
 fn side_of(word: Word) -> Side
     ensures { result ≡ tasks.side_of word }
 {
@@ -45,7 +45,7 @@ fn side_of(word: Word) -> Side
     }
 }
 
-/// Who says the line of an event, or that the fault is there.
+/// Returns the side of the line of an event: `Fault` for the event of the fault.
 fn side_at(fault: Option<u64>, event: &ViewedEvent) -> Side
     ensures { result ≡ tasks.side_at fault event.now }
 {
@@ -56,7 +56,7 @@ fn side_at(fault: Option<u64>, event: &ViewedEvent) -> Side
     }
 }
 
-/// The line of an event.
+/// Returns the line of an event.
 fn line_of(
     alloc: Global,
     view: &View,
@@ -73,7 +73,7 @@ fn line_of(
     })
 }
 
-/// Whether an event has a line.
+/// Returns whether an event has a line.
 fn has_line(fault: Option<u64>, event: &ViewedEvent) -> bool
     ensures { result ≡ tasks.has_line fault event.now }
 {
@@ -97,7 +97,7 @@ fn push_line(
     Ok(())
 }
 
-/// The lines of events.
+/// Returns the lines of events.
 fn lines_of(
     alloc: Global,
     view: &View,
@@ -113,7 +113,7 @@ fn lines_of(
     Ok(lines)
 }
 
-/// The first event with which a workflow task starts, or else the first.
+/// Returns the first event with which a workflow task starts, or else the first event.
 fn start_of<'v>(events: &'v [ViewedEvent]) -> Option<&'v ViewedEvent>
     ensures { option_map (λ e. e.now) result ≡ tasks.start_of events.now }
 {
@@ -123,14 +123,14 @@ fn start_of<'v>(events: &'v [ViewedEvent]) -> Option<&'v ViewedEvent>
     }
 }
 
-/// Whether one of the events is that of the fault.
+/// Returns whether one of the events is that of the fault.
 fn is_faulty(fault: Option<u64>, events: &[ViewedEvent]) -> bool
     ensures { result ≡ list_any (λ event. tasks.is_at fault event.place) events.now }
 {
     events.iter().any(|event| is_at(fault, event.place))
 }
 
-/// A task of these events.
+/// Returns a task of these events.
 #[tactic(auto, unfolding(crate::specs::Tasks::task_of))]
 fn task_of(
     alloc: Global,
@@ -152,7 +152,7 @@ fn task_of(
     })
 }
 
-/// The group of events that are followed by one of this number.
+/// Returns the current group after the next event, which belongs to the task of this number.
 #[tactic(auto, unfolding(crate::specs::Tasks::next_group))]
 fn next_group(group: Group, number: usize) -> Group
     requires { group.first + group.count + 1 < 2 ^ 64 }
@@ -174,7 +174,7 @@ fn next_group(group: Group, number: usize) -> Group
     }
 }
 
-/// Adds the group that ends before an event of this number, if one does.
+/// Adds the group if the next event, of the task of this number, does not continue it.
 #[tactic(auto, unfolding(crate::specs::Tasks::closed_by))]
 fn push_closed(groups: &mut Vec<Group>, group: Group, number: usize) -> Result<(), OutOfMemory>
     ensures { OnOk result (groups.new.items ≡ groups.old.items ++ tasks.closed_by group number) }
@@ -185,7 +185,8 @@ fn push_closed(groups: &mut Vec<Group>, group: Group, number: usize) -> Result<(
     Ok(())
 }
 
-/// The groups of events by the numbers of their tasks, after a group so far.
+/// Returns the groups of events by the numbers of their tasks, with the events of `first` before
+/// them.
 #[tactic(auto, unfolding(crate::specs::Tasks::groups_from))]
 fn groups_from(alloc: Global, first: Group, numbers: &[usize]) -> Result<Vec<Group>, OutOfMemory>
     requires { first.first + first.count < 2 ^ 63 }
@@ -201,7 +202,7 @@ fn groups_from(alloc: Global, first: Group, numbers: &[usize]) -> Result<Vec<Gro
     Ok(groups)
 }
 
-/// The groups of events by the numbers of their tasks.
+/// Returns the groups of events by the numbers of their tasks.
 #[tactic(auto, unfolding(crate::specs::Tasks::groups_of))]
 fn groups_of(alloc: Global, numbers: &[usize]) -> Result<Vec<Group>, OutOfMemory>
     ensures { IfOk result (λ groups. groups.items ≡ tasks.groups_of numbers.now) }
@@ -220,7 +221,7 @@ fn groups_of(alloc: Global, numbers: &[usize]) -> Result<Vec<Group>, OutOfMemory
     }
 }
 
-/// The events of a group.
+/// Returns the events of a group.
 fn events_of(events: &[ViewedEvent], group: Group) -> &[ViewedEvent]
     ensures { result.now ≡ tasks.events_of events.now group }
 {
@@ -228,7 +229,7 @@ fn events_of(events: &[ViewedEvent], group: Group) -> &[ViewedEvent]
     first_items(&events[first..], group.count)
 }
 
-/// The task of a group.
+/// Returns the task of a group.
 fn task_at(
     alloc: Global,
     view: &View,
@@ -242,7 +243,7 @@ fn task_at(
     task_of(alloc, view, times, fault, group.number, events)
 }
 
-/// The tasks of groups.
+/// Returns the tasks of groups.
 fn tasks_in(
     alloc: Global,
     view: &View,
@@ -260,7 +261,7 @@ fn tasks_in(
     Ok(all)
 }
 
-/// The tasks of a run.
+/// Returns the tasks of a run.
 pub(crate) fn tasks_of(
     alloc: Global,
     view: &View,

@@ -1,4 +1,4 @@
-//! What is said of an event on a page.
+//! The text of an event on a page.
 
 ghost use Rattle.std.specs.Prelude.{◌≡◌, Some, IfOk};
 ghost use Rattle.std.specs.Fmt.{DisplaysOnOk};
@@ -11,7 +11,7 @@ use wh_events::{OutOfMemory, Text};
 use wh_view::{View, ViewedEvent};
 use wh_view_report::{Attempt, mark_of};
 
-/// A text after a label; nothing where the text is empty.
+/// A text after a label; nothing if the text is empty.
 #[derive(Drop)]
 pub(crate) struct AfterLabel<'a>(pub(crate) &'static str, pub(crate) &'a str);
 
@@ -51,7 +51,7 @@ impl fmt::Display for Values<'_> {
     }
 }
 
-/// What is said of an event.
+/// Returns the text of an event.
 #[tactic(auto, unfolding(crate::specs::Words::event_words))]
 pub(crate) fn event_words(
     alloc: Global,
@@ -72,7 +72,7 @@ pub(crate) fn event_words(
     Ok(Text::new(format!(in alloc; "{name}{id}{kind}{attempt}{duration}{failure}{mark}{values}")?))
 }
 
-/// A text of its own.
+/// Copies a text.
 pub(crate) fn copied(alloc: Global, text: &str) -> Result<Text, OutOfMemory>
     ensures { IfOk result (λ copy. copy ≡ text.now) }
 {
