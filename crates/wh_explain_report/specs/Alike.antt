@@ -1,4 +1,4 @@
--- Which tasks are alike but for numbers and times.
+-- Which tasks are alike except for numbers and times.
 use Rattle.std.specs.Prelude.{ℕ, ◌&&◌, List, [], ◌∷◌, Bool, true, false, not, nat_le, bytes_eq, Option, Some, None}
 use Rattle.std.specs.List.{filter}
 use Rattle.std.specs.Cmp.Lexicographic.{pointwise}
@@ -15,7 +15,7 @@ use Rattle.wh_explain.specs.declared.explanation.Pairing.{Pairing}
 use Rattle.wh_explain.specs.declared.explanation.Pairing.TheVariants as pairs
 use Rattle.wh_explain_report.specs.Phrases.{event_phrase}
 
--- no decimal digit
+-- a byte is no decimal digit
 abbrev pub is_plain : ℕ → Bool
 is_plain c = not (nat_le 48 c && nat_le c 57)
 
@@ -23,18 +23,18 @@ is_plain c = not (nat_le 48 c && nat_le c 57)
 abbrev pub plain : List ℕ → List ℕ
 plain text = filter is_plain text
 
--- two texts are the same but for digits
+-- two texts are the same except for digits
 unfoldable pub alike_texts : List ℕ → List ℕ → Bool
 alike_texts one other = bytes_eq (plain one) (plain other)
 
--- the same of words that may not be there
+-- two optional words are both absent, or the same except for digits
 abbrev pub alike_words : Option (List ℕ) → Option (List ℕ) → Bool
 alike_words None None = true
 alike_words (Some one) (Some other) = alike_texts one other
 alike_words _ _ = false
 
--- two phrases have the same kind, and ids and types that are the same but for digits; times, seconds and versions are
--- not compared
+-- two phrases have the same kind, and the same ids and types except for digits; times, seconds and versions are not
+-- compared
 abbrev pub alike_phrases : Phrase → Phrase → Bool
 alike_phrases one other =
     bytes_eq one.kind other.kind && (alike_words one.id other.id && alike_words one.name other.name)
@@ -50,7 +50,7 @@ abbrev pub alike_step : Step → Step → Bool
 alike_step one other =
     alike_phrases (job_phrase one.job) (job_phrase other.job) && pointwise alike_command one.commands other.commands
 
--- two pairings are no differences, and have alike commands and events
+-- two pairings have no difference between command and event, and have alike commands and events
 abbrev pub alike_pairing : Pairing → Pairing → Bool
 alike_pairing (pairs.Alike command event) (pairs.Alike other second) =
     alike_command command other && alike_event event second

@@ -6,8 +6,8 @@ use Rattle.wh_explain.specs.declared.explanation.Explanation.{Explanation}
 use Rattle.wh_explain_report.specs.TaskTexts.{chosen_text}
 use Rattle.wh_explain_report.specs.Texts.{unknown_line}
 
--- the whole text: the workflow type, where there is no code for it, the tasks in their order, and
--- the line of the file as in the report of replay
+-- the whole text: the workflow type, if it is not registered, the tasks in their order, and the line of the file as in
+-- the report of replay
 unfoldable pub explanation_text : Option Selection → Explanation → List ℕ
 explanation_text selection explanation =
     unknown_line explanation.unknown

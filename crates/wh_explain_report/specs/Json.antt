@@ -40,11 +40,11 @@ pub record Keys : Type 0 where
   pub id : List ℕ
   pub name : List ℕ
 
--- these two keys; the second is empty where a phrase has one word, and both where it has none
+-- these two keys; the second is empty if a phrase has one word, and both are empty if it has none
 abbrev pub keyed : List ℕ → List ℕ → Keys
 keyed id name = record { id = id; name = name }
 
--- those of a job
+-- the keys of a job
 abbrev pub job_keys : Job → Keys
 job_keys (jobs.Time _) = keyed [] []
 job_keys (jobs.Start _ _) = keyed (codes "workflowType") []
@@ -60,7 +60,7 @@ job_keys (jobs.SignalSent _ _) = keyed (codes "workflowId") (codes "signalName")
 job_keys (jobs.SignalFailed _ _) = keyed (codes "workflowId") (codes "signalName")
 job_keys (jobs.Version _ _) = keyed (codes "changeId") []
 
--- those of a command
+-- the keys of a command
 abbrev pub command_keys : Command → Keys
 command_keys (commands.StartActivity _ _ _) = keyed (codes "activityId") (codes "activityType")
 command_keys (commands.CancelActivity _) = keyed (codes "activityId") []
@@ -76,7 +76,7 @@ command_keys (commands.Fail _) = keyed (codes "message") []
 command_keys commands.Cancel = keyed [] []
 command_keys (commands.ContinueAsNew _ _) = keyed (codes "workflowType") []
 
--- those of an event that a command gave
+-- the keys of an event that records a command
 abbrev pub kind_keys : EventKind → Keys
 kind_keys (kinds.ActivityTaskScheduled _ _) = keyed (codes "activityId") (codes "activityType")
 kind_keys (kinds.ActivityTaskCancelRequested _) = keyed (codes "activityId") []
@@ -90,12 +90,12 @@ kind_keys _ = keyed [] []
 
 -- ---- phrases
 
--- a word as a member after another one, where there is a word, shown as names in reports are
+-- a word, if there is one, as a further member of an object, shown as names in reports are
 abbrev pub word_member : List ℕ → Option (List ℕ) → List ℕ
 word_member key None = []
 word_member key (Some word) = codes "," ++ text_member key (shown word)
 
--- the members of what stands after ids and types, each after another one
+-- what follows the ids and types of a phrase, as further members of an object
 abbrev pub detail_members : Detail → List ℕ
 detail_members Nothing = []
 detail_members (Time time) = codes ",\"time\":\"" ++ (time_text time ++ codes "\"")
@@ -104,21 +104,21 @@ detail_members (Version version) = codes ",\"version\":" ++ signed_decimal versi
 detail_members (Range min max) =
     codes ",\"min\":" ++ (signed_decimal min ++ (codes ",\"max\":" ++ signed_decimal max))
 
--- the kind of a phrase as a string, and the members of its words and of what stands after them
+-- the kind of a phrase as a string, and the members of its words and of what follows them
 abbrev pub phrase_json : Keys → Phrase → List ℕ
 phrase_json keys phrase =
     codes "\"" ++ (escaped (shown phrase.kind) ++ (codes "\""
     ++ (word_member keys.id phrase.id ++ (word_member keys.name phrase.name ++ detail_members phrase.detail))))
 
--- that of a job
+-- the phrase of a job
 abbrev pub job_json : Job → List ℕ
 job_json job = phrase_json (job_keys job) (job_phrase job)
 
--- that of a command
+-- the phrase of a command
 abbrev pub command_json : Command → List ℕ
 command_json command = phrase_json (command_keys command) (command_phrase command)
 
--- that of a recorded event
+-- the phrase of a recorded event
 abbrev pub event_json : RecordedEvent → List ℕ
 event_json event = phrase_json (kind_keys event.kind) (event_phrase event)
 
@@ -128,7 +128,7 @@ event_json event = phrase_json (kind_keys event.kind) (event_phrase event)
 abbrev pub gives_object : Command → List ℕ
 gives_object command = codes "{\"gives\":" ++ (command_json command ++ codes "}\n")
 
--- the number of the event that gave a job, if one did, as a member after others
+-- the number of the event of a job, if there is one, as a further member of an object
 abbrev pub number_member : Option ℕ → List ℕ
 number_member None = []
 number_member (Some number) = codes ",\"event\":" ++ decimal number
@@ -137,11 +137,11 @@ number_member (Some number) = codes ",\"event\":" ++ decimal number
 abbrev pub told_object : Option ℕ → Job → List ℕ
 told_object number job = codes "{\"told\":" ++ (job_json job ++ (number_member number ++ codes "}\n"))
 
--- this, and an object for each command that was given at the job
+-- the object of a job, and an object for each command that was given at the job
 abbrev pub step_objects : Option ℕ → Step → List ℕ
 step_objects number step = told_object number step.job ++ flat_map gives_object step.commands
 
--- the steps, where these are the numbers of the events that gave their jobs
+-- the objects of steps, whose jobs come from the events of these numbers
 unfoldable pub steps_objects : List ℕ → List Step → List ℕ
 steps_objects left [] = []
 steps_objects left (step ∷ steps) =
@@ -162,22 +162,22 @@ recorded_member event =
 abbrev pub sends_member : Command → List ℕ
 sends_member command = codes "\"sends\":" ++ command_json command
 
--- a command of a live task
+-- a command of a task that is not recorded yet
 abbrev pub sends_object : Command → List ℕ
 sends_object command = codes "{" ++ (sends_member command ++ codes "}\n")
 
--- what is sent and what is recorded
+-- the command that is sent and the event that is recorded
 abbrev pub both_members : Command → RecordedEvent → List ℕ
 both_members command event = sends_member command ++ (codes "," ++ recorded_member event)
 
--- the same of a pairing; `null` stands for the one that is missing
+-- the command and the event of a pairing; `null` stands for the one that is missing
 abbrev pub pairing_members : Pairing → List ℕ
 pairing_members (Alike command event) = both_members command event
 pairing_members (Different command event) = both_members command event
 pairing_members (CommandMissing event) = codes "\"sends\":null," ++ recorded_member event
 pairing_members (CommandExtra command) = sends_member command ++ codes ",\"recorded\":null"
 
--- these, and whether they differ
+-- the command and the event of a pairing, and whether they differ
 unfoldable pub pairing_object : Pairing → List ℕ
 pairing_object pairing =
     codes "{" ++ (pairing_members pairing
@@ -195,28 +195,28 @@ task_objects task =
     (codes "{\"task\":" ++ (decimal task.at ++ codes "}\n"))
     ++ (steps_objects task.given task.steps ++ ending_objects task.steps task.ending)
 
--- `{"unknownWorkflow":"NAME"}`, where there is no code for the workflow type
+-- `{"unknownWorkflow":"NAME"}`, if the workflow type is not registered
 abbrev pub unknown_object : Option (List ℕ) → List ℕ
 unknown_object None = []
 unknown_object (Some kind) = codes "{" ++ (text_member (codes "unknownWorkflow") (shown kind) ++ codes "}\n")
 
--- the members of a difference: what is sent and what is recorded
+-- the members of a difference: the command that is sent and the event that is recorded
 abbrev pub difference_members : Option Pairing → List (List ℕ)
 difference_members None = []
 difference_members (Some pairing) = pairing_members pairing ∷ []
 
--- the object of a file: its name, shown as in the report in words, its verdict, and members after these
+-- the object of a file: its name, shown as in the text of the report, its verdict, and further members
 abbrev pub json_line_with : Line → List (List ℕ) → List ℕ
 json_line_with line more =
     object (text_member (codes "file") (shown line.name)) (verdict_members line.verdict ++ more)
 
--- the object of the file, with the difference that its tasks end in, if they do
+-- the object of the file, with the difference in which its tasks end, if they end in one
 abbrev pub last_object : Explanation → List ℕ
 last_object explanation =
     json_line_with explanation.line (difference_members (last_difference explanation.tasks))
 
--- the whole: the workflow type, where there is no code for it, the tasks that are selected, or all, in their order, and
--- the object of the file
+-- the whole report: the workflow type, if it is not registered, the tasks that are selected, or all, in their order,
+-- and the object of the file
 unfoldable pub json_explanation : Option Selection → Explanation → List ℕ
 json_explanation selection explanation =
     unknown_object explanation.unknown

@@ -1,4 +1,4 @@
--- How what is shown of jobs, commands and events is written: kinds, ids and types, seconds or versions.
+-- How jobs, commands and events are written: kinds, ids and types, seconds or versions.
 use Rattle.std.specs.Prelude.{ℕ, List, [], ◌++◌, codes, decimal, Option, Some, None}
 use Rattle.std.specs.Fmt.{signed_decimal}
 use Rattle.wh_events.specs.declared.phrase.Detail.{Detail}
@@ -9,16 +9,16 @@ use Rattle.wh_tester.specs.Report.{shown}
 use Rattle.wh_explain.specs.declared.explanation.RecordedEvent.{RecordedEvent}
 use Rattle.wh_explain_report.specs.Times.{time_text}
 
--- what is shown of a recorded event
+-- the phrase of a recorded event
 abbrev pub event_phrase : RecordedEvent → Phrase
 event_phrase event = kind_phrase event.id event.kind
 
--- a word after a space, where there is one, shown as names in reports are
+-- a space and a word, if there is one, shown as names in reports are
 abbrev pub word_text : Option (List ℕ) → List ℕ
 word_text None = []
 word_text (Some word) = codes " " ++ shown word
 
--- what stands after ids and types
+-- what follows the ids and types of a phrase
 abbrev pub detail_text : Detail → List ℕ
 detail_text Nothing = []
 detail_text (Time time) = codes " " ++ time_text time

@@ -1,2 +1,2 @@
--- What no contract of a public item cites: only those of private functions, and what types keep over private fields.
+-- Definitions that no contract of a public item cites: they are for private functions and private fields.
 pub mod Json

@@ -21,7 +21,7 @@ use Rattle.wh_explain_report.specs.Phrases.{phrase_text, event_phrase}
 abbrev pub gives_line : Command → List ℕ
 gives_line command = codes "    gives " ++ (phrase_text (command_phrase command) ++ 10 ∷ [])
 
--- the number of the event that gave a job, if one did
+-- the number of the event of a job, if there is one
 abbrev pub number_text : Option ℕ → List ℕ
 number_text None = []
 number_text (Some number) = codes " (event " ++ (decimal number ++ codes ")")
@@ -30,11 +30,11 @@ number_text (Some number) = codes " (event " ++ (decimal number ++ codes ")")
 abbrev pub told_line : Option ℕ → Job → List ℕ
 told_line number job = codes "  told " ++ (phrase_text (job_phrase job) ++ (number_text number ++ 10 ∷ []))
 
--- this, and a line for each command that was given at the job
+-- the line of a job, and a line for each command that was given at the job
 abbrev pub step_text : Option ℕ → Step → List ℕ
 step_text number step = told_line number step.job ++ flat_map gives_line step.commands
 
--- the steps, where these are the numbers of the events that gave their jobs
+-- the lines of steps, whose jobs come from the events of these numbers
 unfoldable pub steps_text : List ℕ → List Step → List ℕ
 steps_text left [] = []
 steps_text left (step ∷ steps) =
@@ -62,7 +62,7 @@ event_text event = decimal event.number ++ (codes " " ++ phrase_text (event_phra
 abbrev pub sends_text : Command → List ℕ
 sends_text command = codes "sends " ++ phrase_text (command_phrase command)
 
--- a command of a live task
+-- a command of a task that is not recorded yet
 abbrev pub sends_line : Command → List ℕ
 sends_line command = codes "  " ++ (sends_text command ++ 10 ∷ [])
 
@@ -70,18 +70,18 @@ sends_line command = codes "  " ++ (sends_text command ++ 10 ∷ [])
 abbrev pub both_text : Command → RecordedEvent → List ℕ
 both_text command event = sends_text command ++ (codes ", recorded " ++ event_text event)
 
--- the same of a pairing; `nothing` stands for the one that is missing
+-- the command and the event of a pairing; `nothing` stands for the one that is missing
 abbrev pub sides_text : Pairing → List ℕ
 sides_text (Alike command event) = both_text command event
 sides_text (Different command event) = both_text command event
 sides_text (CommandMissing event) = codes "sends nothing, recorded " ++ event_text event
 sides_text (CommandExtra command) = sends_text command ++ codes ", recorded nothing"
 
--- that they differ, if so
+-- the words for a pairing that differs; nothing if it does not
 abbrev pub differs_text : Pairing → List ℕ
 differs_text pairing = if differs pairing then codes ", differs" else []
 
--- what is sent, what is recorded, and that they differ, if so
+-- the command and the event of a pairing, and whether they differ
 unfoldable pub pairing_line : Pairing → List ℕ
 pairing_line pairing = codes "  " ++ (sides_text pairing ++ (differs_text pairing ++ 10 ∷ []))
 
@@ -91,13 +91,13 @@ ending_text steps Refused = refuses_line (last_command steps)
 ending_text steps (Live sent) = flat_map sends_line sent ++ codes "  not recorded yet\n"
 ending_text steps (Recorded pairings) = flat_map pairing_line pairings
 
--- a task: its number, its steps, its ending
+-- a task: its number, its steps and its ending
 abbrev pub task_text : ExplainedTask → List ℕ
 task_text task =
     (codes "task at " ++ (decimal task.at ++ 10 ∷ []))
     ++ (steps_text task.given task.steps ++ ending_text task.steps task.ending)
 
--- `no code for the workflow type NAME`, where there is none, shown as names in reports are
+-- `no code for the workflow type NAME`, if it is not registered, with the name shown as names in reports are
 abbrev pub unknown_line : Option (List ℕ) → List ℕ
 unknown_line None = []
 unknown_line (Some kind) = codes "no code for the workflow type " ++ (shown kind ++ 10 ∷ [])

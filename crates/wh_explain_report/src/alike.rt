@@ -1,4 +1,4 @@
-//! Finds tasks that are alike but for numbers and times.
+//! Finds tasks that are alike except for numbers and times.
 
 ghost use Rattle.std.specs.Prelude.{◌≡◌, ◌≤◌, ◌<◌, drop, length, get_or, option_map, true};
 ghost use Rattle.std.specs.Cmp.Lexicographic.{pointwise};
@@ -10,15 +10,15 @@ use wh_events::Phrase;
 use wh_explain::{Ending, ExplainedTask, Pairing, RecordedEvent, Step};
 use wh_workflow::Command;
 
-/// Whether a byte is no decimal digit.
+/// Returns whether a byte is no decimal digit.
 fn is_plain(byte: u8) -> bool
     ensures { result ≡ alike.is_plain byte }
 {
     !(48 <= byte && byte <= 57)
 }
 
-/// The first place from one on where there is no decimal digit; the end of the text, where there are
-/// only digits.
+/// Returns the first position at or after `from` without a decimal digit; the end of the text if
+/// only digits follow.
 fn next_plain(text: &[u8], from: usize) -> usize
     requires { from ≤ length text.now }
     ensures within { result ≤ length text.now }
@@ -32,7 +32,7 @@ fn next_plain(text: &[u8], from: usize) -> usize
     at
 }
 
-/// Whether two texts are the same but for decimal digits.
+/// Returns whether two texts are the same except for decimal digits.
 fn alike_bytes(one: &[u8], other: &[u8]) -> bool
     ensures { result ≡ alike.alike_texts one.now other.now }
 {
@@ -50,7 +50,7 @@ fn alike_bytes(one: &[u8], other: &[u8]) -> bool
     next_plain(other, at) == other.len()
 }
 
-/// Whether two words, that may not be there, are the same but for decimal digits.
+/// Returns whether two optional words are both absent, or the same except for decimal digits.
 fn alike_words(one: Option<&str>, other: Option<&str>) -> bool
     ensures { result ≡ alike.alike_words (option_map (λ s. s.now) one.entry) (option_map (λ s. s.now) other.entry) }
 {
@@ -61,21 +61,22 @@ fn alike_words(one: Option<&str>, other: Option<&str>) -> bool
     }
 }
 
-/// Whether two phrases have the same kind, and ids and types that are the same but for decimal digits.
+/// Returns whether two phrases have the same kind, and the same ids and types except for decimal
+/// digits.
 fn alike_phrases(one: Phrase<'_>, other: Phrase<'_>) -> bool
     ensures { result ≡ alike.alike_phrases (phrase_seen one.entry) (phrase_seen other.entry) }
 {
     one.kind == other.kind && alike_words(one.id, other.id) && alike_words(one.name, other.name)
 }
 
-/// Whether two commands are alike.
+/// Returns whether two commands are alike.
 fn alike_command(one: &Command, other: &Command) -> bool
     ensures { result ≡ alike.alike_command one.now other.now }
 {
     alike_phrases(one.phrase(), other.phrase())
 }
 
-/// Whether two lists of commands are alike.
+/// Returns whether two lists of commands are alike.
 fn alike_commands(one: &[Command], other: &[Command]) -> bool
     ensures { result ≡ pointwise alike.alike_command one.now other.now }
 {
@@ -90,7 +91,7 @@ fn alike_commands(one: &[Command], other: &[Command]) -> bool
     true
 }
 
-/// Whether two steps have alike jobs and alike commands.
+/// Returns whether two steps have alike jobs and alike commands.
 fn alike_step(one: &Step, other: &Step) -> bool
     ensures { result ≡ alike.alike_step one.now other.now }
 {
@@ -98,7 +99,7 @@ fn alike_step(one: &Step, other: &Step) -> bool
         && alike_commands(one.commands(), other.commands())
 }
 
-/// Whether two lists of steps are alike.
+/// Returns whether two lists of steps are alike.
 fn alike_steps(one: &[Step], other: &[Step]) -> bool
     ensures { result ≡ pointwise alike.alike_step one.now other.now }
 {
@@ -113,14 +114,15 @@ fn alike_steps(one: &[Step], other: &[Step]) -> bool
     true
 }
 
-/// Whether two recorded events are alike.
+/// Returns whether two recorded events are alike.
 fn alike_event(one: &RecordedEvent, other: &RecordedEvent) -> bool
     ensures { result ≡ alike.alike_event one.now other.now }
 {
     alike_phrases(event_phrase(one), event_phrase(other))
 }
 
-/// Whether two pairings are no differences, and have alike commands and alike events.
+/// Returns whether two pairings have no difference between command and event, and have alike
+/// commands and alike events.
 fn alike_pairing(one: &Pairing, other: &Pairing) -> bool
     ensures { result ≡ alike.alike_pairing one.now other.now }
 {
@@ -136,7 +138,7 @@ fn alike_pairing(one: &Pairing, other: &Pairing) -> bool
     }
 }
 
-/// Whether two lists of pairings are alike.
+/// Returns whether two lists of pairings are alike.
 fn alike_pairings(one: &[Pairing], other: &[Pairing]) -> bool
     ensures { result ≡ pointwise alike.alike_pairing one.now other.now }
 {
@@ -151,7 +153,7 @@ fn alike_pairings(one: &[Pairing], other: &[Pairing]) -> bool
     true
 }
 
-/// Whether two tasks are recorded, with alike pairings.
+/// Returns whether two tasks are recorded, with alike pairings.
 fn alike_endings(one: &Ending, other: &Ending) -> bool
     ensures { result ≡ alike.alike_endings one.now other.now }
 {
@@ -164,8 +166,8 @@ fn alike_endings(one: &Ending, other: &Ending) -> bool
     }
 }
 
-/// Whether two tasks are alike but for numbers and times: they have alike jobs and commands, are
-/// recorded, and have the same events beside them.
+/// Returns whether two tasks are alike except for numbers and times: they have alike jobs and
+/// commands, are recorded, and their commands are paired with alike events.
 #[tactic(auto, unfolding(crate::specs::Alike::alike_tasks))]
 pub(crate) fn alike_tasks(one: &ExplainedTask, other: &ExplainedTask) -> bool
     ensures { result ≡ alike.alike_tasks one.now other.now }

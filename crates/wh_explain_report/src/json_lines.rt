@@ -1,4 +1,4 @@
-//! An explanation as JSON.
+//! Writes an explanation as lines of JSON.
 
 ghost use Rattle.std.specs.Prelude.{◌≡◌, ◌∷◌, ◌++◌, Some, OnOk, codes, option_map};
 ghost use Rattle.std.specs.Fmt.{DisplaysOnOk};
@@ -30,7 +30,7 @@ use wh_tester::{EscapedName, write_open_json_line};
 use wh_view_report::Selection;
 use wh_workflow::{Command, Job};
 
-/// A word as a member after another one, where there is a word.
+/// A word, if there is one, as a further member of an object.
 #[derive(Drop)]
 struct WordMember<'a>(&'static str, Option<&'a str>);
 
@@ -49,7 +49,7 @@ impl fmt::Display for WordMember<'_> {
     }
 }
 
-/// The members of what stands after ids and types.
+/// The members of what follows the ids and types of a phrase.
 #[derive(Clone, Copy)]
 struct DetailMembers(Detail);
 
@@ -70,7 +70,7 @@ impl fmt::Display for DetailMembers {
     }
 }
 
-/// The kind of a phrase as a string, and its other members under these keys.
+/// The kind of a phrase as a string, and its other members under their keys.
 #[derive(Clone, Copy)]
 struct PhraseJson<'a>(Keys, Phrase<'a>);
 
@@ -113,7 +113,7 @@ impl fmt::Display for RecordedMember<'_> {
     }
 }
 
-/// Writes what is sent and what is recorded, as members.
+/// Writes the command that is sent and the event that is recorded, as members.
 fn write_both<W: fmt::Write>(
     command: &Command,
     event: &RecordedEvent,
@@ -151,7 +151,8 @@ impl fmt::Display for PairingMembers<'_> {
     }
 }
 
-/// What is sent and what is recorded where they differ, as members after others, if they do.
+/// The difference between the command that is sent and the event that is recorded, if there is one,
+/// as further members of an object.
 #[derive(Drop)]
 pub struct DifferenceMembers<'a>(pub Option<&'a Pairing>);
 
@@ -169,7 +170,7 @@ impl fmt::Display for DifferenceMembers<'_> {
     }
 }
 
-/// The object of the workflow type that there is no code for, if it is so.
+/// The object of the workflow type, if it is not registered.
 #[derive(Drop)]
 struct UnknownObject<'a>(Option<&'a str>);
 
@@ -187,7 +188,7 @@ impl fmt::Display for UnknownObject<'_> {
     }
 }
 
-/// Writes the workflow type that there is no code for, if it is so.
+/// Writes the object of the workflow type, if it is not registered.
 fn write_unknown<O: Write>(unknown: &Option<Text>, writer: &mut O) -> io::Result<()>
     ensures { OnOk result (Appends (O.contents writer.old) (O.contents writer.new) (unknown_object unknown.now)) }
 {
@@ -210,7 +211,7 @@ fn write_commands<O: Write>(commands: &[Command], writer: &mut O) -> io::Result<
     Ok(())
 }
 
-/// The number of the event that gave a job, if one did, as a member after others.
+/// The number of the event of a job, if there is one, as a further member of an object.
 #[derive(Clone, Copy)]
 struct NumberMember(Option<EventNo>);
 
@@ -228,7 +229,7 @@ impl fmt::Display for NumberMember {
     }
 }
 
-/// Writes the object of a job, which the event of the number gave.
+/// Writes the object of a job, which comes from the event of the number.
 fn write_told<O: Write>(number: Option<EventNo>, job: &Job, writer: &mut O) -> io::Result<()>
     ensures { OnOk result (Appends (O.contents writer.old) (O.contents writer.new) (told_object number job.now)) }
 {
@@ -237,7 +238,7 @@ fn write_told<O: Write>(number: Option<EventNo>, job: &Job, writer: &mut O) -> i
     write!(writer, "{{\"told\":{phrase}{number}}}\n")
 }
 
-/// Writes the objects of a step, whose job the event of the number gave.
+/// Writes the objects of a step, whose job comes from the event of the number.
 fn write_step<O: Write>(number: Option<EventNo>, step: &Step, writer: &mut O) -> io::Result<()>
     ensures { OnOk result (Appends (O.contents writer.old) (O.contents writer.new) (step_objects number step.now)) }
 {
@@ -245,9 +246,10 @@ fn write_step<O: Write>(number: Option<EventNo>, step: &Step, writer: &mut O) ->
     write_commands(step.commands(), writer)
 }
 
-/// Writes the objects of steps, whose jobs the events of these numbers gave.
+/// Writes the objects of steps, whose jobs come from the events of these numbers.
 fn write_steps<O: Write>(given: &[EventNo], steps: &[Step], writer: &mut O) -> io::Result<()>
-    ensures { OnOk result (Appends (O.contents writer.old) (O.contents writer.new) (steps_objects given.now steps.now)) }
+    ensures { OnOk result
+        (Appends (O.contents writer.old) (O.contents writer.new) (steps_objects given.now steps.now)) }
 {
     let mut left = given;
     for step in steps {
@@ -257,7 +259,7 @@ fn write_steps<O: Write>(given: &[EventNo], steps: &[Step], writer: &mut O) -> i
     Ok(())
 }
 
-/// Writes which command is refused: the last one of the last step.
+/// Writes the object of the command that is refused: the last one of the last step.
 fn write_refused<O: Write>(steps: &[Step], writer: &mut O) -> io::Result<()>
     ensures { OnOk result
         (Appends (O.contents writer.old) (O.contents writer.new) (refuses_object (last_command steps.now))) }
@@ -272,7 +274,7 @@ fn write_refused<O: Write>(steps: &[Step], writer: &mut O) -> io::Result<()>
     write!(writer, "{{\"refuses\":{command}}}\n")
 }
 
-/// Writes an object for each command that a live task sends.
+/// Writes an object for each command that a task sends that is not recorded yet.
 fn write_sent<O: Write>(sent: &[Command], writer: &mut O) -> io::Result<()>
     ensures { OnOk result (Appends (O.contents writer.old) (O.contents writer.new) (flat_map sends_object sent.now)) }
 {
@@ -338,7 +340,7 @@ fn write_tasks<O: Write>(tasks: &[ExplainedTask], writer: &mut O) -> io::Result<
     Ok(())
 }
 
-/// The last pairing, if what is sent differs there from what is recorded.
+/// Returns the last pairing, if its command differs from its event.
 fn last_differing(pairings: &[Pairing]) -> Option<&Pairing>
     ensures { option_map (λ p. p.now) result ≡ if_differs (last_of pairings.now) }
 {
@@ -350,7 +352,7 @@ fn last_differing(pairings: &[Pairing]) -> Option<&Pairing>
     }
 }
 
-/// The difference that a task ends in, if it does.
+/// Returns the difference in which a task ends, if it ends in one.
 fn difference_at(ending: &Ending) -> Option<&Pairing>
     ensures { option_map (λ p. p.now) result ≡ difference_at ending.now }
 {
@@ -360,7 +362,7 @@ fn difference_at(ending: &Ending) -> Option<&Pairing>
     }
 }
 
-/// The difference that tasks end in, if they do.
+/// Returns the difference in which the last of the tasks ends, if it ends in one.
 fn last_difference(tasks: &[ExplainedTask]) -> Option<&Pairing>
     ensures { option_map (λ p. p.now) result ≡ last_difference tasks.now }
 {
@@ -379,26 +381,26 @@ fn write_last<O: Write>(explanation: &Explanation, writer: &mut O) -> io::Result
     write!(writer, "{difference}}}\n")
 }
 
-/// Writes an explanation as lines of JSON (RFC 8259): an object for each line of the text, with its
-/// parts; of the tasks that are selected, or of all where nothing is. Each object stands on a line of
-/// its own, with no spaces between its parts, and each line ends with one line feed. Words are shown
-/// as names in the report of replay are.
+/// Writes an explanation as lines of JSON (RFC 8259): one object, with its parts, for each line of
+/// the text. It writes the selected tasks, or all if nothing is selected. Each object is on a line
+/// of its own, with no spaces between its parts, and each line ends with one line feed. Words are
+/// shown as names are in the report of replay.
 ///
 /// The objects, in the order of the text's lines:
-/// - `{"unknownWorkflow":"NAME"}`, where there is no code for the workflow type;
-/// - `{"task":N}` of each task, then for each step `{"told":JOB,"event":N}`, with the number of the
-///   event that gave the job, unless it answers an ask, and `{"gives":COMMAND}` for each command given
-///   at it;
-/// - `{"refuses":COMMAND}`, where the last command can't stand;
-/// - `{"sends":COMMAND,"recorded":{"event":N,"type":EVENT},"differs":false}` of a command and the
+/// - `{"unknownWorkflow":"NAME"}`, if the workflow type is not registered;
+/// - `{"task":N}` for each task, then for each step `{"told":JOB,"event":N}`, with the number of
+///   the event from which the job comes (a job that answers a request for a version has none), and
+///   `{"gives":COMMAND}` for each command given at it;
+/// - `{"refuses":COMMAND}`, if the last command is invalid;
+/// - `{"sends":COMMAND,"recorded":{"event":N,"type":EVENT},"differs":false}` for a command and the
 ///   event in its place, with `null` for the one that is missing;
-/// - `{"sends":COMMAND}` of a live task, then `{"live":true}`;
-/// - last the object of the file in the report of replay, as `wh_tester::write_json_line` writes it,
-///   with what is sent and what is recorded after it, where they differ.
+/// - `{"sends":COMMAND}` for each command of a task that is not recorded yet, then `{"live":true}`;
+/// - last the object of the file in the report of replay, as `wh_tester::write_json_line` writes
+///   it, followed by the members of the difference, if there is one.
 ///
-/// A job, a command or an event is its name, and after that its members in Temporal's words, as
-/// `"activityId"`, `"activityType"`, `"timerId"`, `"time"` and `"seconds"`. After an error some of
-/// the lines may have been written.
+/// A job, a command or an event is written as its name, followed by its members in Temporal's
+/// words, such as `"activityId"`, `"activityType"`, `"timerId"`, `"time"` and `"seconds"`. After an
+/// error some of the lines may have been written.
 #[tactic(auto, unfolding(crate::specs::Json::json_explanation))]
 pub fn write_json_explanation<O: Write>(
     explanation: &Explanation,

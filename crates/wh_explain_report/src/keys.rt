@@ -1,4 +1,4 @@
-//! The keys of what is shown of jobs, commands and events in JSON, in Temporal's words.
+//! The keys of jobs, commands and events in JSON, in Temporal's words.
 
 ghost use Rattle.std.specs.Prelude.{◌≡◌};
 ghost use Rattle.wh_explain_report.specs.Json.{keyed, job_keys, command_keys, kind_keys};
@@ -8,23 +8,23 @@ use wh_events::EventKind;
 use wh_workflow::{Command, Job};
 
 /// The keys of the two words of a phrase: of its id, and of its type, its signal or its end. The
-/// second is empty where a phrase has one word, and both where it has none.
+/// second is empty if a phrase has one word, and both are empty if it has none.
 #[derive(Clone, Copy)]
 pub(crate) struct Keys {
-    /// That of the id.
+    /// The key of the id.
     pub(crate) id: &'static str,
-    /// That of the type, the signal or the end.
+    /// The key of the type, the signal or the end.
     pub(crate) name: &'static str,
 }
 
-/// These two keys.
+/// Returns these two keys.
 fn keyed(id: &'static str, name: &'static str) -> Keys
     ensures { keys_seen result ≡ keyed id.now name.now }
 {
     Keys { id, name }
 }
 
-/// The keys of a job.
+/// Returns the keys of a job.
 pub(crate) fn job_keys(job: &Job) -> Keys
     ensures { keys_seen result ≡ job_keys job.now }
 {
@@ -44,7 +44,7 @@ pub(crate) fn job_keys(job: &Job) -> Keys
     }
 }
 
-/// The keys of a command.
+/// Returns the keys of a command.
 pub(crate) fn command_keys(command: &Command) -> Keys
     ensures { keys_seen result ≡ command_keys command.now }
 {
@@ -62,7 +62,7 @@ pub(crate) fn command_keys(command: &Command) -> Keys
     }
 }
 
-/// The keys of an event of this kind.
+/// Returns the keys of an event of this kind.
 pub(crate) fn kind_keys(kind: &EventKind) -> Keys
     ensures { keys_seen result ≡ kind_keys kind.now }
 {

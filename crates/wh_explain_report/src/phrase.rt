@@ -1,4 +1,4 @@
-//! What is shown of jobs, commands and events, as text.
+//! Writes jobs, commands and events as text.
 
 ghost use Rattle.std.specs.Prelude.{◌≡◌, Some, option_map};
 ghost use Rattle.wh_events.specs.Phrases.{phrase_seen};
@@ -10,14 +10,14 @@ use wh_events::{Detail, Phrase};
 use wh_explain::RecordedEvent;
 use wh_tester::Shown;
 
-/// What is shown of a recorded event.
+/// Returns the phrase of a recorded event.
 pub fn event_phrase(event: &RecordedEvent) -> Phrase<'_>
     ensures { phrase_seen result ≡ event_phrase event.now }
 {
     event.kind.phrase(event.id.get())
 }
 
-/// A word after a space, where there is one.
+/// A space and a word, if there is one.
 #[derive(Drop)]
 struct Word<'a>(Option<&'a str>);
 
@@ -35,7 +35,7 @@ impl fmt::Display for Word<'_> {
     }
 }
 
-/// The text of what stands after ids and types.
+/// The text of what follows the ids and types of a phrase.
 #[derive(Clone, Copy)]
 struct DetailText(Detail);
 
@@ -56,8 +56,7 @@ impl fmt::Display for DetailText {
     }
 }
 
-/// The text of a phrase: what is shown of a job, a command or an event, with names as reports show
-/// them.
+/// The text of a phrase, of a job, a command or an event, with names as reports show them.
 #[derive(Clone, Copy)]
 pub struct PhraseText<'a>(pub Phrase<'a>);
 

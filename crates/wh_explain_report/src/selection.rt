@@ -8,10 +8,10 @@ use wh_events::EventNo;
 use wh_explain::ExplainedTask;
 use wh_view_report::Selection;
 
-/// How many tasks before the one with a fault are shown at most, of those that are about its things.
+/// The most tasks that are shown before the one with a fault, of those that share its things.
 const BEFORE: usize = 4;
 
-/// How many tasks are started before the event of a number.
+/// Returns how many tasks start before the event of a number.
 fn started_before(number: EventNo, tasks: &[ExplainedTask]) -> usize
     ensures is { result ≡ selections.started_before number tasks.now }
     ensures within { result ≤ length tasks.now }
@@ -22,7 +22,7 @@ fn started_before(number: EventNo, tasks: &[ExplainedTask]) -> usize
         .count()
 }
 
-/// The task of an index, with the two before and the two after it.
+/// Returns the task at an index, with the two before and the two after it.
 #[tactic(auto, using(std::proofs::lemmas::List::take_min))]
 fn around(index: usize, tasks: &[ExplainedTask]) -> &[ExplainedTask]
     requires { index ≤ length tasks.now }
@@ -33,7 +33,7 @@ fn around(index: usize, tasks: &[ExplainedTask]) -> &[ExplainedTask]
     &front[index.saturating_sub(2)..]
 }
 
-/// The tasks that are selected.
+/// Returns the tasks that are selected.
 pub(crate) fn selected(selection: Selection, tasks: &[ExplainedTask]) -> &[ExplainedTask]
     ensures { result.now ≡ selections.selected selection tasks.now }
 {
@@ -44,7 +44,7 @@ pub(crate) fn selected(selection: Selection, tasks: &[ExplainedTask]) -> &[Expla
     }
 }
 
-/// The tasks that are selected; all, where nothing is.
+/// Returns the tasks that are selected, or all if nothing is selected.
 pub(crate) fn selected_or_all(
     selection: Option<Selection>,
     tasks: &[ExplainedTask],
@@ -57,7 +57,7 @@ pub(crate) fn selected_or_all(
     }
 }
 
-/// How many tasks are about the things of one with a fault.
+/// Returns how many tasks before one with a fault share its things.
 fn sharing_count(fault: &ExplainedTask, before: &[ExplainedTask]) -> usize
     ensures is { result ≡ length (selections.sharing fault.now before.now) }
     ensures within { result ≤ length before.now }
@@ -65,14 +65,14 @@ fn sharing_count(fault: &ExplainedTask, before: &[ExplainedTask]) -> usize
     before.iter().filter(|task| shares(fault, task)).count()
 }
 
-/// How many of them are left out.
+/// Returns how many of the tasks that share its things are left out.
 pub(crate) fn skipped_count(fault: &ExplainedTask, before: &[ExplainedTask]) -> usize
     ensures { result ≡ selections.skipped fault.now before.now }
 {
     sharing_count(fault, before).saturating_sub(BEFORE)
 }
 
-/// How many of the tasks before one with a fault are left out.
+/// Returns how many of the tasks before one with a fault are left out.
 pub(crate) fn left_count(fault: &ExplainedTask, before: &[ExplainedTask]) -> usize
     ensures { result ≡ selections.left_before fault.now before.now }
 {

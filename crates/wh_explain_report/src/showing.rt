@@ -1,4 +1,4 @@
-//! The text of an explanation.
+//! Writes an explanation as text.
 
 ghost use Rattle.std.specs.Prelude.{◌≡◌, ◌∷◌, ◌++◌, Some, OnOk, codes, option_map};
 ghost use Rattle.std.specs.Fmt.{DisplaysOnOk};
@@ -37,7 +37,7 @@ impl fmt::Display for EventText<'_> {
     }
 }
 
-/// What is sent.
+/// The command that is sent.
 #[derive(Drop)]
 struct SendsText<'a>(&'a Command);
 
@@ -50,7 +50,7 @@ impl fmt::Display for SendsText<'_> {
     }
 }
 
-/// Writes what is sent and what is recorded.
+/// Writes the command that is sent and the event that is recorded.
 fn write_both<W: fmt::Write>(
     command: &Command,
     event: &RecordedEvent,
@@ -88,14 +88,14 @@ impl fmt::Display for SidesText<'_> {
     }
 }
 
-/// That what is sent differs from what is recorded, if so.
+/// Returns the words for a pairing that differs; nothing if it does not.
 fn differs_text(pairing: &Pairing) -> &'static str
     ensures { result.now ≡ differs_text pairing.now }
 {
     if differs(pairing) { ", differs" } else { "" }
 }
 
-/// The line of the workflow type that there is no code for, if it is so.
+/// The line of the workflow type, if it is not registered.
 #[derive(Drop)]
 struct UnknownLine<'a>(Option<&'a str>);
 
@@ -113,7 +113,7 @@ impl fmt::Display for UnknownLine<'_> {
     }
 }
 
-/// Writes the workflow type that there is no code for, if it is so.
+/// Writes the line of the workflow type, if it is not registered.
 fn write_unknown<O: Write>(unknown: &Option<Text>, writer: &mut O) -> io::Result<()>
     ensures { OnOk result (Appends (O.contents writer.old) (O.contents writer.new) (unknown_line unknown.now)) }
 {
@@ -135,7 +135,7 @@ fn write_commands<O: Write>(commands: &[Command], writer: &mut O) -> io::Result<
     Ok(())
 }
 
-/// The number of the event that gave a job, if one did.
+/// The number of the event of a job, if there is one.
 #[derive(Clone, Copy)]
 struct NumberText(Option<EventNo>);
 
@@ -153,7 +153,7 @@ impl fmt::Display for NumberText {
     }
 }
 
-/// Writes the line of a job, which the event of the number gave.
+/// Writes the line of a job, which comes from the event of the number.
 fn write_told<O: Write>(number: Option<EventNo>, job: &Job, writer: &mut O) -> io::Result<()>
     ensures { OnOk result (Appends (O.contents writer.old) (O.contents writer.new) (told_line number job.now)) }
 {
@@ -162,7 +162,7 @@ fn write_told<O: Write>(number: Option<EventNo>, job: &Job, writer: &mut O) -> i
     write!(writer, "  told {phrase}{number}\n")
 }
 
-/// Writes the lines of a step, whose job the event of the number gave.
+/// Writes the lines of a step, whose job comes from the event of the number.
 fn write_step<O: Write>(number: Option<EventNo>, step: &Step, writer: &mut O) -> io::Result<()>
     ensures { OnOk result (Appends (O.contents writer.old) (O.contents writer.new) (step_text number step.now)) }
 {
@@ -170,7 +170,7 @@ fn write_step<O: Write>(number: Option<EventNo>, step: &Step, writer: &mut O) ->
     write_commands(step.commands(), writer)
 }
 
-/// Writes the lines of steps, whose jobs the events of these numbers gave.
+/// Writes the lines of steps, whose jobs come from the events of these numbers.
 fn write_steps<O: Write>(given: &[EventNo], steps: &[Step], writer: &mut O) -> io::Result<()>
     ensures { OnOk result (Appends (O.contents writer.old) (O.contents writer.new) (steps_text given.now steps.now)) }
 {
@@ -182,7 +182,7 @@ fn write_steps<O: Write>(given: &[EventNo], steps: &[Step], writer: &mut O) -> i
     Ok(())
 }
 
-/// Writes which command is refused: the last one of the last step.
+/// Writes the line of the command that is refused: the last one of the last step.
 fn write_refused<O: Write>(steps: &[Step], writer: &mut O) -> io::Result<()>
     ensures { OnOk result
         (Appends (O.contents writer.old) (O.contents writer.new) (refuses_line (last_command steps.now))) }
@@ -197,7 +197,7 @@ fn write_refused<O: Write>(steps: &[Step], writer: &mut O) -> io::Result<()>
     write!(writer, "  refuses {phrase}\n")
 }
 
-/// Writes a line for each command that a live task sends.
+/// Writes a line for each command that a task sends that is not recorded yet.
 fn write_sent<O: Write>(sent: &[Command], writer: &mut O) -> io::Result<()>
     ensures { OnOk result (Appends (O.contents writer.old) (O.contents writer.new) (flat_map sends_line sent.now)) }
 {
@@ -264,16 +264,16 @@ pub(crate) fn write_tasks<O: Write>(tasks: &[ExplainedTask], writer: &mut O) -> 
     Ok(())
 }
 
-/// Writes an explanation: the workflow type, where there is no code for it, the lines of its tasks
-/// in their order, and then the line of the file as in the report of replay. Each line ends with
-/// one line feed, and each name is shown as in that report.
+/// Writes an explanation as text: the workflow type, if it is not registered, the lines of the
+/// tasks in their order, and then the line of the file as in the report of replay. Each line ends
+/// with one line feed, and each name is shown as in that report.
 ///
-/// Of the tasks those are written that are selected. Where nothing is selected, they are all written
-/// where none has a fault, but of tasks that follow one another and are alike but for numbers and
-/// times only the first; and else the last, which has the fault, and before it the last four that
-/// are about the same activities, timers, children and changes. A line says how many are left out or
-/// alike. The tasks round an event are the first that is started at it or after it, the two before
-/// and the two after.
+/// If tasks are selected, those are written. The tasks around an event are the first that starts at
+/// that event or after it, the two before it and the two after it. If nothing is selected and no
+/// task has a fault, all tasks are written, but of adjacent tasks that are alike except for numbers
+/// and times only the first. If nothing is selected and the last task has a fault, that task is
+/// written, and before it the last four that are about the same activities, timers, child workflows
+/// and changes. A line says how many tasks are left out or alike.
 ///
 /// After an error some of the text may have been written.
 #[tactic(auto, unfolding(crate::specs::Explanations::explanation_text))]

@@ -1,5 +1,5 @@
-//! The text of the tasks of an explanation: those that are selected, those that are about the things
-//! of a fault, or all with those folded that are alike.
+//! Writes the tasks of an explanation: those that are selected, those that share things with the
+//! task that has a fault, or all, with alike ones folded.
 
 ghost use Rattle.std.specs.Prelude.{◌≡◌, ◌<◌, ◌^◌, OnOk, drop};
 ghost use Rattle.std.specs.List.{flat_map};
@@ -17,7 +17,7 @@ use std::io::Write;
 use wh_explain::ExplainedTask;
 use wh_view_report::Selection;
 
-/// Writes that so many tasks are left out, if there are some.
+/// Writes how many tasks are left out, if some are.
 fn write_left<O: Write>(left: usize, writer: &mut O) -> io::Result<()>
     ensures { OnOk result (Appends (O.contents writer.old) (O.contents writer.new) (texts.left_line left)) }
 {
@@ -44,7 +44,7 @@ fn write_selected<O: Write>(
     write_tasks(chosen, writer)
 }
 
-/// Writes a task, unless some are to be left out before it.
+/// Writes a task, unless more are to be left out.
 fn write_unless<O: Write>(left: usize, task: &ExplainedTask, writer: &mut O) -> io::Result<()>
     ensures { OnOk result
         (Appends (O.contents writer.old) (O.contents writer.new) (texts.text_unless left task.now)) }
@@ -56,7 +56,7 @@ fn write_unless<O: Write>(left: usize, task: &ExplainedTask, writer: &mut O) -> 
     }
 }
 
-/// Writes the tasks that are about the things of one with a fault, but for so many of them.
+/// Writes the tasks that share things with one that has a fault, but for the first few of them.
 fn write_after<O: Write>(
     fault: &ExplainedTask,
     skipped: usize,
@@ -77,7 +77,7 @@ fn write_after<O: Write>(
     Ok(())
 }
 
-/// Writes the last tasks that are about the things of one with a fault, and how many are left out.
+/// Writes the last tasks that share things with one that has a fault, and how many are left out.
 #[tactic(auto, unfolding(crate::specs::TaskTexts::before_text))]
 fn write_before<O: Write>(
     fault: &ExplainedTask,
@@ -91,7 +91,7 @@ fn write_before<O: Write>(
     write_after(fault, skipped_count(fault, before), before, writer)
 }
 
-/// Writes the last task, which has a fault, with those before it that are about its things.
+/// Writes the last task, which has a fault, after those that share its things.
 fn write_faulty<O: Write>(tasks: &[ExplainedTask], writer: &mut O) -> io::Result<()>
     ensures { OnOk result (Appends (O.contents writer.old) (O.contents writer.new) (texts.faulty_text tasks.now)) }
 {
@@ -102,7 +102,7 @@ fn write_faulty<O: Write>(tasks: &[ExplainedTask], writer: &mut O) -> io::Result
     write_task(fault, writer)
 }
 
-/// Writes that so many tasks are alike, if there are some.
+/// Writes how many tasks are alike, if some are.
 fn write_fold<O: Write>(count: usize, last: &ExplainedTask, writer: &mut O) -> io::Result<()>
     ensures { OnOk result (Appends (O.contents writer.old) (O.contents writer.new) (texts.fold_line count last.now)) }
 {
@@ -116,7 +116,7 @@ fn write_fold<O: Write>(count: usize, last: &ExplainedTask, writer: &mut O) -> i
     )
 }
 
-/// Writes a task that is not like the one before it, and before it how many are alike.
+/// Writes how many tasks are alike, and then the next task, if it is not like the one before it.
 fn write_unlike<O: Write>(
     alike: bool,
     count: usize,
@@ -134,7 +134,7 @@ fn write_unlike<O: Write>(
     write_task(task, writer)
 }
 
-/// How many tasks are alike, with one more.
+/// Returns how many tasks are alike, with one more.
 fn next_count(alike: bool, count: usize) -> usize
     requires { count < 2 ^ 63 }
     ensures { result ≡ texts.next_count alike count }
@@ -142,7 +142,7 @@ fn next_count(alike: bool, count: usize) -> usize
     if alike { count + 1 } else { 0 }
 }
 
-/// Writes tasks after another one, with those folded that are alike.
+/// Writes tasks after another one, with alike ones folded.
 fn write_folded<O: Write>(
     first: &ExplainedTask,
     rest: &[ExplainedTask],
@@ -162,7 +162,7 @@ fn write_folded<O: Write>(
     write_fold(count, before, writer)
 }
 
-/// Writes all tasks, with those folded that are alike.
+/// Writes all tasks, with alike ones folded.
 fn write_all<O: Write>(tasks: &[ExplainedTask], writer: &mut O) -> io::Result<()>
     ensures { OnOk result (Appends (O.contents writer.old) (O.contents writer.new) (texts.folded_text tasks.now)) }
 {
@@ -173,9 +173,9 @@ fn write_all<O: Write>(tasks: &[ExplainedTask], writer: &mut O) -> io::Result<()
     write_folded(first, &tasks[1..], writer)
 }
 
-/// Writes the tasks that are selected. Where nothing is selected, all of a history without a fault are
-/// written, with those folded that are alike, and else the last, with those before it that are about
-/// its things.
+/// Writes the tasks that are selected. If nothing is selected, it writes all tasks of a history
+/// without a fault, with alike ones folded, or else the last task, after those that share its
+/// things.
 pub(crate) fn write_chosen<O: Write>(
     selection: Option<Selection>,
     good: bool,

@@ -1,4 +1,4 @@
-//! Times as text.
+//! Writes times as text.
 
 ghost use Rattle.std.specs.Prelude.{◌≡◌, Some};
 ghost use Rattle.wh_json.specs.Fields.{time_of};
@@ -9,7 +9,7 @@ use jiff_core::Timestamp;
 use jiff_fmt::temporal::DateTimePrinter;
 use std::fmt;
 
-/// How many places show a fraction of so many billionths: none, 3, 6 or 9, as many as it needs.
+/// Returns how many decimal places a fraction of so many billionths needs: none, 3, 6 or 9.
 fn places_of(fraction: u32) -> u8
     ensures { result ≡ places_of fraction }
 {
@@ -24,7 +24,7 @@ fn places_of(fraction: u32) -> u8
     }
 }
 
-/// An instant in UTC. Histories are read with it as the same instant.
+/// Returns an instant in UTC as text. The reader of histories reads it as the same instant.
 fn instant_text(time: Timestamp) -> ArrayString<33>
     ensures text { result.bytes ≡ instant_text time.nanosecond }
     ensures reads { time_of result.bytes ≡ Some time.nanosecond }
