@@ -1,4 +1,4 @@
--- What is reported on standard error.
+-- What commands report on the standard error.
 use Rattle.std.specs.Prelude.{ℕ, List, [], ◌∷◌, ◌++◌, codes, Option, Some, None, String, string_bytes}
 use Rattle.std.specs.List.{flat_map}
 use Rattle.std.specs.declared.alloc.Global.{Global}
@@ -22,34 +22,34 @@ use Rattle.wh_file_faults.specs.Texts.{file_fault_text}
 use Rattle.wh_values.specs.Texts.{value_text}
 use Rattle.wh_values.specs.declared.comparing.OtherValue.{OtherValue}
 
--- `<name>: <text>`, under the name that the program is called by
+-- `<name>: <text>`, with the name by which the program was called
 abbrev pub named_line : (text name : List ℕ) → List ℕ
 named_line text name = shown name ++ (codes ": " ++ (text ++ codes "\n"))
 
--- the line of a file that is no JSON
+-- the line of a file that is not JSON, or whose workflow type is not registered
 abbrev pub fault_line : FileFault → List ℕ → List ℕ
 fault_line fault name = named_line (file_fault_text fault) name
 
--- a line for each file that is no JSON
+-- one line for each such file
 abbrev pub fault_lines : List FileFault → List ℕ → List ℕ
 fault_lines faults name = flat_map (λ fault. fault_line fault name) faults
 
--- `<name>: <file>: <what is sent and what is recorded>`
+-- `<name>: <file>: <the command sent and the event recorded>`
 abbrev pub difference_line : (file : List ℕ) → Pairing → (name : List ℕ) → List ℕ
 difference_line file pairing name =
     shown name ++ (codes ": " ++ (shown file ++ (codes ": " ++ (sides_text pairing ++ codes "\n"))))
 
--- that line, where the two differ
+-- that line, if the two differ
 abbrev pub difference_lines : (file : List ℕ) → Option Pairing → (name : List ℕ) → List ℕ
 difference_lines file None name = []
 difference_lines file (Some pairing) name = difference_line file pairing name
 
--- `<name>: <file>: <what its fault leaves out>`
+-- `<name>: <file>: <the detail of its fault>`
 abbrev pub detail_line : (file : List ℕ) → FaultDetail → (name : List ℕ) → List ℕ
 detail_line file detail name =
     shown name ++ (codes ": " ++ (shown file ++ (codes ": " ++ (detail_text detail ++ codes "\n"))))
 
--- that line, where it leaves something out
+-- that line, if there is a detail
 abbrev pub detail_lines : (file : List ℕ) → Option FaultDetail → (name : List ℕ) → List ℕ
 detail_lines file None name = []
 detail_lines file (Some detail) name = detail_line file detail name
@@ -63,17 +63,17 @@ warning_line file value name =
 abbrev pub warning_lines : (file : List ℕ) → List OtherValue → (name : List ℕ) → List ℕ
 warning_lines file values name = flat_map (λ value. warning_line file value name) values
 
--- what stands beside the verdict on a file: its difference, what its fault leaves out, and its warnings
+-- the notes on the verdict of a file: its difference, the detail of its fault, and its warnings
 abbrev pub note_lines : Record → List ℕ → List ℕ
 note_lines own name =
     difference_lines own.line.name own.difference name
     ++ (detail_lines own.line.name own.detail name ++ warning_lines own.line.name own.warnings name)
 
--- the lines of a file: what stands beside its verdict, and why it is named
+-- the lines of a file: the notes on its verdict, and why it is named
 abbrev pub record_lines : Record → List ℕ → List ℕ
 record_lines own name = note_lines own name ++ fault_lines (fault_of own own.cause) name
 
--- and of files, in their order
+-- the lines of files, in their order
 abbrev pub records_lines : List Record → List ℕ → List ℕ
 records_lines records name = flat_map (λ own. record_lines own name) records
 
@@ -92,11 +92,11 @@ entry_line dir entry why name =
 abbrev pub bad_name_line : List ℕ → String Global → List ℕ → List ℕ
 bad_name_line dir entry name = entry_line dir (string_bytes entry) (codes "its name is no UTF-8 text") name
 
--- a line for each entry of a folder whose name is no UTF-8
+-- a line for each entry of a folder whose name is not UTF-8
 abbrev pub bad_name_lines : List ℕ → List (String Global) → List ℕ → List ℕ
 bad_name_lines dir entries name = flat_map (λ entry. bad_name_line dir entry name) entries
 
--- why a path, or the entry of the folder at it, can't be read
+-- why a path, or an entry of the folder at it, can't be read
 abbrev pub reason_line : List ℕ → Option (String Global) → Reason → List ℕ → List ℕ
 reason_line path None reason name = path_line path (reason_words reason) name
 reason_line path (Some entry) reason name = entry_line path (string_bytes entry) (reason_words reason) name
@@ -110,7 +110,7 @@ unviewed_line file fault name =
 abbrev pub not_text_line : (file name : List ℕ) → List ℕ
 not_text_line file name = shown name ++ (codes ": " ++ (shown file ++ codes ": not UTF-8 text\n"))
 
--- why there is no full report: what is wrong with the command line, in its own words, or a line of the program's
+-- why there is no full report: the text on an invalid command line as it is, or a line under the program's name
 abbrev pub failed_text : Failure → List ℕ → List ℕ
 failed_text (BadLine text) name = text
 failed_text BadArguments name = named_line (codes "arguments must be UTF-8 text") name
@@ -124,7 +124,7 @@ failed_text (BadPolicies file fault) name = bad_policies_line file fault name
 failed_text Output name = named_line (codes "cannot write") name
 failed_text OutOfMemory name = named_line (codes "out of memory") name
 
--- what a diagnostic says under a name
+-- the text of a diagnostic, under the program's name
 abbrev pub diagnostic_text : Diagnostic → List ℕ → List ℕ
 diagnostic_text (NoFiles dir) name = named_line (codes "no .json file in " ++ dir) name
 diagnostic_text (BadNames dir names) name = bad_name_lines dir names.items name

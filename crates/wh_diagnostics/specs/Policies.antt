@@ -1,4 +1,4 @@
--- Why a file gives no policies.
+-- Why a policy file is refused.
 use Rattle.std.specs.Prelude.{ℕ, List, ◌++◌, codes, decimal}
 use Rattle.wh_policy_file.specs.declared.fault.PolicyFault.{PolicyFault}
 use Rattle.wh_policy_file.specs.declared.fault.PolicyFault.TheVariants.{TooLong, NoText, NoToml, UnknownKey, BadValue, OutOfMemory}

@@ -1,4 +1,4 @@
--- What is printed, and the status.
+-- What a command prints, and its status.
 use Rattle.std.specs.Prelude.{◌≡◌, ℕ, List, Bool, if◌then◌else◌}
 use Rattle.wh_console.specs.Consoles.{ConsoleView, Printed}
 
@@ -7,6 +7,6 @@ pub record HasPrinted (text : List ℕ) (old new : ConsoleView) (status : ℕ) :
   pub printed : Printed old new text
   pub ends : status ≡ 0
 
--- 1 where files are lacking, and else what the command gives
+-- 1 if files are missing, and the status of the command otherwise
 abbrev pub status_with : Bool → ℕ → ℕ
 status_with lacks status = if lacks then 1 else status

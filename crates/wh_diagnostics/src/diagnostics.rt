@@ -1,4 +1,4 @@
-//! What is reported on standard error.
+//! Writes the diagnostics of commands to the standard error.
 
 ghost use Rattle.std.specs.Prelude.{◌≡◌, ◌++◌, OnOk, codes};
 ghost use Rattle.std.specs.Io.KnownBytes.{Appends};
@@ -28,44 +28,46 @@ use wh_values::{OtherValue, OtherValueText};
 /// What a command may report on the standard error.
 #[derive(Drop)]
 pub enum Diagnostic {
-    /// A folder has no file that is read.
+    /// A folder has no file whose name ends in `.json`.
     NoFiles {
-        /// Its path.
+        /// The path of the folder.
         dir: Text,
     },
-    /// Files of a folder are left out, since their names are no UTF-8.
+    /// Files of a folder are left out because their names are not UTF-8.
     BadNames {
-        /// Its path.
+        /// The path of the folder.
         dir: Text,
-        /// Their names, with `?` for each byte that is none of a text.
+        /// Their names, with `?` for each byte that is not part of a character.
         names: Vec<String>,
     },
-    /// A file is no JSON.
+    /// A file is not JSON.
     BadJson {
-        /// The file, and where it is none.
+        /// The file, and where it stops being JSON.
         fault: FileFault,
     },
-    /// What is sent and what is recorded of files where they differ, what their faults leave out, their
-    /// warnings, and which of them are no JSON or lack code.
+    /// What the report does not say of files: the command sent and the event recorded where they
+    /// differ, the details of their faults, their warnings, and which of them are not JSON or have
+    /// a workflow type that is not registered.
     BadFiles {
         /// The records of the files.
         records: Vec<Record>,
     },
-    /// The same of the file that was queried.
+    /// The same for the file that was queried.
     Queried {
-        /// Its record.
+        /// The record of the file.
         own: Record,
     },
     /// There is no full report.
     Failed {
-        /// Why not.
+        /// The reason.
         failure: Failure,
     },
 }
 
-/// Writes a line under the program's name. After an error some of it may have been written.
+/// Writes a line under the program's name. After an error part of it may have been written.
 pub fn write_line<E: Write>(text: &str, name: &str, writer: &mut E) -> io::Result<()>
-    ensures written { OnOk result (Appends (E.contents writer.old) (E.contents writer.new) (named_line text.now name.now)) }
+    ensures written { OnOk result
+        (Appends (E.contents writer.old) (E.contents writer.new) (named_line text.now name.now)) }
 {
     let name = Shown(name);
     writeln!(writer, "{name}: {text}")
@@ -78,7 +80,7 @@ fn write_text<E: Write>(text: &str, writer: &mut E) -> io::Result<()>
     write!(writer, "{text}")
 }
 
-/// Writes that a folder has no file that is read.
+/// Writes that a folder has no file whose name ends in `.json`.
 fn write_no_files<E: Write>(dir: &str, name: &str, writer: &mut E) -> io::Result<()>
     ensures { OnOk result (Appends (E.contents writer.old) (E.contents writer.new)
         (named_line (codes "no .json file in " ++ dir.now) name.now)) }
@@ -87,7 +89,7 @@ fn write_no_files<E: Write>(dir: &str, name: &str, writer: &mut E) -> io::Result
     writeln!(writer, "{name}: no .json file in {dir}")
 }
 
-/// Writes where a file is no JSON.
+/// Writes that a file is not JSON, or that its workflow type is not registered.
 fn write_fault<E: Write>(fault: &FileFault, name: &str, writer: &mut E) -> io::Result<()>
     ensures { OnOk result (Appends (E.contents writer.old) (E.contents writer.new) (fault_line fault.now name.now)) }
 {
@@ -95,8 +97,8 @@ fn write_fault<E: Write>(fault: &FileFault, name: &str, writer: &mut E) -> io::R
     writeln!(writer, "{name}: {fault}")
 }
 
-/// Writes where files are no JSON, or for which workflow types there is no code, a line for each. After
-/// an error some of it may have been written.
+/// Writes one line for each file that is not JSON, or whose workflow type is not registered. After
+/// an error part of the lines may have been written.
 pub fn write_faults<E: Write>(faults: Vec<FileFault>, name: &str, writer: &mut E) -> io::Result<()>
     ensures written { OnOk result (Appends (E.contents writer.old) (E.contents writer.new)
         (fault_lines faults.items name.now)) }
@@ -107,7 +109,7 @@ pub fn write_faults<E: Write>(faults: Vec<FileFault>, name: &str, writer: &mut E
     Ok(())
 }
 
-/// Why a file is named beside the report, if it is.
+/// Returns why a file is named beside the report, if it is.
 fn fault_of(own: Record) -> Option<FileFault>
     ensures { reported_of result ≡ fault_of own own.cause }
 {
@@ -140,7 +142,7 @@ fn write_cause<E: Write>(own: Record, name: &str, writer: &mut E) -> io::Result<
     }
 }
 
-/// Writes what is sent and what is recorded of a file, where they differ.
+/// Writes the command sent and the event recorded where a file's replay differs, if it does.
 fn write_difference<E: Write>(own: &Record, name: &str, writer: &mut E) -> io::Result<()>
     ensures { OnOk result (Appends (E.contents writer.old) (E.contents writer.new)
         (difference_lines own.now.line.name own.now.difference name.now)) }
@@ -154,7 +156,7 @@ fn write_difference<E: Write>(own: &Record, name: &str, writer: &mut E) -> io::R
     writeln!(writer, "{name}: {file}: {sides}")
 }
 
-/// Writes what the fault of a file leaves out, if something.
+/// Writes the detail of a file's fault, if there is one.
 fn write_detail<E: Write>(own: &Record, name: &str, writer: &mut E) -> io::Result<()>
     ensures { OnOk result (Appends (E.contents writer.old) (E.contents writer.new)
         (detail_lines own.now.line.name own.now.detail name.now)) }
@@ -167,7 +169,7 @@ fn write_detail<E: Write>(own: &Record, name: &str, writer: &mut E) -> io::Resul
     writeln!(writer, "{name}: {file}: {detail}")
 }
 
-/// Writes a value of a file that differs from what is recorded.
+/// Writes a warning: a value of a file that differs from what is recorded.
 fn write_warning<E: Write>(
     file: &str,
     value: &OtherValue,
@@ -183,7 +185,7 @@ fn write_warning<E: Write>(
     writeln!(writer, "{name}: {file}: {value}")
 }
 
-/// Writes the values of a file that differ from what is recorded, a line for each.
+/// Writes the warnings of a file, one line for each.
 fn write_warnings<E: Write>(
     file: &str,
     values: &[OtherValue],
@@ -199,7 +201,7 @@ fn write_warnings<E: Write>(
     Ok(())
 }
 
-/// Writes what stands beside the verdict on a file: its difference, what its fault leaves out, and its
+/// Writes the notes on the verdict of a file: its difference, the detail of its fault, and its
 /// warnings.
 fn write_notes<E: Write>(own: &Record, name: &str, writer: &mut E) -> io::Result<()>
     ensures { OnOk result (Appends (E.contents writer.old) (E.contents writer.new) (note_lines own.now name.now)) }
@@ -209,7 +211,7 @@ fn write_notes<E: Write>(own: &Record, name: &str, writer: &mut E) -> io::Result
     write_warnings(own.line.name.get(), own.warnings.get(), name, writer)
 }
 
-/// Writes the lines of a file beside the report: what stands beside its verdict, and why it is named.
+/// Writes the lines of a file beside the report: the notes on its verdict, and why it is named.
 fn write_record<E: Write>(own: Record, name: &str, writer: &mut E) -> io::Result<()>
     ensures { OnOk result (Appends (E.contents writer.old) (E.contents writer.new) (record_lines own name.now)) }
 {
@@ -233,7 +235,7 @@ fn write_records<E: Write>(records: Vec<Record>, name: &str, writer: &mut E) -> 
     Ok(())
 }
 
-/// Writes that a file is no text.
+/// Writes that a file is not UTF-8 text.
 fn write_not_text<E: Write>(file: &str, name: &str, writer: &mut E) -> io::Result<()>
     ensures { OnOk result (Appends (E.contents writer.old) (E.contents writer.new) (not_text_line file.now name.now)) }
 {
@@ -242,7 +244,7 @@ fn write_not_text<E: Write>(file: &str, name: &str, writer: &mut E) -> io::Resul
     writeln!(writer, "{name}: {file}: not UTF-8 text")
 }
 
-/// Writes why a file gives no policies.
+/// Writes why a policy file is refused.
 fn write_policies<E: Write>(
     file: &str,
     fault: &PolicyFault,
@@ -258,7 +260,7 @@ fn write_policies<E: Write>(
     writeln!(writer, "{name}: {file}: {fault}")
 }
 
-/// Writes why there is nothing to read at a path.
+/// Writes why a path can't be read.
 fn write_path<E: Write>(path: &str, why: &str, name: &str, writer: &mut E) -> io::Result<()>
     ensures { OnOk result (Appends (E.contents writer.old) (E.contents writer.new)
         (path_line path.now why.now name.now)) }
@@ -283,7 +285,7 @@ fn write_entry<E: Write>(
     writeln!(writer, "{name}: cannot read {dir}/{entry}: {why}")
 }
 
-/// Writes that an entry of a folder can't be read, since its name is no UTF-8.
+/// Writes that an entry of a folder can't be read because its name is not UTF-8.
 fn write_bad_name<E: Write>(dir: &str, entry: &String, name: &str, writer: &mut E) -> io::Result<()>
     ensures { OnOk result (Appends (E.contents writer.old) (E.contents writer.new)
         (bad_name_line dir.now entry.now name.now)) }
@@ -297,7 +299,7 @@ fn write_bad_name<E: Write>(dir: &str, entry: &String, name: &str, writer: &mut 
     )
 }
 
-/// Writes which entries of a folder can't be read, since their names are no UTF-8: a line for each.
+/// Writes one line for each entry of a folder that can't be read because its name is not UTF-8.
 fn write_bad_names<E: Write>(
     dir: &str,
     entries: Vec<String>,
@@ -313,8 +315,7 @@ fn write_bad_names<E: Write>(
     Ok(())
 }
 
-/// Writes what can't be read, and why not: the folder or the file, or the entry of the folder where
-/// it is one.
+/// Writes what can't be read, and why: a folder, a file, or an entry of a folder.
 fn write_unreadable<E: Write>(
     dir: &str,
     entry: &Option<String>,
@@ -348,7 +349,7 @@ fn write_not_viewed<E: Write>(
     writeln!(writer, "{name}: {file}: unreadable, {fault}")
 }
 
-/// Writes why a run has no full report.
+/// Writes why a command has no full report.
 fn write_failed<E: Write>(failure: &Failure, name: &str, writer: &mut E) -> io::Result<()>
     ensures { OnOk result (Appends (E.contents writer.old) (E.contents writer.new) (failed_text failure.now name.now)) }
 {

@@ -12,48 +12,48 @@ use wh_policy_file::PolicyFault;
 /// Why a command ends without a full report.
 #[derive(Drop)]
 pub enum Failure {
-    /// A bad command line.
+    /// The command line is invalid.
     BadLine {
-        /// What is wrong with it. It ends its own line.
+        /// What is wrong with it. The text ends its own line.
         text: Text,
     },
-    /// A word of the command line is no text.
+    /// A word of the command line is not UTF-8.
     BadArguments,
     /// There are fewer slots than workers.
     FewSlots,
-    /// An argument of a query is no JSON.
+    /// An argument of a query is not JSON.
     BadInput,
     /// A folder or a file, or an entry of a folder, can't be read.
     Unreadable {
         /// The path of the folder or file.
         dir: Text,
-        /// The entry, where it is one.
+        /// The entry of the folder, if it is one.
         entry: Option<String>,
         /// Why it can't be read.
         reason: Reason,
     },
-    /// A file whose events are to be shown is no JSON.
+    /// A file whose events are to be shown is not JSON.
     NotJson {
-        /// The file, and where it is none.
+        /// The file, and where it stops being JSON.
         fault: FileFault,
     },
     /// A file has no events that can be shown.
     NotViewed {
-        /// Its name.
+        /// The name of the file.
         file: Text,
-        /// Why not.
+        /// The reason.
         fault: ReadFault,
     },
-    /// A file is no UTF-8 text.
+    /// A file is not UTF-8 text.
     NotText {
-        /// Its name.
+        /// The name of the file.
         file: Text,
     },
-    /// A file gives no policies.
+    /// A policy file is refused.
     BadPolicies {
-        /// Its path.
+        /// The path of the file.
         file: Text,
-        /// Why not.
+        /// The reason.
         fault: PolicyFault,
     },
     /// The report can't be written.
@@ -102,7 +102,7 @@ impl From<CommandFault> for Failure {
     }
 }
 
-/// Why nothing can be read at a path.
+/// Returns the failure of a path that can't be read.
 pub fn unreadable(path: Text, fault: FolderFault) -> Failure
     ensures unreadable { (reason : Reason) → fault ≡ FolderFault.Unreadable reason
         → result ≡ Failure.Unreadable path None reason }

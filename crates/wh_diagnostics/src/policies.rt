@@ -1,4 +1,4 @@
-//! Why a file gives no policies, as a text.
+//! Why a policy file is refused, as text.
 
 ghost use Rattle.std.specs.Prelude.{Some};
 ghost use Rattle.wh_diagnostics.specs.Policies.{policy_fault_text};
@@ -7,8 +7,9 @@ use std::fmt;
 use wh_policy_file::PolicyFault;
 use wh_tester::Shown;
 
-/// The fault of a file that gives no policies, as a text: what is wrong with it, and the key and the line
-/// of that. Of each name the first 255 characters are shown, with `?` for each that is not printable.
+/// The fault of a policy file that is refused, as text: what is wrong with it, and the key and the
+/// line of that. Of each name the first 255 characters are shown, with `?` for each that is not
+/// printable.
 #[derive(Drop)]
 pub(crate) struct PolicyFaultText<'a>(pub(crate) &'a PolicyFault);
 

@@ -1,4 +1,4 @@
-//! What is printed, and the status.
+//! Prints what a command writes, and returns its status.
 
 ghost use Rattle.std.specs.Prelude.{◌≡◌, Err, IfOk, Ok, OnOk};
 ghost use Rattle.std.specs.Io.KnownBytes.{Keeps};
@@ -10,7 +10,8 @@ use std::io::Write;
 use wh_console::Console;
 use wh_file_faults::CommandFault;
 
-/// The status of a command, once all that it wrote is out. `Output` where that can't be written.
+/// Flushes what a command wrote, and returns its status. If the command had a fault, that is
+/// returned; if the output can't be flushed, `Output`.
 pub fn flushed<O: Write, E: Write>(
     answer: Result<u8, CommandFault>,
     console: &mut Console<'_, O, E>,
@@ -46,7 +47,8 @@ fn print_text<O: Write, E: Write>(
     }
 }
 
-/// Prints a text that was asked for. `Output` where it can't be written; then some of it may have been.
+/// Prints a text that the command line asks for, and returns status 0. Returns `Output` if the text
+/// can't be written; part of it may have been written.
 pub fn print<O: Write, E: Write>(text: &str, console: &mut Console<'_, O, E>) -> Result<u8, Failure>
     ensures printed { IfOk result (HasPrinted text.now console.old console.new) }
 {
@@ -54,7 +56,7 @@ pub fn print<O: Write, E: Write>(text: &str, console: &mut Console<'_, O, E>) ->
     flushed(answer, console)
 }
 
-/// The status of a command: 1 where files are lacking, and else what it gives.
+/// Returns the status of a command: 1 if files are missing, and `status` otherwise.
 pub fn status_with(lacks: bool, status: u8) -> u8
     ensures status { result ≡ status_with lacks status }
 {

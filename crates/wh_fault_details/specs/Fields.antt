@@ -11,12 +11,12 @@ use Rattle.wh_json.specs.declared.fault.ReadFault.{ReadFault}
 use Rattle.wh_fault_details.specs.declared.detail.FaultDetail.{FaultDetail}
 use Rattle.wh_fault_details.specs.declared.detail.FaultDetail.TheVariants.{Lacks}
 
--- the name of a text, where that is empty
+-- the name of a text, if the text is empty
 abbrev pub if_empty : (text name : List ℕ) → Option (List ℕ)
 if_empty [] name = Some name
 if_empty (_ ∷ _) name = None
 
--- the first of the texts that an event of the kind needs which is empty, by its path within the attributes
+-- the first empty one of the texts that an event of the kind needs, by its path within the attributes
 abbrev pub field_of_kind : EventKind → Option (List ℕ)
 field_of_kind (kinds.WorkflowExecutionStarted workflow _) = if_empty workflow (codes "workflowType.name")
 field_of_kind (kinds.ActivityTaskScheduled id activity) =
@@ -31,22 +31,22 @@ field_of_kind (kinds.SignalExternalWorkflowExecutionInitiated workflow_id signal
 field_of_kind (kinds.WorkflowExecutionSignaled name _) = if_empty name (codes "signalName")
 field_of_kind _ = None
 
--- the first of the texts that the event at a place needs which it lacks: its time, or one within its attributes
+-- the first of the texts that the event at a place needs and lacks: its time, or one within its attributes
 abbrev pub field_of_member : ℕ → Data → Option (List ℕ)
 field_of_member at d =
     or_else (if_empty (text_of (field (codes "eventTime") (Some d))) (codes "eventTime"))
     (option_and_then field_of_kind (partial_event at None d).kind)
 
--- what the event at a place, counted from 1, lacks, if it is there and lacks something
+-- what the event at a place, counted from 1, lacks, if there is one and it lacks something
 abbrev pub lacks_at : List Data → ℕ → Option FaultDetail
 lacks_at members at =
     option_map (λ field. Lacks at field) (option_and_then (field_of_member at) (slice_get members (at - 1)))
 
--- the same of a document
+-- what the event at a place of a document lacks
 abbrev pub lacks_in : Data → ℕ → Option FaultDetail
 lacks_in d at = option_and_then (λ members. lacks_at members at) (events_in d)
 
--- and of bytes, where they are a document
+-- what the event at a place lacks, if the bytes are a document
 abbrev pub lacks : Result Data ReadFault → ℕ → Option FaultDetail
 lacks (Ok d) at = lacks_in d at
 lacks (Err fault) at = None

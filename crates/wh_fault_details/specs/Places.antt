@@ -1,4 +1,4 @@
--- What an event contradicts that is not in place.
+-- What an event that is out of place contradicts.
 use Rattle.std.specs.Prelude.{ℕ, ◌-◌, List, Option, Some, None, Result, Ok, Err, find, option_and_then, option_map, slice_get}
 use Rattle.wh_events.specs.Kinds.{Role, closes_run_of, role_of}
 use Rattle.wh_events.specs.Kinds.Role.{Opens, Refers, CancelsChild, Plain}
@@ -9,11 +9,11 @@ use Rattle.wh_json.specs.declared.fault.ReadFault.{ReadFault}
 use Rattle.wh_fault_details.specs.declared.detail.FaultDetail.{FaultDetail}
 use Rattle.wh_fault_details.specs.declared.detail.FaultDetail.TheVariants as details
 
--- the number of the first event that closes the run, if one does
+-- the number of the first event that closes the run, if there is one
 abbrev pub closing_in : List Event → Option ℕ
 closing_in events = option_map (λ event. event.number) (find (λ event. closes_run_of event.body) events)
 
--- the event at a place follows that one
+-- the event at a place follows the event that closes the run
 abbrev pub follows : List Event → ℕ → Option FaultDetail
 follows events at = option_map (λ close. details.Follows at close) (closing_in events)
 
@@ -24,7 +24,7 @@ of_role at (CancelsChild workflow_id) = Some (details.Names at workflow_id)
 of_role at (Opens thing id) = None
 of_role at Plain = None
 
--- what the event at a place, counted from 1, refers to, if it is there and refers to something
+-- what the event at a place, counted from 1, refers to, if there is one and it refers to something
 abbrev pub referred : List Event → ℕ → Option FaultDetail
 referred events at = option_and_then (λ event. of_role at (role_of event.body)) (slice_get events (at - 1))
 
@@ -36,7 +36,7 @@ misplaced_in events at WrongKindRef = referred events at
 misplaced_in events at AlreadyClosed = referred events at
 misplaced_in events at _ = None
 
--- the same of bytes, where they are a history
+-- what the event at a place contradicts, if the bytes are a history
 abbrev pub misplaced : Result (List Event) ReadFault → ℕ → PlaceFault → Option FaultDetail
 misplaced (Ok events) at fault = misplaced_in events at fault
 misplaced (Err unread) at fault = None

@@ -1,4 +1,4 @@
--- What a fault leaves out, as text and as JSON.
+-- The detail of a fault, as text and as JSON.
 use Rattle.std.specs.Prelude.{ℕ, List, [], ◌∷◌, ◌++◌, codes, decimal, Option, Some, None}
 use Rattle.wh_tester.specs.Json.{plain_member, text_member}
 use Rattle.wh_tester.specs.Report.{shown}
@@ -25,7 +25,7 @@ member_of (Follows at close) = plain_member (codes "closedBy") (decimal close)
 member_of (Refers at number) = plain_member (codes "refersTo") (decimal number)
 member_of (Names at workflow_id) = text_member (codes "workflowId") (shown workflow_id)
 
--- that of a detail, if there is one
+-- the member of a detail, if there is one
 abbrev pub detail_members : Option FaultDetail → List (List ℕ)
 detail_members None = []
 detail_members (Some detail) = member_of detail ∷ []

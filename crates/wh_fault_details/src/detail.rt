@@ -1,4 +1,4 @@
-//! What a fault leaves out.
+//! The detail of a fault.
 
 ghost use Rattle.std.specs.Prelude.{◌≡◌, IfErr, IfOk, true};
 ghost use Rattle.wh_fault_details.specs.Details.{detail_of, has_detail};
@@ -11,42 +11,43 @@ use wh_json::ReadFault;
 use wh_replay::Fault;
 use wh_tester::Verdict;
 
-/// What a fault leaves out of an event, which it names by its place in the history, counted from 1.
+/// What the report of a fault does not name of an event. The event is given by its place in the
+/// history, counted from 1.
 #[derive(Debug, Drop)]
 pub enum FaultDetail {
-    /// The event lacks this field, which is `eventTime` or a path within its attributes.
+    /// The event lacks a field.
     Lacks {
-        /// Its place.
+        /// The place of the event.
         at: u64,
-        /// The field.
+        /// The field: `eventTime`, or a path within the event's attributes.
         field: Text,
     },
     /// The event follows one that closes the run.
     Follows {
-        /// Its place.
+        /// The place of the event.
         at: u64,
         /// The number of the event that closes the run.
         close: EventNo,
     },
-    /// The event refers to one by its number.
+    /// The event refers to another event by its number.
     Refers {
-        /// Its place.
+        /// The place of the event.
         at: u64,
-        /// The number that it refers to.
+        /// The number of the event to which it refers.
         number: u64,
     },
-    /// The event names a child by its workflow id.
+    /// The event names a child workflow by its workflow id.
     Names {
-        /// Its place.
+        /// The place of the event.
         at: u64,
         /// The workflow id.
         workflow_id: Text,
     },
 }
 
-/// What the fault of a file with these bytes leaves out, by its verdict: the field that an event lacks,
-/// the event that closed the run before it, or what it refers to. The bytes are read once more for it,
-/// and for no other verdict. `OutOfMemory` where there was no memory for that.
+/// Returns the detail of a file's fault from its verdict and its bytes: the field that an event
+/// lacks, the event that closed the run before it, or what it refers to. The bytes are read again
+/// for these verdicts only. Returns `OutOfMemory` if there is no memory for that.
 pub fn detail_of(
     alloc: Global,
     verdict: &Verdict,

@@ -1,4 +1,4 @@
-//! The field that an event lacks.
+//! Finds the field that an event lacks.
 
 ghost use Rattle.std.specs.Prelude.{◌≡◌, IfOk, map, option_and_then, option_map};
 ghost use Rattle.serde_json.specs.View.{view};
@@ -13,14 +13,14 @@ use std::alloc::Global;
 use wh_events::{EventKind, OutOfMemory, Text};
 use wh_json::{ReadFault, events_in, field, partial_event, read_document, text_of};
 
-/// The name of a text, where that is empty.
+/// Returns the name of a text if the text is empty.
 fn if_empty(text: &str, name: &'static str) -> Option<&'static str>
     ensures { option_map (λ n. n.now) result ≡ if_empty text.now name.now }
 {
     if text.is_empty() { Some(name) } else { None }
 }
 
-/// The first of two names, if there is one.
+/// Returns the first name if there is one, or else the second.
 fn either(first: Option<&'static str>, second: Option<&'static str>) -> Option<&'static str>
     ensures { option_map (λ n. n.now) result
         ≡ or_else (option_map (λ n. n.now) first.entry) (option_map (λ n. n.now) second.entry) }
@@ -31,8 +31,8 @@ fn either(first: Option<&'static str>, second: Option<&'static str>) -> Option<&
     }
 }
 
-/// The first of the texts that an event of this kind needs which is empty, by its path within the
-/// attributes of the event.
+/// Returns the first empty one of the texts that an event of this kind needs, by its path within
+/// the attributes of the event.
 fn field_of_kind(kind: &EventKind) -> Option<&'static str>
     ensures { option_map (λ n. n.now) result ≡ field_of_kind kind.now }
 {
@@ -67,7 +67,7 @@ fn field_of_kind(kind: &EventKind) -> Option<&'static str>
     }
 }
 
-/// The first of the texts that a kind needs which is empty, if there is a kind.
+/// Returns the first empty one of the texts that a kind needs, if there is a kind.
 fn field_of(kind: &Option<EventKind>) -> Option<&'static str>
     ensures { option_map (λ n. n.now) result ≡ option_and_then field_of_kind kind.now }
 {
@@ -77,7 +77,7 @@ fn field_of(kind: &Option<EventKind>) -> Option<&'static str>
     }
 }
 
-/// The first of the texts that the event at a place needs which it lacks, if it lacks one.
+/// Returns the first of the texts that the event at a place needs and lacks, if it lacks one.
 fn field_of_member(
     alloc: Global,
     member: &Value,
@@ -90,7 +90,7 @@ fn field_of_member(
     Ok(either(time, field_of(&event.kind)))
 }
 
-/// What the event at a place lacks, if it is there and lacks something.
+/// Returns what the event at a place lacks, if there is one and it lacks something.
 fn lacks_at(alloc: Global, members: &[Value], at: u64) -> Result<Option<FaultDetail>, OutOfMemory>
     ensures { IfOk result (λ found. found ≡ lacks_at (map view members.now) at) }
 {
@@ -104,7 +104,7 @@ fn lacks_at(alloc: Global, members: &[Value], at: u64) -> Result<Option<FaultDet
     Ok(Some(FaultDetail::Lacks { at, field }))
 }
 
-/// What the event at a place of a document lacks.
+/// Returns what the event at a place of a document lacks.
 fn lacks_in(alloc: Global, value: &Value, at: u64) -> Result<Option<FaultDetail>, OutOfMemory>
     ensures { IfOk result (λ found. found ≡ lacks_in (view value.now) at) }
 {
@@ -114,7 +114,7 @@ fn lacks_in(alloc: Global, value: &Value, at: u64) -> Result<Option<FaultDetail>
     }
 }
 
-/// What the event at a place of a history lacks, by its bytes.
+/// Returns what the event at a place of a history lacks, by its bytes.
 pub(crate) fn lacks(
     alloc: Global,
     bytes: &[u8],

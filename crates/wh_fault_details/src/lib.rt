@@ -1,5 +1,5 @@
-//! What the fault of a file leaves out: the field that an event lacks, the event that closed the run
-//! before, and what an event refers to.
+//! Finds what the report of a file's fault does not name: the field that an event lacks, the event
+//! that closed the run before it, or what an event refers to.
 #![tactic(auto)]
 
 mod detail;

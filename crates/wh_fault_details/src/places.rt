@@ -1,4 +1,4 @@
-//! What an event contradicts that is not in place.
+//! Finds what an event that is out of place contradicts.
 
 ghost use Rattle.std.specs.Prelude.{◌≡◌, IfOk};
 ghost use Rattle.wh_events.specs.Kinds.{role_seen};
@@ -10,7 +10,7 @@ use std::alloc::Global;
 use wh_events::{Event, EventNo, OutOfMemory, PlaceFault, Role, Text};
 use wh_json::{ReadFault, read_events};
 
-/// The number of the first event that closes the run, if one does.
+/// Returns the number of the first event that closes the run, if there is one.
 fn closing_in(events: &[Event]) -> Option<EventNo>
     ensures { result ≡ closing_in events.now }
 {
@@ -18,7 +18,7 @@ fn closing_in(events: &[Event]) -> Option<EventNo>
     Some(event.number)
 }
 
-/// That the event at a place follows one that closes the run, if one does.
+/// Returns that the event at a place follows the event that closes the run, if there is one.
 fn follows(events: &[Event], at: u64) -> Option<FaultDetail>
     ensures { result ≡ follows events.now at }
 {
@@ -26,7 +26,7 @@ fn follows(events: &[Event], at: u64) -> Option<FaultDetail>
     Some(FaultDetail::Follows { at, close })
 }
 
-/// What an event of the role at a place refers to, if it refers to something.
+/// Returns what an event of the role at a place refers to, if it refers to something.
 fn of_role(alloc: Global, at: u64, role: Role<'_>) -> Result<Option<FaultDetail>, OutOfMemory>
     ensures { IfOk result (λ found. found ≡ of_role at (role_seen role.entry)) }
 {
@@ -40,7 +40,7 @@ fn of_role(alloc: Global, at: u64, role: Role<'_>) -> Result<Option<FaultDetail>
     }
 }
 
-/// What the event at a place refers to, if it is there and refers to something.
+/// Returns what the event at a place refers to, if there is one and it refers to something.
 fn referred(alloc: Global, events: &[Event], at: u64) -> Result<Option<FaultDetail>, OutOfMemory>
     ensures { IfOk result (λ found. found ≡ referred events.now at) }
 {
@@ -50,7 +50,7 @@ fn referred(alloc: Global, events: &[Event], at: u64) -> Result<Option<FaultDeta
     }
 }
 
-/// What the event at a place contradicts, by its fault.
+/// Returns what the event at a place contradicts, by its fault.
 fn misplaced_in(
     alloc: Global,
     events: &[Event],
@@ -68,7 +68,8 @@ fn misplaced_in(
     }
 }
 
-/// What the event at a place of a history contradicts, by its fault and the bytes of the history.
+/// Returns what the event at a place of a history contradicts, by its fault and the bytes of the
+/// history.
 pub(crate) fn misplaced(
     alloc: Global,
     bytes: &[u8],

@@ -1,4 +1,4 @@
-//! What a fault leaves out, as text and as JSON.
+//! The detail of a fault, as text and as JSON.
 
 ghost use Rattle.std.specs.Prelude.{◌≡◌, Some, option_map};
 ghost use Rattle.wh_tester.specs.Json.{following};
@@ -32,7 +32,7 @@ impl fmt::Display for FaultDetail {
     }
 }
 
-/// What a fault leaves out, if something, as a member of a JSON object (RFC 8259) after another one:
+/// The detail of a fault, if there is one, as a further member of a JSON object (RFC 8259):
 /// `field`, `closedBy`, `refersTo` or `workflowId`.
 #[derive(Drop)]
 pub struct DetailMembers<'a>(pub Option<&'a FaultDetail>);

@@ -1,20 +1,20 @@
--- Which workflow types there is code for, as is told where a file has another one.
+-- Which workflow types are registered, as it is reported if a file has another one.
 use Rattle.std.specs.Prelude.{◌==◌, ◌&&◌, ℕ, List, [], ◌++◌, length, not, codes, Bool, true, false, Option, Some, None, if◌then◌else◌}
 use Rattle.wh_diagnostics.specs.Diagnostics.{named_line}
 use Rattle.wh_file_faults.specs.declared.file_faults.Cause.{Cause}
 use Rattle.wh_file_faults.specs.declared.file_faults.Cause.TheVariants.{NotJson, NoCode}
 
--- a file is named since there is no code for its workflow type
+-- the cause is that the workflow type of a file is not registered
 abbrev pub is_no_code : Cause → Bool
 is_no_code (NoCode kind) = true
 is_no_code (NotJson position mark) = false
 
--- a file is named, and that since there is no code for its workflow type
+-- there is a cause, and it is that the workflow type of a file is not registered
 abbrev pub lacks_code : Option Cause → Bool
 lacks_code (Some cause) = is_no_code cause
 lacks_code None = false
 
--- `<name>: there is code for the workflow types <types>`, where a file has another one, and unless they are empty
+-- `<name>: there is code for the workflow types <types>`, if a file has another one and `types` is not empty
 abbrev pub known_types_text : (types : List ℕ) → (lacking : Bool) → List ℕ → List ℕ
 known_types_text types lacking name =
     if lacking && not (length types == 0)

@@ -1,4 +1,4 @@
-//! The workflow types that a program has code for, told where a file has another one.
+//! Reports the workflow types that are registered, if a file has another one.
 #![tactic(auto)]
 
 ghost use Rattle.std.specs.Prelude.{◌≡◌, OnOk};
@@ -11,7 +11,7 @@ use wh_console::Message;
 use wh_file_faults::Cause;
 use wh_tester::Shown;
 
-/// Whether a file is named since there is no code for its workflow type.
+/// Returns whether the cause is that the workflow type of a file is not registered.
 pub fn is_no_code(cause: &Cause) -> bool
     ensures no_code { result ≡ is_no_code cause.now }
 {
@@ -21,7 +21,7 @@ pub fn is_no_code(cause: &Cause) -> bool
     }
 }
 
-/// Whether a file is named, and that since there is no code for its workflow type.
+/// Returns whether there is a cause, and it is that the workflow type of a file is not registered.
 pub fn lacks_code(cause: &Option<Cause>) -> bool
     ensures lacks { result ≡ lacks_code cause.now }
 {
@@ -31,16 +31,17 @@ pub fn lacks_code(cause: &Option<Cause>) -> bool
     }
 }
 
-/// The workflow types that there is code for, which are told where a file has another one.
+/// The registered workflow types, which are reported if the workflow type of a file is not among
+/// them.
 #[derive(Clone, Copy, Debug)]
 pub struct KnownTypes<'a> {
-    /// The types, as `Nap, Greet`. Where they are empty nothing is told.
+    /// The types, as in `Nap, Greet`. If this is empty, nothing is reported.
     pub types: &'a str,
-    /// Whether there is no code for the workflow type of a file.
+    /// Whether the workflow type of a file is not registered.
     pub lacking: bool,
 }
 
-/// Writes which workflow types there is code for, where a file has another one.
+/// Writes which workflow types are registered, if the workflow type of a file is not.
 fn write_types<E: Write>(types: &str, lacking: bool, name: &str, writer: &mut E) -> io::Result<()>
     ensures { OnOk result (Appends (E.contents writer.old) (E.contents writer.new)
         (known_types_text types.now lacking name.now)) }
