@@ -1,4 +1,4 @@
--- What `explain` is given.
+-- The arguments of `explain`, and its plans.
 use Rattle.std.specs.Prelude.{◌≡◌, ◌≢◌, ◌⊎◌, ℕ, Bool, true, false, List, codes, Option, Some, None}
 use Rattle.clap.specs.Words.{Row}
 use Rattle.wh_console.specs.declared.format.Format.TheVariants as formats
@@ -10,7 +10,7 @@ use Rattle.wh_command_line.specs.declared.explain.Choice.TheVariants.{Nothing, T
 use Rattle.wh_view_report.specs.declared.text.Selection.{Selection}
 use Rattle.wh_view_report.specs.declared.text.Selection.TheVariants.{All, Last, Around}
 
--- what the flag for all tasks, the number of an event and a number of last tasks select: one of them may be given
+-- which tasks the flag for all tasks, the number of an event and a number of last tasks select; only one may be given
 abbrev pub selected : (all : Bool) (around last : Option ℕ) → Choice
 selected false None None = Nothing
 selected true None None = Tasks All
@@ -24,21 +24,22 @@ Selects Nothing selection = selection ≡ None
 Selects (Tasks tasks) selection = selection ≡ Some tasks
 Selects Twice selection = ⊥
 
--- what the rows select, where their flag for all tasks is so
+-- which tasks the rows select, given whether their flag for all tasks is set
 abbrev pub selected_by : List Row → (all : Bool) → Choice
 selected_by rows all = selected all (value_named rows (codes "around")) (value_named rows (codes "last"))
 
--- the rows give which tasks are shown, if they give any
+-- the rows select these tasks, if they select any
 abbrev pub GivesSelection : List Row → Option Selection → Type 0
-GivesSelection rows selection = (all : Bool) × GivesFlag (codes "all") rows all × Selects (selected_by rows all) selection
+GivesSelection rows selection =
+    (all : Bool) × GivesFlag (codes "all") rows all × Selects (selected_by rows all) selection
 
--- the rows give what is no number of an event or of tasks within the limits, or more than one selection
+-- the rows give a malformed number, one that is not within its limits, or more than one selection
 abbrev pub LacksSelection : List Row → Type 0
 LacksSelection rows = ¬ (MayGiveWithin rows (codes "around") 1 9223372036854775807)
     ⊎ (¬ (MayGiveWithin rows (codes "last") 1 67108864)
     ⊎ ((all : Bool) × GivesFlag (codes "all") rows all × (selected_by rows all ≡ Twice)))
 
--- the rows say whether what is recorded is shown, with nothing replayed
+-- the rows say whether only what is recorded is shown, without replay
 abbrev pub GivesRecorded : List Row → Bool → Type 0
 GivesRecorded rows recorded = GivesFlag (codes "recorded") rows recorded
 
@@ -46,17 +47,16 @@ GivesRecorded rows recorded = GivesFlag (codes "recorded") rows recorded
 abbrev pub GivesHtml : List Row → Bool → Type 0
 GivesHtml rows html = GivesFlag (codes "html") rows html
 
--- the selection, or all tasks where there is none
+-- the selection, or all tasks if there is none
 abbrev pub otherwise_all : Option Selection → Selection
 otherwise_all None = All
 otherwise_all (Some selection) = selection
 
--- what is recorded is shown, of the tasks that the rows select, or of all
+-- the selection of a report of what is recorded: the tasks that the rows select, or all
 abbrev pub GivesView : List Row → Selection → Type 0
 GivesView rows selection = (given : Option Selection) × GivesSelection rows given × (selection ≡ otherwise_all given)
 
--- the plan is what the rows ask for: a page where they say so; what is recorded where they say so; and else the replay is
--- explained
+-- the plan is what the rows ask for: a page, what is recorded, or else an explanation of the replay
 abbrev pub GivesExplanation : List Row → Plan → Type 0
 GivesExplanation rows (Explain file selection format) = GivesFile rows file × GivesFormat rows format
     × GivesRecorded rows false × GivesHtml rows false × GivesSelection rows selection
@@ -66,11 +66,11 @@ GivesExplanation rows (Page file only_recorded) = GivesFile rows file × GivesFo
     × GivesRecorded rows only_recorded × GivesHtml rows true × GivesSelection rows None
 GivesExplanation rows _ = ⊥
 
--- the rows ask for a page, and for another form or for some of its tasks
+-- the rows ask for a page, together with another format or a selection of tasks
 abbrev pub MixesPage : List Row → Type 0
 MixesPage rows = GivesHtml rows true
     × (GivesFormat rows formats.Json ⊎ ((given : Option Selection) × GivesSelection rows given × (given ≢ None)))
 
--- the rows lack the file, or select tasks by no such number or more than once, or ask for a page and more
+-- the rows lack the file, or their selection is malformed, or they ask for a page together with something else
 abbrev pub LacksExplanation : List Row → Type 0
 LacksExplanation rows = LacksText (codes "FILE") rows ⊎ (LacksSelection rows ⊎ MixesPage rows)

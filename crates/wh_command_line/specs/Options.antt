@@ -9,48 +9,48 @@ use Rattle.wh_command_line.specs.declared.command_line.Plan.{Plan}
 use Rattle.wh_command_line.specs.declared.command_line.Plan.TheVariants.{Serve, Work}
 use Rattle.wh_command_line.specs.declared.work.WorkOptions.{WorkOptions}
 
--- an argument whose value the help calls by a name of its own
+-- an argument with a name for its value in the help
 abbrev pub with_value_name : Rule → Rule
 with_value_name rule = record rule { value_names = 1 }
 
--- an argument that has a value where it is not given
+-- an argument with a default value
 abbrev pub with_default : Text → Rule → Rule
 with_default otherwise rule = record rule { defaults = otherwise ∷ [] }
 
--- an argument that has to be given
+-- a required argument
 abbrev pub as_needed : Rule → Rule
 as_needed rule = record rule { required = true }
 
--- the option of a name, which takes a value
+-- the option with a name, which takes a value
 abbrev pub option : Text → Rule
 option name = with_value_name (record (new_rule name) { long = Some name; action = Some Set })
 
--- the option of a name that takes a value, and what that is otherwise
+-- the option with a name, which takes a value, and its default
 abbrev pub option_or : Text → Text → Rule
 option_or name otherwise = with_default otherwise (option name)
 
--- the flag of a name
+-- the flag with a name
 abbrev pub flag : Text → Rule
 flag name = record (new_rule name) { long = Some name; action = Some SetTrue }
 
--- a subcommand with the options more that say how much a host holds
+-- a subcommand with the options added for the size of a host
 abbrev pub with_sizes : App → App
 with_sizes app = with_rule (with_rule (with_rule app (option_or (codes "cache") (codes "100")))
     (option_or (codes "cache-events") (codes "0"))) (option_or (codes "slots") (codes "100"))
 
--- a subcommand with the options more that say who works for which Task Queue
+-- a subcommand with the options added for the Task Queue, the namespace and the worker's identity
 abbrev pub with_names : App → App
 with_names app = with_rule (with_rule (with_rule app (as_needed (option (codes "task-queue"))))
     (option_or (codes "namespace") (codes "default"))) (option_or (codes "identity") (codes "wfhost"))
 
--- a subcommand with the options more that bound activities and waits
+-- a subcommand with the options added that bound activities and waits
 abbrev pub with_limits : App → App
 with_limits app = with_rule (with_rule (with_rule (with_rule (with_rule app
     (option_or (codes "activity-workers") (codes "0"))) (option_or (codes "activity-timeout") (codes "60")))
     (option_or (codes "activity-attempts") (codes "1"))) (option (codes "policies")))
     (option_or (codes "sticky-timeout") (codes "10"))
 
--- a subcommand with the options more that say what is told
+-- a subcommand with the options added that say what is reported
 abbrev pub with_reports : App → App
 with_reports app = with_rule (with_rule (with_rule (with_rule app (flag (codes "verbose"))) (option (codes "stats")))
     (flag (codes "json"))) (option (codes "metrics"))
@@ -65,22 +65,22 @@ pub record GivesFewSlots (rows : List Row) : Type 0 where
   pub limits : AreWithinLimits workers cache cache_events slots
   pub few : slots < workers
 
--- the sizes of the host that options of `serve` ask for
+-- the size of a host for which options of `serve` ask
 abbrev pub sizes_of : ServeOptions → Config
 sizes_of options = config_of options.workers options.cache options.cache_events options.slots
 
--- so many seconds are a duration that a server can be told, and some time
+-- so many seconds are a duration that can be sent to a server, and not 0
 abbrev pub IsTime : ℕ → Type 0
 IsTime seconds = (1 ≤ seconds) × (seconds ≤ 4294967295)
 
--- the limits of activities and waits, and the time between counts, are within their own
+-- the bounds of activities and waits, and the time between reports of counts, are within their limits
 pub record AreLimits (timeout attempts sticky : ℕ) (stats : Option ℕ) : Type 0 where
   pub timeout_is_time : IsTime timeout
   pub attempts_fit : attempts ≤ 65535
   pub sticky_is_time : IsTime sticky
   pub stats_is_time : IfSome stats IsTime
 
--- the options are within their limits: the host has a seat for each worker
+-- the options are within their limits; the size of the host counts both kinds of workers
 pub record IsWithinWorkLimits (options : WorkOptions) : Type 0 where
   pub task_queue : options.task_queue ≢ []
   pub workers : 1 ≤ options.workers
@@ -88,11 +88,11 @@ pub record IsWithinWorkLimits (options : WorkOptions) : Type 0 where
       options.cache options.cache_events options.slots
   pub limits : AreLimits options.activity_timeout options.activity_attempts options.sticky_timeout options.stats
 
--- there are fewer slots of a kind than workers of it
+-- there are fewer slots of a kind than workers of that kind
 abbrev pub LacksSlots : WorkOptions → Type 0
 LacksSlots options = (options.slots < options.workers) ⊎ (options.slots < options.activity_workers)
 
--- there are at least as many slots of each kind as workers of it
+-- there are at least as many slots of each kind as workers of that kind
 abbrev pub HasSlots : WorkOptions → Type 0
 HasSlots options = (options.workers ≤ options.slots) × (options.activity_workers ≤ options.slots)
 

@@ -1,4 +1,4 @@
--- What a command line asks for.
+-- The plan of a command line.
 use Rattle.std.specs.Prelude.{◌≡◌, ◌≢◌, ◌⊎◌, List, [], codes, Some, None}
 use Rattle.clap.specs.Words.{IsAmong, Kinds, Row, Text, fault_of, subcommand_of}
 use Rattle.clap.specs.declared.error.kind.ErrorKind.{ErrorKind}
@@ -19,7 +19,7 @@ abbrev pub IsHelp : Plan → Type 0
 IsHelp (Help text) = Unit {0}
 IsHelp _ = ⊥
 
--- the plan is what the subcommand of a name asks for by its rows
+-- the plan is what the subcommand of a name asks for with its rows
 abbrev pub IsGiven : Text → List Row → Plan → Type 0
 IsGiven name rows (Replay dir more format require_files strict_values progress) = (name ≡ codes "replay")
     × GivesPaths rows dir more.items × GivesFormat rows format
@@ -42,27 +42,27 @@ IsGiven name rows (Serve dir options require_files) = (name ≡ codes "serve") �
 IsGiven name rows (Work options) = (name ≡ codes "work") × GivesWork rows options
 IsGiven name rows (Help text) = ⊥
 
--- clap's answer is a text that was asked for: the help or the version
+-- clap returns a text that was asked for: the help or the version
 abbrev pub IsRequest : ErrorKind → Type 0
 IsRequest kind = (kind ≡ DisplayHelp) ⊎ (kind ≡ DisplayVersion)
 
--- clap's answer is a mistake in the words
+-- clap returns a mistake in the words
 abbrev pub IsMistake : ErrorKind → Type 0
 IsMistake kind = (kind ≢ DisplayHelp) × (kind ≢ DisplayVersion) × (kind ≢ OutOfMemory)
 
--- what kinds of answer clap may give for the words in place of a reading, none where it reads them
+-- the kinds of errors that clap may return for the words; none if it accepts them
 unfoldable pub kinds_of : List Text → Kinds
 kinds_of words = fault_of program words
 
--- clap reads the words
+-- clap accepts the words
 abbrev pub IsRead : List Text → Type 0
 IsRead words = kinds_of words ≡ []
 
--- clap reads the words; they name the subcommand, and give it these rows
+-- clap accepts the words; they name the subcommand, and give it these rows
 abbrev pub Names : List Text → Text → List Row → Type 0
 Names words name rows = IsRead words × (subcommand_of program words ≡ Some (name, rows))
 
--- clap reads the words, and they name no subcommand
+-- clap accepts the words, and they name no subcommand
 abbrev pub NamesNone : List Text → Type 0
 NamesNone words = IsRead words × (subcommand_of program words ≡ None)
 
@@ -88,7 +88,7 @@ AsksFewSlots name rows = ((name ≡ codes "serve") × GivesFewSlots rows)
 abbrev pub HasFewSlots : List Text → Type 0
 HasFewSlots words = (name : Text) × (rows : List Row) × Names words name rows × AsksFewSlots name rows
 
--- the rows give no folder to serve, or a number that is none or not within its limits
+-- the rows give no folder to serve, or a number that is malformed or not within its limits
 abbrev pub LacksService : List Row → Type 0
 LacksService rows = LacksText (codes "DIR") rows ⊎ ¬ (GivesAllWithin rows)
 
@@ -97,8 +97,8 @@ abbrev pub IsNoCommand : Text → Type 0
 IsNoCommand name = (name ≢ codes "replay") × (name ≢ codes "explain") × (name ≢ codes "query")
     × (name ≢ codes "check") × (name ≢ codes "try") × (name ≢ codes "serve") × (name ≢ codes "work")
 
--- the subcommand of a name can't do with its rows: it lacks its path or name, or a number within its
--- limits, or selects tasks twice, or asks for a page and more
+-- the rows are invalid for the subcommand: they lack its path or name, or a number within its limits, or select tasks
+-- twice, or ask for a page together with something else
 abbrev pub IsBadGiven : Text → List Row → Type 0
 IsBadGiven name rows =
     ((name ≡ codes "replay") × LacksText (codes "DIR") rows)
@@ -109,8 +109,8 @@ IsBadGiven name rows =
     ⊎ (((name ≡ codes "serve") × LacksService rows)
     ⊎ (((name ≡ codes "work") × LacksWork rows) ⊎ IsNoCommand name))))))
 
--- the words are none of the program's: clap finds a mistake, or it reads them, and there is no
--- subcommand, or that can't do with what it is given
+-- the words are invalid: clap finds a mistake, or it accepts them and there is no subcommand, or the subcommand's rows
+-- are invalid
 abbrev pub IsBadLine : List Text → Type 0
 IsBadLine words =
     HasMistake words ⊎ (NamesNone words

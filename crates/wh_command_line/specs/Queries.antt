@@ -1,11 +1,11 @@
--- What `query` is given.
+-- The arguments of `query`, and its plan.
 use Rattle.std.specs.Prelude.{◌≡◌, ◌⊎◌, List, [], codes, unwrap_or}
 use Rattle.clap.specs.Words.{Row, Text, all_of}
 use Rattle.wh_command_line.specs.Given.{GivesFile, GivesFormat, GivesText, LacksText}
 use Rattle.wh_command_line.specs.declared.command_line.Plan.{Plan}
 use Rattle.wh_command_line.specs.declared.command_line.Plan.TheVariants.{Query}
 
--- the rows give these inputs of a query, none where they have no row of them
+-- the rows give these arguments of a query, none if there is no row of them
 abbrev pub GivesInput : List Row → List Text → Type 0
 GivesInput rows input = input ≡ unwrap_or (all_of (codes "JSON") rows) []
 

@@ -2,7 +2,7 @@
 use Rattle.wh_command_line.specs.declared.command_line.Refusal.{Refusal}
 use Rattle.wh_command_line.specs.declared.command_line.Refusal.TheVariants.{BadLine}
 
--- a refusal that tells of a bad line has this reason
+-- if the refusal is a bad line, it has this reason
 abbrev pub IfBad : Type 0 → Refusal → Type 0
 IfBad reason (BadLine text) = reason
 IfBad reason _ = Unit {0}

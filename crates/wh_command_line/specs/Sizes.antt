@@ -1,11 +1,11 @@
--- How large a host is that numbers ask for.
+-- The size of a host for which numbers ask.
 use Rattle.std.specs.Prelude.{◌≡◌, ℕ, List, codes, Some}
 use Rattle.clap.specs.Words.{Row}
 use Rattle.wh_host.specs.Machine.{IsConfig}
 use Rattle.wh_host.specs.declared.config.Config.{Config}
 use Rattle.wh_command_line.specs.Given.{GivesWithin, value_named}
 
--- how large a host the numbers ask for
+-- the size of a host for which the numbers ask
 abbrev pub config_of : (workers cache cache_events slots : ℕ) → Config
 config_of workers cache cache_events slots =
     record {

@@ -1,4 +1,4 @@
--- What `work` is given.
+-- The arguments of `work`, and its options.
 use Rattle.std.specs.Prelude.{◌≡◌, ◌⊎◌, ℕ, ◌+◌, ◌≤◌, List, codes, Option, Some}
 use Rattle.clap.specs.Words.{Row, Text, first_of}
 use Rattle.wh_command_line.specs.Given.{GivesFlag, GivesFormat, GivesText, GivesWithin, LacksName, LacksText, MayGiveWithin}
@@ -7,7 +7,7 @@ use Rattle.wh_command_line.specs.Options.{IsWithinWorkLimits, LacksSlots}
 use Rattle.wh_command_line.specs.Sizes.{GivesAllWithin, GivesNumbers}
 use Rattle.wh_command_line.specs.declared.work.WorkOptions.{WorkOptions}
 
--- the rows give the limits of activities and waits, and the time between counts if they are told
+-- the rows give the bounds of activities and waits, and the time between reports of counts, if there is one
 pub record GivesLimits (rows : List Row) (timeout attempts sticky : ℕ) (stats : Option ℕ) : Type 0 where
   pub gives_timeout : value_named rows (codes "activity-timeout") ≡ Some timeout
   pub gives_attempts : value_named rows (codes "activity-attempts") ≡ Some attempts
@@ -21,12 +21,12 @@ pub record GivesLimitsWithin (rows : List Row) : Type 0 where
   pub sticky : GivesWithin rows (codes "sticky-timeout") 1 4294967295
   pub stats : MayGiveWithin rows (codes "stats") 1 4294967295
 
--- the rows give a number of workers of activities, beside so many workers of workflows
+-- the rows give a number of workers of activities, in addition to so many workers of workflows
 pub record GivesBeside (rows : List Row) (workers : ℕ) : Type 0 where
   pub within : GivesWithin rows (codes "activity-workers") 0 63
   pub together : (number : ℕ) → value_named rows (codes "activity-workers") ≡ Some number → workers + number ≤ 64
 
--- the rows give the files, as far as there are any
+-- the rows give the paths of the files, if there are any
 pub record GivesFiles (rows : List Row) (policies metrics : Option Text) : Type 0 where
   pub gives_policies : first_of (codes "policies") rows ≡ policies
   pub gives_metrics : first_of (codes "metrics") rows ≡ metrics
@@ -43,15 +43,15 @@ pub record GivesWork (rows : List Row) (options : WorkOptions) : Type 0 where
   pub verbose : GivesFlag (codes "verbose") rows options.verbose
   pub format : GivesFormat rows options.format
 
--- the rows give options within their limits, with fewer slots of a kind than workers of it
+-- the rows give options within their limits, with fewer slots of a kind than workers of that kind
 pub record GivesFewWorkSlots (rows : List Row) : Type 0 where
   pub options : WorkOptions
   pub given : GivesWork rows options
   pub limits : IsWithinWorkLimits options
   pub few : LacksSlots options
 
--- the rows give no Task Queue, namespace or identity, or a number that is none or not within its
--- limits, or too many workers together
+-- the rows give no Task Queue, namespace or identity, or a number that is malformed or not within its limits, or too
+-- many workers together
 abbrev pub LacksWork : List Row → Type 0
 LacksWork rows = ¬ (GivesAllWithin rows)
     ⊎ (((workers : ℕ) × (value_named rows (codes "workers") ≡ Some workers) × ¬ (GivesBeside rows workers))

@@ -31,54 +31,59 @@ use wh_view_report::Selection;
 /// What `--version` prints after the program's name.
 const VERSION: &str = "0.1.0";
 
-/// What the program is to do.
+/// What the command line asks the program to do.
 #[derive(Debug, Drop)]
 pub enum Plan {
-    /// Replay each history of a list of paths: that of a file, those of a folder, or the one on the
-    /// standard input.
+    /// Replay the histories at a list of paths: that of a file, those of a folder, or the one on
+    /// the standard input.
     Replay {
         /// The first path.
         dir: Text,
         /// The other paths, in their order.
         more: Vec<Text>,
-        /// In which form the report is written.
+        /// The format of the report.
         format: Format,
-        /// Whether it is a failure that there is no history.
+        /// Whether it is a failure if there is no history.
         require_files: bool,
-        /// Whether values of good files that differ from what is recorded are reported.
+        /// Whether values are reported that differ from what is recorded, in files without a fault.
         strict_values: bool,
-        /// Whether progress is told also where the standard error is no terminal.
+        /// Whether progress is reported also if the standard error is no terminal.
         progress: bool,
     },
     /// Explain the replay of the history in a file.
     Explain {
+        /// The path of the file.
         file: Text,
-        /// Which of its tasks are shown. Where none are named, those that matter.
+        /// Which of its tasks are shown; `None` if none are selected, and the report chooses them.
         selection: Option<Selection>,
-        /// In which form the explanation is written.
+        /// The format of the explanation.
         format: Format,
     },
-    /// Show what is recorded in the history in a file, and replay nothing.
+    /// Show what the history in a file records, without replay.
     View {
+        /// The path of the file.
         file: Text,
         /// Which of its tasks are shown.
         selection: Selection,
-        /// In which form they are written.
+        /// The format of the report.
         format: Format,
     },
     /// Write a page of the run whose history is in a file.
     Page {
+        /// The path of the file.
         file: Text,
-        /// Whether it shows what is recorded, and nothing is replayed.
+        /// Whether the page shows only what is recorded, without replay.
         only_recorded: bool,
     },
     /// Query the workflow after the last task of the history in a file.
     Query {
+        /// The path of the file.
         file: Text,
+        /// The query type.
         query_type: Text,
-        /// The arguments of the query, in their order, each of which has to be a JSON text.
+        /// The arguments of the query, in their order. Each has to be a JSON text.
         input: Vec<Text>,
-        /// In which form the result is written.
+        /// The format of the result.
         format: Format,
     },
     /// Check workflows that are tables in files.
@@ -87,46 +92,54 @@ pub enum Plan {
         file: Text,
         /// The other files, in their order.
         more: Vec<Text>,
-        /// In which form the report is written.
+        /// The format of the report.
         format: Format,
     },
     /// Write a page of the table in a file.
     Picture {
+        /// The path of the file.
         file: Text,
     },
     /// Try the table in a file on a scenario.
     Try {
+        /// The path of the file.
         file: Text,
-        /// The scenario. Where there is none, it is in the file beside that of the table.
+        /// The path of the scenario. `None` for the file beside that of the table.
         scenario: Option<Text>,
     },
     /// Serve the tasks of each history in a folder. There are at least as many slots as workers.
     Serve {
+        /// The path of the folder.
         dir: Text,
-        /// How large the host is.
+        /// The options, which say how large the host is.
         options: ServeOptions,
-        /// Whether it is a failure that there is no history.
+        /// Whether it is a failure if there is no history.
         require_files: bool,
     },
     /// Serve the tasks of a Task Queue. Each option is within its limits, and there are at least as
-    /// many slots of each kind as workers of it.
+    /// many slots of each kind as workers of that kind.
     Work {
+        /// The options.
         options: WorkOptions,
     },
-    /// Print a text that was asked for.
+    /// Print a text that the command line asks for: the help or the version.
     Help {
+        /// The text.
         text: Text,
     },
 }
 
-/// Why there is nothing to do.
+/// Why a command line is refused.
 #[derive(Debug, Drop)]
 pub enum Refusal {
-    /// The line is none of the program's. The text says why, and ends its own line.
-    BadLine { text: Text },
-    /// There are fewer slots of a kind than workers of it.
+    /// The line is invalid.
+    BadLine {
+        /// What is wrong with it. The text ends its own line.
+        text: Text,
+    },
+    /// There are fewer slots of a kind than workers of that kind.
     FewSlots,
-    /// An allocation was refused. It may come in place of any refusal.
+    /// An allocation was refused. This can be returned in place of any other refusal.
     OutOfMemory,
 }
 
@@ -141,7 +154,7 @@ impl From<AllocError> for Refusal {
     }
 }
 
-/// A copy of a text.
+/// Copies a text.
 fn text_copy(alloc: Global, text: &str) -> Result<Text, Refusal>
     ensures ok { IfOk result (λ copy. copy ≡ text.now) }
     ensures err { IfErr result (λ e. e ≡ Refusal.OutOfMemory) }
@@ -149,7 +162,8 @@ fn text_copy(alloc: Global, text: &str) -> Result<Text, Refusal>
     Ok(Text::new(String::from_str(alloc, text)?))
 }
 
-/// The refusal of a line, with what is wrong with it, unless there was no memory for that.
+/// Returns the refusal of an invalid line with this text, or `OutOfMemory` if there was no memory
+/// for the text.
 pub(crate) fn bad_line(text: Result<String, AllocError>) -> Refusal
     ensures { result ≢ Refusal.FewSlots }
 {
@@ -161,7 +175,8 @@ pub(crate) fn bad_line(text: Result<String, AllocError>) -> Refusal
     }
 }
 
-/// What clap refused, or the help or the version that was asked for.
+/// Returns the plan or the refusal for an error of clap: the help or the version that was asked
+/// for, or what clap refused.
 fn refused(alloc: Global, error: &Error) -> Result<Plan, Refusal>
     ensures help { IfOk result IsHelp }
     ensures asked { IfOk result (λ _. IsRequest (kind_of error.now)) }
@@ -176,7 +191,7 @@ fn refused(alloc: Global, error: &Error) -> Result<Plan, Refusal>
     }
 }
 
-/// An argument that has to be there, with its help.
+/// Returns a required argument, with its help.
 pub(crate) fn needed_argument<'a>(alloc: Global, name: &'a str, help: &'a str) -> Arg<'a>
     ensures rule { rule_of result ≡ needed name.entry.now }
     ensures local { result.global ≡ false }
@@ -187,7 +202,7 @@ pub(crate) fn needed_argument<'a>(alloc: Global, name: &'a str, help: &'a str) -
         .help(help)
 }
 
-/// An argument whose value the help calls by a name of its own.
+/// Returns the argument, with a name for its value in the help.
 fn with_value_name<'a>(argument: Arg<'a>, name: &'a str) -> Arg<'a>
     ensures rule { rule_of result ≡ with_value_name (rule_of argument.entry) }
     ensures local { result.global ≡ argument.entry.global }
@@ -195,8 +210,8 @@ fn with_value_name<'a>(argument: Arg<'a>, name: &'a str) -> Arg<'a>
     argument.value_name(name)
 }
 
-/// The argument that names paths, of which there is one or more, with its help and the name that the
-/// help has for a path.
+/// Returns the argument that names one or more paths, with its help and the name that the help has
+/// for a path.
 pub(crate) fn paths_argument<'a>(alloc: Global, help: &'a str, value_name: &'a str) -> Arg<'a>
     ensures rule { rule_of result ≡ paths }
     ensures local { result.global ≡ false }
@@ -208,7 +223,7 @@ pub(crate) fn paths_argument<'a>(alloc: Global, help: &'a str, value_name: &'a s
     with_value_name(argument, value_name)
 }
 
-/// A flag, with its help.
+/// Returns a flag, with its help.
 pub(crate) fn flag_argument<'a>(alloc: Global, name: &'a str, help: &'a str) -> Arg<'a>
     ensures rule { rule_of result ≡ flag name.entry.now }
     ensures local { result.global ≡ false }
@@ -219,7 +234,7 @@ pub(crate) fn flag_argument<'a>(alloc: Global, name: &'a str, help: &'a str) -> 
         .help(help)
 }
 
-/// The argument that names a folder.
+/// Returns the argument that names a folder.
 fn folder_argument<'a>(alloc: Global) -> Arg<'a>
     ensures rule { rule_of result ≡ folder }
     ensures local { result.global ≡ false }
@@ -227,7 +242,8 @@ fn folder_argument<'a>(alloc: Global) -> Arg<'a>
     needed_argument(alloc, "DIR", "The folder whose .json files are read")
 }
 
-/// An option that takes a value, with the name that the help has for the value, and its help.
+/// Returns an option that takes a value, with the name that the help has for the value, and its
+/// help.
 pub(crate) fn option_argument<'a>(
     alloc: Global,
     name: &'a str,
@@ -244,7 +260,7 @@ pub(crate) fn option_argument<'a>(
     with_value_name(argument, value_name)
 }
 
-/// An option that has a value where it is not given.
+/// Returns the option, with a default value.
 pub(crate) fn with_default<'a>(argument: Arg<'a>, otherwise: &'a str) -> Arg<'a>
     ensures rule { rule_of result ≡ with_default otherwise.entry.now (rule_of argument.entry) }
     ensures local { result.global ≡ argument.entry.global }
@@ -252,7 +268,7 @@ pub(crate) fn with_default<'a>(argument: Arg<'a>, otherwise: &'a str) -> Arg<'a>
     argument.default_value(otherwise)
 }
 
-/// An option that has to be given.
+/// Returns the option, as a required one.
 pub(crate) fn as_needed<'a>(argument: Arg<'a>) -> Arg<'a>
     ensures rule { rule_of result ≡ as_needed (rule_of argument.entry) }
     ensures local { result.global ≡ argument.entry.global }
@@ -260,7 +276,7 @@ pub(crate) fn as_needed<'a>(argument: Arg<'a>) -> Arg<'a>
     argument.required(true)
 }
 
-/// An option that takes a number, with its help.
+/// Returns an option that takes a number, with its help.
 pub(crate) fn number_argument<'a>(alloc: Global, option: &NumberOption, help: &'a str) -> Arg<'a>
     ensures rule { rule_of result ≡ option_or option.now.name.now option.now.otherwise.now }
     ensures local { result.global ≡ false }
@@ -269,7 +285,7 @@ pub(crate) fn number_argument<'a>(alloc: Global, option: &NumberOption, help: &'
     with_default(argument, option.otherwise)
 }
 
-/// A subcommand with nothing yet but its help.
+/// Returns a subcommand that has only its help.
 pub(crate) fn subcommand<'a>(alloc: Global, name: &'a str, about: &'a str) -> Command<'a>
     ensures app { app_of result ≡ new_app name.entry.now }
     ensures local { (fields_of result).has_globals ≡ false }
@@ -277,7 +293,7 @@ pub(crate) fn subcommand<'a>(alloc: Global, name: &'a str, about: &'a str) -> Co
     Command::new(alloc, name).about(about)
 }
 
-/// A subcommand, if there is one, with an argument more.
+/// Adds an argument to a subcommand. An error of either is returned.
 pub(crate) fn with_argument<'a>(
     command: Result<Command<'a>, AllocError>,
     argument: Arg<'a>,
@@ -288,7 +304,7 @@ pub(crate) fn with_argument<'a>(
     command?.arg(argument)
 }
 
-/// A subcommand, if there is one, with an option more that takes a number.
+/// Adds an option that takes a number to a subcommand. An error of the subcommand is returned.
 pub(crate) fn with_number<'a>(
     alloc: Global,
     command: Result<Command<'a>, AllocError>,
@@ -301,7 +317,7 @@ pub(crate) fn with_number<'a>(
     with_argument(command, number_argument(alloc, option, help))
 }
 
-/// The flag that makes it a failure that there is no history.
+/// Returns the flag with which it is a failure if there is no history.
 fn require_files_argument<'a>(alloc: Global) -> Arg<'a>
     ensures rule { rule_of result ≡ flag (codes "require-files") }
     ensures local { result.global ≡ false }
@@ -309,7 +325,7 @@ fn require_files_argument<'a>(alloc: Global) -> Arg<'a>
     flag_argument(alloc, "require-files", "Fails where there is no history")
 }
 
-/// The flag that has progress told also where the standard error is no terminal.
+/// Returns the flag with which progress is reported also if the standard error is no terminal.
 fn progress_argument<'a>(alloc: Global) -> Arg<'a>
     ensures rule { rule_of result ≡ flag (codes "progress") }
     ensures local { result.global ≡ false }
@@ -321,7 +337,7 @@ fn progress_argument<'a>(alloc: Global) -> Arg<'a>
     )
 }
 
-/// The subcommand `replay`.
+/// Returns the subcommand `replay`.
 fn replay<'a>(alloc: Global) -> Result<Command<'a>, AllocError>
     ensures { IfOk result (StandsFor replay) }
 {
@@ -348,7 +364,7 @@ fn replay<'a>(alloc: Global) -> Result<Command<'a>, AllocError>
     with_argument(command, progress_argument(alloc))
 }
 
-/// A subcommand, if there is one, with the options more that say how much a host holds.
+/// Adds to a subcommand the options for the size of a host. An error of the subcommand is returned.
 pub(crate) fn with_sizes<'a>(
     alloc: Global,
     command: Result<Command<'a>, AllocError>,
@@ -362,7 +378,7 @@ pub(crate) fn with_sizes<'a>(
     with_number(alloc, command, &SLOTS, helps.slots.as_str())
 }
 
-/// The subcommand `serve`.
+/// Returns the subcommand `serve`.
 fn serve<'a>(alloc: Global, helps: &'a Helps) -> Result<Command<'a>, AllocError>
     ensures { IfOk result (StandsFor serve) }
 {
@@ -377,8 +393,8 @@ fn serve<'a>(alloc: Global, helps: &'a Helps) -> Result<Command<'a>, AllocError>
     with_argument(command, require_files_argument(alloc))
 }
 
-/// The program, under a name of its user's, with nothing yet but its version and what its help ends
-/// with.
+/// Returns the program without its subcommands, under the name by which it was called, with its
+/// version and the end of its help.
 fn program_alone<'a>(alloc: Global, name: &str, helps: &'a Helps) -> Result<Command<'a>, AllocError>
     ensures { IfOk result (λ c. app_of c ≡ with_version (new_app (codes "wfhost"))) }
 {
@@ -389,7 +405,7 @@ fn program_alone<'a>(alloc: Global, name: &str, helps: &'a Helps) -> Result<Comm
         .display_name(name)
 }
 
-/// The program, if there is one, with one subcommand more, if there is one.
+/// Adds a subcommand to the program. An error of either is returned.
 fn with_subcommand<'a>(
     program: Result<Command<'a>, AllocError>,
     subcommand: Result<Command<'a>, AllocError>,
@@ -400,7 +416,7 @@ fn with_subcommand<'a>(
     program?.subcommand(subcommand?)
 }
 
-/// The program under a name, with its subcommands.
+/// Returns the program under a name, with its subcommands.
 fn command<'a>(alloc: Global, name: &str, helps: &'a Helps) -> Result<Command<'a>, AllocError>
     ensures { IfOk result (λ c. app_of c ≡ program) }
 {
@@ -413,7 +429,7 @@ fn command<'a>(alloc: Global, name: &str, helps: &'a Helps) -> Result<Command<'a
     with_subcommand(program, work(alloc, helps))
 }
 
-/// The plan to serve with these options.
+/// Returns the plan to serve with these options, or `FewSlots`.
 fn serve_plan(dir: Text, options: ServeOptions, require_files: bool) -> Result<Plan, Refusal>
     ensures limits { IfOk result IsWithinLimits }
     ensures kept { IfOk result (λ plan. plan ≡ Plan.Serve dir options require_files) }
@@ -430,7 +446,7 @@ fn serve_plan(dir: Text, options: ServeOptions, require_files: bool) -> Result<P
     })
 }
 
-/// The plan to work with these options.
+/// Returns the plan to work with these options, or `FewSlots`.
 fn work_plan(options: WorkOptions) -> Result<Plan, Refusal>
     requires { IsWithinWorkLimits options }
     ensures limits { IfOk result IsWithinLimits }
@@ -445,7 +461,7 @@ fn work_plan(options: WorkOptions) -> Result<Plan, Refusal>
     Ok(Plan::Work { options })
 }
 
-/// The text that a subcommand is given under a name.
+/// Returns the text that a subcommand is given under a name.
 pub(crate) fn text_given(alloc: Global, given: &ArgMatches<'_>, name: &str) -> Result<Text, Refusal>
     ensures given { IfOk result (λ text. GivesText name.now (rows_of (found_of given.now)) text) }
     ensures slots { result ≢ Err Refusal.FewSlots }
@@ -457,7 +473,7 @@ pub(crate) fn text_given(alloc: Global, given: &ArgMatches<'_>, name: &str) -> R
     text_copy(alloc, text)
 }
 
-/// The text that a subcommand is given under a name, if it is given one.
+/// Returns the text that a subcommand is given under a name, if it is given one.
 pub(crate) fn text_if_given(
     alloc: Global,
     given: &ArgMatches<'_>,
@@ -472,7 +488,7 @@ pub(crate) fn text_if_given(
     Ok(Some(text_copy(alloc, text)?))
 }
 
-/// Copies of texts, in their order.
+/// Copies texts, in their order.
 pub(crate) fn text_copies(alloc: Global, texts: &[&str]) -> Result<Vec<Text>, Refusal>
     ensures ok { IfOk result (λ copies. copies.items ≡ map (λ text. text.now) texts.now) }
     ensures err { IfErr result (λ e. e ≡ Refusal.OutOfMemory) }
@@ -486,14 +502,14 @@ pub(crate) fn text_copies(alloc: Global, texts: &[&str]) -> Result<Vec<Text>, Re
     Ok(copies)
 }
 
-/// The refusal of a line that lacks its path.
+/// Returns the refusal of a line that lacks its path.
 fn no_path(alloc: Global) -> Refusal
     ensures { result ≢ Refusal.FewSlots }
 {
     bad_line(String::from_str(alloc, "error: a path is needed\n"))
 }
 
-/// The paths that a subcommand is given: the first, and the others in their order.
+/// Returns the paths that a subcommand is given: the first, and the others in their order.
 pub(crate) fn paths_given(
     alloc: Global,
     given: &ArgMatches<'_>,
@@ -512,14 +528,14 @@ pub(crate) fn paths_given(
     Ok((text_copy(alloc, first)?, more))
 }
 
-/// Whether a subcommand is given a flag.
+/// Returns whether a subcommand is given a flag.
 pub(crate) fn flag_given(given: &ArgMatches<'_>, name: &str) -> bool
     ensures { GivesFlag name.now (rows_of (found_of given.now)) result }
 {
     given.get_flag(name)
 }
 
-/// The form that a subcommand is to write in.
+/// Returns the format in which a subcommand is to write.
 pub(crate) fn format_given(given: &ArgMatches<'_>) -> Format
     ensures { GivesFormat (rows_of (found_of given.now)) result }
 {
@@ -530,7 +546,7 @@ pub(crate) fn format_given(given: &ArgMatches<'_>) -> Format
     }
 }
 
-/// The refusal of a line without a command.
+/// Returns the refusal of a line without a subcommand.
 fn no_command(alloc: Global, name: &str) -> Refusal
     ensures { result ≢ Refusal.FewSlots }
 {
@@ -539,7 +555,7 @@ fn no_command(alloc: Global, name: &str) -> Refusal
     ))
 }
 
-/// The plan of a subcommand.
+/// Returns the plan of a subcommand.
 fn asked(alloc: Global, name: &str, given: &ArgMatches<'_>) -> Result<Plan, Refusal>
     ensures limits { IfOk result IsWithinLimits }
     ensures given { IfOk result (IsGiven name.now (rows_of (found_of given.now))) }
@@ -572,17 +588,19 @@ fn asked(alloc: Global, name: &str, given: &ArgMatches<'_>) -> Result<Plan, Refu
     }
 }
 
-/// The plan of a command line, whose first word is passed over. `Help` comes only where the line
-/// asks for a text, every other plan only where `clap` reads the line. Texts call the program by
-/// `name`, and the help lists the workflow types `types` that it has code for, unless they are
-/// empty.
+/// Returns the plan of a command line, whose first word is skipped. `Help` is returned only if the
+/// line asks for the help or the version, every other plan only if `clap` accepts the line. Texts
+/// call the program by `name`, and the help lists `types`, the registered workflow types, unless it
+/// is empty.
 ///
-/// `BadLine` holds what is wrong with the line, as it is shown. It comes only where `clap` finds a
-/// mistake, where the line names no subcommand, and where what it gives is no number or one that is
-/// not within its limits, or is an empty name of a Task Queue, or where tasks to be shown are
-/// selected twice, or a page is asked for and more. `FewSlots` comes only where the line names
-/// numbers within their limits, with fewer slots than workers. `OutOfMemory` comes where there is
-/// no memory to read it.
+/// Returns these refusals:
+/// - `BadLine`, with what is wrong with the line, as it is shown. It is returned only if `clap`
+///   finds a mistake, if the line names no subcommand, if it lacks a path or a name, if a number is
+///   malformed or not within its limits, if there are too many workers together, if the name of a
+///   Task Queue is empty, if tasks are selected twice, or if a page is asked for together with
+///   another format, selected tasks or more files.
+/// - `FewSlots`, only if the line gives numbers within their limits, with fewer slots than workers.
+/// - `OutOfMemory`, if there is no memory to read the line.
 pub fn parse<'a>(
     alloc: Global,
     name: &str,

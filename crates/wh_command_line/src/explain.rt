@@ -1,4 +1,4 @@
-//! The command `explain`: its arguments, and what it is given.
+//! The subcommand `explain`: its arguments, and its plan.
 
 ghost use Rattle.std.specs.Prelude.{◌≡◌, ◌≢◌, ◌⊎◌, ◌≤◌, ◌<◌, ◌^◌, false, None, true, codes, Err, IfOk, IfErr, IfSome};
 ghost use Rattle.clap.specs.Words.{App, found_of, rows_of, rule_of};
@@ -39,7 +39,7 @@ const LAST: NumberOption = NumberOption {
     most: 67_108_864,
 };
 
-/// An option that takes a number where it is given, with its help.
+/// Returns an option that takes a number and has no default, with its help.
 fn selection_argument<'a>(alloc: Global, number: &NumberOption) -> Arg<'a>
     ensures rule { rule_of result ≡ option number.now.name.now }
     ensures local { result.global ≡ false }
@@ -47,7 +47,7 @@ fn selection_argument<'a>(alloc: Global, number: &NumberOption) -> Arg<'a>
     option_argument(alloc, number.name, number.value_name, number.about)
 }
 
-/// A subcommand, if there is one, with the options more that select tasks.
+/// Adds to a subcommand the options that select tasks. An error of the subcommand is returned.
 fn with_selections<'a>(
     alloc: Global,
     command: Result<Command<'a>, AllocError>,
@@ -65,7 +65,7 @@ fn with_selections<'a>(
     with_argument(command, selection_argument(alloc, &LAST))
 }
 
-/// The subcommand `explain`.
+/// Returns the subcommand `explain`.
 pub(crate) fn explain<'a>(alloc: Global) -> Result<Command<'a>, AllocError>
     ensures { IfOk result (StandsFor explain) }
 {
@@ -92,18 +92,18 @@ pub(crate) fn explain<'a>(alloc: Global) -> Result<Command<'a>, AllocError>
     with_selections(alloc, with_argument(command, html))
 }
 
-/// What options select.
+/// Which tasks the options select.
 #[derive(Clone, Copy)]
 enum Choice {
-    /// Nothing: none of them is given.
+    /// None of the options is given.
     Nothing,
     /// These tasks.
     Tasks(Selection),
-    /// More than one of them is given.
+    /// More than one of the options is given.
     Twice,
 }
 
-/// What the flag for all tasks and the numbers of options select.
+/// Returns which tasks the flag for all tasks and the numbers of the options select.
 fn selected(all: bool, around: Option<u64>, last: Option<u64>) -> Choice
     requires around { IfSome around (λ n. (1 ≤ n) × (n < 2 ^ 63)) }
     requires last { IfSome last (λ n. n ≤ 67108864) }
@@ -121,7 +121,7 @@ fn selected(all: bool, around: Option<u64>, last: Option<u64>) -> Choice
     }
 }
 
-/// Which tasks a subcommand is given, if it is given any.
+/// Returns which tasks a subcommand selects, if it selects any.
 fn selection_given(alloc: Global, given: &ArgMatches<'_>) -> Result<Option<Selection>, Refusal>
     ensures given { IfOk result (GivesSelection (rows_of (found_of given.now))) }
     ensures slots { result ≢ Err Refusal.FewSlots }
@@ -140,7 +140,7 @@ fn selection_given(alloc: Global, given: &ArgMatches<'_>) -> Result<Option<Selec
     }
 }
 
-/// The plan to write a page, which has a form of its own and all tasks.
+/// Returns the plan to write a page, which allows neither another format nor a selection of tasks.
 fn page_plan(
     alloc: Global,
     file: Text,
@@ -166,7 +166,7 @@ fn page_plan(
     }
 }
 
-/// The selection, or all tasks where there is none.
+/// Returns the selection, or all tasks if there is none.
 fn otherwise_all(selection: Option<Selection>) -> Selection
     ensures { result ≡ otherwise_all selection }
 {
@@ -176,7 +176,7 @@ fn otherwise_all(selection: Option<Selection>) -> Selection
     }
 }
 
-/// The plan of the subcommand `explain`.
+/// Returns the plan of the subcommand `explain`.
 pub(crate) fn explanation_given(alloc: Global, given: &ArgMatches<'_>) -> Result<Plan, Refusal>
     ensures limits { IfOk result IsWithinLimits }
     ensures given { IfOk result (GivesExplanation (rows_of (found_of given.now))) }

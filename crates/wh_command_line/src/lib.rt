@@ -1,5 +1,5 @@
-//! The command line of the program: what its words ask for, and the options of `explain`,
-//! `serve` and `work` with their limits.
+//! Parses the command line of the program: its subcommands, and the options of `explain`, `serve`
+//! and `work` with their limits.
 #![tactic(auto)]
 
 mod command_line;

@@ -16,11 +16,11 @@ use wh_slots::MOST_SLOTS;
 
 /// An option that takes a number.
 pub(crate) struct NumberOption {
-    /// Its name, which stands after `--`.
+    /// Its name, without the `--` before it.
     pub(crate) name: &'static str,
-    /// Its number where it is not given, or nothing where there is none then.
+    /// Its default; empty if it has none.
     pub(crate) otherwise: &'static str,
-    /// What the help calls the number.
+    /// The name of the number in the help.
     pub(crate) value_name: &'static str,
     /// What the number means.
     pub(crate) about: &'static str,
@@ -30,7 +30,7 @@ pub(crate) struct NumberOption {
     pub(crate) most: u64,
 }
 
-/// How many workers serve.
+/// How many workers serve tasks.
 pub(crate) const WORKERS: NumberOption = NumberOption {
     name: "workers",
     otherwise: "1",
@@ -50,7 +50,7 @@ pub(crate) const CACHE: NumberOption = NumberOption {
     most: MOST_RUNS as u64,
 };
 
-/// How many events the cached runs hold together.
+/// How many events the runs in the cache hold together.
 pub(crate) const CACHE_EVENTS: NumberOption = NumberOption {
     name: "cache-events",
     otherwise: "0",
@@ -71,7 +71,7 @@ pub(crate) const SLOTS: NumberOption = NumberOption {
 };
 
 impl NumberOption {
-    /// What the help says of it.
+    /// Returns the help of the option.
     pub(crate) fn help(&self, alloc: Global) -> Result<String, AllocError> {
         let NumberOption {
             about,
@@ -82,7 +82,7 @@ impl NumberOption {
         format!(in alloc; "{about}, {least} to {most}")
     }
 
-    /// The number that it is given.
+    /// Returns the number that the option is given, or its default.
     pub(crate) fn number(&self, alloc: Global, given: &ArgMatches<'_>) -> Result<u64, Refusal>
         ensures given { IfOk result (λ n. value_named (rows_of (found_of given.now)) self.now.name.now ≡ Some n) }
         ensures least { IfOk result (λ n. self.now.least ≤ n) }
@@ -106,7 +106,7 @@ impl NumberOption {
         Ok(number)
     }
 
-    /// The number that it is given, if it is given one.
+    /// Returns the number that the option is given, if it is given one.
     pub(crate) fn number_if_given(
         &self,
         alloc: Global,
@@ -125,7 +125,7 @@ impl NumberOption {
     }
 }
 
-/// The number that a text stands for.
+/// Parses a number.
 fn number_of(text: &str) -> Option<u64>
     ensures value { IfSome result (λ n. n ≡ value_of text.now) }
     ensures none { result ≡ None → IsNumber text.now → ¬ (value_of text.now < 2 ^ 64) }
@@ -133,7 +133,7 @@ fn number_of(text: &str) -> Option<u64>
     text.parse::<u64>().ok()
 }
 
-/// The number of a name, among what was found.
+/// Returns the number that is given under a name.
 fn value_named(given: &ArgMatches<'_>, name: &str) -> Option<u64>
     ensures value { IfSome result (λ n. value_named (rows_of (found_of given.now)) name.now ≡ Some n) }
     ensures none { (least most : ℕ) → most < 2 ^ 64 → result ≡ None
@@ -142,7 +142,7 @@ fn value_named(given: &ArgMatches<'_>, name: &str) -> Option<u64>
     number_of(given.get_str(name)?)
 }
 
-/// What the help says of the statuses.
+/// The exit statuses, as the help lists them.
 const STATUSES: &str = "\
 Status:
   0  each file was read, and no task of it has a fault
@@ -150,8 +150,8 @@ Status:
   2  there is no report; standard error says why
   3  replay --strict-values: values of files differ, and none has a fault";
 
-/// What the help ends with: the statuses, and the workflow types that the program has code for,
-/// unless they are empty.
+/// Returns the end of the help: the exit statuses, and the registered workflow types, unless
+/// `types` is empty.
 fn ending(alloc: Global, types: &str) -> Result<String, AllocError>
     ensures { IfOk result (λ text. string_bytes text ≡ help_ending types.now) }
 {
@@ -162,7 +162,7 @@ fn ending(alloc: Global, types: &str) -> Result<String, AllocError>
     }
 }
 
-/// What the help says of each option, and what it ends with.
+/// The help of each option, and the end of the help.
 #[derive(Drop)]
 pub(crate) struct Helps {
     pub(crate) ending: String,

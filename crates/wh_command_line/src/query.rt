@@ -1,4 +1,4 @@
-//! The command `query`: its arguments, and what it is given.
+//! The subcommand `query`: its arguments, and its plan.
 
 ghost use Rattle.std.specs.Prelude.{◌≡◌, ◌≢◌, false, map, option_map, codes, Err, IfOk, IfErr};
 ghost use Rattle.clap.specs.Words.{found_of, rows_of, rule_of};
@@ -15,7 +15,7 @@ use clap::{Arg, ArgAction, ArgMatches, Command};
 use std::alloc::{AllocError, Global};
 use wh_events::Text;
 
-/// The argument that names the inputs of a query, of which there may be any number.
+/// Returns the argument for the arguments of a query, of which there may be any number.
 fn input_argument<'a>(alloc: Global) -> Arg<'a>
     ensures rule { rule_of result ≡ input }
     ensures local { result.global ≡ false }
@@ -25,7 +25,7 @@ fn input_argument<'a>(alloc: Global) -> Arg<'a>
     )
 }
 
-/// The subcommand `query`.
+/// Returns the subcommand `query`.
 pub(crate) fn query<'a>(alloc: Global) -> Result<Command<'a>, AllocError>
     ensures { IfOk result (StandsFor query) }
 {
@@ -47,7 +47,7 @@ pub(crate) fn query<'a>(alloc: Global) -> Result<Command<'a>, AllocError>
     with_argument(command, json)
 }
 
-/// The inputs that a query is given, none where there is no word of them.
+/// Returns the arguments of a query that the line gives, in their order.
 fn input_given(alloc: Global, given: &ArgMatches<'_>) -> Result<Vec<Text>, Refusal>
     ensures given { IfOk result (λ input. GivesInput (rows_of (found_of given.now)) input.items) }
     ensures err { IfErr result (λ e. e ≡ Refusal.OutOfMemory) }
@@ -58,7 +58,7 @@ fn input_given(alloc: Global, given: &ArgMatches<'_>) -> Result<Vec<Text>, Refus
     }
 }
 
-/// The plan of the subcommand `query`.
+/// Returns the plan of the subcommand `query`.
 pub(crate) fn query_given(alloc: Global, given: &ArgMatches<'_>) -> Result<Plan, Refusal>
     ensures limits { IfOk result IsWithinLimits }
     ensures given { IfOk result (GivesQuery (rows_of (found_of given.now))) }

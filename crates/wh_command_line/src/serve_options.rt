@@ -1,4 +1,4 @@
-//! The options of `serve`, and the sizes of a host that they stand for.
+//! The options of `serve`, and the size of a host that they stand for.
 
 ghost use Rattle.std.specs.Prelude.{◌≡◌, ◌≢◌, Err, IfOk, IfErr};
 ghost use Rattle.clap.specs.Words.{found_of, rows_of};
@@ -19,7 +19,7 @@ pub struct ServeOptions {
     pub workers: u64,
     /// How many runs the cache holds.
     pub cache: u64,
-    /// How many events the runs of the cache hold together, where 0 is no bound.
+    /// How many events the runs of the cache hold together; 0 for no bound.
     pub cache_events: u64,
     /// How many slots there are of each kind.
     pub slots: u64,
@@ -27,7 +27,7 @@ pub struct ServeOptions {
 }
 
 impl ServeOptions {
-    /// The options with these numbers.
+    /// Returns options with these numbers, which must be within their limits.
     pub fn new(workers: u64, cache: u64, cache_events: u64, slots: u64) -> ServeOptions
         requires { AreWithinLimits workers cache cache_events slots }
         ensures workers { result.workers ≡ workers }
@@ -43,7 +43,7 @@ impl ServeOptions {
         }
     }
 
-    /// The options that a subcommand is given.
+    /// Returns the options that a subcommand is given.
     pub(crate) fn given(alloc: Global, given: &ArgMatches<'_>) -> Result<ServeOptions, Refusal>
         ensures given { IfOk result (λ o.
             GivesNumbers (rows_of (found_of given.now)) o.workers o.cache o.cache_events o.slots) }
@@ -58,7 +58,7 @@ impl ServeOptions {
         })
     }
 
-    /// How large a host they ask for.
+    /// Returns the size of a host for which the options ask.
     pub fn config(self) -> Config
         ensures config { IsConfig result }
         ensures asked { result ≡ config_of self.workers self.cache self.cache_events self.slots }

@@ -1,4 +1,4 @@
-//! The commands `check` and `try`, of tables in files: their arguments, and what they are given.
+//! The subcommands `check` and `try`, of tables in files: their arguments, and their plans.
 
 ghost use Rattle.std.specs.Prelude.{◌≡◌, ◌≢◌, ◌⊎◌, [], false, true, codes, Err, IfOk, IfErr};
 ghost use Rattle.clap.specs.Words.{found_of, rows_of, rule_of};
@@ -17,7 +17,7 @@ use std::alloc::{AllocError, Global};
 use wh_console::Format;
 use wh_events::Text;
 
-/// The subcommand `check`.
+/// Returns the subcommand `check`.
 pub(crate) fn check<'a>(alloc: Global) -> Result<Command<'a>, AllocError>
     ensures { IfOk result (StandsFor check) }
 {
@@ -34,7 +34,7 @@ pub(crate) fn check<'a>(alloc: Global) -> Result<Command<'a>, AllocError>
     with_argument(command, html)
 }
 
-/// The argument that is a scenario, which may be left out.
+/// Returns the argument for a scenario, which is optional.
 fn scenario_argument<'a>(alloc: Global) -> Arg<'a>
     ensures rule { rule_of result ≡ scenario }
     ensures local { result.global ≡ false }
@@ -44,7 +44,7 @@ fn scenario_argument<'a>(alloc: Global) -> Arg<'a>
     )
 }
 
-/// The subcommand `try`.
+/// Returns the subcommand `try`.
 pub(crate) fn trial<'a>(alloc: Global) -> Result<Command<'a>, AllocError>
     ensures { IfOk result (StandsFor trial) }
 {
@@ -58,7 +58,7 @@ pub(crate) fn trial<'a>(alloc: Global) -> Result<Command<'a>, AllocError>
     with_argument(command, scenario_argument(alloc))
 }
 
-/// The plan to write a page of a table, which has a form of its own.
+/// Returns the plan to write a page of a table, which allows neither another format nor more files.
 fn picture_plan(alloc: Global, file: Text, more: &[Text], format: Format) -> Result<Plan, Refusal>
     ensures picture { IfOk result (λ plan. plan ≡ Plan.Picture file) }
     ensures text { IfOk result (λ _. format ≡ Format.Text) }
@@ -75,7 +75,7 @@ fn picture_plan(alloc: Global, file: Text, more: &[Text], format: Format) -> Res
     }
 }
 
-/// The plan of the subcommand `check`.
+/// Returns the plan of the subcommand `check`.
 pub(crate) fn check_given(alloc: Global, given: &ArgMatches<'_>) -> Result<Plan, Refusal>
     ensures limits { IfOk result IsWithinLimits }
     ensures given { IfOk result (GivesCheck (rows_of (found_of given.now))) }
@@ -90,7 +90,7 @@ pub(crate) fn check_given(alloc: Global, given: &ArgMatches<'_>) -> Result<Plan,
     Ok(Plan::Check { file, more, format })
 }
 
-/// The plan of the subcommand `try`.
+/// Returns the plan of the subcommand `try`.
 pub(crate) fn trial_given(alloc: Global, given: &ArgMatches<'_>) -> Result<Plan, Refusal>
     ensures limits { IfOk result IsWithinLimits }
     ensures given { IfOk result (GivesTrial (rows_of (found_of given.now))) }

@@ -25,14 +25,14 @@ use wh_console::Format;
 use wh_events::Text;
 use wh_host::{Config, MOST_SEATS};
 
-/// What the help of `work` says of the statuses.
+/// The exit statuses, as the help of `work` lists them.
 const STATUSES: &str = "\
 Status:
   0  it was told to shut down, or its input ended, and no call failed for good
   1  a call failed for good
   2  it did not begin; standard error says why";
 
-/// How many seconds a duration has at most.
+/// The most seconds of a duration.
 const MOST_SECONDS: u64 = u32::MAX as u64;
 
 /// How many workers poll for workflow tasks.
@@ -55,7 +55,7 @@ const ACTIVITY_WORKERS: NumberOption = NumberOption {
     most: 63,
 };
 
-/// How long an activity may take.
+/// The Start-To-Close Timeout of an activity.
 const ACTIVITY_TIMEOUT: NumberOption = NumberOption {
     name: "activity-timeout",
     otherwise: "60",
@@ -65,7 +65,7 @@ const ACTIVITY_TIMEOUT: NumberOption = NumberOption {
     most: MOST_SECONDS,
 };
 
-/// How often an activity is tried.
+/// How often an activity is attempted.
 const ACTIVITY_ATTEMPTS: NumberOption = NumberOption {
     name: "activity-attempts",
     otherwise: "1",
@@ -75,7 +75,7 @@ const ACTIVITY_ATTEMPTS: NumberOption = NumberOption {
     most: u16::MAX as u64,
 };
 
-/// How long a task waits for the worker that keeps its run.
+/// How long a task waits for the worker that has its run in the cache.
 const STICKY_TIMEOUT: NumberOption = NumberOption {
     name: "sticky-timeout",
     otherwise: "10",
@@ -85,7 +85,7 @@ const STICKY_TIMEOUT: NumberOption = NumberOption {
     most: MOST_SECONDS,
 };
 
-/// How long it is from one line of counts to the next.
+/// The time from one line of counts to the next.
 const STATS: NumberOption = NumberOption {
     name: "stats",
     otherwise: "",
@@ -95,7 +95,7 @@ const STATS: NumberOption = NumberOption {
     most: MOST_SECONDS,
 };
 
-/// What the help says of each option of `work` that takes a number and is none of `serve`'s.
+/// The help of each option of `work` that takes a number and is not an option of `serve`.
 #[derive(Drop)]
 pub(crate) struct WorkHelps {
     workers: String,
@@ -119,7 +119,7 @@ impl WorkHelps {
     }
 }
 
-/// The subcommand `work` with nothing yet but its help.
+/// Returns the subcommand `work`, with only its help.
 fn work_alone<'a>(alloc: Global) -> Command<'a>
     ensures app { app_of result ≡ new_app (codes "work") }
     ensures local { (fields_of result).has_globals ≡ false }
@@ -132,7 +132,8 @@ fn work_alone<'a>(alloc: Global) -> Command<'a>
     command.after_help(STATUSES)
 }
 
-/// A subcommand, if there is one, with the options more that say who works for which Task Queue.
+/// Adds to a subcommand the options for the Task Queue, the namespace and the worker's identity. An
+/// error of the subcommand is returned.
 fn with_names<'a>(
     alloc: Global,
     command: Result<Command<'a>, AllocError>,
@@ -162,7 +163,8 @@ fn with_names<'a>(
     with_argument(command, with_default(identity, "wfhost"))
 }
 
-/// A subcommand, if there is one, with the options more that bound activities and waits.
+/// Adds to a subcommand the options that bound activities and waits. An error of the subcommand is
+/// returned.
 fn with_limits<'a>(
     alloc: Global,
     command: Result<Command<'a>, AllocError>,
@@ -203,7 +205,8 @@ fn with_limits<'a>(
     )
 }
 
-/// A subcommand, if there is one, with the options more that say what is reported.
+/// Adds to a subcommand the options that say what is reported. An error of the subcommand is
+/// returned.
 fn with_reports<'a>(
     alloc: Global,
     command: Result<Command<'a>, AllocError>,
@@ -230,7 +233,7 @@ fn with_reports<'a>(
     with_argument(command, metrics)
 }
 
-/// The subcommand `work`.
+/// Returns the subcommand `work`.
 pub(crate) fn work<'a>(alloc: Global, helps: &'a Helps) -> Result<Command<'a>, AllocError>
     ensures { IfOk result (StandsFor work) }
 {
@@ -244,11 +247,11 @@ pub(crate) fn work<'a>(alloc: Global, helps: &'a Helps) -> Result<Command<'a>, A
 /// The options of `work`.
 #[derive(Debug, Drop)]
 pub struct WorkOptions {
-    /// The Task Queue whose tasks are served: a name that is not empty.
+    /// The Task Queue whose tasks are served. Its name is not empty.
     pub task_queue: Text,
     /// The namespace of the Task Queue.
     pub namespace: Text,
-    /// The name by which the server knows the host.
+    /// The identity of the worker, as the server sees it.
     pub identity: Text,
     /// How many workers poll for workflow tasks: 1 to 64.
     pub workers: u64,
@@ -260,26 +263,28 @@ pub struct WorkOptions {
     pub cache_events: u64,
     /// How many slots there are of each kind: 1 to 1,000.
     pub slots: u64,
-    /// How many seconds an activity may take from its start: 1 to 4,294,967,295.
+    /// The Start-To-Close Timeout of an activity, in seconds: 1 to 4,294,967,295.
     pub activity_timeout: u64,
-    /// How often an activity is tried: 1 to 65,535, or 0, which leaves it to the server.
+    /// How often an activity is attempted: 1 to 65,535, or 0, which leaves it to the server.
     pub activity_attempts: u64,
-    /// The file that has the policies, if there is one. What it leaves out of activities is as the
-    /// two options before say.
+    /// The policy file, if there is one. For what it omits of activities the two options above
+    /// hold.
     pub policies: Option<Text>,
-    /// How many seconds a task waits for the workers that keep its run: 1 to 4,294,967,295.
+    /// How many seconds a task waits for the worker that has its run in the cache: 1 to
+    /// 4,294,967,295.
     pub sticky_timeout: u64,
     /// Whether each task is reported on standard error.
     pub verbose: bool,
-    /// After how many seconds each the counts are reported, if they are: 1 to 4,294,967,295.
+    /// The seconds from one report of the counts to the next: 1 to 4,294,967,295; `None` if the
+    /// counts are not reported.
     pub stats: Option<u64>,
-    /// In which form the counts are reported.
+    /// The format in which the counts are reported.
     pub format: Format,
-    /// The file in which the counts are kept, if they are.
+    /// The file to which the counts are written, if there is one.
     pub metrics: Option<Text>,
 }
 
-/// The options of `work` that are neither names nor sizes of a host.
+/// The numbers of `work` that are not sizes of a host.
 #[derive(Clone, Copy)]
 struct Limits {
     activity_timeout: u64,
@@ -288,7 +293,7 @@ struct Limits {
     stats: Option<u64>,
 }
 
-/// The limits that a subcommand is given.
+/// Returns the limits that a subcommand is given.
 fn limits_given(alloc: Global, given: &ArgMatches<'_>) -> Result<Limits, Refusal>
     ensures given { IfOk result (λ l. GivesLimits (rows_of (found_of given.now))
         l.activity_timeout l.activity_attempts l.sticky_timeout l.stats) }
@@ -305,14 +310,14 @@ fn limits_given(alloc: Global, given: &ArgMatches<'_>) -> Result<Limits, Refusal
     })
 }
 
-/// The files of `work`.
+/// The paths of the files of `work`.
 #[derive(Drop)]
 struct Files {
     policies: Option<Text>,
     metrics: Option<Text>,
 }
 
-/// The files that a subcommand is given.
+/// Returns the paths of the files that a subcommand is given.
 fn files_given(alloc: Global, given: &ArgMatches<'_>) -> Result<Files, Refusal>
     ensures given { IfOk result (λ files. GivesFiles (rows_of (found_of given.now)) files.policies files.metrics) }
     ensures err { IfErr result (λ e. e ≡ Refusal.OutOfMemory) }
@@ -324,7 +329,7 @@ fn files_given(alloc: Global, given: &ArgMatches<'_>) -> Result<Files, Refusal>
     })
 }
 
-/// How many workers of activities a subcommand is given, beside its workers.
+/// Returns how many workers of activities a subcommand is given, in addition to `workers`.
 fn activity_workers_given(
     alloc: Global,
     given: &ArgMatches<'_>,
@@ -345,7 +350,7 @@ fn activity_workers_given(
     Ok(number)
 }
 
-/// The Task Queue that a subcommand is given.
+/// Returns the Task Queue that a subcommand is given.
 fn task_queue_given(alloc: Global, given: &ArgMatches<'_>) -> Result<Text, Refusal>
     ensures given { IfOk result (λ queue. GivesText (codes "task-queue") (rows_of (found_of given.now)) queue) }
     ensures named { IfOk result (λ queue. queue ≢ []) }
@@ -361,7 +366,7 @@ fn task_queue_given(alloc: Global, given: &ArgMatches<'_>) -> Result<Text, Refus
 }
 
 impl WorkOptions {
-    /// The options that a subcommand is given.
+    /// Returns the options that a subcommand is given.
     pub(crate) fn given(alloc: Global, given: &ArgMatches<'_>) -> Result<WorkOptions, Refusal>
         ensures given { IfOk result (GivesWork (rows_of (found_of given.now))) }
         ensures limits { IfOk result IsWithinWorkLimits }
@@ -394,14 +399,14 @@ impl WorkOptions {
         })
     }
 
-    /// Whether there are fewer slots of a kind than workers of it.
+    /// Returns whether there are fewer slots of a kind than workers of that kind.
     pub(crate) fn lacks_slots(&self) -> bool
         ensures { IsTrue result ↔ LacksSlots self.now }
     {
         self.slots < self.workers || self.slots < self.activity_workers
     }
 
-    /// How large a host they ask for.
+    /// Returns the size of a host for which the options ask.
     pub fn config(&self) -> Config
         requires { IsWithinWorkLimits self.now }
         ensures config { IsConfig result }
