@@ -1,4 +1,4 @@
--- Plain texts are strings of JSON without escapes.
+-- Plain texts are JSON strings without escapes.
 use Rattle.std.specs.Prelude.{◌≡◌, ℕ, suc, ◌-◌, ◌<◌, ◌≤◌, Bool, true, false, ◌&&◌, List, [], ◌∷◌, ◌++◌, length, get_or, take, drop, Option, Some, None, option_and_then, leb, codes, bytes_eq, refl, if◌then◌else◌}
 use Rattle.std.specs.List.{list_all}
 use Rattle.std.specs.Str.{is_utf8, IsUtf8, chars}
@@ -79,14 +79,14 @@ plain_high (byte ∷ rest) high =
     both (is_plain byte) (list_all is_plain rest) (grind (arith, nat_tests))
     (plain_high rest (λ k below. high (suc k) (omega arith)))
 
--- an ASCII character is plain where JSON may write it as it is
+-- an ASCII character is plain if a JSON string may hold it unescaped
 plain_low : (c : ℕ) → c < 128 → is_plain c ≡ is_unescaped c
 plain_low c small = grind (arith, nat_tests)
 
 unescaped_high : (c : ℕ) → 128 ≤ c → scalar c ≡ true → is_unescaped c ≡ true
 unescaped_high c big ok = elim (scalar_cases c ok) [ inl low ↦ grind (arith, nat_tests) | inr high ↦ grind (arith, nat_tests) ]
 
--- the bytes of a character are plain where JSON may write it as it is
+-- the bytes of a character are plain if a JSON string may hold it unescaped
 one_char : (c : ℕ) → scalar c ≡ true → list_all is_plain (encode c) ≡ is_unescaped c
 one_char c ok = elim (cases_lt c 128) [
   | inl small ↦ rw (encode_ascii c small) (and_true (is_plain c) ∙ plain_low c small)

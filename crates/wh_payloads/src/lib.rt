@@ -1,4 +1,4 @@
-//! Payloads that are plain texts in JSON, read without a JSON library.
+//! Payloads that are plain JSON strings, read without a JSON library.
 #![tactic(auto)]
 
 ghost use Rattle.std.specs.Prelude.{◌≡◌, true, false, Some, None, MatchOption};
@@ -10,22 +10,22 @@ pub mod laws;
 
 use wh_events::Payload;
 
-/// Whether JSON may write the byte of a text as it is (RFC 8259, section 7): not a control
-/// character (below the space), a quotation mark or a backslash.
+/// Returns whether a JSON string may hold the byte unescaped (RFC 8259, section 7): it is not a
+/// control character (below the space), a quotation mark or a backslash.
 fn is_plain(byte: u8) -> bool
     ensures { result ≡ is_plain byte }
 {
     byte >= b' ' && byte != b'"' && byte != b'\\'
 }
 
-/// Whether JSON may write each of the bytes as it is.
+/// Returns whether a JSON string may hold each of the bytes unescaped.
 fn all_plain(bytes: &[u8]) -> bool
     ensures { result ≡ list_all is_plain bytes.now }
 {
     bytes.iter().all(|byte| is_plain(*byte))
 }
 
-/// The bytes as a text. `None` where they are not UTF-8.
+/// Returns the bytes as a text, or `None` if they are not UTF-8.
 pub fn text_in(bytes: &[u8]) -> Option<&str>
     ensures { MatchOption result (is_utf8 bytes.now ≡ false)
         (λ text. (is_utf8 bytes.now ≡ true) × (text.now ≡ bytes.now)) }
@@ -36,7 +36,8 @@ pub fn text_in(bytes: &[u8]) -> Option<&str>
     }
 }
 
-/// The bytes as a text that JSON may write as it is. `None` where they are no such text, or empty.
+/// Returns the bytes as a text that a JSON string may hold unescaped. `None` if they are empty, or
+/// not such a text.
 fn plain(bytes: &[u8]) -> Option<&str>
     ensures { MatchOption result (plain bytes.now ≡ None) (λ text. plain bytes.now ≡ Some text.now) }
 {
@@ -46,25 +47,25 @@ fn plain(bytes: &[u8]) -> Option<&str>
     text_in(bytes)
 }
 
-/// What stands between two quotation marks. `None` where one of them is missing.
+/// Returns the bytes between two quotation marks, or `None` if one of the marks is missing.
 fn quoted(bytes: &[u8]) -> Option<&[u8]>
     ensures { MatchOption result (quoted bytes.now ≡ None) (λ inner. quoted bytes.now ≡ Some inner.now) }
 {
     bytes.strip_prefix(b"\"")?.strip_suffix(b"\"")
 }
 
-/// The text that the bytes are the plain JSON of: a quotation mark, then UTF-8 of at least one
-/// character in which no quotation mark, backslash or control character (below the space) stands,
-/// then a quotation mark (RFC 8259, section 7). `None` where they are anything else, also a text with
-/// an escape, which would take a JSON library to read, or JSON with spaces round it.
+/// Returns the text of a plain JSON string: a quotation mark, at least one character of UTF-8, and
+/// a quotation mark, where no character between is a quotation mark, a backslash or a control
+/// character (below the space; RFC 8259, section 7). `None` for anything else, also for a string
+/// with an escape, which only a JSON library reads, and for JSON with whitespace around it.
 pub fn plain_text(json: &[u8]) -> Option<&str>
     ensures { MatchOption result (plain_text json.now ≡ None) (λ text. plain_text json.now ≡ Some text.now) }
 {
     plain(quoted(json)?)
 }
 
-/// The plain JSON text of the payload of this number, counted from 0. `None` where there are no more
-/// than so many payloads, or its content is no such text.
+/// Returns the text of the payload of this number, counted from 0, if its content is a plain JSON
+/// string. `None` if it is not, or if there is no such payload.
 pub fn payload_text(input: &[Payload], number: usize) -> Option<&str>
     ensures { MatchOption result (payload_text input.now number ≡ None)
         (λ name. payload_text input.now number ≡ Some name.now) }

@@ -1,4 +1,4 @@
-//! Which row of a table counts.
+//! Finds the row that applies to a job.
 ghost use Rattle.std.specs.Prelude.{◌≡◌, bytes_eq, option_map};
 ghost use Rattle.wh_rows.specs.Tables.{pattern_by, row_by, rows_by};
 ghost use Rattle.wh_rows.specs.Rows.{named, is_for_job, count_of, holds, all_hold, is_for_state, fits, row_for};
@@ -10,7 +10,7 @@ use crate::row::{
 use wh_events::Text;
 use wh_workflow::{ActivityEnd, ChildEnd, Job};
 
-/// A text of a row, where `@` is the name of the run.
+/// Returns a text of a row, or the name of the run if the text is `@`.
 #[tactic(auto, unfolding(crate::specs::Rows::named))]
 pub(crate) fn named<'a>(text: &'a str, state: &'a RowsState) -> &'a str
     ensures { result.now ≡ named text.now state.now }
@@ -18,14 +18,14 @@ pub(crate) fn named<'a>(text: &'a str, state: &'a RowsState) -> &'a str
     if text == "@" { state.name.get() } else { text }
 }
 
-/// Whether the text is this one of a row.
+/// Returns whether the text equals this text of a row, where `@` is the name of the run.
 fn is_text<T: RowText>(text: &Text, wanted: &T, state: &RowsState) -> bool
     ensures { result ≡ bytes_eq text.now (named (T.bytes wanted.now) state.now) }
 {
     text.get() == named(wanted.text(), state)
 }
 
-/// Whether a row with the pattern is for the job, in a run that is in this state.
+/// Returns whether the pattern of a row matches the job, in a run with this state.
 pub fn is_for_job<T: RowText>(pattern: &JobPattern<T>, state: &RowsState, job: &Job) -> bool
     ensures { result ≡ is_for_job (pattern_by T.bytes pattern.now) state.now job.now }
 {
@@ -94,7 +94,7 @@ pub fn is_for_job<T: RowText>(pattern: &JobPattern<T>, state: &RowsState, job: &
     }
 }
 
-/// The number of a counter.
+/// Returns the value of a counter.
 pub fn count_of(counter: Counter, counts: Counts) -> u64
     ensures { result ≡ count_of counter counts }
 {
@@ -106,7 +106,7 @@ pub fn count_of(counter: Counter, counts: Counts) -> u64
     }
 }
 
-/// Whether a condition holds.
+/// Returns whether all conditions hold for these counters.
 fn holds(condition: Condition, counts: Counts) -> bool
     ensures { result ≡ holds condition counts }
 {
@@ -128,7 +128,7 @@ pub fn all_hold(conditions: &[Condition], counts: Counts) -> bool
     true
 }
 
-/// Whether a row for that state is for the one that the run is in.
+/// Returns whether the row fits: its state, its job and its conditions.
 fn is_for_state(name: &str, state: &RowsState) -> bool
     ensures { result ≡ is_for_state name.now state.now }
 {
@@ -148,7 +148,7 @@ fn fits<T: RowText, C: RowList<Condition>, G: RowList<CommandTemplate<T>>, E: Ro
         && all_hold(row.conditions.list(), state.counts)
 }
 
-/// The first row that fits.
+/// Returns the first row that fits.
 #[tactic(auto, unfolding(crate::specs::Rows::row_for))]
 pub(crate) fn row_for<
     't,

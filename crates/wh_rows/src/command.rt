@@ -10,7 +10,7 @@ use std::alloc::Global;
 use wh_events::{Items, OutOfMemory, Payload, Text};
 use wh_workflow::{ActivityEnd, ChildEnd, Command, Job, no_payloads, text_of};
 
-/// What the job came with.
+/// Returns the payloads that the job carries.
 pub(crate) fn brought(alloc: Global, job: &Job) -> Result<Items<Payload>, OutOfMemory>
     ensures { IfOk result (λ given. given ≡ brought job.now) }
 {
@@ -29,7 +29,7 @@ pub(crate) fn brought(alloc: Global, job: &Job) -> Result<Items<Payload>, OutOfM
     }
 }
 
-/// An input or a result from where a row says.
+/// Returns an input or a result from the source that a row names.
 fn payloads(
     alloc: Global,
     source: &Source,
@@ -46,14 +46,14 @@ fn payloads(
     }
 }
 
-/// An id of a row.
+/// Returns an id of a row, where `@` is the name of the run.
 fn id_of<T: RowText>(alloc: Global, id: &T, state: &RowsState) -> Result<Text, OutOfMemory>
     ensures { IfOk result (λ text. text ≡ named (T.bytes id.now) state.now) }
 {
     text_of(alloc, named(id.text(), state))
 }
 
-/// One command of a row.
+/// Returns the command that a template of a row describes.
 fn command<T: RowText>(
     alloc: Global,
     template: &CommandTemplate<T>,
@@ -112,7 +112,7 @@ fn command<T: RowText>(
     }
 }
 
-/// The commands of a row, in their order.
+/// Returns the commands of a row, in their order.
 #[tactic(auto, unfolding(crate::specs::Rows::commands_of))]
 pub(crate) fn commands<T: RowText>(
     alloc: Global,
@@ -131,7 +131,7 @@ pub(crate) fn commands<T: RowText>(
     Ok(given)
 }
 
-/// Whether the command closes the run.
+/// Returns whether the command closes the run.
 fn closes<T: RowText>(template: &CommandTemplate<T>) -> bool
     ensures { result ≡ closes (template_by T.bytes template.now) }
 {
@@ -144,7 +144,7 @@ fn closes<T: RowText>(template: &CommandTemplate<T>) -> bool
     }
 }
 
-/// Whether one of the commands closes the run.
+/// Returns whether one of the commands closes the run.
 pub(crate) fn some_closes<T: RowText>(templates: &[CommandTemplate<T>]) -> bool
     ensures { result ≡ some_closes (map (template_by T.bytes) templates.now) }
 {

@@ -1,4 +1,4 @@
-//! What a job leaves of a run that follows rows.
+//! Applies a row to the state of a run.
 ghost use Rattle.std.specs.Prelude.{◌≡◌, IfOk, OnOk};
 ghost use Rattle.wh_rows.specs.Tables.{naming_by, row_by, rows_by};
 ghost use Rattle.wh_rows.specs.Naming.{name_by};
@@ -14,14 +14,14 @@ use std::alloc::Global;
 use wh_events::OutOfMemory;
 use wh_workflow::{Command, Job};
 
-/// One more than the count, no further than its bound.
+/// Returns one more than the count, or the bound if that is less.
 pub fn raised(count: u64, bound: u64) -> u64
     ensures { result ≡ raised count bound }
 {
     if count < bound { count + 1 } else { bound }
 }
 
-/// The counts with another number for one counter.
+/// Returns the counts with this value for one counter.
 pub fn with_count(counter: Counter, counts: Counts, value: u64) -> Counts
     ensures { result ≡ with_count counter counts value }
 {
@@ -33,7 +33,7 @@ pub fn with_count(counter: Counter, counts: Counts, value: u64) -> Counts
     }
 }
 
-/// Does one thing besides.
+/// Applies one effect to the state.
 fn apply_one(
     alloc: Global,
     effect: Effect,
@@ -54,7 +54,7 @@ fn apply_one(
     Ok(())
 }
 
-/// Does all that a row does besides, in its order.
+/// Applies all effects of a row, in their order.
 #[tactic(auto, unfolding(crate::specs::Rows::after_effects))]
 fn apply(
     alloc: Global,
@@ -71,7 +71,7 @@ fn apply(
     Ok(())
 }
 
-/// Goes on in the state of that name, or stays where it is `same`.
+/// Sets the state to that of the name, unless the name is `same`.
 fn go_on<T: RowText>(state: &mut RowsState, next: &T) -> Result<(), OutOfMemory>
     ensures { OnOk result (state.new ≡ record state.old { at = next_state (T.bytes next.now) state.old.at }) }
 {
@@ -81,7 +81,7 @@ fn go_on<T: RowText>(state: &mut RowsState, next: &T) -> Result<(), OutOfMemory>
     Ok(())
 }
 
-/// Follows a row.
+/// Applies the effects of a row, closes the run if a command does so, and sets the next state.
 fn follow<T: RowText, C: RowList<Condition>, G: RowList<CommandTemplate<T>>, E: RowList<Effect>>(
     alloc: Global,
     row: &RowOf<T, C, G, E>,

@@ -1,4 +1,4 @@
-//! Workflows as tables of rows: what a row says, and the one workflow that follows a table.
+//! Workflows as tables of rows: the types of a row, and the workflow that follows a table.
 //!
 //! A row reads `State | Job | If | Gives | Then`, and the macro `rows!` writes it so:
 //!
@@ -7,9 +7,9 @@
 //!     => [StartTimer("again", 86_400)], do [Up(TRIES)] => retrying;
 //! ```
 //!
-//! The first row that fits counts. What a list of rows can't be is refused where its table is
-//! checked, by `ghost faultless = { refl }`: `found Some (InRow 7 LeadsNowhere)` says that the seventh
-//! row breaks that rule of `specs/Rules.antt`.
+//! The first row that fits applies. `ghost faultless = { refl }` checks the table: it is refused if
+//! a row breaks a rule. `found Some (InRow 7 LeadsNowhere)` says that the seventh row breaks that
+//! rule of `specs/Rules.antt`.
 #![tactic(auto)]
 
 mod choose;

@@ -1,8 +1,8 @@
-//! Rows, one a line.
+//! The macro that writes rows, one a line.
 
-/// The rows of a table, each `state: job, if [conditions] => [commands], do [effects] => state;`.
-/// What is not asked or not done is left out, as is the state after a row that closes the run or
-/// stays in its state.
+/// Builds the rows of a table, each `state: job, if [conditions] => [commands], do [effects] =>
+/// state;`. Omit `if` and `do` if there is nothing to write there, and the last `=> state` if the
+/// row closes the run or stays in its state.
 ///
 /// An activity with retries is two rows, of which the first counts while there are tries left:
 ///

@@ -1,4 +1,4 @@
-//! The name of a run, by what it is started with.
+//! The name of a run, from its input.
 ghost use Rattle.std.specs.Prelude.{◌≡◌, IfOk};
 ghost use Rattle.wh_rows.specs.Tables.{naming_by};
 ghost use Rattle.wh_rows.specs.Naming.{name_by};
@@ -10,7 +10,7 @@ use wh_events::{Items, OutOfMemory, Payload, Text};
 use wh_payloads::payload_text;
 use wh_workflow::text_of;
 
-/// The name of a run that is started with the input.
+/// Returns the name of a run with this input.
 pub(crate) fn name_by<T: RowText>(
     alloc: Global,
     naming: &Naming<T>,

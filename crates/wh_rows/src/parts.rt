@@ -5,16 +5,16 @@ use crate::row::{CommandTemplate, Condition, Effect};
 use crate::state_name::StateName;
 use wh_events::{Items, OutOfMemory, Text};
 
-/// A text of a row.
+/// A text of a row: borrowed from the program, or owned.
 pub trait RowText {
-    /// Its bytes.
+    /// The bytes of the text.
     ghost bytes: { Self → List ℕ };
 
-    /// The text.
+    /// Returns the text.
     fn text(&self) -> &str
         ensures { result.now ≡ bytes self.now };
 
-    /// The state of this name. `OutOfMemory` where an owned text could not be copied.
+    /// Returns the text as the name of a state. `OutOfMemory` if an owned text can't be copied.
     fn state_name(&self) -> Result<StateName, OutOfMemory>
         ensures { IfOk result (λ name. name ≡ bytes self.now) };
 }
@@ -48,7 +48,7 @@ pub trait RowList<A> {
     /// Its members.
     ghost list: { Self → List A };
 
-    /// Its members, in their order.
+    /// Returns the members of the list, in their order.
     fn list(&self) -> &[A]
         ensures { result.now ≡ list self.now };
 }

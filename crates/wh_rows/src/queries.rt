@@ -1,4 +1,4 @@
-//! What runs of tables answer to queries.
+//! How runs of tables answer queries.
 ghost use Rattle.std.specs.Prelude.{◌≡◌, IfOk, string_bytes};
 ghost use Rattle.wh_rows.specs.Queries.{state_json, row_query};
 
@@ -9,7 +9,7 @@ use std::alloc::Global;
 use wh_events::{OutOfMemory, Payload};
 use wh_queryable::{QueryResult, Queryable, json_result, unknown_query};
 
-/// The name of the state that a run is in, as a string of JSON.
+/// Returns the name of the run's state, as a JSON string.
 fn state_json(alloc: Global, state: &RowsState) -> Result<String, OutOfMemory>
     ensures { IfOk result (λ json. string_bytes json ≡ state_json state.now) }
 {
@@ -17,9 +17,9 @@ fn state_json(alloc: Global, state: &RowsState) -> Result<String, OutOfMemory>
     Ok(name.to_string(alloc)?)
 }
 
-/// What a run of rows answers to a query. The type `state` gives the name of the state that the run
-/// is in, as a string of JSON (RFC 8259); of a closed run that is the state that it was closed in.
-/// Each other type fails as an unknown one. `OutOfMemory` where there was no memory for the result.
+/// Answers a query of a run that follows a table. The query type `state` returns the name of the
+/// run's state as a JSON string (RFC 8259); for a closed run, the state in which it closed. Every
+/// other type fails as an unknown one. `OutOfMemory` if there is no memory for the result.
 pub fn row_query(
     alloc: Global,
     state: &RowsState,

@@ -1,4 +1,4 @@
-//! What a table says.
+//! The types of a table and of its rows.
 
 use crate::state_name::StateName;
 use wh_events::{Items, Payload, Text};
@@ -6,47 +6,49 @@ use wh_events::{Items, Payload, Text};
 /// Where an input or a result comes from.
 #[derive(Clone, Copy)]
 pub enum Source {
-    /// It is empty.
+    /// No payloads.
     Nothing,
-    /// What the run was started with.
+    /// The input of the run.
     Input,
-    /// What the job came with: the input of the start or of a signal, or the result of an activity
-    /// or a child that completed. Empty where the job brings none.
+    /// The payloads of the job: the input of the start or of a signal, or the result of an activity
+    /// or a child workflow that completed. Other jobs carry none.
     Brought,
-    /// What a row kept last by `Keep`. Empty before.
+    /// The payloads that a row kept last by `Keep`. None before that.
     Kept,
 }
 
-/// The jobs that a row is for. A text is an id, or the name of a signal; `@` is the name of the run.
+/// The jobs that a row is for. A text is an id, or the name of a signal; `@` is the name of the
+/// run.
 #[derive(Drop)]
 pub enum JobPattern<T> {
     /// The run starts.
     Start,
     /// A signal of this name.
     Signal(T),
-    /// The run is asked to cancel.
+    /// Cancellation of the run is requested.
     CancelRequested,
-    /// The activity under this id completed.
+    /// The activity with this id completed.
     Done(T),
-    /// The activity under this id failed, timed out or was canceled.
+    /// The activity with this id failed, timed out or was canceled.
     NotDone(T),
-    /// The timer under this id fired.
+    /// The timer with this id fired.
     Fired(T),
-    /// The child of this workflow id started.
+    /// The child workflow with this workflow id started.
     ChildStarted(T),
-    /// The child of this workflow id completed.
+    /// The child workflow with this workflow id completed.
     ChildDone(T),
-    /// The child of this workflow id was canceled.
+    /// The child workflow with this workflow id was canceled.
     ChildCanceled(T),
-    /// The child of this workflow id ended otherwise than by completing, also where it was canceled.
+    /// The child workflow with this workflow id ended without completing: it failed, was canceled
+    /// or ended in another way.
     ChildNotDone(T),
-    /// This version of this change is to run.
+    /// This is the version of the change.
     Version(T, i32),
-    /// A version of this change is to run, whichever it is.
+    /// There is a version of the change, whichever it is.
     AnyVersion(T),
 }
 
-/// A counter of a run. It is 0 at first, and stays at its bound once there.
+/// A counter of a run. It starts at 0, and stays at its bound once there.
 #[derive(Clone, Copy)]
 pub enum Counter {
     /// The first one.
@@ -59,72 +61,72 @@ pub enum Counter {
     D,
 }
 
-/// What a row asks of a counter.
+/// A condition of a row on a counter.
 #[derive(Clone, Copy)]
 pub enum Condition {
-    /// It is below this number.
+    /// The counter is below this number.
     Below(Counter, u64),
-    /// It is at least this number.
+    /// The counter is at least this number.
     AtLeast(Counter, u64),
 }
 
-/// What a row does besides giving commands. A flag is a counter whose bound is 1.
+/// What a row changes besides giving commands. A flag is a counter with the bound 1.
 #[derive(Clone, Copy)]
 pub enum Effect {
     /// Raises a counter by one, unless it is at its bound.
     Up(Counter),
-    /// Sets a counter to 0.
+    /// Sets the counter to 0.
     Zero(Counter),
-    /// Keeps what the job came with.
+    /// Keeps the payloads of the job.
     Keep,
 }
 
-/// A command that a row gives. As an id `@` is the name of the run.
+/// A command of a row. An id `@` is the name of the run.
 #[derive(Drop)]
 pub enum CommandTemplate<T> {
     /// Starts an activity: id, type, input.
     StartActivity(T, T, Source),
-    /// Asks for the activity under this id to be canceled.
+    /// Requests the cancellation of the activity with this id.
     CancelActivity(T),
-    /// Starts a timer: id, seconds.
+    /// Starts a timer: id, duration in seconds.
     StartTimer(T, u64),
-    /// Cancels the timer under this id.
+    /// Cancels the timer with this id.
     CancelTimer(T),
-    /// Starts a child: workflow id, type, input.
+    /// Starts a child workflow: workflow id, type, input.
     StartChild(T, T, Source),
-    /// Asks for the child of this workflow id to be canceled.
+    /// Requests the cancellation of the child workflow with this workflow id.
     CancelChild(T),
     /// Signals another workflow: workflow id, signal, input.
     SignalExternal(T, T, Source),
-    /// Asks which version of a change to run: change, least, greatest.
+    /// Asks for the version of a change (GetVersion): change id, least version, greatest version.
     Ask(T, i32, i32),
-    /// Closes the run with a result.
+    /// Completes the run with a result.
     Complete(Source),
-    /// Closes the run with a failure of this message.
+    /// Fails the run with this message.
     Fail(T),
     /// Closes the run as canceled.
     Cancel,
-    /// Closes the run and starts a new one: type, input.
+    /// Continues the run as a new one: type, input.
     ContinueAsNew(T, Source),
 }
 
-/// A row: in this state, at this job, if these conditions hold, it gives these commands, and goes
-/// on in that state. It is generic in what a text and a list are: a table of the program borrows
-/// them, a table that is read owns them. No lifetime is written in it, since the constants of a
-/// type that writes one have no name in proofs.
+/// A row: in this state, at this job, if these conditions hold, it gives these commands and leads
+/// to that state. It is generic in the types of a text and a list: a table of the program borrows
+/// them, a table that is read from a file owns them. It has no lifetime parameter, since proofs
+/// can't name the constants of a type that has one.
 #[derive(Drop)]
 pub struct RowOf<T, C, G, E> {
-    /// The state that it is for, or `any`: each state in which the run is not closed.
+    /// The state that it is for; `any` is each state of a run that is not closed.
     pub state: T,
     /// The jobs that it is for.
     pub job: JobPattern<T>,
-    /// What has to hold, all of it.
+    /// The conditions, which must all hold.
     pub conditions: C,
-    /// The commands, in their order. The last one may ask or close the run.
+    /// The commands, in their order. Only the last one may ask for a version or close the run.
     pub gives: G,
-    /// What it does besides, in this order.
+    /// The effects, in their order.
     pub effects: E,
-    /// The state after it, or `same`. It counts for nothing where the row closes the run.
+    /// The state after it, or `same`. Ignored if the row closes the run.
     pub next: T,
 }
 

@@ -1,17 +1,17 @@
-//! The state that a run is in.
+//! The name of the state that a run is in.
 ghost use Rattle.std.specs.Prelude.{◌≡◌};
 
 use std::marker::Model;
 use wh_events::Text;
 
-/// The name of a state, as a table of the program has it, or as one that was read.
+/// The name of a state: borrowed from a table of the program, or owned by a table that was read.
 #[derive(Drop)]
 enum Name {
     Fixed(&'static str),
     Owned(Text),
 }
 
-/// The name of a state, which contracts see as its bytes.
+/// The name of a state. Contracts see it as its bytes.
 #[derive(Drop)]
 pub struct StateName {
     name: Name,
@@ -27,7 +27,7 @@ impl Model for StateName {
 }
 
 impl StateName {
-    /// The name of a state of a table of the program.
+    /// Returns the name of a state of a table of the program.
     pub fn fixed(name: &'static str) -> Self
         ensures { result ≡ name.now }
     {
@@ -36,7 +36,7 @@ impl StateName {
         }
     }
 
-    /// The name of a state of a table that was read.
+    /// Returns the name of a state of a table that was read.
     pub fn owned(name: Text) -> Self
         ensures { result ≡ name }
     {
@@ -45,7 +45,7 @@ impl StateName {
         }
     }
 
-    /// The name.
+    /// Returns the name as a text.
     pub fn get(&self) -> &str
         ensures { result.now ≡ self.now }
     {

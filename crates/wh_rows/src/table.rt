@@ -13,13 +13,13 @@ use std::marker::PhantomData;
 use wh_events::OutOfMemory;
 use wh_workflow::{Command, Job, Meter, Workflow, give_all, no_payloads, text_of};
 
-/// A table of the program. An author writes `ghost table = { seen NAME }`, where `NAME` is a public
-/// `static`, and `ghost faultless = { refl }`, which is refused where a row breaks a rule.
+/// A table of the program. Its author writes `ghost table = { seen NAME }`, where `NAME` is a
+/// public `static`, and `ghost faultless = { refl }`, which is refused if a row breaks a rule.
 pub trait Table {
     /// The table.
     ghost table: { Definition };
 
-    /// The table.
+    /// Returns the table.
     fn table() -> &'static Definition
         ensures { shown result.now ≡ table };
 
@@ -27,8 +27,8 @@ pub trait Table {
     ghost faultless: { table_fault table ≡ None };
 }
 
-/// The workflow that follows a table: its program is the meaning of the rows, and it is lawful since
-/// no row breaks a rule.
+/// The workflow that follows a table. Its program is the meaning of the rows, and it is lawful
+/// since no row breaks a rule.
 pub struct Rows<T> {
     table: PhantomData<T>,
 }

@@ -1,4 +1,4 @@
-//! The words that rows are written in.
+//! The names that an author needs to write rows, in one module to import.
 
 pub use crate::row::CommandTemplate::{
     Ask, Cancel, CancelActivity, CancelChild, CancelTimer, Complete, ContinueAsNew, Fail,
