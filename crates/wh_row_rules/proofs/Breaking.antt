@@ -16,7 +16,7 @@ pub first_broken : (number : ℕ) (found : Option Rule) (rule : BrokenRule) (res
 first_broken number None rule rest is = cc
 first_broken number (Some one) rule rest is = cc
 
--- behind a row that breaks none the others decide
+-- after a row that breaks no rule, the later rows decide
 pub later_broken : (number : ℕ) (found : Option Rule) (rest : Option TableFault)
     → option_map broken_rule found ≡ None → or_else (in_row number found) rest ≡ rest
 later_broken number None rest is = refl

@@ -1,4 +1,4 @@
--- No command follows one that asks or closes the run.
+-- No command follows one that asks for a version or closes the run.
 use Rattle.std.proofs.Common.{◌≡◌, Bool, true, false, not, ◌&&◌, ◌||◌, List, [], ◌∷◌, refl, ap, ◌∙◌}
 use Rattle.std.specs.Prelude.{if◌then◌else◌}
 use Rattle.wh_rows.specs.Tables.{CommandTemplate}
@@ -6,7 +6,7 @@ use Rattle.wh_rows.specs.Rows.{closes}
 use Rattle.wh_rows.specs.Rules.{asks, ends_well}
 use Rattle.wh_row_rules.specs.Ends.{stops}
 
--- none of these follows one that stops, where the one before them stops or not
+-- none of these follows one that stops, if the one before them stops or not
 abbrev pub goes_well : Bool → List CommandTemplate → Bool
 goes_well stopped [] = true
 goes_well stopped (one ∷ rest) = if stopped then false else goes_well (stops one) rest

@@ -1,4 +1,4 @@
--- What is wrong with a table that was read.
+-- The faults of a table that was read.
 use Rattle.std.specs.Prelude.{[]}
 use Rattle.wh_rows.specs.Tables.{Definition}
 use Rattle.wh_rows.specs.Rules.{Rule, TooManyCommands, CommandAfterLast, OpensTwice, BadRange, NoState, LeadsNowhere, NeverReached, AsksInVain, Unbounded, HiddenBy, TableFault, BeginsNowhere, InRow}
@@ -26,6 +26,12 @@ abbrev pub broken : TableFault → RowsFault
 broken BeginsNowhere = faults.BeginsNowhere
 broken (InRow number rule) = faults.InRow number (broken_rule rule)
 
--- the same table as one of a program, for no type of its own
+-- the table as one of a program, with an empty workflow type
 abbrev pub definition : OwnedTable → Definition
-definition table = record { kind = []; first = table.first; name = table.name; bounds = table.bounds; rows = table.rows }
+definition table = record {
+  kind = [];
+  first = table.first;
+  name = table.name;
+  bounds = table.bounds;
+  rows = table.rows;
+}

@@ -1,4 +1,4 @@
-//! What rows ask and make of counters.
+//! The rules for the counters of rows.
 ghost use Rattle.std.specs.Prelude.{◌≡◌};
 ghost use Rattle.wh_rows.specs.Rows.{count_of};
 ghost use Rattle.wh_rows.specs.Rules.{condition_bounded, conditions_bounded, effect_bounded, effects_bounded};
@@ -6,7 +6,7 @@ ghost use Rattle.wh_rows.specs.Rules.{place_of, implies, follows, all_follow};
 
 use wh_rows::{Condition, Counter, Counts, Effect};
 
-/// How far a counter may rise.
+/// Returns the bound of a counter.
 fn count_of(counter: Counter, bounds: Counts) -> u64
     ensures { result ≡ count_of counter bounds }
 {
@@ -18,7 +18,7 @@ fn count_of(counter: Counter, bounds: Counts) -> u64
     }
 }
 
-/// Whether the condition asks for no number past the bound of its counter.
+/// Returns whether the condition compares with no number above the bound of its counter.
 fn condition_bounded(bounds: Counts, condition: Condition) -> bool
     ensures { result ≡ condition_bounded bounds condition }
 {
@@ -28,7 +28,7 @@ fn condition_bounded(bounds: Counts, condition: Condition) -> bool
     }
 }
 
-/// Whether no condition asks for a number past the bound of its counter.
+/// Returns whether no condition compares with a number above the bound of its counter.
 pub(crate) fn conditions_bounded(bounds: Counts, conditions: &[Condition]) -> bool
     ensures { result ≡ conditions_bounded bounds conditions.now }
 {
@@ -40,7 +40,7 @@ pub(crate) fn conditions_bounded(bounds: Counts, conditions: &[Condition]) -> bo
     true
 }
 
-/// Whether the effect raises no counter without a bound.
+/// Returns whether the effect raises no counter without a bound.
 fn effect_bounded(bounds: Counts, effect: Effect) -> bool
     ensures { result ≡ effect_bounded bounds effect }
 {
@@ -50,7 +50,7 @@ fn effect_bounded(bounds: Counts, effect: Effect) -> bool
     }
 }
 
-/// Whether no effect raises a counter without a bound.
+/// Returns whether no effect raises a counter without a bound.
 pub(crate) fn effects_bounded(bounds: Counts, effects: &[Effect]) -> bool
     ensures { result ≡ effects_bounded bounds effects.now }
 {
@@ -62,7 +62,7 @@ pub(crate) fn effects_bounded(bounds: Counts, effects: &[Effect]) -> bool
     true
 }
 
-/// The place of a counter among the four.
+/// Returns the place of a counter among the four.
 fn place_of(counter: Counter) -> u8
     ensures { result ≡ place_of counter }
 {
@@ -74,7 +74,7 @@ fn place_of(counter: Counter) -> u8
     }
 }
 
-/// Whether the other condition holds wherever the first does.
+/// Returns whether the other condition holds whenever the first does.
 fn implies(condition: Condition, wanted: Condition) -> bool
     ensures { result ≡ implies condition wanted }
 {
@@ -92,7 +92,7 @@ fn implies(condition: Condition, wanted: Condition) -> bool
     }
 }
 
-/// Whether a condition holds wherever one of these does.
+/// Returns whether one of the given conditions implies this one.
 fn follows(given: &[Condition], wanted: Condition) -> bool
     ensures { result ≡ follows given.now wanted }
 {
@@ -104,7 +104,7 @@ fn follows(given: &[Condition], wanted: Condition) -> bool
     false
 }
 
-/// Whether each of the others holds wherever all of these do.
+/// Returns whether each of the others is implied by one of the given conditions.
 pub(crate) fn all_follow(given: &[Condition], wanted: &[Condition]) -> bool
     ensures { result ≡ all_follow given.now wanted.now }
 {

@@ -1,4 +1,4 @@
-//! What the commands of a row may be.
+//! The rules for the commands of a row.
 ghost use Rattle.std.specs.Prelude.{◌≡◌, bytes_eq};
 ghost use Rattle.wh_rows.specs.Rows.{closes, some_closes};
 ghost use Rattle.wh_rows.specs.Rules.{asks, ends_well, opens_same, opens_again, opens_once, is_range, are_ranges};
@@ -7,21 +7,21 @@ ghost use Rattle.wh_row_rules.specs.Ends.{stops, range_is_one};
 use wh_events::Text;
 use wh_rows::CommandTemplate;
 
-/// Whether both texts are the same.
+/// Returns whether both texts are equal.
 pub fn text_eq(text: &Text, other: &Text) -> bool
     ensures { result ≡ bytes_eq text.now other.now }
 {
     text.get() == other.get()
 }
 
-/// Whether the command asks.
+/// Returns whether the command asks for a version.
 fn asks(template: &CommandTemplate<Text>) -> bool
     ensures { result ≡ asks template.now }
 {
     matches!(template, CommandTemplate::Ask(_, _, _))
 }
 
-/// Whether the command closes the run.
+/// Returns whether the command closes the run.
 pub fn closes(template: &CommandTemplate<Text>) -> bool
     ensures { result ≡ closes template.now }
 {
@@ -34,7 +34,7 @@ pub fn closes(template: &CommandTemplate<Text>) -> bool
     }
 }
 
-/// Whether one of the commands closes the run.
+/// Returns whether one of the commands closes the run.
 pub fn some_closes(templates: &[CommandTemplate<Text>]) -> bool
     ensures { result ≡ some_closes templates.now }
 {
@@ -46,14 +46,14 @@ pub fn some_closes(templates: &[CommandTemplate<Text>]) -> bool
     false
 }
 
-/// Whether nothing may follow the command.
+/// Returns whether nothing may follow the command.
 fn stops(template: &CommandTemplate<Text>) -> bool
     ensures { result ≡ stops template.now }
 {
     asks(template) || closes(template)
 }
 
-/// Whether no command but the last one asks or closes the run.
+/// Returns whether no command but the last one asks for a version or closes the run.
 pub fn ends_well(templates: &[CommandTemplate<Text>]) -> bool
     ensures { result ≡ ends_well templates.now }
 {
@@ -67,7 +67,7 @@ pub fn ends_well(templates: &[CommandTemplate<Text>]) -> bool
     true
 }
 
-/// Whether both commands start something of one kind under one id.
+/// Returns whether both commands start something of the same kind with the same id.
 fn opens_same(template: &CommandTemplate<Text>, other: &CommandTemplate<Text>) -> bool
     ensures { result ≡ opens_same template.now other.now }
 {
@@ -88,7 +88,8 @@ fn opens_same(template: &CommandTemplate<Text>, other: &CommandTemplate<Text>) -
     }
 }
 
-/// Whether one of the commands starts what this one does.
+/// Returns whether one of the commands starts something of the same kind with the same id as this
+/// one.
 fn opens_again(template: &CommandTemplate<Text>, rest: &[CommandTemplate<Text>]) -> bool
     ensures { result ≡ opens_again template.now rest.now }
 {
@@ -100,7 +101,7 @@ fn opens_again(template: &CommandTemplate<Text>, rest: &[CommandTemplate<Text>])
     false
 }
 
-/// Whether no two of the commands start something of one kind under one id.
+/// Returns whether no two of the commands start something of the same kind with the same id.
 pub(crate) fn opens_once(templates: &[CommandTemplate<Text>]) -> bool
     ensures { result ≡ opens_once templates.now }
 {
@@ -112,14 +113,15 @@ pub(crate) fn opens_once(templates: &[CommandTemplate<Text>]) -> bool
     true
 }
 
-/// Whether code may run the versions from the least to the greatest.
+/// Returns whether the range of versions is valid: the least is at least -1, the greatest is at
+/// least 0, and not below the least.
 fn is_range(least: i32, greatest: i32) -> bool
     ensures { result ≡ is_range least greatest }
 {
     !(greatest < least || (least < -1 || greatest < 0))
 }
 
-/// Whether the range of versions that a command asks for is one, if it asks.
+/// Returns whether the command asks for a valid range of versions, or for none.
 fn range_is_one(template: &CommandTemplate<Text>) -> bool
     ensures { result ≡ range_is_one template.now }
 {
@@ -129,7 +131,7 @@ fn range_is_one(template: &CommandTemplate<Text>) -> bool
     }
 }
 
-/// Whether each range of versions that the commands ask for is one.
+/// Returns whether each range of versions that the commands ask for is valid.
 pub(crate) fn are_ranges(templates: &[CommandTemplate<Text>]) -> bool
     ensures { result ≡ are_ranges templates.now }
 {

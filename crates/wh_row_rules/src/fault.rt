@@ -1,29 +1,30 @@
-//! What is wrong with rows.
+//! The rules that rows may break, and the faults of a table.
 
-/// A rule that a row breaks (the guide names them in docs/WRITE-A-WORKFLOW.md).
+/// A rule that a row breaks. docs/WRITE-A-WORKFLOW.md explains each.
 #[derive(Clone, Copy, Debug)]
 pub enum BrokenRule {
     /// It gives more than 64 commands.
     TooManyCommands,
-    /// A command follows one that asks or closes the run.
+    /// A command follows one that asks for a version or closes the run.
     CommandAfterLast,
-    /// Two of its commands start an activity, a timer or a child under one id.
+    /// Two of its commands start an activity, a timer or a child with the same id.
     OpensTwice,
-    /// It asks for a range of versions that is none: from below -1, to below 0, or with its greatest
-    /// below its least.
+    /// It asks for an invalid range of versions: the least is below -1, the greatest is below 0, or
+    /// the greatest is below the least.
     BadRange,
-    /// It is for a state of the name `same`, which is none.
+    /// It is for a state named `same`, which can't be.
     NoState,
     /// It does not close the run, and no row is for the state after it.
     LeadsNowhere,
-    /// No row of another state leads to its state, and runs do not begin there.
+    /// No row of another state leads to its state, and it is not the state that runs begin in.
     NeverReached,
-    /// It asks for the version of a change, and one that may come has no row in the state after it, but
-    /// for rows with conditions.
+    /// It asks for the version of a change, and in the state after it, some version that may be the
+    /// answer has no row without conditions.
     AsksInVain,
-    /// It raises a counter that has no bound, or asks for a number past the bound of one.
+    /// It raises a counter that has no bound, or compares one with a number above its bound.
     Unbounded,
-    /// It never counts, since wherever it fits the row of this number does, which is an earlier one.
+    /// It never applies, since the earlier row of this number, counted from 1, fits whenever it
+    /// does.
     HiddenBy(u64),
 }
 

@@ -1,4 +1,4 @@
-//! Which rows never count.
+//! Finds rows that never apply, since an earlier one hides them.
 ghost use Rattle.std.specs.Prelude.{◌≡◌, option_map};
 ghost use Rattle.wh_rows.specs.Rules.{hides, hidden_from};
 ghost use Rattle.wh_row_rules.specs.Broken.{broken_rule};
@@ -9,7 +9,7 @@ use crate::fault::BrokenRule;
 use crate::owned::OwnedRow;
 use crate::patterns::covers;
 
-/// Whether the earlier row fits wherever the later one does.
+/// Returns whether the earlier row fits whenever the later one does.
 fn hides(earlier: &OwnedRow, later: &OwnedRow) -> bool
     ensures { result ≡ hides earlier.now later.now }
 {
@@ -18,7 +18,8 @@ fn hides(earlier: &OwnedRow, later: &OwnedRow) -> bool
             && all_follow(later.conditions.get(), earlier.conditions.get()))
 }
 
-/// The first of so many rows that hides the row.
+/// Returns the rule `HiddenBy` with the number of the first of the `before` earlier rows that hides
+/// the row, or `None` if none does.
 pub(crate) fn hidden_by(before: usize, rows: &[OwnedRow], row: &OwnedRow) -> Option<BrokenRule>
     ensures { result ≡ option_map broken_rule (hidden_from 1 before rows.now row.now) }
 {

@@ -1,5 +1,5 @@
-//! Tables of rows that a program reads, and whether they break a rule of `wh_rows`: the same rules that
-//! a table of the program is checked with, decided when it runs.
+//! Tables of rows that a program reads from files, and whether they break a rule of `wh_rows`: the
+//! same rules as for a table of the program, checked at run time.
 #![tactic(auto)]
 
 mod bounds;

@@ -1,4 +1,4 @@
-//! Tables that own their texts.
+//! Tables that own their texts and lists.
 
 use wh_events::{Items, Text};
 use wh_rows::{CommandTemplate, Condition, Counts, Effect, Naming, RowOf};
@@ -13,8 +13,8 @@ pub struct OwnedTable {
     pub first: Text,
     /// How its runs are named.
     pub name: Naming<Text>,
-    /// How far each counter may rise: 0 for one that is not used.
+    /// The bound of each counter, 0 for one that is not used.
     pub bounds: Counts,
-    /// The rows. The first one that fits counts.
+    /// The rows. The first one that fits applies.
     pub rows: Items<OwnedRow>,
 }

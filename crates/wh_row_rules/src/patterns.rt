@@ -1,4 +1,4 @@
-//! Which jobs a row takes from another one.
+//! Compares the jobs that two rows are for.
 ghost use Rattle.std.specs.Prelude.{◌≡◌};
 ghost use Rattle.wh_rows.specs.declared.row.JobPattern.TheVariants as patterns;
 ghost use Rattle.wh_rows.specs.Rules.{covers};
@@ -7,7 +7,7 @@ use crate::commands::text_eq;
 use wh_events::Text;
 use wh_rows::JobPattern;
 
-/// Whether the pattern is for each job that brings this version of the change.
+/// Returns whether the pattern matches each job that gives this version of the change.
 pub(crate) fn covers_version(pattern: &JobPattern<Text>, change: &Text, version: i32) -> bool
     ensures { result ≡ covers pattern.now (patterns.Version change.now version) }
 {
@@ -18,7 +18,8 @@ pub(crate) fn covers_version(pattern: &JobPattern<Text>, change: &Text, version:
     }
 }
 
-/// Whether the pattern is for each job that brings a version of the change.
+/// Returns whether the pattern matches each job that gives a version of the change, whichever it
+/// is.
 pub(crate) fn covers_any_version(pattern: &JobPattern<Text>, change: &Text) -> bool
     ensures { result ≡ covers pattern.now (patterns.AnyVersion change.now) }
 {
@@ -28,7 +29,7 @@ pub(crate) fn covers_any_version(pattern: &JobPattern<Text>, change: &Text) -> b
     }
 }
 
-/// Whether the pattern is for each job that says how this child was canceled.
+/// Returns whether the pattern matches each job of this child being canceled.
 fn covers_canceled(pattern: &JobPattern<Text>, id: &Text) -> bool
     ensures { result ≡ covers pattern.now (patterns.ChildCanceled id.now) }
 {
@@ -39,7 +40,7 @@ fn covers_canceled(pattern: &JobPattern<Text>, id: &Text) -> bool
     }
 }
 
-/// Whether each job that the other pattern is for is one that this is for.
+/// Returns whether this pattern matches each job that the other one matches.
 pub fn covers(pattern: &JobPattern<Text>, other: &JobPattern<Text>) -> bool
     ensures { result ≡ covers pattern.now other.now }
 {

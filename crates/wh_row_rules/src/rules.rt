@@ -1,4 +1,4 @@
-//! The rules that a table keeps.
+//! Checks the rules of a table.
 ghost use Rattle.std.specs.Prelude.{◌≡◌, option_map};
 ghost use Rattle.wh_rows.specs.Rules.{row_rule, rows_fault, table_fault};
 ghost use Rattle.wh_row_rules.specs.Broken.{broken_rule, broken, definition};
@@ -11,8 +11,8 @@ use crate::owned::{OwnedRow, OwnedTable};
 use crate::states::{has_state, is_reached, leads_on, state_after};
 use crate::versions::are_heard;
 
-/// The first rule that a row breaks before which stand so many rows of the table, or `None` where it
-/// breaks none. It is what `row_rule` of the definitions of `wh_rows` finds.
+/// Returns the first rule that a row of a table breaks, if `before` rows come before it, or `None`
+/// if it breaks none. `row_rule` in the specs of `wh_rows` defines the rules.
 pub fn row_rule(table: &OwnedTable, before: usize, row: &OwnedRow) -> Option<BrokenRule>
     ensures { result ≡ option_map broken_rule (row_rule (definition table.now) before row.now) }
 {
@@ -43,7 +43,7 @@ pub fn row_rule(table: &OwnedTable, before: usize, row: &OwnedRow) -> Option<Bro
     }
 }
 
-/// The first fault of these rows of a table, if there is one.
+/// Returns the first fault of these rows of a table, or `None` if they break no rule.
 fn first_fault(table: &OwnedTable, rows: &[OwnedRow]) -> Option<RowsFault>
     ensures { result ≡ option_map broken (rows_fault (definition table.now) 0 rows.now) }
 {
@@ -58,8 +58,8 @@ fn first_fault(table: &OwnedTable, rows: &[OwnedRow]) -> Option<RowsFault>
     None
 }
 
-/// The first fault of a table, or `None` where it keeps all rules. It is what `table_fault` of the
-/// definitions of `wh_rows` finds.
+/// Returns the first fault of a table, or `None` if it breaks no rule. `table_fault` in the specs
+/// of `wh_rows` defines it.
 pub fn table_fault(table: &OwnedTable) -> Option<RowsFault>
     ensures { result ≡ option_map broken (table_fault (definition table.now)) }
 {

@@ -1,4 +1,4 @@
--- Where a counter counts commands of a kind, a run gives no more of them than its bound.
+-- If a counter counts the commands of a kind, a run gives no more of them than the counter's bound.
 use Rattle.std.specs.Prelude.{◌≡◌, ℕ, suc, ◌+◌, ◌≤◌, ◌<◌, Bool, true, false, not, ◌&&◌, ◌||◌, List, [], ◌∷◌, ◌++◌, Option, Some, nat_eq, ltb, leb, refl, if◌then◌else◌}
 use Rattle.std.proofs.Common.{sym, subst, arith}
 use Rattle.std.proofs.Math.Nat.{le_refl}
@@ -88,7 +88,7 @@ kind_alike (templates.Fail _) state job = refl
 kind_alike templates.Cancel state job = refl
 kind_alike (templates.ContinueAsNew _ _) state job = refl
 
--- a row gives as many as it says
+-- a row gives as many as its templates do
 count_alike : (kind : CommandKind) (all : List CommandTemplate) (state : RowsState) (job : Job)
     → count_kind kind (commands_of all state job) ≡ count_templates kind all
 unfolding commands_of

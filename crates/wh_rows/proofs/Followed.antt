@@ -1,4 +1,4 @@
--- Where a counter tells what is owed, each command of a kind is followed by one of another kind.
+-- If a counter says whether a command is owed, each command of a kind is followed by one of another kind.
 use Rattle.std.specs.Prelude.{◌≡◌, ℕ, suc, ◌≤◌, ◌<◌, Bool, true, false, not, ◌&&◌, ◌||◌, List, [], ◌∷◌, ◌++◌, Option, Some, None, nat_eq, ltb, leb, refl, if◌then◌else◌}
 use Rattle.std.proofs.Common.{ap, sym, subst, ◌∙◌, arith}
 use Rattle.std.proofs.lemmas.Bool.{leb-true, le-leb, lt-leb}
@@ -103,7 +103,7 @@ least_follows (one ∷ rest) counter least counts follow hold =
     (λ first. least_holds one counter least counts first (first_of (holds one counts) (all_hold rest counts) hold))
     (λ later. least_follows rest counter least counts later (second_of (holds one counts) (all_hold rest counts) hold))
 
--- a row that counts keeps to what is owed
+-- a row that applies keeps the promise
 row_kept : (first second : CommandKind) (ways : Closing → Bool) (counter : Counter) (row : Row) (state : RowsState)
     → row_follows first second ways counter row ≡ true → all_hold row.conditions state.counts ≡ true
     → row_keeps first second ways counter row (flag_of counter state) ≡ true
@@ -145,7 +145,7 @@ more false false true true behind owes good later is = cc
 more false false false true behind owes good later is = later true is
 more false false so false behind owes good later is = later false is
 
--- behind the commands of a row that may come so, what comes later may
+-- after the commands of a row that keep the promise, what comes later may keep it too
 row_then : (first second : CommandKind) (ways : Closing → Bool) (all : List CommandTemplate) (state : RowsState) (job : Job)
     (owed behind : Bool) (later : List Command) → owed_behind first second ways owed all ≡ Some behind
     → is_followed first second ways behind later ≡ true
@@ -182,7 +182,7 @@ either false one other P first second = second
 
 module _ (first second : CommandKind) (ways : Closing → Bool) (counter : Counter) (bounds : Counts) (job : Job)
     (rest : RowsState → List Command) where
-  -- what comes after a job is as it may be, and nothing comes in a run that is closed
+  -- what comes after a job keeps the promise, and nothing comes in a run that is closed
   abbrev IsGood : Type 0
   IsGood = ((state : RowsState) → is_followed first second ways (flag_of counter state) (rest state) ≡ true)
       × ((state : RowsState) → state.closed ≡ true → rest state ≡ [])
@@ -250,7 +250,7 @@ no_flag table counters.B = refl
 no_flag table counters.C = refl
 no_flag table counters.D = refl
 
--- where a counter tells what is owed, each command of the first kind is followed by one of the second
+-- if a counter says whether one is owed, each command of the first kind is followed by one of the second
 pub each_followed : (table : Definition) (first second : CommandKind) (ways : Closing → Bool) (counter : Counter)
     → is_tracked table first second ways counter ≡ true → EachFollowed table first second ways
 each_followed table first second ways counter tracked jobs =

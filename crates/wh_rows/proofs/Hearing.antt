@@ -1,4 +1,4 @@
--- Each version that a row asks for is heard.
+-- For each version that a row asks for, a row of the next state fits.
 use Rattle.std.specs.Prelude.{◌≡◌, ℕ, zero, suc, ◌+◌, ◌<◌, ◌≤◌, ℤ, pos, negsuc, int_lt, Bool, true, false, not, ◌&&◌, ◌||◌, List, [], ◌∷◌, ◌++◌, length, None, bytes_eq, codes, leb, refl}
 use Rattle.std.specs.Ordering.{int_eq}
 use Rattle.std.proofs.Common.{sym, subst, arith, inl, inr}
@@ -40,7 +40,7 @@ open_run : (closed : Bool) → closed ≡ false → not closed ≡ true
 open_run true is = cc
 open_run false is = refl
 
--- where a pattern is heard in the state of a run, a row fits each job that it is for
+-- if rows cover a pattern in the state of a run, a row fits each job that the pattern matches
 heard_fits : (wanted : JobPattern) (name : List ℕ) (rows : List Row) (state : RowsState) (job : Job)
     → hears wanted name rows ≡ true → state.closed ≡ false → state.at ≡ name → is_for_job wanted state job ≡ true
     → none_fits rows state job ≡ false
@@ -63,7 +63,7 @@ heard_fits wanted name (row ∷ rest) state job heard runs at for =
     rw fit refl)
     (λ later. and_false (not (fits row state job)) (none_fits rest state job) (heard_fits wanted name rest state job later runs at for))
 
--- a version that may come is one at a place
+-- a version that may be the answer is one at a place
 at_place : (least version : ℤ) → int_lt least (negsuc 0) ≡ false → int_lt version least ≡ false
     → (version_at (version_place version) ≡ version) × (version_place least ≤ version_place version)
 at_place (pos least) (pos version) low within =
@@ -80,7 +80,7 @@ place_below (pos version) (pos greatest) within =
 place_below (pos version) (negsuc greatest) within = cc
 place_below (negsuc version) greatest within = omega arith
 
--- where each of so many versions is heard, that at a place among them is
+-- if so many versions are covered, so is the one at each place among them
 each_heard : (change : List ℕ) (count place target : ℕ) (name : List ℕ) (rows : List Row)
     → hears_each change count place name rows ≡ true → place ≤ target → target < place + count
     → hears (patterns.Version change (version_at target)) name rows ≡ true
@@ -102,7 +102,7 @@ text_itself text = (bytes_eq-Decides text text).1 refl
 number_itself : (number : ℤ) → int_eq number number ≡ true
 number_itself number = (Decides-int_eq number number).1 refl
 
--- what is said of the asks of a row, one by one
+-- from all commands of a row that ask to one of them
 ask_heard : (name : List ℕ) (rows : List Row) (first : List CommandTemplate) (change : List ℕ) (least greatest : ℤ)
     (last : List CommandTemplate) → are_heard name rows (first ++ templates.Ask change least greatest ∷ last) ≡ true
     → hears_versions change least greatest name rows ≡ true
@@ -121,7 +121,7 @@ ask_ranged (templates.Ask other low high ∷ first) change least greatest last r
     (second_of (is_range low high) (are_ranges (first ++ templates.Ask change least greatest ∷ last)) ranged)
 ask_ranged (_ ∷ first) change least greatest last ranged = ask_ranged first change least greatest last ranged
 
--- what a row that breaks no rule asks for is in range, and heard
+-- a row that breaks no rule asks for valid ranges, and the rows cover their versions
 row_asks : (table : Definition) (before : ℕ) (row : Row) → row_rule table before row ≡ None
     → (are_ranges row.gives ≡ true) × (are_heard (state_after row) table.rows row.gives ≡ true)
 row_asks table before row none =
@@ -148,7 +148,7 @@ row_of table number (one ∷ before) row behind none =
     row_of table (suc number) before row behind
     (none_second (in_row (suc number) (row_rule table number one)) (rows_fault table (suc number) (before ++ row ∷ behind)) none)
 
--- where the versions of a change are heard, a row fits each that may come
+-- if the rows cover the versions of a change, a row fits each that may be the answer
 version_heard : (rows : List Row) (change : List ℕ) (least greatest version : ℤ) (name : List ℕ) (state : RowsState)
     → hears_versions change least greatest name rows ≡ true → is_range least greatest ≡ true
     → state.closed ≡ false → state.at ≡ name → int_lt version least ≡ false → int_lt greatest version ≡ false

@@ -1,4 +1,4 @@
--- A row that an earlier one hides is never taken.
+-- A row that an earlier one hides never applies.
 use Rattle.std.specs.Prelude.{◌≡◌, ℕ, ℤ, Bool, true, false, not, ◌&&◌, ◌||◌, List, [], ◌∷◌, ◌++◌, Option, Some, bytes_eq, codes, refl, if◌then◌else◌}
 use Rattle.std.specs.Ordering.{int_eq}
 use Rattle.std.proofs.Common.{ap, sym, subst}
@@ -63,7 +63,7 @@ covered (patterns.AnyVersion change) (patterns.Version other version) state job 
     same_text change other state (λ text. is_any_version text job) is (version_is_any (named other state) version job fit)
 covered _ _ state job is fit = cc
 
--- a condition that another one implies holds where that one does
+-- a condition that another one implies holds whenever that one does
 implied : (one wanted : Condition) (counts : Counts) → implies one wanted ≡ true → holds one counts ≡ true → holds wanted counts ≡ true
 implied one (conditions.Below counter most) counts is hold = implied_holds one counter most counts is hold
 implied one (conditions.AtLeast counter least) counts is hold = le-leb _ _ (least_holds one counter least counts is hold)
@@ -111,7 +111,7 @@ parts_of_hides true true false is = cc
 parts_of_hides true false follow is = cc
 parts_of_hides false jobs follow is = cc
 
--- a row that hides another one fits wherever this does
+-- a row that hides another one fits whenever this does
 hidden_fits : (earlier later : Row) (state : RowsState) (job : Job) → hides earlier later ≡ true
     → fits later state job ≡ true → fits earlier state job ≡ true
 hidden_fits earlier later state job is fit =

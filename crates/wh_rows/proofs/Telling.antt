@@ -1,4 +1,4 @@
--- What a query is answered reads as the name of the state.
+-- The answer to a query reads as the name of the state.
 use Rattle.std.proofs.Common.{◌≡◌, ℕ, List, [], ◌∷◌, Option, Some, refl, sym, ap, ◌∙◌, arith, append-nil}
 use Rattle.std.specs.Prelude.{option_and_then}
 use Rattle.json.specs.Json.{Json, value, if_last}

@@ -1,4 +1,4 @@
--- A table that breaks no rule gives what a step may.
+-- A table that breaks no rule is a lawful workflow.
 use Rattle.std.specs.Prelude.{◌≡◌, ℕ, suc, ◌≤◌, Bool, true, false, not, ◌&&◌, List, [], ◌∷◌, length, Option, Some, None, leb, refl, if◌then◌else◌}
 use Rattle.std.proofs.Common.{ap, sym, subst, ◌∙◌}
 use Rattle.std.proofs.lemmas.Bool.{leb-true}
@@ -24,7 +24,8 @@ pub both : (a b : Bool) → a ≡ true → b ≡ true → (a && b) ≡ true
 both true b first second = second
 both false b first second = first
 
-as_many : (gives : List CommandTemplate) (state : RowsState) (job : Job) → length (commands_of gives state job) ≡ length gives
+as_many : (gives : List CommandTemplate) (state : RowsState) (job : Job)
+    → length (commands_of gives state job) ≡ length gives
 unfolding commands_of
 as_many [] state job = refl
 as_many (one ∷ rest) state job = ap suc (as_many rest state job)
@@ -145,7 +146,8 @@ pub of_row : (table : Definition) (state : RowsState) (job : Job) (P : Option Ro
     → P None → ((before : ℕ) (row : Row) → row_rule table before row ≡ None → P (Some row))
     → P (row_for table.rows state job)
 of_row table state job P faultless none some =
-    found table 0 table.rows state job P (begins (has_state table.first table.rows) (rows_fault table 0 table.rows) faultless)
+    found table 0 table.rows state job P
+    (begins (has_state table.first table.rows) (rows_fault table 0 table.rows) faultless)
     none some
 
 -- a table that breaks no rule is lawful

@@ -1,4 +1,4 @@
--- What an author may prove of a table by a test of its rows.
+-- What an author may prove of a table by a check of its rows.
 use Rattle.std.specs.Prelude.{ℕ, ◌+◌, ◌≤◌, Bool, true, false, not, ◌&&◌, ◌||◌, List, [], ◌∷◌, ◌++◌, bytes_eq, nat_eq, cond}
 use Rattle.wh_workflow.specs.declared.job.Job.{Job}
 use Rattle.wh_workflow.specs.declared.command.Command.{Command}
@@ -13,7 +13,7 @@ use Rattle.wh_rows.specs.Tables.{CommandTemplate, Row, Definition}
 use Rattle.wh_rows.specs.Rows.{count_of, gives, after, initial}
 use Rattle.wh_rows.specs.Rules.{place_of, follows}
 
--- a kind of commands that a promise speaks of
+-- the kinds of commands that promises distinguish
 pub data CommandKind : Type 0 where
   -- those that start an activity of this type
   StartsActivity : List ℕ → CommandKind
@@ -51,7 +51,7 @@ abbrev pub count_kind : CommandKind → List Command → ℕ
 count_kind kind [] = 0
 count_kind kind (command ∷ rest) = cond (same_kind kind (kind_of command)) 1 0 + count_kind kind rest
 
--- all commands that jobs are given, one after another
+-- all commands that a run gives to these jobs, one after another
 abbrev pub given_to_all : Definition → RowsState → List Job → List Command
 given_to_all table state [] = []
 given_to_all table state (job ∷ later) = gives table state job ++ given_to_all table (after table state job) later
@@ -77,8 +77,8 @@ resets counter [] = false
 resets counter (effects.Zero other ∷ rest) = nat_eq (place_of other) (place_of counter) || resets counter rest
 resets counter (_ ∷ rest) = resets counter rest
 
--- the row does not set the counter to 0, and gives no command of the kind; or one, and then it raises
--- the counter, and fits only where that is below its bound
+-- the row does not set the counter to 0. It gives no command of the kind; or it gives one, raises the counter, and fits
+-- only if the counter is below its bound
 abbrev pub row_counts : CommandKind → Counter → ℕ → Row → Bool
 row_counts kind counter bound row =
     not (resets counter row.effects)
@@ -91,6 +91,6 @@ abbrev pub rows_count : CommandKind → Counter → ℕ → List Row → Bool
 rows_count kind counter bound [] = true
 rows_count kind counter bound (row ∷ rest) = row_counts kind counter bound row && rows_count kind counter bound rest
 
--- the counter counts the commands of the kind
+-- the counter counts at least the commands of the kind
 abbrev pub is_counted : Definition → CommandKind → Counter → Bool
 is_counted table kind counter = rows_count kind counter (count_of counter table.bounds) table.rows

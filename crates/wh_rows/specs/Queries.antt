@@ -1,4 +1,4 @@
--- What runs of rows answer to queries.
+-- How runs of tables answer queries.
 use Rattle.std.specs.Prelude.{◌≡◌, ℕ, List, [], ◌∷◌, Some, codes, bytes_eq, if◌then◌else◌}
 use Rattle.serde_json.specs.Data.{string}
 use Rattle.serde_json.specs.Read.{read}
@@ -9,17 +9,17 @@ use Rattle.wh_queryable.specs.declared.queryable.QueryResult.TheVariants.{Answer
 use Rattle.wh_queryable.specs.Queries.{Queries, json_payload, json_result, unknown_query}
 use Rattle.wh_rows.specs.declared.row.RowsState.{RowsState}
 
--- the name of the state that a run is in, as a string of JSON
+-- the name of the run's state, as a JSON string
 abbrev pub state_json : RowsState → List ℕ
 state_json state = compact_text (string state.at)
 
--- what a query of a type gives: `state` is known, and no other type
+-- the answer to a query of this type: only `state` is known
 abbrev pub row_query : RowsState → List ℕ → QueryResult
 row_query state query_type =
     if bytes_eq query_type (codes "state") then json_result (state_json state)
     else unknown_query query_type (codes "state")
 
--- whatever its input is
+-- the answer to a query, whatever its input is
 abbrev pub row_queries : Queries RowsState
 row_queries state query_type input = row_query state query_type
 

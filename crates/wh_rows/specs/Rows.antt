@@ -1,4 +1,4 @@
--- What a table of rows says.
+-- What the rows of a table mean.
 use Rattle.std.specs.Prelude.{suc, ℕ, ℤ, Bool, true, false, not, ◌&&◌, ◌||◌, List, [], ◌∷◌, Option, Some, None, bytes_eq, codes, ltb, leb, if◌then◌else◌}
 use Rattle.std.specs.Ordering.{int_eq}
 use Rattle.wh_events.specs.declared.event.Payload.{Payload}
@@ -34,7 +34,7 @@ abbrev pub is_signal : List ℕ → Job → Bool
 is_signal wanted (jobs.Signal name _) = bytes_eq name wanted
 is_signal wanted _ = false
 
--- the run is asked to cancel
+-- cancellation of the run is requested
 abbrev pub is_cancel_request : Job → Bool
 is_cancel_request jobs.CancelRequested = true
 is_cancel_request _ = false
@@ -44,7 +44,7 @@ abbrev pub is_done : List ℕ → Job → Bool
 is_done wanted (jobs.Activity id (ends.Completed _)) = bytes_eq id wanted
 is_done wanted _ = false
 
--- the activity ended otherwise
+-- the activity ended without completing
 abbrev pub is_not_done : List ℕ → Job → Bool
 is_not_done wanted (jobs.Activity id (ends.Completed _)) = false
 is_not_done wanted (jobs.Activity id _) = bytes_eq id wanted
@@ -70,18 +70,18 @@ abbrev pub is_child_canceled : List ℕ → Job → Bool
 is_child_canceled wanted (jobs.Child id child_ends.Canceled) = bytes_eq id wanted
 is_child_canceled wanted _ = false
 
--- the child ended otherwise than by completing
+-- the child ended without completing
 abbrev pub is_child_not_done : List ℕ → Job → Bool
 is_child_not_done wanted (jobs.Child id (child_ends.Completed _)) = false
 is_child_not_done wanted (jobs.Child id _) = bytes_eq id wanted
 is_child_not_done wanted _ = false
 
--- this version of the change is to run
+-- the job gives this version of the change
 abbrev pub is_version : List ℕ → ℤ → Job → Bool
 is_version wanted number (jobs.Version change version) = bytes_eq change wanted && int_eq version number
 is_version wanted number _ = false
 
--- a version of the change is to run
+-- the job gives a version of the change
 abbrev pub is_any_version : List ℕ → Job → Bool
 is_any_version wanted (jobs.Version change version) = bytes_eq change wanted
 is_any_version wanted _ = false
@@ -90,7 +90,7 @@ is_any_version wanted _ = false
 unfoldable pub named : List ℕ → RowsState → List ℕ
 named text state = if bytes_eq text (codes "@") then state.name else text
 
--- a row with the pattern is for the job
+-- the pattern of a row matches the job
 abbrev pub is_for_job : JobPattern → RowsState → Job → Bool
 is_for_job patterns.Start state job = is_start job
 is_for_job (patterns.Signal wanted) state job = is_signal (named wanted state) job
@@ -105,7 +105,7 @@ is_for_job (patterns.ChildNotDone wanted) state job = is_child_not_done (named w
 is_for_job (patterns.Version wanted number) state job = is_version (named wanted state) number job
 is_for_job (patterns.AnyVersion wanted) state job = is_any_version (named wanted state) job
 
--- the number of a counter
+-- the value of a counter
 abbrev pub count_of : Counter → Counts → ℕ
 count_of counters.A counts = counts.a
 count_of counters.B counts = counts.b
@@ -122,11 +122,11 @@ abbrev pub all_hold : List Condition → Counts → Bool
 all_hold [] counts = true
 all_hold (condition ∷ rest) counts = holds condition counts && all_hold rest counts
 
--- a row for the state of that name is for the one that the run is in
+-- a row for this state name is for the state that the run is in
 abbrev pub is_for_state : List ℕ → RowsState → Bool
 is_for_state name state = not state.closed && (bytes_eq name (codes "any") || bytes_eq name state.at)
 
--- the row fits
+-- the row fits: its state, its job and its conditions
 abbrev pub fits : Row → RowsState → Job → Bool
 fits row state job =
     is_for_state row.state state && is_for_job row.job state job && all_hold row.conditions state.counts
@@ -136,7 +136,7 @@ unfoldable pub row_for : List Row → RowsState → Job → Option Row
 row_for [] state job = None
 row_for (row ∷ rows) state job = if fits row state job then Some row else row_for rows state job
 
--- what the job came with
+-- the payloads that the job carries
 abbrev pub brought : Job → List Payload
 brought (jobs.Start _ input) = input
 brought (jobs.Signal _ input) = input
@@ -144,7 +144,7 @@ brought (jobs.Activity _ (ends.Completed given)) = given
 brought (jobs.Child _ (child_ends.Completed given)) = given
 brought _ = []
 
--- an input or a result
+-- an input or a result from its source
 abbrev pub payloads : Source → RowsState → Job → List Payload
 payloads sources.Nothing state job = []
 payloads sources.Input state job = state.input
@@ -197,34 +197,37 @@ abbrev pub some_closes : List CommandTemplate → Bool
 some_closes [] = false
 some_closes (one ∷ rest) = closes one || some_closes rest
 
--- one more, no further than the bound
+-- one more, or the bound if that is less
 abbrev pub raised : ℕ → ℕ → ℕ
 raised count bound = if ltb count bound then suc count else bound
 
--- the counts with another number for one counter
+-- the counts with this value for one counter
 abbrev pub with_count : Counter → Counts → ℕ → Counts
 with_count counters.A counts value = record counts { a = value }
 with_count counters.B counts value = record counts { b = value }
 with_count counters.C counts value = record counts { c = value }
 with_count counters.D counts value = record counts { d = value }
 
--- what one thing that a row does besides leaves
+-- the state after one effect of a row
 abbrev pub after_one : Effect → Counts → RowsState → Job → RowsState
 after_one (effects.Up counter) bounds state job =
-    record state { counts = with_count counter state.counts (raised (count_of counter state.counts) (count_of counter bounds)) }
+    record state {
+      counts = with_count counter state.counts
+          (raised (count_of counter state.counts) (count_of counter bounds));
+    }
 after_one (effects.Zero counter) bounds state job = record state { counts = with_count counter state.counts 0 }
 after_one effects.Keep bounds state job = record state { kept = brought job }
 
--- what all of them leave, one after another
+-- the state after all effects, one after another
 unfoldable pub after_effects : List Effect → Counts → RowsState → Job → RowsState
 after_effects [] bounds state job = state
 after_effects (one ∷ rest) bounds state job = after_effects rest bounds (after_one one bounds state job) job
 
--- the state after a row that names this one, in that one
+-- the name of the state after a row that names this one, in that state
 abbrev pub next_state : List ℕ → List ℕ → List ℕ
 next_state next at = if bytes_eq next (codes "same") then at else next
 
--- what a row leaves
+-- the state after a row
 abbrev pub after_row : Row → Counts → RowsState → Job → RowsState
 after_row row bounds state job =
     let next = after_effects row.effects bounds state job in
@@ -233,21 +236,21 @@ after_row row bounds state job =
       closed = some_closes row.gives;
     }
 
--- what a row leaves, if there is one
+-- the state after a row, if there is one
 abbrev pub after_found : Option Row → Counts → RowsState → Job → RowsState
 after_found None bounds state job = state
 after_found (Some row) bounds state job = after_row row bounds state job
 
--- what rows leave
+-- the state after the first of the rows that fits
 abbrev pub after_rows : List Row → Counts → RowsState → Job → RowsState
 after_rows rows bounds state job = after_found (row_for rows state job) bounds state job
 
--- the state with what the run is started with, and with its name, where the job starts it
+-- the state with the input and the name of the run, if the job starts it
 abbrev pub started : (List Payload → List ℕ) → RowsState → Job → RowsState
 started name_of state (jobs.Start _ input) = record state { input = input; name = name_of input }
 started name_of state _ = state
 
--- the state that the rows of a table see at a job
+-- the state that the rows of a table see at a job: with the input and the name, if the job starts the run
 abbrev pub seen_by : Definition → RowsState → Job → RowsState
 seen_by table state job = started (name_by table.name) state job
 
@@ -255,11 +258,11 @@ seen_by table state job = started (name_by table.name) state job
 abbrev pub gives : Definition → RowsState → Job → List Command
 gives table state job = rows_give table.rows (seen_by table state job) job
 
--- what a job leaves
+-- the state after a job
 abbrev pub after : Definition → RowsState → Job → RowsState
 after table state job = after_rows table.rows table.bounds (seen_by table state job) job
 
--- where a run begins
+-- the state of a run before its first job
 abbrev pub initial : Definition → RowsState
 initial table = record {
   at = table.first;
@@ -270,7 +273,7 @@ initial table = record {
   counts = record { a = 0; b = 0; c = 0; d = 0 };
 }
 
--- what a table computes
+-- the workflow that follows a table
 abbrev pub program : Definition → Program RowsState
 program table = record {
   knows = λ kind. bytes_eq table.kind kind;

@@ -1,4 +1,4 @@
--- What a list of rows can't be.
+-- The rules that the rows of a table must not break.
 use Rattle.std.specs.Prelude.{ℕ, zero, suc, ◌-◌, ℤ, pos, negsuc, Bool, true, false, not, ◌&&◌, ◌||◌, List, [], ◌∷◌, length, Option, Some, None, bytes_eq, codes, leb, nat_eq, int_lt, if◌then◌else◌}
 use Rattle.std.specs.Ordering.{int_eq}
 use Rattle.wh_events.specs.Machines.{or_else}
@@ -18,24 +18,25 @@ use Rattle.wh_rows.specs.Rows.{count_of, closes, some_closes}
 pub data Rule : Type 0 where
   -- it gives more than 64 commands
   TooManyCommands : Rule
-  -- a command follows one that asks or closes the run
+  -- a command follows one that asks for a version or closes the run
   CommandAfterLast : Rule
   -- two of its commands start an activity, a timer or a child under one id
   OpensTwice : Rule
-  -- it asks for a range of versions that is none: from below -1, to below 0, or with its greatest below its least
+  -- it asks for an invalid range of versions: the least is below -1, the greatest is below 0, or the greatest is below
+  -- the least
   BadRange : Rule
-  -- it is for a state of the name `same`, which is none: after `=>` it means the state that the row is for
+  -- it is for a state named `same`, which can't be: after `=>` that means the state that the row is for
   NoState : Rule
   -- it does not close the run, and no row is for the state after it
   LeadsNowhere : Rule
-  -- no row of another state leads to its state, and runs do not begin there
+  -- no row of another state leads to its state, and it is not the state that runs begin in
   NeverReached : Rule
-  -- it asks for the version of a change, and one that may come has no row in the state after it, but for rows with
-  -- conditions
+  -- it asks for the version of a change, and in the state after it, some version that may be the answer has no row
+  -- without conditions
   AsksInVain : Rule
-  -- it raises a counter that has no bound, or asks for a number past the bound of one
+  -- it raises a counter that has no bound, or compares one with a number above its bound
   Unbounded : Rule
-  -- it never counts, since wherever it fits the row of this number does, which is an earlier one
+  -- it never applies, since the earlier row of this number fits whenever it does
   HiddenBy : ℕ → Rule
 
 -- what is wrong with a table
@@ -45,40 +46,40 @@ pub data TableFault : Type 0 where
   -- the row of this number, counted from 1, breaks a rule
   InRow : ℕ → Rule → TableFault
 
--- the command asks
+-- the command asks for a version
 abbrev pub asks : CommandTemplate → Bool
 asks (templates.Ask _ _ _) = true
 asks _ = false
 
--- no command but the last one asks or closes the run
+-- no command but the last one asks for a version or closes the run
 abbrev pub ends_well : List CommandTemplate → Bool
 ends_well [] = true
 ends_well (one ∷ []) = true
 ends_well (one ∷ next ∷ rest) = not (asks one) && (not (closes one) && ends_well (next ∷ rest))
 
--- both commands start something of one kind under one id
+-- both commands start something of the same kind with the same id
 abbrev pub opens_same : CommandTemplate → CommandTemplate → Bool
 opens_same (templates.StartActivity id _ _) (templates.StartActivity other _ _) = bytes_eq id other
 opens_same (templates.StartTimer id _) (templates.StartTimer other _) = bytes_eq id other
 opens_same (templates.StartChild id _ _) (templates.StartChild other _ _) = bytes_eq id other
 opens_same _ _ = false
 
--- one of the commands starts what this one does
+-- one of the commands starts something of the same kind with the same id
 abbrev pub opens_again : CommandTemplate → List CommandTemplate → Bool
 opens_again one [] = false
 opens_again one (other ∷ rest) = opens_same one other || opens_again one rest
 
--- no two of the commands start something of one kind under one id
+-- no two of the commands start something of the same kind with the same id
 abbrev pub opens_once : List CommandTemplate → Bool
 opens_once [] = true
 opens_once (one ∷ rest) = not (opens_again one rest) && opens_once rest
 
--- code may run the versions from the least to the greatest
+-- the range of versions is valid: the least is at least -1, the greatest is at least 0, and not below the least
 abbrev pub is_range : ℤ → ℤ → Bool
 is_range least greatest =
     not (int_lt greatest least || (int_lt least (negsuc 0) || int_lt greatest (pos 0)))
 
--- each range of versions that the commands ask for is one
+-- each range of versions that the commands ask for is valid
 abbrev pub are_ranges : List CommandTemplate → Bool
 are_ranges [] = true
 are_ranges (templates.Ask _ least greatest ∷ rest) = is_range least greatest && are_ranges rest
@@ -101,8 +102,8 @@ is_led_to name [] = false
 is_led_to name (row ∷ rows) =
     (bytes_eq row.next name && (not (bytes_eq row.state name) && not (some_closes row.gives))) || is_led_to name rows
 
--- the state is `any`, or that in which a run begins, or a row of another one leads to it: whether that one is reached is
--- not asked
+-- the state is `any`, or that in which a run begins, or a row of another state leads to it (whether that other state is
+-- reached is not checked)
 abbrev pub is_reached : List ℕ → List ℕ → List Row → Bool
 is_reached first name rows = bytes_eq name (codes "any") || (bytes_eq name first || is_led_to name rows)
 
@@ -130,7 +131,7 @@ abbrev pub is_unconditional : List Condition → Bool
 is_unconditional [] = true
 is_unconditional (one ∷ rest) = false
 
--- a row for the state, without a condition, is for each job that the pattern is for
+-- a row for the state, without conditions, covers the pattern
 abbrev pub hears : JobPattern → List ℕ → List Row → Bool
 hears wanted name [] = false
 hears wanted name (row ∷ rows) =
@@ -148,13 +149,13 @@ abbrev pub version_at : ℕ → ℤ
 version_at zero = negsuc 0
 version_at (suc number) = pos number
 
--- in the state, each of so many versions of the change is heard, from that at the place on
+-- in the state, rows without conditions cover so many versions of the change, from the one at this place on
 abbrev pub hears_each : List ℕ → ℕ → ℕ → List ℕ → List Row → Bool
 hears_each change zero place name rows = true
 hears_each change (suc more) place name rows =
     hears (patterns.Version change (version_at place)) name rows && hears_each change more (suc place) name rows
 
--- in the state, each version of the change from the least to the greatest is heard
+-- in the state, rows without conditions cover each version of the change from the least to the greatest
 abbrev pub hears_versions : List ℕ → ℤ → ℤ → List ℕ → List Row → Bool
 hears_versions change least greatest name rows =
     hears (patterns.AnyVersion change) name rows
@@ -164,14 +165,14 @@ hears_versions change least greatest name rows =
 abbrev pub state_after : Row → List ℕ
 state_after row = if bytes_eq row.next (codes "same") then row.state else row.next
 
--- in the state, each version that the commands ask for is heard
+-- in the state, rows without conditions cover each version that the commands ask for
 abbrev pub are_heard : List ℕ → List Row → List CommandTemplate → Bool
 are_heard name rows [] = true
 are_heard name rows (templates.Ask change least greatest ∷ rest) =
     hears_versions change least greatest name rows && are_heard name rows rest
 are_heard name rows (one ∷ rest) = are_heard name rows rest
 
--- no condition asks for a number past the bound of its counter
+-- no condition compares a counter with a number above its bound
 abbrev pub condition_bounded : Counts → Condition → Bool
 condition_bounded bounds (conditions.Below counter number) = leb number (count_of counter bounds)
 condition_bounded bounds (conditions.AtLeast counter number) = leb number (count_of counter bounds)
@@ -196,7 +197,7 @@ place_of counters.B = 1
 place_of counters.C = 2
 place_of counters.D = 3
 
--- the second condition holds wherever the first does
+-- the second condition holds whenever the first does
 abbrev pub implies : Condition → Condition → Bool
 implies (conditions.Below counter number) (conditions.Below other most) =
     nat_eq (place_of counter) (place_of other) && leb number most
@@ -204,17 +205,17 @@ implies (conditions.AtLeast counter number) (conditions.AtLeast other least) =
     nat_eq (place_of counter) (place_of other) && leb least number
 implies _ _ = false
 
--- a condition holds wherever one of these does
+-- one of the given conditions implies this one
 abbrev pub follows : List Condition → Condition → Bool
 follows [] wanted = false
 follows (one ∷ rest) wanted = implies one wanted || follows rest wanted
 
--- each of the others holds wherever all of these do
+-- each of the others is implied by one of the given conditions
 abbrev pub all_follow : List Condition → List Condition → Bool
 all_follow given [] = true
 all_follow given (wanted ∷ rest) = follows given wanted && all_follow given rest
 
--- the earlier row fits wherever the later one does
+-- the earlier row fits whenever the later one does
 abbrev pub hides : Row → Row → Bool
 hides earlier later =
     elim (bytes_eq earlier.state (codes "any") || bytes_eq earlier.state later.state) [
@@ -222,19 +223,19 @@ hides earlier later =
       | false ↦ false
     ]
 
--- the first of so many rows that hides the row, where the first one has this number
+-- the first of so many rows that hides the row; the first of them has this number
 abbrev pub hidden_from : ℕ → ℕ → List Row → Row → Option Rule
 hidden_from number zero rows row = None
 hidden_from number (suc more) [] row = None
 hidden_from number (suc more) (earlier ∷ rest) row =
     elim (hides earlier row) [ true ↦ Some (HiddenBy number) | false ↦ hidden_from (suc number) more rest row ]
 
--- the rule, unless the test holds, and then what comes later
+-- the rule if the test fails, and else the later result
 abbrev pub unless : Bool → Rule → Option Rule → Option Rule
 unless true rule later = later
 unless false rule later = Some rule
 
--- the first rule that a row breaks, before which stand so many rows of the table
+-- the first rule that a row breaks, if so many rows of the table come before it
 abbrev pub row_rule : Definition → ℕ → Row → Option Rule
 row_rule table before row =
     unless (leb (length row.gives) 64) TooManyCommands
@@ -253,7 +254,7 @@ abbrev pub in_row : ℕ → Option Rule → Option TableFault
 in_row number None = None
 in_row number (Some rule) = Some (InRow number rule)
 
--- the first fault of these rows of the table, before which stand so many
+-- the first fault of these rows of the table, if so many come before them
 abbrev pub rows_fault : Definition → ℕ → List Row → Option TableFault
 rows_fault table before [] = None
 rows_fault table before (row ∷ rest) =

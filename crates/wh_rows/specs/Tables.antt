@@ -1,4 +1,4 @@
--- The types of tables, with texts as bytes, and how a table of the program is seen as one.
+-- The types of tables with texts as bytes, and how contracts see a table of the program.
 use Rattle.std.specs.Prelude.{ℕ, List, map}
 use Rattle.std.proofs.Common.{Bor}
 use Rattle.wh_rows.specs.declared.row.JobPattern.{JobPattern as JobPatternOf}
@@ -93,7 +93,8 @@ module _ {T C G E : Type 0} where
 
 -- a row of a table of the program, in code
 abbrev pub BorrowedRow : Type 0
-BorrowedRow = RowOf (Bor (List ℕ)) (Bor (List Condition)) (Bor (List (CommandTemplateOf (Bor (List ℕ))))) (Bor (List Effect))
+BorrowedRow = RowOf (Bor (List ℕ)) (Bor (List Condition))
+    (Bor (List (CommandTemplateOf (Bor (List ℕ))))) (Bor (List Effect))
 
 -- a row of it
 abbrev pub row_shown : BorrowedRow → Row
@@ -115,7 +116,8 @@ Named A = record { now : A }
 
 -- a row of such a static
 abbrev pub NamedRow : Type 0
-NamedRow = RowOf (Named (List ℕ)) (Named (List Condition)) (Named (List (CommandTemplateOf (Named (List ℕ))))) (Named (List Effect))
+NamedRow = RowOf (Named (List ℕ)) (Named (List Condition))
+    (Named (List (CommandTemplateOf (Named (List ℕ))))) (Named (List Effect))
 
 -- a row of it
 abbrev pub row_seen : NamedRow → Row

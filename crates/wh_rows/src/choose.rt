@@ -106,7 +106,7 @@ pub fn count_of(counter: Counter, counts: Counts) -> u64
     }
 }
 
-/// Returns whether all conditions hold for these counters.
+/// Returns whether the condition holds for these counters.
 fn holds(condition: Condition, counts: Counts) -> bool
     ensures { result ≡ holds condition counts }
 {
@@ -116,7 +116,7 @@ fn holds(condition: Condition, counts: Counts) -> bool
     }
 }
 
-/// Whether each condition holds of counters.
+/// Returns whether all conditions hold for these counters.
 pub fn all_hold(conditions: &[Condition], counts: Counts) -> bool
     ensures { result ≡ all_hold conditions.now counts }
 {
@@ -128,14 +128,14 @@ pub fn all_hold(conditions: &[Condition], counts: Counts) -> bool
     true
 }
 
-/// Returns whether the row fits: its state, its job and its conditions.
+/// Returns whether a row for this state name is for the state that the run is in.
 fn is_for_state(name: &str, state: &RowsState) -> bool
     ensures { result ≡ is_for_state name.now state.now }
 {
     !state.closed && (name == "any" || name == state.at.get())
 }
 
-/// Whether a row fits.
+/// Returns whether the row fits: its state, its job and its conditions.
 fn fits<T: RowText, C: RowList<Condition>, G: RowList<CommandTemplate<T>>, E: RowList<Effect>>(
     row: &RowOf<T, C, G, E>,
     state: &RowsState,

@@ -97,9 +97,9 @@ fn follow<T: RowText, C: RowList<Condition>, G: RowList<CommandTemplate<T>>, E: 
     go_on(state, &row.next)
 }
 
-/// The commands that rows give to a job, and what it leaves of the run. The first row that fits
-/// counts; where none does, nothing is given and nothing changes. `OutOfMemory` where there was no
-/// memory for a command or for what is kept: then the state is given up.
+/// Returns the commands that the rows give to a job, and changes the state by it. The first row
+/// that fits applies; if none does, there are no commands and no change. `OutOfMemory` if there is
+/// no memory for a command or for what is kept: then the state must not be used any more.
 pub fn answer<
     T: RowText,
     C: RowList<Condition>,
@@ -127,8 +127,8 @@ pub fn answer<
     }
 }
 
-/// Remembers what the run is started with, and its name, where the job starts it. `OutOfMemory`
-/// where there was no memory for them: then the state is given up.
+/// Sets the input and the name of the run if the job starts it. `OutOfMemory` if there is no memory
+/// for them: then the state must not be used any more.
 pub fn take_start<T: RowText>(
     alloc: Global,
     naming: &Naming<T>,

@@ -4,11 +4,12 @@
 /// state;`. Omit `if` and `do` if there is nothing to write there, and the last `=> state` if the
 /// row closes the run or stays in its state.
 ///
-/// An activity with retries is two rows, of which the first counts while there are tries left:
+/// An activity with retries is two rows; the first one applies while attempts are left:
 ///
 /// ```text
-/// charging: NotDone("charge"), if [Below(TRIES, 2)] => [StartActivity("charge", "ChargeCard", Input)], do [Up(TRIES)];
-/// charging: NotDone("charge")                       => [Fail("charge")];
+/// charging: NotDone("charge"), if [Below(TRIES, 2)]
+///     => [StartActivity("charge", "ChargeCard", Input)], do [Up(TRIES)];
+/// charging: NotDone("charge") => [Fail("charge")];
 /// ```
 #[macro_export]
 macro_rules! rows {
@@ -16,7 +17,8 @@ macro_rules! rows {
     (@list [$($one:expr),*]) => { &[$($one),*] };
     (@next) => { "same" };
     (@next $next:ident) => { stringify!($next) };
-    ($($state:ident: $job:expr $(, if $conditions:tt)? => [$($give:expr),*] $(, do $effects:tt)? $(=> $next:ident)?;)*) => {
+    ($($state:ident: $job:expr $(, if $conditions:tt)?
+        => [$($give:expr),*] $(, do $effects:tt)? $(=> $next:ident)?;)*) => {
         &[$($crate::RowOf {
             state: stringify!($state),
             job: $job,

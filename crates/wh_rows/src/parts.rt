@@ -43,9 +43,9 @@ impl RowText for Text {
     }
 }
 
-/// A list of a row.
+/// A list of a row: borrowed from the program, or owned.
 pub trait RowList<A> {
-    /// Its members.
+    /// The members of the list.
     ghost list: { Self → List A };
 
     /// Returns the members of the list, in their order.

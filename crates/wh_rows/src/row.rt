@@ -48,7 +48,7 @@ pub enum JobPattern<T> {
     AnyVersion(T),
 }
 
-/// A counter of a run. It starts at 0, and stays at its bound once there.
+/// A counter of a run. It starts at 0, and effects raise it no further than its bound.
 #[derive(Clone, Copy)]
 pub enum Counter {
     /// The first one.
@@ -81,7 +81,7 @@ pub enum Effect {
     Keep,
 }
 
-/// A command of a row. An id `@` is the name of the run.
+/// A command that a row gives. An id `@` is the name of the run.
 #[derive(Drop)]
 pub enum CommandTemplate<T> {
     /// Starts an activity: id, type, input.
@@ -138,19 +138,19 @@ pub type Row = RowOf<
     &'static [Effect],
 >;
 
-/// How a run is named: what `@` in a row is.
+/// How runs are named: what `@` in a row stands for.
 #[derive(Drop)]
 pub enum Naming<T> {
-    /// Its name is empty.
+    /// The name is empty.
     Nameless,
-    /// By a payload of the start's input, counted from 0, that is a text in JSON: this prefix, and
-    /// that text. Without such a payload this other name. A text with an escape (a backslash) is
-    /// none, since it would take a JSON library to read.
+    /// The name is the prefix and the text of a payload of the start's input, counted from 0, that
+    /// is a plain JSON string. If there is no such payload, it is the other name. A string with an
+    /// escape (a backslash) is not plain, since only a JSON library reads it.
     ByPayload(usize, T, T),
 }
 
 /// A workflow: its type, the state that a run begins in, and its rows. The first row that fits
-/// counts.
+/// applies.
 pub struct DefinitionOf<T, R> {
     /// The workflow type.
     pub kind: T,
@@ -158,8 +158,8 @@ pub struct DefinitionOf<T, R> {
     pub first: T,
     /// How its runs are named.
     pub name: Naming<T>,
-    /// How far each counter may rise: 0 for one that is not used. No condition asks for a number
-    /// past it, so it changes nothing of what a table does.
+    /// The bound of each counter, 0 for one that is not used. No condition compares with a number
+    /// above it, so it does not change what a table does.
     pub bounds: Counts,
     /// The rows.
     pub rows: R,
@@ -168,16 +168,16 @@ pub struct DefinitionOf<T, R> {
 /// A table of the program.
 pub type Definition = DefinitionOf<&'static str, &'static [Row]>;
 
-/// A number for each counter.
+/// A value for each counter.
 #[derive(Clone, Copy)]
 pub struct Counts {
-    /// Of the first one.
+    /// The value of the first one.
     pub a: u64,
-    /// Of the second one.
+    /// The value of the second one.
     pub b: u64,
-    /// Of the third one.
+    /// The value of the third one.
     pub c: u64,
-    /// Of the fourth one.
+    /// The value of the fourth one.
     pub d: u64,
 }
 
@@ -189,19 +189,19 @@ pub const UNCOUNTED: Counts = Counts {
     d: 0,
 };
 
-/// How far a run has come.
+/// The state of a run that follows a table.
 #[derive(Drop)]
 pub struct RowsState {
-    /// The state that it is in.
+    /// The name of the state that the run is in.
     pub at: StateName,
-    /// Whether it is closed.
+    /// Whether the run is closed.
     pub closed: bool,
-    /// Its name, which `@` stands for.
+    /// The name of the run, which `@` stands for.
     pub name: Text,
-    /// What it was started with.
+    /// The input of the run.
     pub input: Items<Payload>,
-    /// What a row kept last.
+    /// The payloads that a row kept last.
     pub kept: Items<Payload>,
-    /// Its counters.
+    /// The counters.
     pub counts: Counts,
 }

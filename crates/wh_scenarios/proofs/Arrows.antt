@@ -1,4 +1,4 @@
--- Where the arrow of a line is found.
+-- How the arrow of a line is found.
 use Rattle.std.specs.Prelude.{◌≡◌, ℕ, suc, zero, ◌<◌, ◌≤◌, Bool, true, false, List, [], ◌∷◌, ◌++◌, length, take, drop, Option, Some, None, MatchOption, option_map, bytes_eq, codes, refl, if◌then◌else◌}
 use Rattle.std.specs.Str.Pattern.{FindsText, LacksTextAt, SplitsAroundMatch}
 use Rattle.std.proofs.Common.{ap, sym, subst, ◌∙◌, arith, Bor}
@@ -6,7 +6,7 @@ use Rattle.std.proofs.lemmas.List.{take-append-drop}
 use Rattle.std.proofs.lemmas.Slice.Eq.{bytes_eq-Decides}
 use Rattle.wh_scenarios.specs.Scenarios.{onto_before, at_arrow}
 
--- an arrow that a text begins with
+-- a text that begins with an arrow
 begins : (line : List ℕ) → bytes_eq (take 2 line) (codes "=>") ≡ true → drop 0 line ≡ codes "=>" ++ drop 2 line
 begins line is =
     let front : take 2 line ≡ codes "=>" = (bytes_eq-Decides (take 2 line) (codes "=>")).0 is in
@@ -35,7 +35,7 @@ found (byte ∷ rest) (suc i) back lacks is =
     by_test true starts later = absurd (lacks 0 (omega arith) (drop 2 (byte ∷ rest)) (begins (byte ∷ rest) starts))
     by_test false starts later = ap (onto_before byte) later
 
--- what `split_once` gives at an arrow
+-- the result of `split_once` at an arrow
 pub arrow_cases : (line : List ℕ) (result : Option (Bor (List ℕ) × Bor (List ℕ)))
     → MatchOption result (FindsText (codes "=>") line None)
     (λ sides. SplitsAroundMatch (FindsText (codes "=>")) line sides.0.now sides.1.now)

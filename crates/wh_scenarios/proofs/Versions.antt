@@ -1,4 +1,4 @@
--- What `parse` gives of the number of a version.
+-- The result of `parse` for the number of a version.
 use Rattle.std.specs.Prelude.{◌≡◌, ℕ, ◌^◌, ◌<◌, ◌≤◌, ℤ, pos, neg_ℤ, Bool, true, false, ◌&&◌, List, length, drop, slice_index, nat_eq, leb, ltb, Option, Some, None, Result, Ok, Err, OkIff, refl, if◌then◌else◌}
 use Rattle.std.specs.Result.{result_ok}
 use Rattle.std.specs.Str.{all_ascii_digits}
@@ -16,7 +16,7 @@ both : (a b : Bool) → a ≡ true → b ≡ true → (a && b) ≡ true
 both true b first second = second
 both false b first second = first
 
--- a test that says when a result is a number
+-- a test that holds exactly if a result is a number
 tested : {E : Type 0} (result : Result ℤ E) (Q : Type 0) (number : ℤ) (test : Bool) → OkIff result Q number
     → (Q → test ≡ true) → (test ≡ true → Q) → result_ok result ≡ (if test then Some number else None)
 tested (Ok found) Q number true is to from = ap Some is.1

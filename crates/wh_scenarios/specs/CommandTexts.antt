@@ -1,4 +1,4 @@
--- Commands in words.
+-- Commands as text.
 use Rattle.std.specs.Prelude.{ℕ, List, [], ◌∷◌, ◌++◌, codes, decimal, Option, Some, None, if◌then◌else◌}
 use Rattle.std.specs.Fmt.{signed_decimal}
 use Rattle.std.specs.Str.{is_utf8}
@@ -10,12 +10,12 @@ use Rattle.wh_workflow.specs.declared.command.Command.{Command}
 use Rattle.wh_workflow.specs.declared.command.Command.TheVariants as commands
 use Rattle.wh_workflow.specs.Names.{command_phrase}
 
--- a word after a space, where there is one
+-- a word after a space, if there is one
 abbrev pub word_text : Option (List ℕ) → List ℕ
 word_text None = []
 word_text (Some word) = codes " " ++ word
 
--- what stands after ids and types
+-- the part of a command after its ids and types
 abbrev pub detail_text : Detail → List ℕ
 detail_text Nothing = []
 detail_text (Time _) = []
@@ -24,7 +24,7 @@ detail_text (Version version) = codes " (version " ++ (signed_decimal version ++
 detail_text (Range least greatest) =
     codes " (" ++ (signed_decimal least ++ (codes " to " ++ (signed_decimal greatest ++ codes ")")))
 
--- kind, id, type, and what stands after them
+-- kind, id, type, and the part after them
 abbrev pub phrase_text : Phrase → List ℕ
 phrase_text phrase = phrase.kind ++ (word_text phrase.id ++ (word_text phrase.name ++ detail_text phrase.detail))
 
@@ -37,7 +37,7 @@ payloads_given (commands.ContinueAsNew _ input) = input
 payloads_given (commands.Complete result) = result
 payloads_given _ = []
 
--- the content of a payload, or a question mark where it is no text
+-- the content of a payload, or a question mark if it is not UTF-8
 abbrev pub content_text : List ℕ → List ℕ
 content_text content = if is_utf8 content then content else codes "?"
 
@@ -46,7 +46,7 @@ abbrev pub payloads_text : List Payload → List ℕ
 payloads_text [] = []
 payloads_text (payload ∷ rest) = codes " " ++ (content_text payload.content ++ payloads_text rest)
 
--- a command, as it is shown, and its payloads
+-- a command as `explain` shows it, and its payloads
 abbrev pub command_text : Command → List ℕ
 command_text command = phrase_text (command_phrase command) ++ payloads_text (payloads_given command)
 
@@ -55,7 +55,7 @@ abbrev pub later_texts : List Command → List ℕ
 later_texts [] = []
 later_texts (command ∷ rest) = codes "; " ++ (command_text command ++ later_texts rest)
 
--- commands, with a semicolon between each and the next
+-- commands, separated by semicolons
 abbrev pub commands_text : List Command → List ℕ
 commands_text [] = []
 commands_text (command ∷ rest) = command_text command ++ later_texts rest

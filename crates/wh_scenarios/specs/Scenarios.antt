@@ -1,4 +1,4 @@
--- What a scenario says, and where a workflow first differs from it.
+-- What a scenario means, and where a workflow first differs from it.
 use Rattle.std.specs.Prelude.{◌≡◌, ◌↔◌, ℕ, suc, true, false, List, [], ◌∷◌, ◌++◌, length, take, drop, Option, Some, None, option_to_list, bytes_eq, codes, nat_eq, if◌then◌else◌}
 use Rattle.std.specs.List.{slice_split}
 use Rattle.std.specs.Str.{trim}
@@ -11,52 +11,52 @@ use Rattle.wh_scenarios.specs.declared.fault.ScenarioFault.TheVariants.{UnknownW
 use Rattle.wh_scenarios.specs.JobTexts.{job_of}
 use Rattle.wh_scenarios.specs.CommandTexts.{commands_text}
 
--- a byte, and behind it two parts
+-- two parts, the first of them after this byte
 abbrev pub onto_before : ℕ → Option (List ℕ × List ℕ) → Option (List ℕ × List ℕ)
 onto_before byte None = None
 onto_before byte (Some parts) = Some (byte ∷ parts.0, parts.1)
 
--- what stands before the first arrow of a line, and what behind it
+-- the text before the first arrow of a line, and the text after it
 abbrev pub at_arrow : List ℕ → Option (List ℕ × List ℕ)
 at_arrow [] = None
 at_arrow (byte ∷ rest) =
     if bytes_eq (take 2 (byte ∷ rest)) (codes "=>") then Some ([], drop 1 rest) else onto_before byte (at_arrow rest)
 
--- the words between semicolons
+-- the parts between semicolons
 abbrev pub parts_of : List ℕ → List (List ℕ)
 parts_of words = slice_split (λ byte. nat_eq byte 59) words
 
--- the jobs of those parts that are one
+-- the jobs of those parts that are jobs
 abbrev pub jobs_of : List ℕ → List (List ℕ) → List Job
 jobs_of kind [] = []
 jobs_of kind (part ∷ rest) = option_to_list (job_of kind (trim part)) ++ jobs_of kind rest
 
--- the words, unless they are those of a job, and then what comes later
+-- the words if they are not a job, and else the later result
 abbrev pub unless_job : Option Job → List ℕ → Option (List ℕ) → Option (List ℕ)
 unless_job None words later = Some words
 unless_job (Some job) words later = later
 
--- the first part that is no job
+-- the first part that is not a job
 abbrev pub no_job_in : List ℕ → List (List ℕ) → Option (List ℕ)
 no_job_in kind [] = None
 no_job_in kind (part ∷ rest) = unless_job (job_of kind (trim part)) (trim part) (no_job_in kind rest)
 
 module _ {S : Type 0} where
-  -- the commands that jobs are given, one after another
+  -- the commands that a run gives to these jobs, one after another
   abbrev pub given_to : Program S → S → List Job → List Command
   given_to program state [] = []
   given_to program state (job ∷ later) = program.gives state job ++ given_to program (program.after state job) later
 
-  -- what they leave
+  -- the state after these jobs
   abbrev pub left_by : Program S → S → List Job → S
   left_by program state [] = state
   left_by program state (job ∷ later) = left_by program (program.after state job) later
 
--- the commands of a line, unless they are the ones that it wants
+-- a difference if the commands are not those that the line expects
 abbrev pub difference : ℕ → List ℕ → List ℕ → Option ScenarioFault
 difference number given wanted = if bytes_eq given wanted then None else Some (Differs number given wanted)
 
--- the fault of a line by its part that is no job, and else by its commands
+-- the fault of a part that is not a job, and else the difference
 abbrev pub or_difference : ℕ → Option (List ℕ) → Option ScenarioFault → Option ScenarioFault
 or_difference number None differs = differs
 or_difference number (Some words) differs = Some (NoJob number words)
@@ -67,7 +67,7 @@ line_jobs kind None = []
 line_jobs kind (Some sides) = jobs_of kind (parts_of sides.0)
 
 module _ {S : Type 0} where
-  -- why a run that is in this state does not follow a line of this number that has an arrow
+  -- the fault of a line of this number with these two sides, for a run in this state
   abbrev pub sides_fault : Program S → List ℕ → S → ℕ → Option (List ℕ × List ℕ) → Option ScenarioFault
   sides_fault program kind state number None = Some (NoArrow number)
   sides_fault program kind state number (Some sides) =
@@ -75,7 +75,7 @@ module _ {S : Type 0} where
       (difference number (commands_text (given_to program state (jobs_of kind (parts_of sides.0)))) (trim sides.1))
 
 module _ {S : Type 0} where
-  -- why a run that is in this state does not follow a line of this number; a blank line says nothing
+  -- the fault of a line of this number, for a run in this state; a blank line has none
   abbrev pub line_fault : Program S → List ℕ → S → ℕ → List ℕ → Option ScenarioFault
   line_fault program kind state number line =
       if nat_eq (length (trim line)) 0 then None else sides_fault program kind state number (at_arrow line)
@@ -91,7 +91,7 @@ or_fault None later = later
 or_fault (Some fault) later = Some fault
 
 module _ {S : Type 0} where
-  -- the first fault of lines, of which the first has this number
+  -- the first fault of these lines, where the first line has this number
   abbrev pub lines_fault : Program S → List ℕ → S → ℕ → List (List ℕ) → Option ScenarioFault
   lines_fault program kind state number [] = None
   lines_fault program kind state number (line ∷ later) =
@@ -99,25 +99,25 @@ module _ {S : Type 0} where
       (lines_fault program kind (after_line program kind state line) (suc number) later)
 
 module _ {S : Type 0} where
-  -- the first fault of a scenario of a run of the workflow type
+  -- the first fault of a scenario, for a run of the workflow type
   abbrev pub scenario_fault : Program S → List ℕ → List ℕ → Option ScenarioFault
   scenario_fault program kind scenario =
       if program.knows kind
       then lines_fault program kind (program.initial kind) 1 (lines scenario)
       else Some UnknownWorkflow
 
--- the fault is that one, unless memory ran out
+-- the fault is the expected one, or memory ran out
 abbrev pub Tells : ScenarioFault → Option ScenarioFault → Type 0
 Tells OutOfMemory wanted = Unit {0}
 Tells fault wanted = wanted ≡ Some fault
 
 module _ {S : Type 0} where
-  -- what lines leave, one after another
+  -- the state after these lines
   abbrev pub after_lines : Program S → List ℕ → S → List (List ℕ) → S
   after_lines program kind state [] = state
   after_lines program kind state (line ∷ later) = after_lines program kind (after_line program kind state line) later
 
--- a line has an arrow with jobs before it, and a run that is in this state is given by them the commands behind it
+-- the line has an arrow, and a run in this state gives to the jobs before it the commands after it
 pub record IsAnswered {S : Type 0} (program : Program S) (kind : List ℕ) (state : S) (line : List ℕ) : Type 0 where
   pub jobs : List ℕ
   pub wanted : List ℕ
@@ -126,14 +126,14 @@ pub record IsAnswered {S : Type 0} (program : Program S) (kind : List ℕ) (stat
   pub given : commands_text (given_to program state (jobs_of kind (parts_of jobs))) ≡ trim wanted
 
 module _ {S : Type 0} where
-  -- each line of a list that is not blank is answered, in the state that the lines before it leave
+  -- each line that is not blank is answered, in the state after the lines before it
   abbrev pub EachAnswered : Program S → List ℕ → S → List (List ℕ) → Type 0
   EachAnswered program kind state list =
       (before : List (List ℕ)) (line : List ℕ) (behind : List (List ℕ)) → list ≡ before ++ line ∷ behind
       → nat_eq (length (trim line)) 0 ≡ false → IsAnswered program kind (after_lines program kind state before) line
 
 module _ {S : Type 0} where
-  -- a scenario has no fault exactly where there is code for the type, and each line is answered
+  -- a scenario has no fault exactly if the workflow type is registered and each line is answered
   abbrev pub FollowsEachLine : Program S → Type 0
   FollowsEachLine program =
       (kind scenario : List ℕ)

@@ -9,27 +9,27 @@ use wh_events::{OutOfMemory, Text};
 /// Why a scenario fails. Lines are counted from 1.
 #[derive(Drop)]
 pub enum ScenarioFault {
-    /// There is no code for the workflow type.
+    /// The workflow type is not registered.
     UnknownWorkflow,
-    /// The line has no arrow.
+    /// The line has no arrow (`=>`).
     NoArrow {
         /// The number of the line.
         line: usize,
     },
-    /// The line has words that are no job.
+    /// The line has words before its arrow that are not a job.
     NoJob {
         /// The number of the line.
         line: usize,
         /// The words.
         words: Text,
     },
-    /// The jobs of the line are given other commands.
+    /// The run gives other commands to the jobs of the line.
     Differs {
         /// The number of the line.
         line: usize,
-        /// What they are given.
+        /// The commands that it gives.
         given: Text,
-        /// What the line says.
+        /// The commands that the line expects.
         wanted: Text,
     },
     /// An allocation was refused.

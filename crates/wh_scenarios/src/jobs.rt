@@ -1,4 +1,4 @@
-//! Jobs in words.
+//! Reads jobs from the words of a scenario.
 ghost use Rattle.std.specs.Prelude.{◌≡◌, IfOk, map, codes};
 ghost use Rattle.wh_scenarios.specs.JobTexts.{payload_of, payloads_of, payloads_in, activity_end_of, child_end_of};
 ghost use Rattle.wh_scenarios.specs.JobTexts.{version_of, version_job, other_job, job_about, takes_words, job_with_id, job_of};
@@ -8,14 +8,14 @@ use std::alloc::Global;
 use wh_events::{Items, OutOfMemory, Payload, Text};
 use wh_workflow::{ActivityEnd, ChildEnd, Job, text_of};
 
-/// The bytes of a text.
+/// Returns the bytes of a text.
 fn bytes_of(alloc: Global, text: &str) -> Result<Items<u8>, OutOfMemory>
     ensures { IfOk result (λ bytes. bytes ≡ text.now) }
 {
     Ok(Items::new(text.as_bytes().to_vec(alloc)?))
 }
 
-/// The payload of a word of JSON.
+/// Returns a word as a payload with the encoding `json/plain`.
 fn payload_of(alloc: Global, word: &str) -> Result<Payload, OutOfMemory>
     ensures { IfOk result (λ payload. payload ≡ payload_of word.now) }
 {
@@ -25,7 +25,7 @@ fn payload_of(alloc: Global, word: &str) -> Result<Payload, OutOfMemory>
     })
 }
 
-/// A payload for each word that is not empty.
+/// Returns a payload for each word that is not empty.
 fn payloads_of(alloc: Global, words: &[&str]) -> Result<Vec<Payload>, OutOfMemory>
     ensures { IfOk result (λ list. list.items ≡ payloads_of (map (λ word. word.now) words.now)) }
 {
@@ -39,7 +39,7 @@ fn payloads_of(alloc: Global, words: &[&str]) -> Result<Vec<Payload>, OutOfMemor
     Ok(list)
 }
 
-/// A payload for each word, where spaces stand between them.
+/// Returns a payload for each word of a text, split at spaces.
 fn payloads_in(alloc: Global, words: &str) -> Result<Items<Payload>, OutOfMemory>
     ensures { IfOk result (λ list. list ≡ payloads_in words.now) }
 {
@@ -48,8 +48,8 @@ fn payloads_in(alloc: Global, words: &str) -> Result<Items<Payload>, OutOfMemory
     Ok(Items::new(list))
 }
 
-/// How an activity ended, by its word and what stands behind its id. `None` where the word says no
-/// such end.
+/// Returns how an activity ended, from its word and the words after its id. `None` if the word is
+/// none of `done`, `failed` and so on.
 fn activity_end(alloc: Global, word: &str, rest: &str) -> Result<Option<ActivityEnd>, OutOfMemory>
     ensures { IfOk result (λ end. end ≡ activity_end_of word.now rest.now) }
 {
@@ -68,8 +68,8 @@ fn activity_end(alloc: Global, word: &str, rest: &str) -> Result<Option<Activity
     Ok(None)
 }
 
-/// How a child ended, by its word and what stands behind its id. `None` where the word says no such
-/// end.
+/// Returns how a child ended, from its word and the words after its id. `None` if the word is none
+/// of `child-done`, `child-failed` and so on.
 fn child_end(alloc: Global, word: &str, rest: &str) -> Result<Option<ChildEnd>, OutOfMemory>
     ensures { IfOk result (λ end. end ≡ child_end_of word.now rest.now) }
 {
@@ -94,14 +94,15 @@ fn child_end(alloc: Global, word: &str, rest: &str) -> Result<Option<ChildEnd>, 
     Ok(None)
 }
 
-/// The number of a version: digits, maybe behind a sign, that fit 32 bits.
+/// Returns the number of a version: decimal digits, with an optional sign, that fit into 32 bits.
 fn version_of(number: &str) -> Option<i32>
     ensures { result ≡ version_of number.now }
 {
     number.parse::<i32>().ok()
 }
 
-/// The job of these words that is no end of an activity or a child. `None` where they are none.
+/// Returns the job of these words if it is not the end of an activity or a child: a signal, a timer
+/// that fired, a child that started, or a version. `None` if they are none of these.
 fn other_job(alloc: Global, word: &str, id: &str, rest: &str) -> Result<Option<Job>, OutOfMemory>
     ensures { IfOk result (λ job. job ≡ other_job word.now id.now rest.now) }
 {
@@ -122,7 +123,7 @@ fn other_job(alloc: Global, word: &str, id: &str, rest: &str) -> Result<Option<J
     Ok(None)
 }
 
-/// The job that brings the version of a change. `None` where the number is none.
+/// Returns the job that gives the version of a change. `None` if the number is invalid.
 fn version_job(change_id: Text, number: &str) -> Option<Job>
     ensures { result ≡ version_job change_id number.now }
 {
@@ -132,7 +133,7 @@ fn version_job(change_id: Text, number: &str) -> Option<Job>
     }
 }
 
-/// The job of a word, an id, and what stands behind it. `None` where they are none.
+/// Returns the job of a word, an id, and the words after it. `None` if they are not a job.
 fn job_about(alloc: Global, word: &str, id: &str, rest: &str) -> Result<Option<Job>, OutOfMemory>
     ensures { IfOk result (λ job. job ≡ job_about word.now id.now rest.now) }
 {
@@ -147,15 +148,15 @@ fn job_about(alloc: Global, word: &str, id: &str, rest: &str) -> Result<Option<J
     other_job(alloc, word, id, rest)
 }
 
-/// Whether words may stand behind the id of such a job: payloads, or the number of a version.
+/// Returns whether such a job takes words after its id: payloads, or the number of a version.
 fn takes_words(word: &str) -> bool
     ensures { result ≡ takes_words word.now }
 {
     word == "done" || word == "child-done" || word == "signal" || word == "version"
 }
 
-/// The job of a word and what stands behind it, where that begins with an id, a name or a change.
-/// `None` where they are none.
+/// Returns the job of a word and the words after it, which begin with an id, a signal name or a
+/// change id. `None` if they are not a job.
 fn job_with_id(alloc: Global, word: &str, rest: &str) -> Result<Option<Job>, OutOfMemory>
     ensures { IfOk result (λ job. job ≡ job_with_id word.now rest.now) }
 {
@@ -170,8 +171,8 @@ fn job_with_id(alloc: Global, word: &str, rest: &str) -> Result<Option<Job>, Out
     Ok(None)
 }
 
-/// The job of these words, of a run of the workflow type `kind`. `None` where they are no job, and
-/// `OutOfMemory` where there was no memory for it.
+/// Returns the job that the words describe, for a run of the workflow type `kind`. `None` if they
+/// are not a job. `OutOfMemory` if there is no memory for it.
 pub fn job_of(alloc: Global, kind: &str, words: &str) -> Result<Option<Job>, OutOfMemory>
     ensures { IfOk result (λ job. job ≡ job_of kind.now words.now) }
 {

@@ -1,13 +1,13 @@
-//! Scenarios: what a workflow gives to jobs, as text for its tests.
+//! Scenarios: texts for tests that say which commands a workflow gives to jobs.
 //!
-//! A line has jobs, with semicolons between them, and after an arrow the commands that they are
-//! given, in their order. The lines of a scenario are of one run:
+//! A line has jobs, separated by semicolons, and after an arrow the commands that the run gives to
+//! them, in their order. All lines of a scenario are for one run:
 //!
 //! ```text
-//! start 1999                  => StartActivity charge ChargeCard 1999
-//! done charge; fired month    => StartTimer month (2592000 s); StartActivity charge ChargeCard 1999
-//! signal cancel               =>
-//! done charge "receipt"       => Complete "receipt"
+//! start 1999                 => StartActivity charge ChargeCard 1999
+//! done charge; fired month   => StartTimer month (2592000 s); StartActivity charge ChargeCard 1999
+//! signal cancel              =>
+//! done charge "receipt"      => Complete "receipt"
 //! ```
 //!
 //! | Job | Is |
@@ -19,13 +19,13 @@
 //! | `fired ID` | `TimerFired` |
 //! | `child-started ID` | `ChildStarted` |
 //! | `child-done ID PAYLOADS`, `child-failed ID`, `child-timed-out ID` | `Child` with that end |
-//! | `child-canceled ID` | so too |
-//! | `child-terminated ID`, `child-not-started ID` | so too |
+//! | `child-canceled ID` | the same |
+//! | `child-terminated ID`, `child-not-started ID` | the same |
 //! | `version CHANGE NUMBER` | `Version` |
 //!
-//! A payload is a word without blanks, semicolons and `=>`; whether it is JSON is not looked at.
-//! Commands are written as `explain` shows them, with the payloads of their input or result after
-//! them: a content that is no UTF-8 as `?`, and no encoding.
+//! A payload is a word without spaces, semicolons and `=>`; it is not checked to be JSON. Commands
+//! are written as `explain` shows them, followed by the payloads of their input or result. A
+//! payload's encoding is not written, and a content that is not UTF-8 is written as `?`.
 #![tactic(auto)]
 
 mod fault;

@@ -1,4 +1,4 @@
-//! A run of a scenario.
+//! Runs a scenario.
 ghost use Rattle.std.specs.Prelude.{◌≡◌, ◌++◌, ◌∷◌, [], false, None, Some, Err, IfOk, IfErr, OnOk, map, option_map, bytes_eq};
 ghost use Rattle.wh_scenarios.specs.declared.fault.ScenarioFault.TheVariants.{UnknownWorkflow, NoJob, NoArrow};
 ghost use Rattle.wh_scenarios.specs.CommandTexts.{commands_text};
@@ -13,8 +13,8 @@ use std::alloc::Global;
 use wh_events::{OutOfMemory, Text};
 use wh_workflow::{Command, Job, Meter, Workflow, text_of};
 
-/// The fault of a line with words that are no job. It is `OutOfMemory` where there was no memory for
-/// the words.
+/// Returns the fault of a line with words that are not a job, or `OutOfMemory` if there is no
+/// memory for the words.
 fn no_job(alloc: Global, line: usize, words: &str) -> ScenarioFault
     ensures { Tells result (Some (NoJob line words.now)) }
 {
@@ -24,7 +24,7 @@ fn no_job(alloc: Global, line: usize, words: &str) -> ScenarioFault
     }
 }
 
-/// Adds a job.
+/// Adds a job to the list.
 fn add_job(jobs: &mut Vec<Job>, job: Job) -> Result<(), OutOfMemory>
     ensures { OnOk result (jobs.new.items ≡ jobs.old.items ++ job ∷ []) }
 {
@@ -32,7 +32,7 @@ fn add_job(jobs: &mut Vec<Job>, job: Job) -> Result<(), OutOfMemory>
     Ok(())
 }
 
-/// The jobs of the parts of a line.
+/// Returns the jobs of the parts of a line.
 fn jobs_of(
     alloc: Global,
     kind: &str,
@@ -55,7 +55,7 @@ fn jobs_of(
     Ok(jobs)
 }
 
-/// Gives a run jobs, and returns all commands that it answers.
+/// Gives the jobs to a run, and returns all commands of the run.
 fn give<W: Workflow>(
     alloc: Global,
     state: &mut W::State,
@@ -72,7 +72,7 @@ fn give<W: Workflow>(
     Ok(given)
 }
 
-/// Compares the commands of a line with what it wants. `Differs` where they are others.
+/// Compares the commands with those that the line expects. `Differs` if they are not the same.
 fn compare(
     alloc: Global,
     line: usize,
@@ -93,8 +93,8 @@ fn compare(
     })
 }
 
-/// Gives a run the jobs of a line, which has to answer what the line wants. After an error the run
-/// is given up.
+/// Gives the jobs of a line to a run, and compares its commands with those that the line expects.
+/// After an error the state must not be used any more.
 fn follow_sides<W: Workflow>(
     alloc: Global,
     kind: &str,
@@ -114,7 +114,8 @@ fn follow_sides<W: Workflow>(
     compare(alloc, line, commands.as_slice(), wanted.trim())
 }
 
-/// Gives a run a line of a scenario. A blank line says nothing. After an error the run is given up.
+/// Runs one line of a scenario; a blank line is skipped. After an error the state must not be used
+/// any more.
 fn follow_line<W: Workflow>(
     alloc: Global,
     kind: &str,
@@ -135,7 +136,7 @@ fn follow_line<W: Workflow>(
     }
 }
 
-/// Gives a run all lines of a scenario, up to the first that it does not follow.
+/// Runs the lines of a scenario, up to the first that has a fault.
 fn follow_lines<W: Workflow>(
     alloc: Global,
     kind: &str,
@@ -153,10 +154,10 @@ fn follow_lines<W: Workflow>(
     Ok(())
 }
 
-/// Whether a run of the workflow type `kind` answers as the scenario says, line by line. It does
-/// exactly where the scenario has no fault (`scenario_fault` of `specs`). An error is the first
-/// fault: `UnknownWorkflow` where there is no code for the type, and else that of the first line that
-/// has no arrow, that has words which are no job, or whose jobs are given other commands. Or it is
+/// Checks that a run of the workflow type `kind` gives the commands that the scenario expects, line
+/// by line. It succeeds only if the scenario has no fault (`scenario_fault` in `specs`). An error
+/// is the first fault: `UnknownWorkflow` if the type is not registered, and else that of the first
+/// line that has no arrow, has words that are not a job, or expects other commands. Or it is
 /// `OutOfMemory`.
 pub fn follows<W: Workflow>(alloc: Global, kind: &str, scenario: &str) -> Result<(), ScenarioFault>
     ensures follows { OnOk result (scenario_fault W.program kind.now scenario.now ≡ None) }

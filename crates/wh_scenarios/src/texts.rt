@@ -1,4 +1,4 @@
-//! Commands in words.
+//! Writes commands as text.
 ghost use Rattle.std.specs.Prelude.{◌≡◌, Some, IfOk, OnOk, ◌++◌, string_bytes, option_map, codes};
 ghost use Rattle.wh_events.specs.Phrases.{phrase_seen};
 ghost use Rattle.wh_scenarios.specs.CommandTexts.{word_text, detail_text, phrase_text, payloads_given, content_text};
@@ -10,7 +10,7 @@ use wh_events::{Detail, Payload, Phrase};
 use wh_payloads::text_in;
 use wh_workflow::Command;
 
-/// The payloads of the input or the result of a command.
+/// Returns the payloads of the input or the result of a command.
 fn payloads_given(command: &Command) -> &[Payload]
     ensures { result.now ≡ payloads_given command.now }
 {
@@ -24,7 +24,7 @@ fn payloads_given(command: &Command) -> &[Payload]
     }
 }
 
-/// A word after a space, where there is one.
+/// A word after a space, if there is one.
 #[derive(Drop)]
 struct Word<'a>(Option<&'a str>);
 
@@ -39,7 +39,7 @@ impl fmt::Display for Word<'_> {
     }
 }
 
-/// What stands after the ids and types of a command.
+/// The part of a command after its ids and types.
 #[derive(Drop)]
 struct DetailText(Detail);
 
@@ -56,7 +56,7 @@ impl fmt::Display for DetailText {
     }
 }
 
-/// Kind, id, type, and what stands after them.
+/// Returns a command's kind, id and type, and the part after them.
 fn phrase_text(alloc: Global, phrase: &Phrase<'_>) -> Result<String, AllocError>
     ensures { IfOk result (λ text. string_bytes text ≡ phrase_text (phrase_seen phrase.now)) }
 {
@@ -67,7 +67,7 @@ fn phrase_text(alloc: Global, phrase: &Phrase<'_>) -> Result<String, AllocError>
     format!(in alloc; "{kind}{id}{name}{detail}")
 }
 
-/// The content of a payload, or a question mark where it is no text.
+/// Returns the content of a payload, or a question mark if it is not UTF-8.
 fn content_text(content: &[u8]) -> &str
     ensures { result.now ≡ content_text content.now }
 {
@@ -85,7 +85,7 @@ fn add_payloads(text: &mut String, payloads: &[Payload]) -> Result<(), AllocErro
     Ok(())
 }
 
-/// A command, as it is shown, and its payloads.
+/// Returns a command as `explain` shows it, followed by its payloads.
 fn command_text(alloc: Global, command: &Command) -> Result<String, AllocError>
     ensures { IfOk result (λ text. string_bytes text ≡ command_text command.now) }
 {
@@ -94,7 +94,7 @@ fn command_text(alloc: Global, command: &Command) -> Result<String, AllocError>
     Ok(text)
 }
 
-/// Adds commands, each after a semicolon.
+/// Adds commands, each after a semicolon and a space.
 fn add_later(alloc: Global, text: &mut String, commands: &[Command]) -> Result<(), AllocError>
     ensures { OnOk result (string_bytes text.new ≡ string_bytes text.old ++ later_texts commands.now) }
 {
@@ -106,8 +106,8 @@ fn add_later(alloc: Global, text: &mut String, commands: &[Command]) -> Result<(
     Ok(())
 }
 
-/// Commands as a scenario writes them, with a semicolon between each and the next. `AllocError` where
-/// there was no memory for the text.
+/// Returns commands as a scenario writes them, separated by semicolons. `AllocError` if there is no
+/// memory for the text.
 pub fn commands_text(alloc: Global, commands: &[Command]) -> Result<String, AllocError>
     ensures { IfOk result (λ text. string_bytes text ≡ commands_text commands.now) }
 {

@@ -1,4 +1,4 @@
-//! Words, and the parts of a text.
+//! Splits texts into words and parts.
 ghost use Rattle.std.specs.Prelude.{◌≡◌, ◌<◌, IfOk, map, nat_eq, string_bytes, MatchOption, option_map};
 ghost use Rattle.std.specs.List.{slice_split};
 ghost use Rattle.std.specs.Str.Lines.{lines};
@@ -7,7 +7,7 @@ ghost use Rattle.wh_scenarios.specs.Scenarios.{at_arrow};
 
 use std::alloc::{AllocError, Global};
 
-/// What stands before the first space, or all where there is none.
+/// Returns the text before the first space, or all of it if there is none.
 pub(crate) fn head_word(words: &str) -> &str
     ensures { result.now ≡ head_word words.now }
 {
@@ -17,7 +17,7 @@ pub(crate) fn head_word(words: &str) -> &str
     }
 }
 
-/// What stands after the first space, or nothing where there is none.
+/// Returns the text after the first space, or an empty one if there is none.
 fn after_space(words: &str) -> &str
     ensures { result.now ≡ after_space words.now }
 {
@@ -27,14 +27,14 @@ fn after_space(words: &str) -> &str
     }
 }
 
-/// What stands after the first space, without white space around it.
+/// Returns the text after the first space, without whitespace around it.
 pub(crate) fn words_after(words: &str) -> &str
     ensures { result.now ≡ words_after words.now }
 {
     after_space(words).trim()
 }
 
-/// The parts of a text between separators. `AllocError` where there was no memory for the list.
+/// Returns the parts of a text between separators. `AllocError` if there is no memory for the list.
 pub fn parts_at(alloc: Global, text: &str, separator: char) -> Result<Vec<&str>, AllocError>
     requires { separator < 128 }
     ensures { IfOk result
@@ -43,14 +43,15 @@ pub fn parts_at(alloc: Global, text: &str, separator: char) -> Result<Vec<&str>,
     text.split(separator).collect(alloc)
 }
 
-/// The lines of a text. `AllocError` where there was no memory for the list.
+/// Returns the lines of a text. `AllocError` if there is no memory for the list.
 pub fn lines_of(alloc: Global, text: &str) -> Result<Vec<&str>, AllocError>
     ensures { IfOk result (λ all. map (λ line. line.now) all.items ≡ lines text.now) }
 {
     text.lines().collect(alloc)
 }
 
-/// What stands before the first arrow of a line, and what behind it. `None` where there is none.
+/// Returns the text before the first arrow (`=>`) of a line, and the text after it. `None` if there
+/// is no arrow.
 pub fn at_arrow(line: &str) -> Option<(&str, &str)>
     ensures { option_map (λ sides. (sides.0.now, sides.1.now)) result ≡ at_arrow line.now }
 {
