@@ -1,4 +1,4 @@
--- Cut counters tell what is asked of counters.
+-- Cut counters decide the conditions on counters.
 use Rattle.std.proofs.Common.{◌≡◌, ℕ, suc, ◌≤◌, Bool, true, false, ◌&&◌, List, [], ◌∷◌, refl, ap, ap₂, ◌∙◌, arith}
 use Rattle.std.specs.Prelude.{min, leb, ltb, if◌then◌else◌}
 use Rattle.std.proofs.lemmas.Bool.{and_parts, leb-true, ltb-true, ltb-false}
@@ -15,7 +15,7 @@ use Rattle.wh_rows.specs.declared.row.RowsState.{RowsState}
 use Rattle.wh_rows.specs.Rows.{all_hold, count_of, with_count, raised, after_one, after_effects}
 use Rattle.wh_promises.specs.Deciding.{cut_one, cut_all, asks_within, are_cuts}
 
--- counters cut at these
+-- counters cut at these numbers
 abbrev pub cut : Counts → Counts → Counts
 cut tops counts =
     record { a = min counts.a tops.a; b = min counts.b tops.b; c = min counts.c tops.c; d = min counts.d tops.d }
@@ -33,7 +33,7 @@ below n top bound few = grind (arith, nat_tests)
 at_least : (n top bound : ℕ) → bound ≤ top → leb bound (min n top) ≡ leb bound n
 at_least n top bound few = grind (arith, nat_tests)
 
--- what is asked holds of cut counters where it holds of counters
+-- conditions hold for cut counters exactly if they hold for the counters
 pub all_hold_cut : (asked : List Condition) (tops counts : Counts) → asks_within tops asked ≡ true
     → all_hold asked (cut tops counts) ≡ all_hold asked counts
 all_hold_cut [] tops counts fit = refl
@@ -52,7 +52,7 @@ all_hold_cut (conditions.AtLeast counter bound ∷ rest) tops counts fit =
     ∙ at_least (count_of counter counts) (count_of counter tops) bound (leb-true bound (count_of counter tops) parts.0))
     (all_hold_cut rest tops counts parts.1)
 
--- a counter rises alike with a cut that is no greater than its bound
+-- a counter rises the same way if it is cut at no more than its bound
 raised_cut : (n bound top : ℕ) → top ≤ bound → min (raised n bound) top ≡ raised (min n top) top
 raised_cut n bound top few = by (ltb n bound) refl (ltb (min n top) top) refl
   where
@@ -78,7 +78,7 @@ raised_cut n bound top few = by (ltb n bound) refl (ltb (min n top) top) refl
 pub zero_cut : (top : ℕ) → min 0 top ≡ 0
 zero_cut top = omega arith
 
--- no counter is cut past its bound
+-- no counter is cut above its bound
 pub record Cuts (bounds tops : Counts) : Type 0 where
   pub a : tops.a ≤ bounds.a
   pub b : tops.b ≤ bounds.b
@@ -117,7 +117,7 @@ one_cut (effects.Up counter) bounds tops state job few = up_cut counter bounds t
 one_cut (effects.Zero counter) bounds tops state job few = reset_cut counter tops state.counts
 one_cut effects.Keep bounds tops state job few = refl
 
--- what a row leaves of counters, it leaves of cut ones
+-- effects change cut counters as they change counters
 pub effects_cut : (all : List Effect) (bounds tops : Counts) (state : RowsState) (job : Job) → Cuts bounds tops
     → cut tops (after_effects all bounds state job).counts ≡ cut_all tops all (cut tops state.counts)
 unfolding after_effects
@@ -131,7 +131,7 @@ at_one (effects.Up counter) bounds state job = refl
 at_one (effects.Zero counter) bounds state job = refl
 at_one effects.Keep bounds state job = refl
 
--- and the state stays as it is
+-- effects leave the state as it is
 pub effects_at : (all : List Effect) (bounds : Counts) (state : RowsState) (job : Job)
     → (after_effects all bounds state job).at ≡ state.at
 unfolding after_effects

@@ -1,4 +1,4 @@
--- A watch that keeps to its budget shows what the promise means.
+-- A watch that keeps to its budget shows the meaning of the promise.
 use Rattle.std.proofs.Common.{◌≡◌, ℕ, ◌+◌, ◌≤◌, Bool, true, false, cond, ◌||◌, List, [], ◌∷◌, ◌++◌, Option, Some, None, refl, subst, ◌∙◌, arith}
 use Rattle.wh_rows.specs.Tables.{Definition}
 use Rattle.wh_rows.specs.Rows.{initial}
@@ -11,7 +11,7 @@ use Rattle.wh_promises.proofs.Turns.{grows}
 abbrev pub taken : Bool → Turn → Option Turn → Option Turn
 taken t turn later = elim t [ true ↦ Some turn | false ↦ later ]
 
--- a watch that once spends is past a budget of nothing
+-- a watch that spends anything exceeds a budget of 0
 spends : (turns : List Turn) (at spent : ℕ) (entries : List Entry)
     → (watched turns (record { at = at; spent = spent + 1 }) entries).spent ≤ spent → ⊥
 spends turns at spent entries few =
@@ -119,7 +119,7 @@ module _ (first last what : Happening) where
   abbrev pub pair : List Turn
   pair = opens ∷ misses ∷ answers ∷ []
 
-  -- where it waits, the third happens before the last
+  -- while it waits, the third happens before the second
   answered : (spent : ℕ) (middle : List Entry) (other : Entry) (later : List Entry)
       → (watched pair (record { at = 2; spent = spent }) (middle ++ other ∷ later)).spent ≤ spent
       → is_at last other ≡ true → happens what middle ≡ true
@@ -138,7 +138,7 @@ module _ (first last what : Happening) where
       by false true few next_one = refl
       by false false few next_one = next_one few
 
-  -- from the first time on
+  -- after the first time of the first, the third happens before each of the second
   all_answered : (spent : ℕ) (earlier : List Entry) (one : Entry) (middle : List Entry) (other : Entry) (later : List Entry)
       → (watched pair (record { at = 1; spent = spent }) (earlier ++ one ∷ (middle ++ other ∷ later))).spent ≤ spent
       → happens first earlier ≡ false → is_at first one ≡ true → is_at last other ≡ true → happens what middle ≡ true
@@ -165,7 +165,7 @@ module _ (first last what : Happening) where
       by true none few next_one = cc
       by false none few next_one = next_one none few
 
--- where its watch keeps to its budget the promise is kept
+-- the promise is kept if its watch keeps to its budget
 pub means_in : (promise : Promise) (entries : List Entry)
     → (watched (watch_of promise).turns new_standing entries).spent ≤ (watch_of promise).budget → KeptIn promise entries
 means_in (at_most most what) entries few =
@@ -187,6 +187,6 @@ means_in (between first last what) entries few = λ earlier one middle other lat
     none is ends
 means_in (keeps_watch watch) entries few = few
 
--- a table whose watch keeps to its budget keeps the promise
+-- a table keeps the promise if its watch keeps to its budget
 pub means : (table : Definition) (promise : Promise) → Keeps table (watch_of promise) → Promises table promise
 means table promise keeps = λ list start. means_in promise (course table (initial table) list) (keeps list start)

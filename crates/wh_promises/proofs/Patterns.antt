@@ -1,4 +1,4 @@
--- Which jobs a pattern is for.
+-- The jobs that a pattern matches.
 use Rattle.std.proofs.Common.{◌≡◌, ℕ, ℤ, Bool, true, false, not, ◌&&◌, ◌||◌, List, [], ◌∷◌, refl, sym, subst, ◌∙◌, inl, inr}
 use Rattle.std.specs.Prelude.{nat_eq, bytes_eq, codes}
 use Rattle.std.specs.Ordering.{int_eq}
@@ -20,7 +20,7 @@ use Rattle.wh_promises.specs.Deciding.{number_of, text_of, texts_apart, versions
 same : (a b : List ℕ) → bytes_eq a b ≡ true → b ≡ a
 same a b is = sym ((bytes_eq-Decides a b).0 is)
 
--- the number of the patterns that may be for the job
+-- the number of the patterns that may match the job
 abbrev job_number : Job → ℕ
 job_number (jobs.Start _ _) = 1
 job_number (jobs.Signal _ _) = 2
@@ -44,7 +44,7 @@ job_text (jobs.Child id _) = id
 job_text (jobs.Version id _) = id
 job_text _ = []
 
--- what is known of a job that a pattern is for
+-- what holds of a job that a pattern matches
 abbrev Known : JobPattern → RowsState → Job → Type 0
 Known one state job = (number_of one ≡ job_number job) × (named (text_of one) state ≡ job_text job)
 
@@ -94,7 +94,7 @@ versions_both (patterns.Version a m) (patterns.Version b n) state (jobs.Version 
 versions_both (patterns.Version a m) (patterns.Version b n) state _ differ first second = cc
 versions_both _ _ state job differ first second = cc
 
--- no job is of patterns that are apart
+-- no job matches two patterns that are apart
 pub none_is_both : (one other : JobPattern) (state : RowsState) (job : Job) → apart one other ≡ true
     → is_for_job one state job ≡ true → is_for_job other state job ≡ true → ⊥
 none_is_both one other state job differ first second =
@@ -120,12 +120,12 @@ none_is_both one other state job differ first second =
         both_ways (nat_eq (number_of one) (number_of other)) p
         (eq-eqb (number_of one) (number_of other) (of_one.0 ∙ sym of_other.0))
 
--- a job is of none of these
+-- the job matches none of these
 abbrev pub is_none : List JobPattern → RowsState → Job → Bool
 is_none [] state job = true
 is_none (one ∷ rest) state job = not (is_for_job one state job) && is_none rest state job
 
--- so not of a pattern that is among them
+-- so it does not match a pattern that is among them
 pub not_among : (one : JobPattern) (passed : List JobPattern) (state : RowsState) (job : Job)
     → is_none passed state job ≡ true → is_among one passed ≡ true → is_for_job one state job ≡ true → ⊥
 not_among one [] state job none it is = cc

@@ -1,4 +1,4 @@
--- Numbers of states stand for them.
+-- Numbers identify states.
 use Rattle.std.proofs.Common.{◌≡◌, ℕ, suc, ◌<◌, Bool, true, false, List, [], ◌∷◌, length, refl, ap, sym, ◌∙◌, arith}
 use Rattle.std.specs.Prelude.{ltb, nat_eq, bytes_eq}
 use Rattle.std.proofs.lemmas.Bool.{ltb-true, eqb-true, eq-eqb}
@@ -10,7 +10,7 @@ use Rattle.wh_promises.specs.Deciding.{place}
 abbrev pick : Bool → ℕ → ℕ
 pick t n = elim t [ true ↦ 0 | false ↦ suc n ]
 
--- states of one number are one, if it has rows
+-- two states with the same number are the same, if it has rows
 one_state : (a b : List ℕ) (rows : List Row) → place a rows ≡ place b rows → place a rows < length rows → a ≡ b
 one_state a b [] same few = absurd (omega arith)
 one_state a b (row ∷ rest) same few =
@@ -24,7 +24,7 @@ one_state a b (row ∷ rest) same few =
     by later false p true q same few = absurd (omega arith)
     by later false p false q same few = later (omega arith) (omega arith)
 
--- so numbers tell states apart
+-- so states are the same exactly if their numbers are
 pub places_tell : (a b : List ℕ) (rows : List Row) → ltb (place a rows) (length rows) ≡ true
     → nat_eq (place a rows) (place b rows) ≡ bytes_eq a b
 places_tell a b rows few =

@@ -33,16 +33,16 @@ config_same : (other : Config) (state : ℕ) (closed : Bool) (counts : Counts) (
 config_same other state closed counts at spent p q c w sum = rw (sym p, sym q, sym c, sym w, sym sum) refl
 
 module _ (table : Definition) (tops : Counts) (turns : List Turn) (fine : Cuts table.bounds tops) where
-  -- where a run and a watch stand together
+  -- the configuration of a run and a watch
   abbrev stand_at : RowsState → Standing → Config
   stand_at state now =
       record { state = place state.at table.rows; closed = state.closed; counts = cut tops state.counts; watch = now }
 
-  -- where the watch stands once the job has come
+  -- the standing of the watch after the job comes
   abbrev told : RowsState → Job → Standing → Standing
   told state job now = turned turns (λ what. comes what state job) now
 
-  -- where both stand after the row that counts, if there is one
+  -- the configuration after the row that applies, if there is one
   abbrev then_at : Option Row → RowsState → Job → Standing → Config
   then_at row state job now =
       stand_at (after_found row table.bounds state job) (watched turns (told state job now) (gave (row_gives row state job)))
@@ -62,7 +62,7 @@ module _ (table : Definition) (tops : Counts) (turns : List Turn) (fine : Cuts t
   led_is row state job begun now =
       rw (given_is turns row.gives state job now, next_is row state job, effects_cut row.effects table.bounds tops state job fine) refl
 
-  -- a line is ready where its row fits but for the job
+  -- a line is ready exactly if its row fits apart from the job
   ready_is : (row : Row) (state : RowsState) (now : Standing)
       → (ltb (place row.state table.rows) (length table.rows) && asks_within tops row.conditions) ≡ true
       → (is_for_state row.state state && all_hold row.conditions state.counts) ≡ is_ready (line table.rows row) (stand_at state now)
@@ -74,7 +74,7 @@ module _ (table : Definition) (tops : Counts) (turns : List Turn) (fine : Cuts t
       ∙ ready_test state.closed (bytes_eq row.state (codes "any") || nat_eq (place row.state table.rows) (place state.at table.rows))
       (all_hold row.conditions (cut tops state.counts))
 
-  -- where a job leads is among what is computed
+  -- the configuration after a job is among those that are computed
   leads_sound : (test : Config → Bool) (rest : List Row) (passed : List JobPattern) (state : RowsState) (job : Job) (now : Standing)
       → all_within (length table.rows) tops (lines table.rows rest) ≡ true → is_none passed state job ≡ true
       → each test (leads tops turns (lines table.rows rest) passed (stand_at state now)) ≡ true
@@ -134,7 +134,7 @@ module _ (table : Definition) (tops : Counts) (turns : List Turn) (fine : Cuts t
   on_start (patterns.Version _ _) state workflow input = refl
   on_start (patterns.AnyVersion _) state workflow input = refl
 
-  -- where the start leads is
+  -- the configuration after the start is among those that are computed
   starts_sound : (test : Config → Bool) (rest : List Row) (state : RowsState) (workflow : List ℕ) (input : List Payload) (now : Standing)
       → all_within (length table.rows) tops (lines table.rows rest) ≡ true
       → each test (starts tops turns (lines table.rows rest) (stand_at state now)) ≡ true
@@ -172,7 +172,7 @@ module _ (table : Definition) (tops : Counts) (turns : List Turn) (fine : Cuts t
           subst (λ one. test one ≡ true) (led_is row state (jobs.Start workflow input) now (told state (jobs.Start workflow input) now))
           (turns_sound test (led tops turns (line table.rows row) (stand_at state now)) turns (Some patterns.Start) [] state (jobs.Start workflow input) now refl refl pass)
 
-  -- what a start is remembered by is no part of it
+  -- the input and the name that a start sets are no part of a configuration
   seen_stands : (state : RowsState) (job : Job) (now : Standing) → stand_at state now ≡ stand_at (seen_by table state job) now
   seen_stands state (jobs.Start _ _) now = refl
   seen_stands state _ now = refl
@@ -183,7 +183,7 @@ module _ (table : Definition) (tops : Counts) (turns : List Turn) (fine : Cuts t
       (leb one.watch.spent budget ≡ true) × (each known (steps tops turns (lines table.rows table.rows) one) ≡ true)
 
   module _ (budget : ℕ) (all : Tree) where
-    -- what is seen of a tree
+    -- each configuration of a tree is good
     abbrev closed_tree : Tree → Bool
     closed_tree tree = is_closed tops (record { turns = turns; budget = budget }) (lines table.rows table.rows) all tree
 
@@ -206,7 +206,7 @@ module _ (table : Definition) (tops : Counts) (turns : List Turn) (fine : Cuts t
         by true false first good = cc
         by false led first good = cc
 
-    -- what covers a configuration under a key is good
+    -- a configuration that covers another in the tree is good
     under_key : (key : ℕ) (one : Config) (tree : Tree) → has_under key one tree ≡ true → closed_tree tree ≡ true
         → (other : Config) × (covered one other ≡ true) × IsGood budget (has all) other
     under_key key one Leaf there good = cc
@@ -236,7 +236,7 @@ module _ (table : Definition) (tops : Counts) (turns : List Turn) (fine : Cuts t
   closed_same true other same = same
   closed_same false other same = not-true other same
 
-  -- what covers a configuration has only spent more
+  -- a configuration that covers another only may have spent more
   covering : (one other : Config) → covered one other ≡ true
       → (more : ℕ) × (other ≡ record { state = one.state; closed = one.closed; counts = one.counts; watch = ahead more one.watch })
   covering one other it =
@@ -260,11 +260,11 @@ module _ (table : Definition) (tops : Counts) (turns : List Turn) (fine : Cuts t
         config_same other one.state one.closed one.counts one.watch.at (one.watch.spent + (other.watch.spent - one.watch.spent)) (sym p) q c (sym w) sum,
       )
 
-  -- a run stands at a configuration that is known, or has spent less
+  -- the configuration of a run is known, or has spent less than a known one
   abbrev Holds : (Config → Bool) → RowsState → Standing → Type 0
   Holds known state now = (more : ℕ) × (known (stand_at state (ahead more now)) ≡ true)
 
-  -- from known configurations on, so many jobs but one keep to the budget
+  -- after known configurations, so many jobs without a start keep to the budget
   abbrev pub KeepsOn : ℕ → (Config → Bool) → ℕ → Type 0
   KeepsOn budget known many =
       (state : RowsState) (now : Standing) (later : List Job) → goes_on later ≡ true → length later < many
@@ -275,7 +275,7 @@ module _ (table : Definition) (tops : Counts) (turns : List Turn) (fine : Cuts t
       let sum : (now.spent + first) + second ≡ now.spent + (first + second) = omega arith in
       ap (λ (n : ℕ). let there : Standing = record { at = now.at; spent = n } in there) sum
 
-  -- where the watch stands after a job and its commands
+  -- the standing of the watch after a job and its commands
   abbrev through : RowsState → Job → Standing → Standing
   through state job now = watched turns (told (seen_by table state job) job now) (gave (gives table state job))
 
@@ -283,7 +283,7 @@ module _ (table : Definition) (tops : Counts) (turns : List Turn) (fine : Cuts t
   through_ahead state job more now =
       watched_ahead turns more now (Came (seen_by table state job) job ∷ gave (gives table state job))
 
-  -- what a job and its commands do, and then what comes later
+  -- the entries of a job and its commands, and the later ones
   course_splits : (state : RowsState) (now : Standing) (job : Job) (later : List Job)
       → watched turns now (course table state (job ∷ later)) ≡ watched turns (through state job now) (course table (after table state job) later)
   course_splits state now job later =
@@ -292,7 +292,7 @@ module _ (table : Definition) (tops : Counts) (turns : List Turn) (fine : Cuts t
   module _ (budget : ℕ) (fit : all_within (length table.rows) tops (lines table.rows table.rows) ≡ true) where
     module _ (known next : Config → Bool)
         (under : (one : Config) → known one ≡ true → (other : Config) × (covered one other ≡ true) × IsGood budget next other) where
-      -- so at a good one
+      -- so it is at a good one
       good_at : (state : RowsState) (now : Standing) → Holds known state now → (more : ℕ) × IsGood budget next (stand_at state (ahead more now))
       good_at state now holds =
           let here : Config = stand_at state (ahead holds.0 now) in
@@ -317,7 +317,8 @@ module _ (table : Definition) (tops : Counts) (turns : List Turn) (fine : Cuts t
           let few : now.spent + good.0 ≤ budget = leb-true (now.spent + good.0) budget good.1.0 in
           omega (arith, few)
 
-      -- where known configurations are good, and from those that they lead to on so many jobs keep to the budget, one more does
+      -- if known configurations are good, and so many jobs after those that they lead to keep to the budget, so does
+      -- one more job
       pub keeps_on : (many : ℕ) → KeepsOn budget next many → KeepsOn budget known (suc many)
       keeps_on many later_on state now [] start few holds = keeps_here state now holds
       keeps_on many later_on state now (job ∷ later) start few holds =
@@ -328,17 +329,17 @@ module _ (table : Definition) (tops : Counts) (turns : List Turn) (fine : Cuts t
           (goes state now job (not-true (is_start job) parts.0) holds))
 
     module _ (known : Config → Bool) where
-      -- no jobs keep to it
+      -- no jobs keep to the budget
       pub keeps_none : KeepsOn budget known 0
       keeps_none state now later start few holds = omega (arith, few)
 
-      -- however it goes on, where known configurations lead to known ones
+      -- any number of jobs keep to the budget, if known configurations lead to known ones
       keeps_ever : ((one : Config) → known one ≡ true → (other : Config) × (covered one other ≡ true) × IsGood budget known other)
           → (many : ℕ) → KeepsOn budget known many
       keeps_ever under zero = keeps_none
       keeps_ever under (suc many) = keeps_on known known under many (keeps_ever under many)
 
-      -- also after the start
+      -- the same after the start
       begin : (state : RowsState) (now : Standing) (workflow : List ℕ) (input : List Payload) (later : List Job) → goes_on later ≡ true
           → each known (starts tops turns (lines table.rows table.rows) (stand_at state now)) ≡ true
           → KeepsOn budget known (suc (length later))
@@ -374,7 +375,7 @@ passed_by is true holds row other off = cc
 passed_by false false holds row other off = refl
 passed_by true false holds row other off = refl
 
--- no row is for the time
+-- no row is for the job that gives the time
 pub no_row_at : (rest : List Row) (state : RowsState) (time : ℤ) → row_for rest state (jobs.Time time) ≡ None
 unfolding row_for
 no_row_at [] state time = refl
@@ -392,7 +393,7 @@ comes_none Cancels state time = refl
 comes_none ContinuesAsNew state time = refl
 comes_none Closes state time = refl
 
--- no turn is for the time
+-- no turn is for the job that gives the time
 no_turn_at : (turns : List Turn) (state : RowsState) (time : ℤ) (at : ℕ) → turn_for turns (λ what. comes what state (jobs.Time time)) at ≡ None
 no_turn_at [] state time at = refl
 no_turn_at (turn ∷ rest) state time at =
@@ -407,13 +408,13 @@ no_turn_at (turn ∷ rest) state time at =
     by later true false off = later
     by later false false off = later
 
--- the time changes nothing of what happens later
+-- the job that gives the time does not change what happens later
 time_stays : (table : Definition) (turns : List Turn) (state : RowsState) (now : Standing) (time : ℤ) (later : List Job)
     → watched turns now (course table state (jobs.Time time ∷ later)) ≡ watched turns now (course table state later)
 time_stays table turns state now time later =
     rw (no_row_at table.rows state time, no_turn_at turns state time now.at) refl
 
--- what a promise without a fault shows
+-- what holds for a promise without a fault
 record Shown (table : Definition) (watch : Watch) : Type 0 where
   tops : Counts
   all : Tree
@@ -441,7 +442,8 @@ cut_nothing table tops = sym (rw (zero_cut tops.a, zero_cut tops.b, zero_cut top
 module _ (table : Definition) (watch : Watch) (tops : Counts) (fine : Cuts table.bounds tops) (known : Config → Bool)
     (fit : all_within (length table.rows) tops (lines table.rows table.rows) ≡ true)
     (first : each known (starts tops watch.turns (lines table.rows table.rows) (begun (place table.first table.rows))) ≡ true) where
-  -- where known configurations are those of the start, and from them on so many jobs but one keep to the budget, so many jobs do
+  -- if the configurations after the start are known, and so many jobs without a start after them keep to the budget, so
+  -- do as many jobs from the start
   pub keeps_before : (many : ℕ) → KeepsOn table tops watch.turns fine watch.budget known many
       → (list : List Job) → begins list ≡ true → length list ≤ many
       → (watched watch.turns new_standing (course table (initial table) list)).spent ≤ watch.budget
@@ -468,7 +470,7 @@ module _ (table : Definition) (watch : Watch) (tops : Counts) (fine : Cuts table
       let all : length list ≤ length list = omega arith in
       keeps_before (length list) (keeps_ever table tops watch.turns fine watch.budget fit known under (length list)) list start all
 
--- a tree that shows it shows it
+-- a tree that passes the test shows the promise
 keeps_shown : (table : Definition) (watch : Watch) (tops : Counts) (all : Tree) → shows (case_of table) tops watch all ≡ true
     → Keeps table watch
 keeps_shown table watch tops all good =

@@ -1,4 +1,4 @@
--- Where a promise is kept its watch keeps to the budget.
+-- The watch of a promise that is kept keeps to its budget.
 use Rattle.std.proofs.Common.{◌≡◌, ℕ, ◌+◌, ◌≤◌, Bool, true, false, ◌||◌, List, [], ◌∷◌, ◌++◌, Option, Some, None, refl, ap, subst, ◌∙◌, arith}
 use Rattle.std.proofs.Math.Nat.{le_refl}
 use Rattle.wh_promises.specs.Courses.{Happening, Entry, is_at, times, happens}
@@ -138,7 +138,7 @@ module _ (first last what : Happening) where
           (plus_none spent) (waits refl)
       by false waits later = later refl
 
--- so a watch that has spent more than its budget tells of a promise that is not kept
+-- so if a watch has spent more than its budget, the promise is not kept
 pub kept_spends : (promise : Promise) (entries : List Entry) → KeptIn promise entries
     → (watched (watch_of promise).turns new_standing entries).spent ≤ (watch_of promise).budget
 kept_spends (at_most most what) entries kept =

@@ -1,4 +1,4 @@
--- How a watch turns, and where a job may turn it.
+-- How a watch changes, and how a job may change it.
 use Rattle.std.proofs.Common.{◌≡◌, ℕ, ◌+◌, ◌≤◌, Bool, true, false, not, List, [], ◌∷◌, ◌++◌, Option, Some, None, refl, ap, ap₂, ◌∙◌, arith}
 use Rattle.std.proofs.Math.Nat.{le_refl, le_trans}
 use Rattle.std.specs.Prelude.{nat_eq}
@@ -57,7 +57,7 @@ kind_is_by_row (templates.StartActivity _ _ _) state job = refl
 kind_is_by_row (templates.StartChild _ _ _) state job = refl
 kind_is_by_row _ state job = refl
 
--- a command is what its row says
+-- a command is the happening that its row says
 is_by_row : (what : Happening) (one : CommandTemplate) (state : RowsState) (job : Job)
     → is_given what (command_of one state job) ≡ is_by what one
 is_by_row (Comes pattern) one state job = refl
@@ -72,7 +72,7 @@ is_by_row ContinuesAsNew (templates.ContinueAsNew _ _) state job = refl
 is_by_row ContinuesAsNew _ state job = refl
 is_by_row Closes one state job = closes_alike one state job
 
--- the commands of a row turn a watch as the row says
+-- the commands of a row change a watch as the row says
 pub given_is : (turns : List Turn) (gives : List CommandTemplate) (state : RowsState) (job : Job) (now : Standing)
     → watched turns now (gave (commands_of gives state job)) ≡ given turns gives now
 unfolding commands_of
@@ -87,7 +87,7 @@ moved_grows : (found : Option Turn) (now : Standing) → now.spent ≤ (moved fo
 moved_grows None now = le_refl now.spent
 moved_grows (Some turn) now = omega arith
 
--- a watch never takes back what it has spent
+-- a watch never spends less than before
 pub grows : (turns : List Turn) (now : Standing) (entries : List Entry) → now.spent ≤ (watched turns now entries).spent
 grows turns now [] = le_refl now.spent
 grows turns now (entry ∷ rest) =
@@ -106,7 +106,7 @@ moved_ahead (Some turn) more now =
     let swap : (now.spent + more) + turn.cost ≡ (now.spent + turn.cost) + more = omega arith in
     ap (λ (n : ℕ). let there : Standing = record { at = turn.to; spent = n } in there) swap
 
--- turns as one that has spent less
+-- it changes as one that has spent less
 pub watched_ahead : (turns : List Turn) (more : ℕ) (now : Standing) (entries : List Entry)
     → watched turns (ahead more now) entries ≡ ahead more (watched turns now entries)
 watched_ahead turns more now [] = refl
@@ -114,7 +114,7 @@ watched_ahead turns more now (entry ∷ rest) =
     ap (λ there. watched turns there rest) (moved_ahead (turn_for turns (λ what. is_at what entry) now.at) more now)
     ∙ watched_ahead turns more (turned turns (λ what. is_at what entry) now) rest
 
--- what is known of a job that is of the pattern, if there is one
+-- what is known of a job that matches the pattern, if there is one
 abbrev pub IsKnown : Option JobPattern → RowsState → Job → Type 0
 IsKnown None state job = Unit {0}
 IsKnown (Some one) state job = is_for_job one state job ≡ true
@@ -165,7 +165,7 @@ must ContinuesAsNew (Some one) state job is over = cc
 must Closes None state job is over = cc
 must Closes (Some one) state job is over = cc
 
--- where a job turns a watch is among what is computed
+-- the configuration after a job changes the watch is among those that are computed
 pub turns_sound : (test : Config → Bool) (stand : Standing → Config) (turns : List Turn) (known : Option JobPattern)
     (passed : List JobPattern) (state : RowsState) (job : Job) (now : Standing)
     → IsKnown known state job → is_none passed state job ≡ true

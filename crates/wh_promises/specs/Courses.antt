@@ -1,4 +1,4 @@
--- What happens in a run of a table, one thing after another.
+-- What happens in a run of a table, in order.
 use Rattle.std.specs.Prelude.{ℕ, ◌+◌, Bool, true, false, not, ◌&&◌, ◌||◌, List, [], ◌∷◌, ◌++◌, cond}
 use Rattle.wh_workflow.specs.declared.job.Job.{Job}
 use Rattle.wh_workflow.specs.declared.job.Job.TheVariants as jobs
@@ -12,34 +12,34 @@ use Rattle.wh_rows.specs.Properties.{CommandKind, kind_of, same_kind}
 
 -- what may happen in a run
 pub data Happening : Type 0 where
-  -- a job comes that a row with the pattern is for
+  -- a job comes that the pattern matches
   Comes : JobPattern → Happening
-  -- a command of the kind is given
+  -- the run gives a command of the kind
   Gives : CommandKind → Happening
-  -- a command is given that closes the run with a result
+  -- the run completes with a result
   Completes : Happening
-  -- with a failure
+  -- the run fails
   Fails : Happening
-  -- as canceled
+  -- the run closes as canceled
   Cancels : Happening
-  -- that closes it and starts a new one
+  -- the run continues as a new one
   ContinuesAsNew : Happening
-  -- that closes it, in whichever way
+  -- the run closes, in any of these ways
   Closes : Happening
 
--- what happened
+-- an entry of what happened in a run
 pub data Entry : Type 0 where
-  -- a job came, and the rows see it in this state
+  -- a job came; the rows see it in this state
   Came : RowsState → Job → Entry
-  -- a command was given
+  -- the run gave this command
   Gave : Command → Entry
 
--- the job is one that comes
+-- it is this job coming
 abbrev pub comes : Happening → RowsState → Job → Bool
 comes (Comes pattern) state job = is_for_job pattern state job
 comes _ state job = false
 
--- the command is one that is given
+-- it is this command being given
 abbrev pub is_given : Happening → Command → Bool
 is_given (Comes pattern) command = false
 is_given (Gives kind) command = same_kind kind (kind_of command)
@@ -68,12 +68,12 @@ abbrev pub happens : Happening → List Entry → Bool
 happens what [] = false
 happens what (entry ∷ rest) = is_at what entry || happens what rest
 
--- the entries of commands
+-- commands as entries
 abbrev pub gave : List Command → List Entry
 gave [] = []
 gave (command ∷ rest) = Gave command ∷ gave rest
 
--- what happens in a run at jobs, one after another: each job, and behind it the commands that it is given
+-- the entries of a run for these jobs: each job, followed by the commands that the run gives to it
 abbrev pub course : Definition → RowsState → List Job → List Entry
 course table state [] = []
 course table state (job ∷ later) =
@@ -84,7 +84,7 @@ abbrev pub goes_on : List Job → Bool
 goes_on [] = true
 goes_on (job ∷ later) = not (is_start job) && goes_on later
 
--- jobs as a run is given them: a start, with nothing but the time before it, and then none
+-- the jobs begin as for a real run: a start, with nothing but the time before it, and no start after it
 abbrev pub begins : List Job → Bool
 begins [] = true
 begins (jobs.Start _ _ ∷ later) = goes_on later

@@ -1,4 +1,4 @@
--- A watch over a run, which goes from state to state and spends.
+-- A watch over a run: a state machine that changes its state at what happens, and adds up costs.
 use Rattle.std.specs.Prelude.{ℕ, ◌+◌, ◌≤◌, Bool, true, false, List, [], ◌∷◌, Option, Some, None, IsTrue, nat_eq}
 use Rattle.wh_workflow.specs.declared.job.Job.{Job}
 use Rattle.wh_rows.specs.Tables.{Definition}
@@ -9,21 +9,21 @@ use Rattle.wh_promises.specs.Courses.{Happening, Entry, is_at, course, begins}
 pub record Turn : Type 0 where
   -- in this state of the watch
   pub from : ℕ
-  -- where this happens
+  -- when this happens
   pub what : Happening
-  -- it goes on in that state
+  -- it changes to that state
   pub to : ℕ
-  -- and spends so much
+  -- and spends this cost
   pub cost : ℕ
 
 -- a watch
 pub record Watch : Type 0 where
-  -- its turns, of which the first that fits counts
+  -- its turns; the first that fits applies
   pub turns : List Turn
-  -- what it may spend
+  -- the most that it may spend
   pub budget : ℕ
 
--- where a watch stands
+-- the state of a watch, and what it has spent
 pub record Standing : Type 0 where
   -- its state
   pub at : ℕ
@@ -34,7 +34,7 @@ pub record Standing : Type 0 where
 abbrev pub new_standing : Standing
 new_standing = record { at = 1; spent = 0 }
 
--- the first turn from the state for which the test holds of what it is at
+-- the first turn from the state whose happening passes the test
 abbrev pub turn_for : List Turn → (Happening → Bool) → ℕ → Option Turn
 turn_for [] test at = None
 turn_for (turn ∷ rest) test at =
@@ -43,7 +43,7 @@ turn_for (turn ∷ rest) test at =
       | false ↦ turn_for rest test at
     ]
 
--- where a watch stands after a turn
+-- the standing of a watch after a turn
 abbrev pub took : Turn → Standing → Standing
 took turn now = record { at = turn.to; spent = now.spent + turn.cost }
 
@@ -52,16 +52,16 @@ abbrev pub moved : Option Turn → Standing → Standing
 moved None now = now
 moved (Some turn) now = took turn now
 
--- where it stands after what passes the test
+-- the standing after something happens, if the test says what that is
 abbrev pub turned : List Turn → (Happening → Bool) → Standing → Standing
 turned turns test now = moved (turn_for turns test now.at) now
 
--- where it stands after these entries
+-- the standing after these entries
 abbrev pub watched : List Turn → Standing → List Entry → Standing
 watched turns now [] = now
 watched turns now (entry ∷ rest) = watched turns (turned turns (λ what. is_at what entry) now) rest
 
--- a run never spends more than the budget, whatever jobs come
+-- a run spends at most the budget, whatever jobs come
 abbrev pub Keeps : Definition → Watch → Type 0
 Keeps table watch =
     (list : List Job) → IsTrue (begins list)

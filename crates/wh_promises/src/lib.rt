@@ -1,5 +1,5 @@
-//! Promises of workflows that are tables of rows: what a run of the table never does, whatever jobs
-//! come, each decided by computation.
+//! Promises of workflows that are tables of rows: what no run of the table does, whatever jobs
+//! come. The check decides each promise by computation.
 //!
 //! An author writes the promises beside the table, and no proof:
 //!
@@ -15,8 +15,8 @@
 //! }
 //! ```
 //!
-//! A promise that may be broken is refused: `found Some (MayBreak 2 103)` says that the second one may
-//! be broken in a run that takes the rows 1 and 3.
+//! A promise that may be broken is refused: `found Some (MayBreak 2 103)` says that the second
+//! promise may be broken, in a run that follows the rows 1 and 3.
 #![tactic(auto)]
 
 pub mod laws;

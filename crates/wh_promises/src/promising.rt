@@ -5,10 +5,10 @@ ghost use Rattle.wh_promises.specs.Deciding.{promise_fault};
 
 use wh_rows::Table;
 
-/// A table that promises what its runs never do. An author writes `ghost promised = { refl }`, which
-/// is refused where a promise may be broken.
+/// A table that promises what its runs never do. An author writes `ghost promised = { refl }`,
+/// which is refused if a promise may be broken.
 pub trait Promising: Table {
-    /// What it promises.
+    /// The promises.
     ghost promises: { List Promise };
 
     /// No promise may be broken.

@@ -4,7 +4,7 @@ use Rattle.std.specs.Prelude.{if◌then◌else◌}
 use Rattle.wh_workflow.specs.declared.command.Command.{Command}
 use Rattle.wh_workflow.specs.Law.{is_ask, asks_last}
 
--- none of these follows one that asks, where the one before them asks or not
+-- none of these follows one that asks, if the one before them asks or not
 abbrev pub goes_on : Bool → List Command → Bool
 goes_on asked [] = true
 goes_on asked (one ∷ rest) = if asked then false else goes_on (is_ask one) rest

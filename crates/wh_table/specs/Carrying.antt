@@ -1,4 +1,4 @@
--- What a step may give, and the table that goes on with it.
+-- The commands of a step, with the table added to the input of a new run.
 use Rattle.std.specs.Prelude.{◌≡◌, ℕ, suc, ◌≤◌, Bool, true, false, not, ◌&&◌, List, [], ◌∷◌, ◌++◌, map, length, leb, refl, if◌then◌else◌}
 use Rattle.std.proofs.Common.{ap, sym, subst, ◌∙◌}
 use Rattle.std.proofs.lemmas.Bool.{leb-true}
@@ -9,23 +9,25 @@ use Rattle.wh_workflow.specs.Law.{IsAnswer, asks_last, records_none, is_ask, is_
 use Rattle.wh_workflow.specs.Answering.{none_is_answer}
 use Rattle.wh_rows.specs.Lawful.{first_of, second_of}
 
--- a step may give the commands
+-- a step may return these commands
 abbrev pub is_answer : List Command → Bool
 is_answer given = leb (length given) 64 && (asks_last given && records_none given)
 
--- the command, which carries the table on where it starts a new run of it
+-- the command; if it continues as a new run of the same table, with the run's type and with the table before its input
 abbrev pub with_table : List ℕ → List Payload → Command → Command
 with_table kind table (commands.ContinueAsNew [] input) = commands.ContinueAsNew kind (table ++ input)
 with_table kind table command = command
 
--- the commands with the table, if a step may give them. None that the rows of a table give is held back
+-- the commands with the table added, or none if a step may not return them. A table that breaks no rule always gives
+-- commands that it may
 abbrev pub held : List ℕ → List Payload → List Command → List Command
 held kind table given = if is_answer given then map (with_table kind table) given else []
 
 -- ---- A step may give them
 
--- a command that carries the table on is what it was
-same_ask : (kind : List ℕ) (table : List Payload) (command : Command) → is_ask (with_table kind table command) ≡ is_ask command
+-- adding the table does not change whether a command asks
+same_ask : (kind : List ℕ) (table : List Payload) (command : Command)
+    → is_ask (with_table kind table command) ≡ is_ask command
 same_ask kind table (commands.ContinueAsNew [] input) = refl
 same_ask kind table (commands.ContinueAsNew (c ∷ cs) input) = refl
 same_ask kind table (commands.StartActivity _ _ _) = refl
@@ -41,7 +43,8 @@ same_ask kind table (commands.Complete _) = refl
 same_ask kind table (commands.Fail _) = refl
 same_ask kind table commands.Cancel = refl
 
-same_marker : (kind : List ℕ) (table : List Payload) (command : Command) → is_marker (with_table kind table command) ≡ is_marker command
+same_marker : (kind : List ℕ) (table : List Payload) (command : Command)
+    → is_marker (with_table kind table command) ≡ is_marker command
 same_marker kind table (commands.ContinueAsNew [] input) = refl
 same_marker kind table (commands.ContinueAsNew (c ∷ cs) input) = refl
 same_marker kind table (commands.StartActivity _ _ _) = refl
@@ -57,18 +60,21 @@ same_marker kind table (commands.Complete _) = refl
 same_marker kind table (commands.Fail _) = refl
 same_marker kind table commands.Cancel = refl
 
-same_length : (kind : List ℕ) (table : List Payload) (given : List Command) → length (map (with_table kind table) given) ≡ length given
+same_length : (kind : List ℕ) (table : List Payload) (given : List Command)
+    → length (map (with_table kind table) given) ≡ length given
 same_length kind table [] = refl
 same_length kind table (one ∷ rest) = ap suc (same_length kind table rest)
 
-same_asks : (kind : List ℕ) (table : List Payload) (given : List Command) → asks_last (map (with_table kind table) given) ≡ asks_last given
+same_asks : (kind : List ℕ) (table : List Payload) (given : List Command)
+    → asks_last (map (with_table kind table) given) ≡ asks_last given
 same_asks kind table [] = refl
 same_asks kind table (one ∷ []) = refl
 same_asks kind table (one ∷ next ∷ rest) =
     ap (λ ask. not ask && asks_last (map (with_table kind table) (next ∷ rest))) (same_ask kind table one)
     ∙ ap (λ more. not (is_ask one) && more) (same_asks kind table (next ∷ rest))
 
-same_records : (kind : List ℕ) (table : List Payload) (given : List Command) → records_none (map (with_table kind table) given) ≡ records_none given
+same_records : (kind : List ℕ) (table : List Payload) (given : List Command)
+    → records_none (map (with_table kind table) given) ≡ records_none given
 same_records kind table [] = refl
 same_records kind table (one ∷ rest) =
     ap (λ marker. not marker && records_none (map (with_table kind table) rest)) (same_marker kind table one)
@@ -78,7 +84,8 @@ if_answer : (kind : List ℕ) (table : List Payload) (given : List Command) (tes
     → IsAnswer (if test then map (with_table kind table) given else [])
 if_answer kind table given false is = none_is_answer
 if_answer kind table given true is =
-    let more : (asks_last given && records_none given) ≡ true = second_of (leb (length given) 64) (asks_last given && records_none given) is in
+    let more : (asks_last given && records_none given) ≡ true =
+    second_of (leb (length given) 64) (asks_last given && records_none given) is in
     record {
       few = subst (λ count. count ≤ 64) (sym (same_length kind table given))
           (leb-true _ _ (first_of (leb (length given) 64) (asks_last given && records_none given) is));

@@ -1,4 +1,4 @@
--- What holds of each run that brings its table.
+-- What holds for each run that gets its table with its input.
 use Rattle.std.specs.Prelude.{◌≡◌, ℕ, ◌≤◌, Bool, true, false, not, ◌&&◌, List, [], ◌∷◌, map, length, leb, Option, Some, None, Result, Ok, Err, option_map, refl, if◌then◌else◌}
 use Rattle.std.proofs.Common.{ap, sym, subst, ◌∙◌, arith}
 use Rattle.wh_events.specs.declared.event.Payload.{Payload}
@@ -33,23 +33,24 @@ abbrev pub none_starts : List Job → Bool
 none_starts [] = true
 none_starts (job ∷ later) = not (is_start job) && none_starts later
 
--- the commands that each of these jobs is given, one job after another
+-- the commands that a run gives to each of these jobs, one job after another
 abbrev pub given_to_each : {S : Type 0} → Program S → S → List Job → List (List Command)
 given_to_each code state [] = []
 given_to_each code state (job ∷ later) = code.gives state job ∷ given_to_each code (code.after state job) later
 
--- at its start and at every later job a run whose first payload reads as a table is given what the rows of that table
--- give, as a table of the program, to a run that is started with the other payloads; and the table goes on with it where
--- they start a new run of it
+-- If its first payload reads as a table, a run gives at its start and at every later job the commands that the rows of
+-- that table, as a table of the program, give to a run with the other payloads as its input. If they continue as a new
+-- run of the table, that gets the table too.
 abbrev pub FollowsItsTable : Type 0
 FollowsItsTable =
     (state : TableState) (kind : List ℕ) (input : List Payload) (later : List Job) (table : OwnedTable)
     → table_in input ≡ Ok table → none_starts later ≡ true
     → given_to_each program state (jobs.Start kind input ∷ later)
     ≡ map (map (with_table kind (front input)))
-    (given_to_each (rows.program (definition table)) (rows.initial (definition table)) (jobs.Start kind (tail input) ∷ later))
+    (given_to_each (rows.program (definition table))
+    (rows.initial (definition table)) (jobs.Start kind (tail input) ∷ later))
 
--- a run whose first payload is no table fails at its start, with the reason, and gives nothing more
+-- if its first payload is not a table, a run fails at its start, with the reason, and gives no further commands
 abbrev pub FailsWithoutTable : Type 0
 FailsWithoutTable =
     (state : TableState) (kind : List ℕ) (input : List Payload) (later : List Job) (fault : TableFault)
@@ -78,25 +79,30 @@ both false b first second = first
 few : (count : ℕ) → count ≤ 64 → leb count 64 ≡ true
 few count small = grind arith
 
--- what a step may give passes the test
+-- commands that a step may return pass the test
 passes : (commands : List Command) → IsAnswer commands → is_answer commands ≡ true
 passes commands answer =
     both (leb (length commands) 64) (asks_last commands && records_none commands) (few (length commands) answer.few)
     (both (asks_last commands) (records_none commands) answer.asks answer.records)
 
--- what rows give that break no rule is not held back
+-- commands of rows that break no rule are all returned
 not_held : (kind : List ℕ) (payload : List Payload) (table : OwnedTable) (run : RowsState) (job : Job)
     → rules.table_fault (definition table) ≡ None
-    → held kind payload (rows.gives (definition table) run job) ≡ map (with_table kind payload) (rows.gives (definition table) run job)
+    → held kind payload (rows.gives (definition table) run job)
+    ≡ map (with_table kind payload) (rows.gives (definition table) run job)
 not_held kind payload table run job none =
     ap (λ test. if test then map (with_table kind payload) (rows.gives (definition table) run job) else [])
     (passes (rows.gives (definition table) run job) (rows_lawful (definition table) none run job))
 
-no_fault : (table read : OwnedTable) (fault : Option TableFault) → (faultless fault >>= (λ _. Ok table)) ≡ Ok read → fault ≡ None
+no_fault : (table read : OwnedTable) (fault : Option TableFault)
+    → (faultless fault >>= (λ _. Ok table)) ≡ Ok read
+    → fault ≡ None
 no_fault table read None is = refl
 no_fault table read (Some fault) is = cc
 
-same_table : (table read : OwnedTable) (fault : Option TableFault) → (faultless fault >>= (λ _. Ok table)) ≡ Ok read → table ≡ read
+same_table : (table read : OwnedTable) (fault : Option TableFault)
+    → (faultless fault >>= (λ _. Ok table)) ≡ Ok read
+    → table ≡ read
 same_table table read None is = cc
 same_table table read (Some fault) is = cc
 
@@ -107,16 +113,20 @@ unbroken (Some fault) is = cc
 judged : (shape : Result OwnedTable TableFault) (read : OwnedTable)
     → (shape >>= (λ table. faultless (rules_fault table) >>= (λ _. Ok table))) ≡ Ok read → rules_fault read ≡ None
 judged (Ok table) read is =
-    subst (λ t. rules_fault t ≡ None) (same_table table read (rules_fault table) is) (no_fault table read (rules_fault table) is)
+    subst (λ t. rules_fault t ≡ None) (same_table table read (rules_fault table) is)
+    (no_fault table read (rules_fault table) is)
 judged (Err fault) read is = cc
 
 in_document : (d : Result Data TableFault) (read : OwnedTable)
-    → (d >>= (λ d. shape_of d >>= (λ table. faultless (rules_fault table) >>= (λ _. Ok table)))) ≡ Ok read → rules_fault read ≡ None
+    → (d >>= (λ d. shape_of d >>= (λ table. faultless (rules_fault table) >>= (λ _. Ok table)))) ≡ Ok read
+    → rules_fault read ≡ None
 in_document (Ok d) read is = judged (shape_of d) read is
 in_document (Err fault) read is = cc
 
 -- a table that was read breaks no rule
-pub read_breaks_none : (bytes : List ℕ) (table : OwnedTable) → table_of bytes ≡ Ok table → rules.table_fault (definition table) ≡ None
+pub read_breaks_none : (bytes : List ℕ) (table : OwnedTable)
+    → table_of bytes ≡ Ok table
+    → rules.table_fault (definition table) ≡ None
 unfolding table_of
 read_breaks_none bytes table is =
     unbroken (rules.table_fault (definition table)) (in_document (or_not_json (document_within bytes)) table is)
@@ -126,7 +136,7 @@ brought_breaks_none : (input : List Payload) (table : OwnedTable) → table_in i
 brought_breaks_none [] table is = cc
 brought_breaks_none (first ∷ others) table is = read_breaks_none first.content table is
 
--- no job but a start is one
+-- a job that is no start gives what the rows give
 later_gives : (state : TableState) (job : Job) → is_start job ≡ false → gives state job ≡ given state job
 later_gives state (jobs.Start _ _) is = cc
 later_gives state job is = refl
@@ -148,10 +158,13 @@ goes_along : (kind : List ℕ) (payload : List Payload) (table : OwnedTable) (ru
     ≡ map (map (with_table kind payload)) (given_to_each (rows.program (definition table)) run later)
 goes_along kind payload table run [] none starts = refl
 goes_along kind payload table run (job ∷ later) none starts =
-    let other : is_start job ≡ false = is_false (is_start job) (first_holds (not (is_start job)) (none_starts later) starts) in
-    cons (gives (running kind payload table run) job) (map (with_table kind payload) (rows.gives (definition table) run job))
+    let other : is_start job ≡ false =
+    is_false (is_start job) (first_holds (not (is_start job)) (none_starts later) starts) in
+    cons (gives (running kind payload table run) job)
+    (map (with_table kind payload) (rows.gives (definition table) run job))
     (given_to_each program (after (running kind payload table run) job) later)
-    (map (map (with_table kind payload)) (given_to_each (rows.program (definition table)) (rows.after (definition table) run job) later))
+    (map (map (with_table kind payload))
+    (given_to_each (rows.program (definition table)) (rows.after (definition table) run job) later))
     (later_gives (running kind payload table run) job other ∙ not_held kind payload table run job none)
     (ap (λ state. given_to_each program state later) (later_goes (running kind payload table run) job other)
     ∙ goes_along kind payload table (rows.after (definition table) run job) later none
@@ -161,12 +174,17 @@ pub follows_its_table : FollowsItsTable
 follows_its_table state kind input later table is starts =
     let none : rules.table_fault (definition table) ≡ None = brought_breaks_none input table is in
     rw is (cons (given (begun kind (front input) table) (jobs.Start kind (tail input)))
-    (map (with_table kind (front input)) (rows.gives (definition table) (rows.initial (definition table)) (jobs.Start kind (tail input))))
+    (map (with_table kind (front input))
+    (rows.gives (definition table) (rows.initial (definition table)) (jobs.Start kind (tail input))))
     (given_to_each program (followed (begun kind (front input) table) (jobs.Start kind (tail input))) later)
     (map (map (with_table kind (front input)))
-    (given_to_each (rows.program (definition table)) (rows.after (definition table) (rows.initial (definition table)) (jobs.Start kind (tail input))) later))
+    (given_to_each (rows.program (definition table))
+    (rows.after (definition table) (rows.initial (definition table))
+    (jobs.Start kind (tail input))) later))
     (not_held kind (front input) table (rows.initial (definition table)) (jobs.Start kind (tail input)) none)
-    (goes_along kind (front input) table (rows.after (definition table) (rows.initial (definition table)) (jobs.Start kind (tail input))) later none starts))
+    (goes_along kind (front input) table
+    (rows.after (definition table) (rows.initial (definition table))
+    (jobs.Start kind (tail input))) later none starts))
 
 nothing_held : (kind : List ℕ) (payload : List Payload) (run : RowsState) (job : Job)
     → given (running kind payload no_table run) job ≡ []
@@ -177,8 +195,10 @@ stays_closed : (kind : List ℕ) (payload : List Payload) (run : RowsState) (lat
     → given_to_each program (running kind payload no_table run) later ≡ map (λ job. []) later
 stays_closed kind payload run [] starts = refl
 stays_closed kind payload run (job ∷ later) starts =
-    let other : is_start job ≡ false = is_false (is_start job) (first_holds (not (is_start job)) (none_starts later) starts) in
-    cons (gives (running kind payload no_table run) job) [] (given_to_each program (after (running kind payload no_table run) job) later)
+    let other : is_start job ≡ false =
+    is_false (is_start job) (first_holds (not (is_start job)) (none_starts later) starts) in
+    cons (gives (running kind payload no_table run) job) []
+    (given_to_each program (after (running kind payload no_table run) job) later)
     (map (λ job. []) later)
     (later_gives (running kind payload no_table run) job other ∙ nothing_held kind payload run job)
     (ap (λ state. given_to_each program state later) (later_goes (running kind payload no_table run) job other)

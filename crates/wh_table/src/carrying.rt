@@ -1,4 +1,4 @@
-//! What a step may give, and the table that goes on with it.
+//! Checks the commands of a step, and adds the table to the input of a new run.
 ghost use Rattle.std.specs.Prelude.{◌≡◌, ◌++◌, IfOk, map};
 ghost use Rattle.wh_workflow.specs.Law.{is_ask, is_marker, asks_last, records_none};
 ghost use Rattle.wh_table.specs.Carrying.{is_answer, with_table, held};
@@ -7,21 +7,21 @@ use std::alloc::Global;
 use wh_events::{Items, OutOfMemory, Payload, Text};
 use wh_workflow::Command;
 
-/// Whether the command asks.
+/// Returns whether the command asks for a version.
 fn is_ask(command: &Command) -> bool
     ensures { result ≡ is_ask command.now }
 {
     matches!(command, Command::Ask { .. })
 }
 
-/// Whether the command records a version.
+/// Returns whether the command records a version.
 fn is_marker(command: &Command) -> bool
     ensures { result ≡ is_marker command.now }
 {
     matches!(command, Command::Marker { .. })
 }
 
-/// Whether no command but the last one asks.
+/// Returns whether no command but the last one asks for a version.
 fn asks_last(commands: &[Command]) -> bool
     ensures { result ≡ asks_last commands.now }
 {
@@ -35,7 +35,7 @@ fn asks_last(commands: &[Command]) -> bool
     true
 }
 
-/// Whether no command records a version.
+/// Returns whether no command records a version.
 fn records_none(commands: &[Command]) -> bool
     ensures { result ≡ records_none commands.now }
 {
@@ -47,14 +47,15 @@ fn records_none(commands: &[Command]) -> bool
     true
 }
 
-/// Whether a step may give the commands.
+/// Returns whether a step may return these commands: at most 64, none records a version, and only
+/// the last may ask for one.
 fn is_answer(commands: &[Command]) -> bool
     ensures { result ≡ is_answer commands.now }
 {
     commands.len() <= 64 && (asks_last(commands) && records_none(commands))
 }
 
-/// Both lists of payloads, one after the other.
+/// Returns the payloads of both lists, one list after the other.
 fn joined(
     alloc: Global,
     front: &[Payload],
@@ -72,7 +73,8 @@ fn joined(
     Ok(Items::new(both))
 }
 
-/// The command, which carries the table on where it starts a new run of it.
+/// Returns the command; if it continues as a new run of the same table, with the run's type and
+/// with the table before its input.
 fn with_table(
     alloc: Global,
     kind: &Text,
@@ -96,7 +98,8 @@ fn with_table(
     }
 }
 
-/// The commands, which carry the table on where they start a new run of it.
+/// Returns the commands; those that continue as a new run of the same table get the table before
+/// their input.
 fn carry(
     alloc: Global,
     kind: &Text,
@@ -113,7 +116,7 @@ fn carry(
     Ok(carried)
 }
 
-/// The commands with the table, if a step may give them.
+/// Returns the commands with the table added, or none if a step may not return them.
 pub(crate) fn held(
     alloc: Global,
     kind: &Text,

@@ -1,4 +1,4 @@
-//! Follows a table that was read.
+//! Steps a run that follows its table.
 ghost use Rattle.std.specs.Prelude.{◌≡◌, IfOk, OnOk};
 ghost use Rattle.wh_rows.specs.Rows.{gives, after};
 ghost use Rattle.wh_row_rules.specs.Broken.{definition};
@@ -12,7 +12,7 @@ use wh_row_rules::OwnedTable;
 use wh_rows::{RowsState, answer, take_start};
 use wh_workflow::{Command, Job};
 
-/// The commands that the rows of a table give to a job, and what it leaves of the run.
+/// Returns the commands that the rows of a table give to a job, and changes the run by it.
 fn answer_rows(
     alloc: Global,
     table: &OwnedTable,
@@ -26,7 +26,7 @@ fn answer_rows(
     answer(alloc, table.rows.get(), table.bounds, run, job)
 }
 
-/// The commands that a run gives to a job, and what it leaves of it.
+/// Returns the commands that a run gives to a job, and changes its state by it.
 pub(crate) fn follow(
     alloc: Global,
     state: &mut TableState,

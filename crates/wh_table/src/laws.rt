@@ -1,14 +1,16 @@
-//! What holds of all runs that bring their table, each law as the contract of a function that does
-//! nothing.
+//! What holds for all runs that get their table with their input. Each law is the contract of a
+//! function without a body.
 ghost use Rattle.wh_table.specs.Laws.{FollowsItsTable, FailsWithoutTable};
 
-/// A run whose first payload reads as a table is given at each job, from its start on, what its rows
-/// give as a table of the program; where they start a new run of it, that gets the table too.
+/// If its first payload reads as a table, a run gives at each job, from its start on, the commands
+/// of that table's rows, as a table of the program would. If they continue as a new run of the
+/// table, that gets the table too.
 pub fn follows_its_table()
     ensures { FollowsItsTable }
 {}
 
-/// A run whose first payload is no table fails at its start, with the reason, and gives nothing more.
+/// If its first payload is not a table, a run fails at its start, with the reason, and gives no
+/// further commands.
 pub fn fails_without_table()
     ensures { FailsWithoutTable }
 {}

@@ -1,4 +1,4 @@
-//! The workflow whose table comes with the run: the first payload of its start's input.
+//! The workflow that gets its table with each run, as the first payload of the input.
 #![tactic(auto)]
 
 mod carrying;

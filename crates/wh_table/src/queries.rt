@@ -1,4 +1,4 @@
-//! What runs that bring their table answer to queries.
+//! How runs that got their table with their input answer queries.
 
 use crate::state::TableState;
 use crate::workflow::TableWorkflow;

@@ -1,4 +1,4 @@
-//! The start of a run, which brings its table.
+//! Starts a run, which gets its table with its input.
 ghost use Rattle.std.specs.Prelude.{◌≡◌, [], IfOk, Err, Ok};
 ghost use Rattle.wh_workflow.specs.declared.job.Job.TheVariants as jobs;
 ghost use Rattle.wh_rows.specs.Rows.{initial};
@@ -15,7 +15,7 @@ use wh_rows::{Counts, Naming, RowsState, StateName};
 use wh_table_text::{TableFault, fault_text, read_table};
 use wh_workflow::{Command, Job, no_payloads, text_of};
 
-/// All payloads but the first.
+/// Returns all payloads but the first.
 fn tail(alloc: Global, payloads: &[Payload]) -> Result<Items<Payload>, OutOfMemory>
     ensures { IfOk result (λ rest. rest ≡ tail payloads.now) }
 {
@@ -29,7 +29,7 @@ fn tail(alloc: Global, payloads: &[Payload]) -> Result<Items<Payload>, OutOfMemo
     Ok(Items::new(rest))
 }
 
-/// The first payload, if there is one.
+/// Returns the first payload, if there is one.
 fn front(alloc: Global, payloads: &[Payload]) -> Result<Items<Payload>, OutOfMemory>
     ensures { IfOk result (λ first. first ≡ front payloads.now) }
 {
@@ -41,7 +41,7 @@ fn front(alloc: Global, payloads: &[Payload]) -> Result<Items<Payload>, OutOfMem
     Ok(Items::new(kept))
 }
 
-/// The table that the first payload is.
+/// Returns the table in the first payload, or the fault if it is not a table.
 fn table_in(alloc: Global, payloads: &[Payload]) -> Result<OwnedTable, TableFault>
     ensures { Gives (λ table. table) result (table_in payloads.now) }
 {
@@ -51,7 +51,7 @@ fn table_in(alloc: Global, payloads: &[Payload]) -> Result<OwnedTable, TableFaul
     }
 }
 
-/// No counter has risen.
+/// Returns counters that are all 0.
 fn no_counts() -> Counts
     ensures { result ≡ record { a = 0; b = 0; c = 0; d = 0 } }
 {
@@ -63,7 +63,7 @@ fn no_counts() -> Counts
     }
 }
 
-/// The table of a run that has none.
+/// Returns a table without rows, for a run that has none.
 fn no_table(alloc: Global) -> Result<OwnedTable, OutOfMemory>
     ensures { IfOk result (λ table. table ≡ no_table) }
 {
@@ -75,7 +75,7 @@ fn no_table(alloc: Global) -> Result<OwnedTable, OutOfMemory>
     })
 }
 
-/// Where a run of a table begins, or one that is closed already.
+/// Returns the state in which a run of a table begins, or the same but closed.
 fn first_run(alloc: Global, table: &OwnedTable, closed: bool) -> Result<RowsState, OutOfMemory>
     ensures { IfOk result (λ run. run ≡ record (initial (definition table.now)) { closed = closed }) }
 {
@@ -89,7 +89,7 @@ fn first_run(alloc: Global, table: &OwnedTable, closed: bool) -> Result<RowsStat
     })
 }
 
-/// A run of that type, with that payload and table.
+/// Returns a run of this type, with this payload and table.
 fn begun(
     alloc: Global,
     kind: Text,
@@ -106,7 +106,7 @@ fn begun(
     })
 }
 
-/// A run that has not started.
+/// Returns a run that has not started.
 pub(crate) fn not_started(alloc: Global, kind: &str) -> Result<TableState, OutOfMemory>
     ensures { IfOk result (λ state. state ≡ begun kind.now [] no_table) }
 {
@@ -118,7 +118,7 @@ pub(crate) fn not_started(alloc: Global, kind: &str) -> Result<TableState, OutOf
     )
 }
 
-/// A run that failed at its start.
+/// Returns a run that failed at its start and is closed.
 fn failed(alloc: Global, kind: Text, payload: Items<Payload>) -> Result<TableState, OutOfMemory>
     ensures { IfOk result (λ state. state ≡ failed kind payload) }
 {
@@ -139,7 +139,7 @@ pub(crate) struct Opened {
     pub given: Vec<Command>,
 }
 
-/// Starts a run whose table stands.
+/// Starts a run with a table.
 fn follow_table(
     alloc: Global,
     kind: Text,
@@ -155,7 +155,7 @@ fn follow_table(
     Ok(Opened { state, given })
 }
 
-/// Ends a run that has no table.
+/// Fails a run whose first payload is not a table, with the reason.
 fn refuse(
     alloc: Global,
     kind: Text,
@@ -175,14 +175,18 @@ fn refuse(
     })
 }
 
-/// Starts a run.
+/// Starts a run: with the table in its first payload, or by failing it.
 pub(crate) fn start(
     alloc: Global,
     workflow: &Text,
     input: &Items<Payload>,
 ) -> Result<Opened, OutOfMemory>
-    ensures state { IfOk result (λ o. o.state ≡ opened workflow.now (front input.now) (table_in input.now) (jobs.Start workflow.now (tail input.now))) }
-    ensures given { IfOk result (λ o. o.given.items ≡ opening workflow.now (front input.now) (table_in input.now) (jobs.Start workflow.now (tail input.now))) }
+    ensures state { IfOk result (λ o. o.state
+        ≡ opened workflow.now (front input.now) (table_in input.now)
+        (jobs.Start workflow.now (tail input.now))) }
+    ensures given { IfOk result (λ o. o.given.items
+        ≡ opening workflow.now (front input.now) (table_in input.now)
+        (jobs.Start workflow.now (tail input.now))) }
 {
     let job = Job::Start {
         workflow: workflow.try_copy()?,

@@ -1,18 +1,18 @@
-//! How far a run has come that brought its table.
+//! The state of a run that got its table with its input.
 
 use wh_events::{Items, Payload, Text};
 use wh_row_rules::OwnedTable;
 use wh_rows::RowsState;
 
-/// How far a run has come that brought its table.
+/// The state of a run that got its table with its input.
 #[derive(Drop)]
 pub struct TableState {
-    /// The type of the run.
+    /// The workflow type of the run.
     pub kind: Text,
-    /// The payload that its table came in, or none.
+    /// The payload that holds its table; empty if there is none.
     pub payload: Items<Payload>,
-    /// Its table. It has no rows before the run has started, and where the payload is no table.
+    /// Its table. It has no rows before the run starts, or if the payload is not a table.
     pub table: OwnedTable,
-    /// How far it has come in them.
+    /// The state of the run in that table.
     pub run: RowsState,
 }

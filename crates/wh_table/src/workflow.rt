@@ -1,4 +1,4 @@
-//! The workflow whose table comes with the run.
+//! The workflow that gets its table with each run.
 ghost use Rattle.std.specs.Prelude.{◌≡◌};
 ghost use Rattle.wh_table.specs.Program.{is_table, program, program_lawful};
 
@@ -9,7 +9,7 @@ use std::alloc::Global;
 use wh_events::OutOfMemory;
 use wh_workflow::{Command, Job, Meter, Workflow, give_all};
 
-/// Whether the type is `Table`, or `Table:` and a name.
+/// Returns whether the type is `Table`, or `Table:` followed by a name.
 fn is_table(kind: &str) -> bool
     ensures { result ≡ is_table kind.now }
 {
@@ -19,10 +19,11 @@ fn is_table(kind: &str) -> bool
     }
 }
 
-/// The workflow whose table comes with the run, for the type `Table` and for each type `Table:NAME`:
-/// the first payload of the start's input is the table, as `wh_table_text` reads it, and its rows see
-/// the other payloads as their input. `again` goes on as a new run of the same type with the same
-/// table. A run whose first payload is no table fails at its start, with the reason.
+/// The workflow for the type `Table` and for each type `Table:NAME`, which gets its table with each
+/// run. The first payload of the start's input is the table, as `wh_table_text` reads it, and its
+/// rows see the other payloads as their input. `again` continues as a new run of the same type with
+/// the same table. If the first payload is not a table, the run fails at its start, with the
+/// reason.
 pub struct TableWorkflow;
 
 impl Workflow for TableWorkflow {

@@ -67,7 +67,7 @@ pub read_all : {A : Type 0} (read : Data → Result A TableFault) (front : List 
     → with_front front (all_of (map read (map view (drop i vs)))) ≡ Ok front
 read_all read front vs i past = ap (λ ds. with_front front (all_of (map read ds))) (none_left vs i past) ∙ ap Ok (append-nil front)
 
--- the first that is not read is the fault of the list
+-- the first value that can't be read is the fault of the list
 pub read_stops : {A : Type 0} (read : Data → Result A TableFault) (front : List A) (vs : List Value) (i : ℕ) (v : Value) (fault : TableFault) → i < length vs → v ≡ get_or vs i v → read (view v) ≡ Err fault
     → with_front front (all_of (map read (map view (drop i vs)))) ≡ Err fault
 read_stops read front vs i v fault below is stops =
@@ -88,7 +88,7 @@ row_on names front vs i v row below is gives =
     ∙ row_step names front (i + 1) (view (get_or vs i v)) (map view (drop (i + 1) vs)) row
     (subst (λ w. row_at names (i + 1) (view w) ≡ Ok row) is gives)
 
--- the first that is no row is the fault of the table
+-- the first value that is not a row is the fault of the table
 pub row_stops : (names : List NamedCounter) (front : List Row) (vs : List Value) (i : ℕ) (v : Value) (fault : TableFault) → i < length vs → v ≡ get_or vs i v → row_at names (i + 1) (view v) ≡ Err fault
     → with_front front (all_of (rows_from names (i + 1) (map view (drop i vs)))) ≡ Err fault
 unfolding rows_from

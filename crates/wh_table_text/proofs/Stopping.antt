@@ -1,4 +1,4 @@
--- The first fault that is listed is the one at which reading stops.
+-- The first fault in the list is the one at which reading stops.
 use Rattle.std.proofs.Common.{◌≡◌, ℕ, suc, ◌+◌, Bool, true, false, List, [], ◌∷◌, ◌++◌, length, Option, Some, None, Result, Ok, Err, refl, ap, sym, ◌∙◌, arith}
 use Rattle.std.specs.Prelude.{leb, option_map, option_to_list, slice_get, if◌then◌else◌}
 use Rattle.serde_json.specs.Data.{Data}
@@ -23,7 +23,7 @@ use Rattle.wh_table_text.specs.Faults.{fault_in, or_next, counters_in, few_rows,
 
 -- ---- Rows that can't be read
 
--- a value in front changes no fault
+-- a value before it changes no fault
 in_front : {A : Type 0} (x : A) (rest : Result (List A) TableFault) → fault_in rest ≡ fault_in (rest >>= (λ xs. Ok (x ∷ xs)))
 in_front x (Ok xs) = refl
 in_front x (Err e) = refl
@@ -52,7 +52,7 @@ rows_first names place (d ∷ ds) =
 
 -- ---- What can't be read
 
--- what is made of values changes no fault
+-- a function of the value changes no fault
 made : {A B : Type 0} (f : A → B) (r : Result A TableFault) → fault_in r ≡ fault_in (r >>= (λ x. Ok (f x)))
 made f (Ok x) = refl
 made f (Err e) = refl
@@ -113,7 +113,7 @@ broken_first table place (row ∷ rest) =
     row_first place (row_rule (definition table) place row) (numbered (breaks table) (suc place) rest)
     (rows_fault (definition table) (suc place) rest) (broken_first table (suc place) rest)
 
--- the faults by the rules, where the first state has rows or has none
+-- the rules that a table breaks, if rows are for its first state or not
 rules_from : (table : OwnedTable) (begins : Bool) (listed : List TableFault) (found : Option RuleFault)
     → slice_get listed 0 ≡ option_map of_rows (option_map broken found)
     → slice_get (by_first listed (option_map broken (if begins then found else Some BeginsNowhere))) 0
@@ -130,12 +130,12 @@ rules_first table =
 
 -- ---- All of them
 
--- of a table that is kept where it has no fault, the fault
+-- the fault of a table that is returned if it has none
 kept : (table : OwnedTable) (found : Option TableFault) → found ≡ fault_in (faultless found >>= (λ _. Ok table))
 kept table None = refl
 kept table (Some fault) = refl
 
--- the faults of a shape, or those by the rules
+-- the faults of reading, or the rules that the table breaks
 value_from : (listed : List TableFault) (shape : Result OwnedTable TableFault) → slice_get listed 0 ≡ fault_in shape
     → slice_get (or_next listed (rule_faults shape)) 0
     ≡ fault_in (shape >>= (λ table. faultless (rules_fault table) >>= (λ _. Ok table)))

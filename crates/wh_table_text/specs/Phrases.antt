@@ -1,4 +1,4 @@
--- What the phrases of a table say.
+-- The meaning of the phrases of a table.
 use Rattle.std.specs.Prelude.{ℕ, List, bytes_eq, codes, Option, Some, None, option_map, option_and_then, if◌then◌else◌}
 use Rattle.std.proofs.Common.{Bor}
 use Rattle.wh_json.specs.Fields.{number_in}
@@ -24,7 +24,7 @@ use Rattle.wh_table_text.specs.Verbs.{source_of}
 use Rattle.wh_table_text.specs.Numbers.{below, seconds_in, version_in}
 use Rattle.wh_table_text.specs.Counters.{named_from}
 
--- jobs, a command and a name, whose texts are borrowed
+-- patterns, commands and namings whose texts are borrowed, as those with texts as bytes
 abbrev pub pattern_shown : JobPatternOf (Bor (List ℕ)) → JobPattern
 pattern_shown pattern = pattern_by (λ text. text.now) pattern
 
@@ -34,7 +34,7 @@ template_shown template = template_by (λ text. text.now) template
 abbrev pub naming_shown : NamingOf (Bor (List ℕ)) → Naming
 naming_shown naming = naming_by (λ text. text.now) naming
 
--- the jobs that a phrase names
+-- the jobs that a phrase describes
 abbrev pub pattern_of : JobVerb → Words → Option JobPattern
 pattern_of job.Start p = if has_none p then Some patterns.Start else None
 pattern_of job.Cancel p = if has_none p then Some patterns.CancelRequested else None
@@ -49,7 +49,7 @@ pattern_of job.ChildFailed p = option_map patterns.ChildNotDone (name_of p)
 pattern_of job.Version p = if has_pair p then option_map (patterns.Version p.first) (version_in p.second)
     else option_map patterns.AnyVersion (name_of p)
 
--- the command that a phrase names
+-- the command that a phrase describes
 abbrev pub template_of : CommandVerb → Words → Option CommandTemplate
 template_of command.CancelActivity p = option_map templates.CancelActivity (name_of p)
 template_of command.CancelTimer p = option_map templates.CancelTimer (name_of p)
@@ -72,26 +72,28 @@ template_of command.Ask p = if has_two p
     then option_and_then (λ low. option_map (templates.Ask p.first low) (version_in p.third)) (version_in p.second)
     else None
 
--- what is asked of a counter, by a sign and a number
+-- the condition on a counter with this sign and number
 abbrev pub compared : Counter → List ℕ → ℕ → Option Condition
 compared counter sign number = if bytes_eq sign (codes "<") then Some (conditions.Below counter number)
     else if bytes_eq sign (codes ">=") then Some (conditions.AtLeast counter number)
     else None
 
--- the condition that a phrase names
+-- the condition that a phrase describes
 abbrev pub condition_of : List NamedCounter → Words → Option Condition
 condition_of names p = if has_pair p
-    then option_and_then (λ counter. option_and_then (compared counter p.first) (number_in p.second)) (named_from 0 names p.verb)
+    then option_and_then (λ counter. option_and_then (compared counter p.first) (number_in p.second))
+    (named_from 0 names p.verb)
     else None
 
--- the mark that a phrase names
+-- the mark that a phrase describes
 abbrev pub effect_of : List NamedCounter → Words → Option Effect
 effect_of names p = if bytes_eq p.verb (codes "keep") then (if has_none p then Some effects.Keep else None)
     else if bytes_eq p.verb (codes "up") then option_map effects.Up (option_and_then (named_from 0 names) (name_of p))
-    else if bytes_eq p.verb (codes "zero") then option_map effects.Zero (option_and_then (named_from 0 names) (name_of p))
+    else if bytes_eq p.verb (codes "zero") then option_map effects.Zero
+    (option_and_then (named_from 0 names) (name_of p))
     else None
 
--- the name of a run that a phrase says
+-- the naming of runs that a phrase describes
 abbrev pub naming_of : Words → Option Naming
 naming_of p = if bytes_eq p.verb (codes "payload")
     then option_map (λ number. namings.ByPayload number p.second p.third) (below 65536 (number_in p.first))

@@ -1,4 +1,4 @@
--- How a JSON text reads as a table. JSON is that of RFC 8259.
+-- How a JSON text (RFC 8259) is read as a table.
 use Rattle.std.specs.Prelude.{ℕ, ◌+◌, ℤ, pos, List, [], ◌∷◌, length, map, codes, leb, Bool, false, Option, Some, None, option_map, option_and_then, Result, Ok, Err}
 use Rattle.std.specs.Ordering.{int_eq}
 use Rattle.serde_json.specs.Data.{Data}
@@ -27,11 +27,11 @@ use Rattle.wh_table_text.specs.Counters.{counter_of, bounds_of}
 
 -- ---- Phrases
 
--- the text that a value is
+-- the text of a value, or the fault if it is not a text
 abbrev pub text_at : TableFault → Data → Result (List ℕ) TableFault
 text_at fault d = or_fault fault (as_str d)
 
--- the one phrase that a text is, or none where it is empty
+-- a text as the only phrase of a list, which is empty if the text is
 abbrev pub one_phrase : List ℕ → List (List ℕ)
 one_phrase [] = []
 one_phrase (c ∷ cs) = (c ∷ cs) ∷ []
@@ -42,19 +42,19 @@ texts_of fault d = do
   items ← or_fault fault (list_in d)
   all_of (map (text_at fault) items)
 
--- the phrases of a value that is a text, or else a list
+-- the phrases of a value that is this text, or else a list
 abbrev pub text_or_texts : TableFault → Option (List ℕ) → Data → Result (List (List ℕ)) TableFault
 text_or_texts fault (Some text) d = Ok (one_phrase text)
 text_or_texts fault None d = texts_of fault d
 
--- the phrases of a member: a text, or a list of texts. There are none where it is left out
+-- the phrases of a member: a text, or a list of texts. There are none if it is omitted
 abbrev pub phrases_at : TableFault → Option Data → Result (List (List ℕ)) TableFault
 phrases_at fault None = Ok []
 phrases_at fault (Some d) = text_or_texts fault (as_str d) d
 
 -- ---- A row
 
--- the text of a member of a row, empty where it is left out
+-- the text of a member of a row, empty if it is omitted
 abbrev pub text_in : ℕ → Option Data → Result (List ℕ) TableFault
 text_in row None = Ok []
 text_in row (Some d) = text_at (faults.InRow row rules.NotText) d
@@ -63,13 +63,13 @@ text_in row (Some d) = text_at (faults.InRow row rules.NotText) d
 unfoldable pub cell : ℕ → ℕ → Data → Result (List ℕ) TableFault
 cell row index d = text_in row (at index d)
 
--- the jobs that a text names
+-- the jobs that a text describes
 unfoldable pub job_at : ℕ → List ℕ → Result JobPattern TableFault
 job_at row text = do
   verb ← or_fault (faults.InRow row rules.UnknownJob) (job_verb (phrase text).verb)
   or_fault (faults.InRow row rules.UnknownJob) (pattern_of verb (phrase text))
 
--- the command that a text names
+-- the command that a text describes
 unfoldable pub template_at : ℕ → List ℕ → Result CommandTemplate TableFault
 template_at row text = do
   verb ← or_fault (faults.InRow row rules.UnknownCommand) (command_verb (phrase text).verb)
@@ -81,7 +81,7 @@ templates_at row value = do
   texts ← phrases_at (faults.InRow row rules.NotText) value
   all_of (map (template_at row) texts)
 
--- the condition that a text names
+-- the condition that a text describes
 unfoldable pub condition_at : List NamedCounter → ℕ → List ℕ → Result Condition TableFault
 condition_at names row text = or_fault (faults.InRow row rules.UnknownCondition) (condition_of names (phrase text))
 
@@ -92,7 +92,7 @@ conditions_at names row value = do
   few ← passes (faults.InRow row rules.TooManyPhrases) (leb (length texts) 16)
   all_of (map (condition_at names row) texts)
 
--- the mark that a text names
+-- the mark that a text describes
 unfoldable pub effect_at : List NamedCounter → ℕ → List ℕ → Result Effect TableFault
 effect_at names row text = or_fault (faults.InRow row rules.UnknownMark) (effect_of names (phrase text))
 
@@ -112,12 +112,12 @@ is_short (Some items) = leb (length items) 6
 abbrev pub is_short_list : Data → Bool
 is_short_list d = is_short (list_in d)
 
--- the state that a text names, or `same` where it is empty
+-- the name of the next state: the text, or `same` if it is empty
 abbrev pub or_same : List ℕ → List ℕ
 or_same [] = codes "same"
 or_same (c ∷ cs) = c ∷ cs
 
--- a row of a table
+-- the row that a value describes
 unfoldable pub row_at : List NamedCounter → ℕ → Data → Result Row TableFault
 row_at names row d = do
   short ← passes (faults.InRow row rules.NotARow) (is_short_list d)
@@ -137,7 +137,7 @@ row_at names row d = do
     next = or_same next;
   })
 
--- the rows of a list, the first of which has this number
+-- the rows that the values of a list describe; the first one has this number
 unfoldable pub rows_from : List NamedCounter → ℕ → List Data → List (Result Row TableFault)
 rows_from names row [] = []
 rows_from names row (d ∷ ds) = row_at names row d ∷ rows_from names (row + 1) ds
@@ -149,11 +149,11 @@ abbrev pub is_one : Option ℤ → Bool
 is_one None = false
 is_one (Some number) = int_eq number (pos 1)
 
--- a version is the number 1
+-- the version is the number 1
 abbrev pub is_known : Option Data → Bool
 is_known value = is_one (option_and_then (λ d. option_and_then as_i64 (as_number d)) value)
 
--- the counter that a text names
+-- the counter that a text describes
 abbrev pub counter_in : List ℕ → Result NamedCounter TableFault
 counter_in text = counter_of (phrase text)
 
@@ -175,12 +175,12 @@ naming_at (Some d) = do
 abbrev pub rows_in : Data → Option (List Data)
 rows_in d = option_and_then list_in (field (codes "rows") (Some d))
 
--- the state of the first row, empty where there is none
+-- the state of the first row, empty if there is none
 abbrev pub first_state : List Row → List ℕ
 first_state [] = []
 first_state (row ∷ rows) = row.state
 
--- the table of a JSON value, whose rows may still break a rule
+-- the table of a JSON value; its rows may still break a rule
 unfoldable pub shape_of : Data → Result OwnedTable TableFault
 shape_of d = do
   known ← passes faults.UnknownVersion (is_known (field (codes "version") (Some d)))
@@ -191,21 +191,21 @@ shape_of d = do
   rows ← all_of (rows_from names 1 ds)
   Ok (record { first = first_state rows; name = name; bounds = bounds_of names; rows = rows })
 
--- the value that was read, or the fault that there is none
+-- the value that was read, or `NotJson`
 abbrev pub or_not_json : {A : Type 0} → Result A ReadFault → Result A TableFault
 or_not_json (Ok x) = Ok x
 or_not_json (Err fault) = Err faults.NotJson
 
--- the fault of rows that break a rule
+-- the fault of a table whose rows break a rule
 abbrev pub of_rows : RowsFault → TableFault
 of_rows broken_rows.BeginsNowhere = faults.BeginsNowhere
 of_rows (broken_rows.InRow row rule) = faults.InRow row (rules.Breaks rule)
 
--- the first fault of a table by the rules, if there is one
+-- the first rule that a table breaks, as a fault
 abbrev pub rules_fault : OwnedTable → Option TableFault
 rules_fault table = option_map of_rows (option_map broken (table_fault (definition table)))
 
--- the table that a JSON text is, or its first fault
+-- the table that a JSON text describes, or its first fault
 unfoldable pub table_of : List ℕ → Result OwnedTable TableFault
 table_of bytes = do
   d ← or_not_json (document_within bytes)

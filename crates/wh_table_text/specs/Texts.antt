@@ -1,4 +1,4 @@
--- What is said of what is no table.
+-- The messages for faults of tables.
 use Rattle.std.specs.Prelude.{ℕ, List, ◌++◌, codes}
 use Rattle.std.specs.Fmt.{decimal}
 use Rattle.wh_row_rules.specs.declared.fault.BrokenRule.{BrokenRule}
@@ -8,7 +8,7 @@ use Rattle.wh_table_text.specs.declared.fault.RowFault.TheVariants as rules
 use Rattle.wh_table_text.specs.declared.fault.TableFault.{TableFault}
 use Rattle.wh_table_text.specs.declared.fault.TableFault.TheVariants as faults
 
--- what is said of a row that breaks a rule of tables
+-- the message for a row that breaks a rule of tables
 abbrev pub rule_text : BrokenRule → List ℕ
 rule_text broken.TooManyCommands = codes "it gives more than 64 commands"
 rule_text broken.CommandAfterLast = codes "a command follows one that asks or closes the run"
@@ -22,7 +22,7 @@ rule_text broken.Unbounded = codes "it raises a counter without a bound, or asks
 rule_text (broken.HiddenBy number) =
     codes "it never counts, since row " ++ (decimal number ++ codes " fits wherever it does")
 
--- what is said of a row
+-- the message for the fault of a row
 abbrev pub row_text : RowFault → List ℕ
 row_text rules.NotARow = codes "a row is a list of at most six members"
 row_text rules.NotText = codes "a member is no text, and no list of texts where one may be"
@@ -34,7 +34,7 @@ row_text rules.BadCommand = codes "a command lacks a word, has one too much, or 
 row_text rules.UnknownMark = codes "no mark is written so, or there is no such counter"
 row_text (rules.Breaks rule) = rule_text rule
 
--- what is said of a text that is no table
+-- the message for a text that is not a table
 abbrev pub fault_text : TableFault → List ℕ
 fault_text faults.NoTable = codes "there is no table"
 fault_text faults.NotJson = codes "the table is no JSON"

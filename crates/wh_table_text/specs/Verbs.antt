@@ -1,4 +1,4 @@
--- The words that phrases begin with.
+-- The first words of phrases.
 use Rattle.std.specs.Prelude.{ℕ, List, bytes_eq, codes, Option, Some, None, if◌then◌else◌}
 use Rattle.wh_rows.specs.declared.row.Source.{Source}
 use Rattle.wh_rows.specs.declared.row.Source.TheVariants as sources
@@ -7,7 +7,7 @@ use Rattle.wh_table_text.specs.declared.verbs.JobVerb.TheVariants as job
 use Rattle.wh_table_text.specs.declared.verbs.CommandVerb.{CommandVerb}
 use Rattle.wh_table_text.specs.declared.verbs.CommandVerb.TheVariants as command
 
--- what the word of a job is
+-- what the first word of a job means
 unfoldable pub job_verb : List ℕ → Option JobVerb
 job_verb word =
     if bytes_eq word (codes "start") then Some job.Start
@@ -23,7 +23,7 @@ job_verb word =
     else if bytes_eq word (codes "version") then Some job.Version
     else None
 
--- what the word of a command is
+-- what the first word of a command means
 unfoldable pub command_verb : List ℕ → Option CommandVerb
 command_verb word =
     if bytes_eq word (codes "activity") then Some command.Activity
@@ -41,7 +41,7 @@ command_verb word =
     else if bytes_eq word (codes "again") then Some command.Again
     else None
 
--- where an input or a result comes from
+-- the source of an input or a result that a word names
 abbrev pub source_of : List ℕ → Option Source
 source_of word =
     if bytes_eq word (codes "") then Some sources.Nothing

@@ -1,4 +1,4 @@
-//! Texts of their own.
+//! Copies borrowed texts into owned ones.
 ghost use Rattle.std.specs.Prelude.{◌≡◌, Ok};
 ghost use Rattle.wh_table_text.specs.Phrases.{pattern_shown, template_shown, naming_shown};
 ghost use Rattle.wh_table_text.specs.Outcome.{Gives};
@@ -8,14 +8,14 @@ use std::alloc::Global;
 use wh_events::Text;
 use wh_rows::{CommandTemplate, JobPattern, Naming};
 
-/// A text of its own.
+/// Returns an owned copy of the text.
 pub(crate) fn text_copy(alloc: Global, text: &str) -> Result<Text, TableFault>
     ensures { Gives (λ text. text) result (Ok text.now) }
 {
     Ok(Text::new(String::from_str(alloc, text)?))
 }
 
-/// Jobs with texts of their own.
+/// Returns a copy of the pattern that owns its texts.
 pub(crate) fn pattern_copy(
     alloc: Global,
     pattern: &JobPattern<&str>,
@@ -38,7 +38,7 @@ pub(crate) fn pattern_copy(
     })
 }
 
-/// A command with texts of its own.
+/// Returns a copy of the command that owns its texts.
 pub(crate) fn template_copy(
     alloc: Global,
     template: &CommandTemplate<&str>,
@@ -81,7 +81,7 @@ pub(crate) fn template_copy(
     })
 }
 
-/// The name of a run with texts of its own.
+/// Returns a copy of the naming that owns its texts.
 pub(crate) fn naming_copy(alloc: Global, naming: &Naming<&str>) -> Result<Naming<Text>, TableFault>
     ensures { Gives (λ naming. naming) result (Ok (naming_shown naming.now)) }
 {

@@ -1,4 +1,4 @@
-//! The counters that a table names.
+//! The counters of a table.
 ghost use Rattle.std.specs.Prelude.{◌≡◌};
 ghost use Rattle.wh_table_text.specs.Words.{phrase_seen};
 ghost use Rattle.wh_table_text.specs.Counters.{counter_of, counter_at, named_from, bound_at, bounds_of};
@@ -12,16 +12,16 @@ use std::alloc::Global;
 use wh_events::Text;
 use wh_rows::{Counter, Counts};
 
-/// A counter with the name that its table gives it.
+/// A counter with its name in the table.
 #[derive(Drop)]
 pub(crate) struct NamedCounter {
-    /// Its name.
+    /// The name.
     pub name: Text,
-    /// How far it may rise.
+    /// The bound: the counter rises no further.
     pub bound: u64,
 }
 
-/// The counter at a place.
+/// Returns the counter at a place, of four.
 fn counter_at(place: usize) -> Option<Counter>
     ensures { result ≡ counter_at place }
 {
@@ -38,7 +38,7 @@ fn counter_at(place: usize) -> Option<Counter>
     }
 }
 
-/// The counter of that name.
+/// Returns the counter of this name.
 pub(crate) fn counter_named(names: &[NamedCounter], word: &str) -> Option<Counter>
     ensures { result ≡ named_from 0 names.now word.now }
 {
@@ -50,7 +50,7 @@ pub(crate) fn counter_named(names: &[NamedCounter], word: &str) -> Option<Counte
     None
 }
 
-/// How far the counter at a place may rise: 0 where there is none.
+/// Returns the bound of the counter at a place: 0 if there is no such counter.
 fn bound_at(names: &[NamedCounter], place: usize) -> u64
     ensures { result ≡ bound_at place names.now }
 {
@@ -62,7 +62,7 @@ fn bound_at(names: &[NamedCounter], place: usize) -> u64
     }
 }
 
-/// How far each counter may rise.
+/// Returns the bound of each counter.
 pub(crate) fn bounds_of(names: &[NamedCounter]) -> Counts
     ensures { result ≡ bounds_of names.now }
 {
@@ -74,7 +74,7 @@ pub(crate) fn bounds_of(names: &[NamedCounter]) -> Counts
     }
 }
 
-/// The counter that a phrase names, with its bound.
+/// Returns the counter of a phrase, its name and its bound.
 pub(crate) fn counter_of(alloc: Global, phrase: &Phrase) -> Result<NamedCounter, TableFault>
     ensures { Gives (λ counter. counter) result (counter_of (phrase_seen phrase.now)) }
 {

@@ -1,4 +1,4 @@
-//! Why a text is no table.
+//! Why a text is not a table.
 ghost use Rattle.std.specs.Prelude.{◌≡◌, codes, IfOk};
 ghost use Rattle.wh_table_text.specs.declared.fault.TableFault.TheVariants.{OutOfMemory};
 ghost use Rattle.wh_table_text.specs.Reading.{of_rows};
@@ -11,44 +11,44 @@ use wh_row_rules::{BrokenRule, RowsFault};
 /// What is wrong with a row.
 #[derive(Clone, Copy, Debug)]
 pub enum RowFault {
-    /// It is no list of at most six members.
+    /// It is not a list of at most six members.
     NotARow,
-    /// Its state, its job or its next state is no text, or its conditions, commands or marks are
+    /// Its state, its job or its next state is not a text, or its conditions, commands or marks are
     /// neither a text nor a list of texts.
     NotText,
-    /// No job is written so.
+    /// Its job is not one that a table can name.
     UnknownJob,
     /// It has more than 16 conditions, or more than 16 marks.
     TooManyPhrases,
-    /// No condition is written so, or it names no counter of the table.
+    /// A condition is not written as one, or names a counter that the table does not have.
     UnknownCondition,
-    /// No command begins with this word.
+    /// A command begins with an unknown word.
     UnknownCommand,
-    /// A word of a command is missing or too much, or a number is out of range.
+    /// A command has too few or too many words, or a number out of range.
     BadCommand,
-    /// No mark is written so, or it names no counter of the table.
+    /// A mark is not written as one, or names a counter that the table does not have.
     UnknownMark,
-    /// It breaks a rule of tables.
+    /// It breaks a rule of tables (`wh_row_rules`).
     Breaks(BrokenRule),
 }
 
-/// Why a text is no table: its first fault.
+/// Why a text is not a table: its first fault.
 #[derive(Clone, Copy, Debug)]
 pub enum TableFault {
-    /// There is no text.
+    /// There is no table.
     NoTable,
-    /// The bytes are no JSON (RFC 8259) in UTF-8.
+    /// The bytes are not JSON (RFC 8259) in UTF-8.
     NotJson,
-    /// The member `version` is not the number 1, or the value is no object.
+    /// The member `version` is not the number 1, or the value is not an object.
     UnknownVersion,
-    /// The member `rows` is no list.
+    /// The member `rows` is not a list.
     NoRows,
     /// There are more than 200 rows.
     TooManyRows,
-    /// The member `counters` is there, and is not a list of at most four texts, each a name and a
+    /// The member `counters` is present, and is not a list of at most four texts, each a name and a
     /// bound.
     BadCounters,
-    /// The member `name` is there, and is not written as the name of a run.
+    /// The member `name` is present, and is not written as the name of a run.
     BadName,
     /// A row, counted from 1, can't be read or breaks a rule.
     InRow {
@@ -59,7 +59,7 @@ pub enum TableFault {
     },
     /// There is no row.
     BeginsNowhere,
-    /// An allocation was refused. It can come in place of each fault, and is the fault of no table.
+    /// An allocation was refused. It can replace any other fault, and does not depend on the table.
     OutOfMemory,
 }
 
@@ -79,7 +79,7 @@ impl<T: Drop> From<AllocFailed<T>> for TableFault {
     }
 }
 
-/// The fault of rows that break a rule.
+/// Returns the fault of a table whose rows break a rule.
 pub(crate) fn of_rows(fault: RowsFault) -> TableFault
     ensures { result ≡ of_rows fault }
 {
@@ -92,14 +92,14 @@ pub(crate) fn of_rows(fault: RowsFault) -> TableFault
     }
 }
 
-/// A text of these words.
+/// Returns the words as an owned text.
 fn said(alloc: Global, words: &str) -> Result<Text, AllocError>
     ensures { IfOk result (λ text. text ≡ words.now) }
 {
     Ok(Text::new(String::from_str(alloc, words)?))
 }
 
-/// What is said of a row that breaks a rule of tables.
+/// Returns the message for a row that breaks a rule of tables.
 fn rule_text(alloc: Global, rule: BrokenRule) -> Result<Text, AllocError>
     ensures { IfOk result (λ text. text ≡ rule_text rule) }
 {
@@ -131,7 +131,7 @@ fn rule_text(alloc: Global, rule: BrokenRule) -> Result<Text, AllocError>
     }
 }
 
-/// What is said of a row.
+/// Returns the message for the fault of a row.
 fn row_text(alloc: Global, fault: RowFault) -> Result<Text, AllocError>
     ensures { IfOk result (λ text. text ≡ row_text fault) }
 {
@@ -165,7 +165,7 @@ fn row_text(alloc: Global, fault: RowFault) -> Result<Text, AllocError>
     }
 }
 
-/// What is said of a row of this number.
+/// Returns the message for the fault of the row of this number.
 fn numbered_text(alloc: Global, row: u64, fault: RowFault) -> Result<Text, AllocError>
     ensures { IfOk result (λ text. text ≡ fault_text (TableFault.InRow row fault)) }
 {
@@ -174,7 +174,7 @@ fn numbered_text(alloc: Global, row: u64, fault: RowFault) -> Result<Text, Alloc
     Ok(Text::new(format!(in alloc; "row {row}: {words}")?))
 }
 
-/// What is said of a text that is no table. `AllocError` where there is no memory for it.
+/// Returns the message for a text that is not a table. `AllocError` if there is no memory for it.
 pub fn fault_text(alloc: Global, fault: TableFault) -> Result<Text, AllocError>
     ensures { IfOk result (λ text. text ≡ fault_text fault) }
 {

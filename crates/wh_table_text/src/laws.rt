@@ -1,8 +1,8 @@
-//! What the list of faults says, as the contract of a function that does nothing.
+//! How the list of faults relates to reading, as the contract of a function without a body.
 ghost use Rattle.wh_table_text.specs.Faults.{FirstStopsReading};
 
-/// The first fault that is listed of a text is the one at which reading it as a table stops, and
-/// none is listed exactly where it is a table.
+/// The first fault in the list is the one at which reading the text as a table stops. The list is
+/// empty exactly if the text is a table.
 pub fn first_stops_reading()
     ensures { FirstStopsReading }
 {}

@@ -2,16 +2,17 @@
 //!
 //! ```text
 //! {"version": 1, "counters": ["tries 2"], "rows": [
-//!   ["charging", "start",         "",          "activity charge ChargeCard input"],
-//!   ["charging", "failed charge", "tries < 2", "activity charge ChargeCard input", "", "up tries"],
-//!   ["charging", "failed charge", "",          "fail charge"],
-//!   ["charging", "done charge",   "",          "complete brought"]
+//!  ["charging", "start",         "",          "activity charge ChargeCard input"],
+//!  ["charging", "failed charge", "tries < 2", "activity charge ChargeCard input", "", "up tries"],
+//!  ["charging", "failed charge", "",          "fail charge"],
+//!  ["charging", "done charge",   "",          "complete brought"]
 //! ]}
 //! ```
 //!
-//! A row is a list of at most six members: state, job, conditions, commands, next state, marks. What
-//! is left out at its end is empty. Conditions, commands and marks are a phrase or a list of phrases;
-//! the words of a phrase stand between single spaces. A run begins in the state of the first row.
+//! A row is a list of at most six members: state, job, conditions, commands, next state, marks.
+//! Members may be omitted at its end; they are empty then. Conditions, commands and marks are a
+//! phrase or a list of phrases; the words of a phrase are separated by single spaces. A run begins
+//! in the state of the first row.
 //!
 //! | Phrase | Stands for |
 //! |---|---|
@@ -31,7 +32,7 @@
 //! | `complete SOURCE`, `fail MESSAGE`, `cancel` | `Complete`, `Fail`, `Cancel` |
 //! | `continue TYPE SOURCE`, `again SOURCE` | `ContinueAsNew`; `again` with an empty type |
 //!
-//! A source is `input`, `brought` or `kept`, and nothing where it is left out.
+//! A source is `input`, `brought` or `kept`; if it is omitted, there are no payloads.
 #![tactic(auto)]
 
 mod copies;

@@ -1,4 +1,4 @@
-//! All faults of a JSON text as a table.
+//! Lists all faults of a JSON text as a table.
 ghost use Rattle.std.specs.Prelude.{◌≡◌, ◌<◌, ◌+◌, ◌^◌, ◌++◌, codes, map, option_to_list, IfOk, OnOk, Ok, Some};
 ghost use Rattle.serde_json.specs.View.{view};
 ghost use Rattle.wh_json.specs.Fields.{field};
@@ -17,14 +17,14 @@ use wh_events::OutOfMemory;
 use wh_json::field;
 use wh_row_rules::{OwnedRow, OwnedTable, RowsFault, row_rule, table_fault};
 
-/// Whether there is no fault.
+/// Returns whether there is no fault.
 fn is_none(faults: &[TableFault]) -> bool
     ensures { result ≡ is_none faults.now }
 {
     matches!(faults, [])
 }
 
-/// The list of one fault.
+/// Returns a list of this one fault.
 fn only(alloc: Global, fault: TableFault) -> Result<Vec<TableFault>, OutOfMemory>
     ensures { IfOk result (λ faults. faults.items ≡ option_to_list (Some fault)) }
 {
@@ -33,7 +33,7 @@ fn only(alloc: Global, fault: TableFault) -> Result<Vec<TableFault>, OutOfMemory
     Ok(faults)
 }
 
-/// Adds a fault, if there is one.
+/// Adds a fault to the list, if there is one.
 fn add(faults: &mut Vec<TableFault>, fault: Option<TableFault>) -> Result<(), OutOfMemory>
     ensures { OnOk result (faults.new.items ≡ faults.old.items ++ option_to_list fault) }
 {
@@ -43,7 +43,7 @@ fn add(faults: &mut Vec<TableFault>, fault: Option<TableFault>) -> Result<(), Ou
     Ok(())
 }
 
-/// The fault of the list of rows itself, if there is one.
+/// Returns the fault of the member `rows`, if it is not a list or too long.
 fn list_fault(value: &Value) -> Option<TableFault>
     ensures { result ≡ fault_in (few_rows (rows_in (view value.now))) }
 {
@@ -59,7 +59,7 @@ fn list_fault(value: &Value) -> Option<TableFault>
     }
 }
 
-/// The fault of the counters, if there is one.
+/// Returns the fault of the counters, if there is one.
 fn counters_fault(alloc: Global, value: &Value) -> Result<Option<TableFault>, OutOfMemory>
     ensures { IfOk result (λ fault. fault ≡ fault_in (counters_in (view value.now))) }
 {
@@ -70,7 +70,7 @@ fn counters_fault(alloc: Global, value: &Value) -> Result<Option<TableFault>, Ou
     }
 }
 
-/// The fault of the name of runs, if there is one.
+/// Returns the fault of the member `name`, if there is one.
 fn name_fault(alloc: Global, value: &Value) -> Result<Option<TableFault>, OutOfMemory>
     ensures { IfOk result (λ fault. fault ≡ fault_in (naming_at (field (codes "name") (Some (view value.now))))) }
 {
@@ -81,7 +81,7 @@ fn name_fault(alloc: Global, value: &Value) -> Result<Option<TableFault>, OutOfM
     }
 }
 
-/// The faults of the parts of an object but its rows.
+/// Returns the faults of all members of an object but those within its rows.
 fn part_faults(alloc: Global, value: &Value) -> Result<Vec<TableFault>, OutOfMemory>
     ensures { IfOk result (λ faults. faults.items ≡ part_faults (view value.now)) }
 {
@@ -94,7 +94,7 @@ fn part_faults(alloc: Global, value: &Value) -> Result<Vec<TableFault>, OutOfMem
     Ok(faults)
 }
 
-/// The fault of the row of that number, if it can't be read.
+/// Returns the fault of the row of this number, if it can't be read.
 fn row_fault(
     alloc: Global,
     row: u64,
@@ -110,7 +110,7 @@ fn row_fault(
     }
 }
 
-/// The faults of rows that can't be read.
+/// Returns the faults of rows that can't be read.
 fn row_faults(
     alloc: Global,
     names: &[NamedCounter],
@@ -126,13 +126,14 @@ fn row_faults(
     Ok(faults)
 }
 
-/// The faults of the rows of an object that can't be read, with these counters.
+/// Returns the faults of the rows of an object that can't be read, with these counters.
 fn named_row_faults(
     alloc: Global,
     names: &[NamedCounter],
     value: &Value,
 ) -> Result<Vec<TableFault>, OutOfMemory>
-    ensures { IfOk result (λ faults. faults.items ≡ unread_rows (Ok names.now) (rows_listed (rows_in (view value.now)))) }
+    ensures { IfOk result (λ faults. faults.items
+        ≡ unread_rows (Ok names.now) (rows_listed (rows_in (view value.now)))) }
 {
     match rows_in(value) {
         Some(values) => row_faults(alloc, names, values),
@@ -140,10 +141,11 @@ fn named_row_faults(
     }
 }
 
-/// The faults of the rows of an object that can't be read. There are none where its counters can't
-/// be read.
+/// Returns the faults of the rows of an object that can't be read. There are none if its counters
+/// can't be read.
 fn unread_rows(alloc: Global, value: &Value) -> Result<Vec<TableFault>, OutOfMemory>
-    ensures { IfOk result (λ faults. faults.items ≡ unread_rows (counters_in (view value.now)) (rows_listed (rows_in (view value.now)))) }
+    ensures { IfOk result (λ faults. faults.items
+        ≡ unread_rows (counters_in (view value.now)) (rows_listed (rows_in (view value.now)))) }
 {
     match counters_at(alloc, field(Some(value), "counters")) {
         Ok(names) => named_row_faults(alloc, names.as_slice(), value),
@@ -152,7 +154,7 @@ fn unread_rows(alloc: Global, value: &Value) -> Result<Vec<TableFault>, OutOfMem
     }
 }
 
-/// The faults of a value that can't be read as a table.
+/// Returns the faults of a value that can't be read as a table.
 fn shape_faults(alloc: Global, value: &Value) -> Result<Vec<TableFault>, OutOfMemory>
     ensures { IfOk result (λ faults. faults.items ≡ shape_faults (view value.now)) }
 {
@@ -167,7 +169,7 @@ fn shape_faults(alloc: Global, value: &Value) -> Result<Vec<TableFault>, OutOfMe
     }
 }
 
-/// The fault of a row before which stand so many, if it breaks a rule.
+/// Returns the fault of a row, if it breaks a rule; `place` rows come before it.
 fn broken_row(table: &OwnedTable, place: usize, row: &OwnedRow) -> Option<TableFault>
     requires { place + 1 < 2 ^ 64 }
     ensures { option_to_list result ≡ breaks table.now place row.now }
@@ -181,7 +183,7 @@ fn broken_row(table: &OwnedTable, place: usize, row: &OwnedRow) -> Option<TableF
     }
 }
 
-/// The faults of rows that break a rule of a table.
+/// Returns the faults of the rows of a table that break a rule.
 fn broken_rows(
     alloc: Global,
     table: &OwnedTable,
@@ -196,7 +198,7 @@ fn broken_rows(
     Ok(faults)
 }
 
-/// The faults of a table by the rules.
+/// Returns the faults of a table that break a rule.
 fn rule_faults(alloc: Global, table: &OwnedTable) -> Result<Vec<TableFault>, OutOfMemory>
     ensures { IfOk result (λ faults. faults.items ≡ rule_faults (Ok table.now)) }
 {
@@ -207,7 +209,8 @@ fn rule_faults(alloc: Global, table: &OwnedTable) -> Result<Vec<TableFault>, Out
     }
 }
 
-/// The faults of a JSON value by the rules. There are none where it can't be read as a table.
+/// Returns the rules that the table of a JSON value breaks. There are none if it can't be read as a
+/// table.
 fn broken_rules(alloc: Global, value: &Value) -> Result<Vec<TableFault>, OutOfMemory>
     ensures { IfOk result (λ faults. faults.items ≡ rule_faults (shape_of (view value.now))) }
 {
@@ -218,7 +221,7 @@ fn broken_rules(alloc: Global, value: &Value) -> Result<Vec<TableFault>, OutOfMe
     }
 }
 
-/// The faults of a JSON value.
+/// Returns the faults of a JSON value as a table.
 fn value_faults(alloc: Global, value: &Value) -> Result<Vec<TableFault>, OutOfMemory>
     ensures { IfOk result (λ faults. faults.items ≡ value_faults (view value.now)) }
 {
@@ -230,11 +233,12 @@ fn value_faults(alloc: Global, value: &Value) -> Result<Vec<TableFault>, OutOfMe
     }
 }
 
-/// The faults of a JSON text (RFC 8259) as a table, in their order: that it is no JSON, or its
-/// version; or else the first fault of each of its parts; where they have none, that of each row
-/// which can't be read; and where all can be, the first rule that each row breaks. The first one is
-/// that at which `read_table` stops, and there is none exactly where it gives a table (the law
-/// `first_stops_reading`). `OutOfMemory` where an allocation was refused.
+/// Returns the faults of a JSON text (RFC 8259) as a table, in order. If it is not JSON or its
+/// version is not known, that is the only one. Else they are the first fault of each member; if
+/// there are none, that of each row that can't be read; and if all can be read, the first rule that
+/// each row breaks. The first fault is the one at which `read_table` stops, and there is none
+/// exactly if `read_table` succeeds (law `first_stops_reading`). `OutOfMemory` if an allocation was
+/// refused.
 pub fn list_faults(alloc: Global, bytes: &[u8]) -> Result<Vec<TableFault>, OutOfMemory>
     ensures { IfOk result (λ faults. faults.items ≡ faults_of bytes.now) }
 {

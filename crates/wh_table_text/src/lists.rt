@@ -1,4 +1,4 @@
-//! Lists of phrases.
+//! Reads lists of phrases.
 ghost use Rattle.std.specs.Prelude.{◌≡◌, map, option_map};
 ghost use Rattle.serde_json.specs.View.{view};
 ghost use Rattle.wh_table_text.specs.Words.{phrase};
@@ -19,14 +19,14 @@ use wh_events::Text;
 use wh_json::list_in;
 use wh_rows::{CommandTemplate, Condition, Effect};
 
-/// The fault of a row.
+/// Returns the fault of the row of this number.
 pub(crate) fn in_row(row: u64, fault: RowFault) -> TableFault
     ensures { result ≡ TableFault.InRow row fault }
 {
     TableFault::InRow { row, fault }
 }
 
-/// The text that a member is.
+/// Returns the text of a value, or the fault if it is not a text.
 fn text_at(alloc: Global, fault: TableFault, value: &Value) -> Result<Text, TableFault>
     ensures { Gives (λ text. text) result (text_at fault (view value.now)) }
 {
@@ -36,7 +36,7 @@ fn text_at(alloc: Global, fault: TableFault, value: &Value) -> Result<Text, Tabl
     }
 }
 
-/// The texts of a list.
+/// Returns the texts of a list of values.
 fn each_text(alloc: Global, fault: TableFault, values: &[Value]) -> Result<Vec<Text>, TableFault>
     ensures { Gives (λ texts. texts.items) result (all_of (map (text_at fault) (map view values.now))) }
 {
@@ -48,7 +48,7 @@ fn each_text(alloc: Global, fault: TableFault, values: &[Value]) -> Result<Vec<T
     Ok(texts)
 }
 
-/// The one phrase that a text is, or none where it is empty.
+/// Returns a text as the only phrase of a list, which is empty if the text is.
 fn one_phrase(alloc: Global, text: &str) -> Result<Vec<Text>, TableFault>
     ensures { Gives (λ texts. texts.items) result (Ok (one_phrase text.now)) }
 {
@@ -61,7 +61,7 @@ fn one_phrase(alloc: Global, text: &str) -> Result<Vec<Text>, TableFault>
     Ok(texts)
 }
 
-/// The texts of a value that is a list.
+/// Returns the texts of a value that is a list.
 fn texts_of(alloc: Global, fault: TableFault, value: &Value) -> Result<Vec<Text>, TableFault>
     ensures { Gives (λ texts. texts.items) result (texts_of fault (view value.now)) }
 {
@@ -71,7 +71,7 @@ fn texts_of(alloc: Global, fault: TableFault, value: &Value) -> Result<Vec<Text>
     }
 }
 
-/// The phrases of a member: a text, or a list of texts. There are none where it is left out.
+/// Returns the phrases of a member: a text, or a list of texts. There are none if it is omitted.
 pub fn phrases_at(
     alloc: Global,
     fault: TableFault,
@@ -88,7 +88,7 @@ pub fn phrases_at(
     }
 }
 
-/// The command that a text names.
+/// Returns the command that a text describes.
 #[tactic(auto, unfolding(crate::specs::Reading::template_at))]
 fn template_at(row: u64, text: &str) -> Result<CommandTemplate<&str>, TableFault>
     ensures { Gives template_shown result (template_at row text.now) }
@@ -103,7 +103,7 @@ fn template_at(row: u64, text: &str) -> Result<CommandTemplate<&str>, TableFault
     }
 }
 
-/// The command that a text names, with texts of its own.
+/// Returns the command that a text describes, with owned texts.
 fn own_template_at(
     alloc: Global,
     row: u64,
@@ -115,7 +115,7 @@ fn own_template_at(
     template_copy(alloc, &template)
 }
 
-/// The commands that texts name.
+/// Returns the commands that these texts describe.
 pub(crate) fn each_template(
     alloc: Global,
     row: u64,
@@ -131,7 +131,7 @@ pub(crate) fn each_template(
     Ok(given)
 }
 
-/// The condition that a text names.
+/// Returns the condition that a text describes.
 #[tactic(auto, unfolding(crate::specs::Reading::condition_at))]
 fn condition_at(row: u64, names: &[NamedCounter], text: &Text) -> Result<Condition, TableFault>
     ensures { Gives (λ condition. condition) result (condition_at names.now row text.now) }
@@ -142,7 +142,7 @@ fn condition_at(row: u64, names: &[NamedCounter], text: &Text) -> Result<Conditi
     }
 }
 
-/// The conditions that texts name.
+/// Returns the conditions that these texts describe.
 pub(crate) fn each_condition(
     alloc: Global,
     row: u64,
@@ -159,7 +159,7 @@ pub(crate) fn each_condition(
     Ok(given)
 }
 
-/// The mark that a text names.
+/// Returns the mark (`up`, `zero` or `keep`) that a text describes.
 #[tactic(auto, unfolding(crate::specs::Reading::effect_at))]
 fn effect_at(row: u64, names: &[NamedCounter], text: &Text) -> Result<Effect, TableFault>
     ensures { Gives (λ effect. effect) result (effect_at names.now row text.now) }
@@ -170,7 +170,7 @@ fn effect_at(row: u64, names: &[NamedCounter], text: &Text) -> Result<Effect, Ta
     }
 }
 
-/// The marks that texts name.
+/// Returns the marks that these texts describe.
 pub(crate) fn each_effect(
     alloc: Global,
     row: u64,
@@ -187,14 +187,14 @@ pub(crate) fn each_effect(
     Ok(given)
 }
 
-/// The counter that a text names.
+/// Returns the counter that a text describes.
 fn counter_in(alloc: Global, text: &Text) -> Result<NamedCounter, TableFault>
     ensures { Gives (λ counter. counter) result (counter_in text.now) }
 {
     counter_of(alloc, &Phrase::of(text.get()))
 }
 
-/// The counters that texts name.
+/// Returns the counters that these texts describe.
 pub(crate) fn each_counter(alloc: Global, texts: &[Text]) -> Result<Vec<NamedCounter>, TableFault>
     ensures { Gives (λ given. given.items) result (all_of (map counter_in texts.now)) }
 {

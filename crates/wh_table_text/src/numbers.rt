@@ -1,11 +1,11 @@
-//! Numbers that words write.
+//! Reads decimal numbers.
 ghost use Rattle.std.specs.Prelude.{◌≡◌};
 ghost use Rattle.std.specs.List.{list_all};
 ghost use Rattle.std.specs.Char.{is_ascii_digit};
 ghost use Rattle.wh_json.specs.Fields.{number_in};
 ghost use Rattle.wh_table_text.specs.Numbers.{below, seconds_in, version_in};
 
-/// Whether the text has only decimal digits.
+/// Returns whether the text has only decimal digits.
 fn is_digits(text: &str) -> bool
     ensures { result ≡ list_all is_ascii_digit text.now }
 {
@@ -17,7 +17,7 @@ fn is_digits(text: &str) -> bool
     true
 }
 
-/// The number that one to nineteen digits write.
+/// Returns the number of one to nineteen decimal digits. `None` if the text is anything else.
 #[tactic(auto, unfolding(wh_json::specs::Fields::number_in))]
 pub fn number_in(text: &str) -> Option<u64>
     ensures { result ≡ number_in text.now }
@@ -28,7 +28,7 @@ pub fn number_in(text: &str) -> Option<u64>
     text.parse::<u64>().ok()
 }
 
-/// The number that digits write, if it is below this one.
+/// Returns the number of one to nineteen decimal digits, if it is below `end`.
 pub(crate) fn number_below(end: u64, text: &str) -> Option<u64>
     ensures { result ≡ below end (number_in text.now) }
 {
@@ -36,14 +36,15 @@ pub(crate) fn number_below(end: u64, text: &str) -> Option<u64>
     if number < end { Some(number) } else { None }
 }
 
-/// The seconds of a timer, of which there are at most those of a duration of Protocol Buffers.
+/// Returns the seconds of a timer: at most 315,576,000,000, the most of a Protocol Buffers
+/// duration.
 pub(crate) fn seconds_in(text: &str) -> Option<u64>
     ensures { result ≡ seconds_in text.now }
 {
     number_below(315_576_000_001, text)
 }
 
-/// The number of a version, from -1.
+/// Returns the number of a version: -1, or 0 to 2^31 - 1.
 pub(crate) fn version_in(text: &str) -> Option<i32>
     ensures { result ≡ version_in text.now }
 {

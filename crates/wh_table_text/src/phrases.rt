@@ -1,4 +1,4 @@
-//! What the phrases of a table say.
+//! The meaning of the phrases of a table.
 ghost use Rattle.std.specs.Prelude.{◌≡◌, option_map};
 ghost use Rattle.wh_table_text.specs.Words.{phrase_seen};
 ghost use Rattle.wh_table_text.specs.Phrases.{pattern_shown, template_shown, naming_shown};
@@ -10,7 +10,7 @@ use crate::verbs::{CommandVerb, JobVerb, source_of};
 use crate::words::Phrase;
 use wh_rows::{CommandTemplate, Condition, Counter, Effect, JobPattern, Naming};
 
-/// The jobs that a phrase names.
+/// Returns the jobs that a phrase describes.
 pub(crate) fn pattern_of<'a>(verb: JobVerb, phrase: &Phrase<'a>) -> Option<JobPattern<&'a str>>
     ensures { option_map pattern_shown result ≡ pattern_of verb (phrase_seen phrase.now) }
 {
@@ -47,7 +47,7 @@ pub(crate) fn pattern_of<'a>(verb: JobVerb, phrase: &Phrase<'a>) -> Option<JobPa
     }
 }
 
-/// The command that a phrase names.
+/// Returns the command that a phrase describes.
 pub(crate) fn template_of<'a>(
     verb: CommandVerb,
     phrase: &Phrase<'a>,
@@ -67,7 +67,7 @@ pub(crate) fn template_of<'a>(
             }
         }
         CommandVerb::Complete => Some(CommandTemplate::Complete(source_of(phrase.after)?)),
-        // With no type it is a new run of the same table.
+        // An empty type continues as a new run of the same table.
         CommandVerb::Again => Some(CommandTemplate::ContinueAsNew("", source_of(phrase.after)?)),
         CommandVerb::Continue => {
             if !phrase.has_kind() {
@@ -120,7 +120,7 @@ pub(crate) fn template_of<'a>(
     }
 }
 
-/// What is asked of a counter, by a sign and a number.
+/// Returns the condition on a counter with this sign (`<` or `>=`) and number.
 fn compared(counter: Counter, sign: &str, number: u64) -> Option<Condition>
     ensures { result ≡ compared counter sign.now number }
 {
@@ -133,7 +133,7 @@ fn compared(counter: Counter, sign: &str, number: u64) -> Option<Condition>
     }
 }
 
-/// The condition that a phrase names.
+/// Returns the condition that a phrase describes.
 pub(crate) fn condition_of(names: &[NamedCounter], phrase: &Phrase) -> Option<Condition>
     ensures { result ≡ condition_of names.now (phrase_seen phrase.now) }
 {
@@ -145,7 +145,7 @@ pub(crate) fn condition_of(names: &[NamedCounter], phrase: &Phrase) -> Option<Co
     compared(counter, phrase.first, number)
 }
 
-/// The mark that a phrase names.
+/// Returns the mark that a phrase describes.
 pub(crate) fn effect_of(names: &[NamedCounter], phrase: &Phrase) -> Option<Effect>
     ensures { result ≡ effect_of names.now (phrase_seen phrase.now) }
 {
@@ -164,7 +164,8 @@ pub(crate) fn effect_of(names: &[NamedCounter], phrase: &Phrase) -> Option<Effec
     }
 }
 
-/// The name of a run that a phrase says: by a payload, counted from 0, of at most 65,536.
+/// Returns the naming of runs that a phrase describes: by a payload whose number, counted from 0,
+/// is below 65,536.
 pub(crate) fn naming_of<'a>(phrase: &Phrase<'a>) -> Option<Naming<&'a str>>
     ensures { option_map naming_shown result ≡ naming_of (phrase_seen phrase.now) }
 {

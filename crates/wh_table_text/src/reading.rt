@@ -1,4 +1,4 @@
-//! Reads a table of JSON.
+//! Reads a table from JSON.
 ghost use Rattle.std.specs.Prelude.{◌≡◌, map, option_map};
 ghost use Rattle.serde_json.specs.View.{view};
 ghost use Rattle.wh_json.specs.Events.{document_within};
@@ -22,10 +22,10 @@ use wh_rows::Naming;
 /// The most rows that a table may have.
 pub(crate) const MOST_ROWS: usize = 200;
 
-/// The most counters that a table may name.
+/// The most counters that a table may have.
 const MOST_COUNTERS: usize = 4;
 
-/// The value of a JSON text.
+/// Returns the value of a JSON text, or `NotJson`.
 pub(crate) fn document(alloc: Global, bytes: &[u8]) -> Result<Value, TableFault>
     ensures { Gives view result (or_not_json (document_within bytes.now)) }
 {
@@ -36,7 +36,7 @@ pub(crate) fn document(alloc: Global, bytes: &[u8]) -> Result<Value, TableFault>
     }
 }
 
-/// Whether a version is the number 1.
+/// Returns whether the version is the number 1.
 pub(crate) fn is_known(value: Option<&Value>) -> bool
     ensures { result ≡ is_known (option_map (λ v. view v.now) value.entry) }
 {
@@ -49,7 +49,7 @@ pub(crate) fn is_known(value: Option<&Value>) -> bool
     }
 }
 
-/// The counters of a table.
+/// Returns the counters of a table.
 #[tactic(auto, unfolding(crate::specs::Reading::counters_at))]
 pub(crate) fn counters_at(
     alloc: Global,
@@ -64,7 +64,7 @@ pub(crate) fn counters_at(
     each_counter(alloc, texts.as_slice())
 }
 
-/// How the runs of a table are named.
+/// Returns how the runs of a table are named.
 #[tactic(auto, unfolding(crate::specs::Reading::naming_at))]
 pub(crate) fn naming_at(alloc: Global, value: Option<&Value>) -> Result<Naming<Text>, TableFault>
     ensures { Gives (λ naming. naming) result (naming_at (option_map (λ v. view v.now) value.entry)) }
@@ -81,14 +81,14 @@ pub(crate) fn naming_at(alloc: Global, value: Option<&Value>) -> Result<Naming<T
     }
 }
 
-/// The list `rows` of an object.
+/// Returns the list `rows` of an object.
 pub(crate) fn rows_in(value: &Value) -> Option<&[Value]>
     ensures { option_map (λ values. map view values.now) result ≡ rows_in (view value.now) }
 {
     list_in(field(Some(value), "rows")?)
 }
 
-/// The state of the first row, empty where there is none.
+/// Returns the state of the first row, empty if there is none.
 fn first_state(alloc: Global, rows: &[OwnedRow]) -> Result<Text, TableFault>
     ensures { Gives (λ text. text) result (Ok (first_state rows.now)) }
 {
@@ -98,7 +98,7 @@ fn first_state(alloc: Global, rows: &[OwnedRow]) -> Result<Text, TableFault>
     }
 }
 
-/// The table of a JSON value, whose rows may still break a rule.
+/// Returns the table of a JSON value. Its rows may still break a rule.
 #[tactic(auto, unfolding(crate::specs::Reading::shape_of))]
 pub(crate) fn shape_of(alloc: Global, value: &Value) -> Result<OwnedTable, TableFault>
     ensures { Gives (λ table. table) result (shape_of (view value.now)) }
@@ -123,10 +123,10 @@ pub(crate) fn shape_of(alloc: Global, value: &Value) -> Result<OwnedTable, Table
     })
 }
 
-/// The table that a JSON text (RFC 8259) is, or its first fault: it reads as the table `table_of` of
-/// its definitions says, and its rows break no rule. Of members of an object with the same name the
-/// last one counts, and a member that is null counts as absent. `OutOfMemory` can come in place of
-/// every fault; nothing is left of the table then.
+/// Reads a table from a JSON text (RFC 8259), or returns its first fault. `table_of` in `specs`
+/// defines what the text means, and a table that is returned breaks no rule. Of members of an
+/// object with the same name the last one applies, and a member that is null is absent. Instead of
+/// any result the error can be `OutOfMemory`. After an error nothing is left of the table.
 #[tactic(auto, unfolding(crate::specs::Reading::table_of))]
 pub fn read_table(alloc: Global, bytes: &[u8]) -> Result<OwnedTable, TableFault>
     ensures { Gives (λ table. table) result (table_of bytes.now) }

@@ -1,4 +1,4 @@
-//! The rows of a table.
+//! Reads the rows of a table.
 ghost use Rattle.std.specs.Prelude.{◌≡◌, map, option_map};
 ghost use Rattle.serde_json.specs.View.{view};
 ghost use Rattle.wh_table_text.specs.Outcome.{Gives, all_of};
@@ -23,7 +23,7 @@ use wh_rows::{CommandTemplate, Condition, Effect, JobPattern, RowOf};
 /// The most conditions, and the most marks, of a row.
 const MOST_PHRASES: usize = 16;
 
-/// The text of a member of a row, empty where it is left out.
+/// Returns the text of a member of a row, empty if it is omitted.
 #[tactic(auto, unfolding(crate::specs::Reading::cell))]
 fn cell(row: u64, index: usize, value: &Value) -> Result<&str, TableFault>
     ensures { Gives (λ text. text.now) result (cell row index (view value.now)) }
@@ -37,7 +37,7 @@ fn cell(row: u64, index: usize, value: &Value) -> Result<&str, TableFault>
     }
 }
 
-/// The jobs that a text names.
+/// Returns the jobs that a text describes.
 #[tactic(auto, unfolding(crate::specs::Reading::job_at))]
 fn job_at(row: u64, text: &str) -> Result<JobPattern<&str>, TableFault>
     ensures { Gives pattern_shown result (job_at row text.now) }
@@ -52,8 +52,8 @@ fn job_at(row: u64, text: &str) -> Result<JobPattern<&str>, TableFault>
     }
 }
 
-/// The jobs that a text names, in a row of that number: the fault is `UnknownJob` of the row where it
-/// names none, or `OutOfMemory`.
+/// Returns the jobs that a text describes, for the row of this number. `UnknownJob` of that row if
+/// it describes none, or `OutOfMemory`.
 pub fn own_job_at(alloc: Global, row: u64, text: &str) -> Result<JobPattern<Text>, TableFault>
     ensures { Gives (λ pattern. pattern) result (job_at row text.now) }
 {
@@ -61,7 +61,7 @@ pub fn own_job_at(alloc: Global, row: u64, text: &str) -> Result<JobPattern<Text
     pattern_copy(alloc, &pattern)
 }
 
-/// The commands of a row.
+/// Returns the commands of a row.
 #[tactic(auto, unfolding(crate::specs::Reading::templates_at))]
 fn templates_at(
     alloc: Global,
@@ -74,7 +74,7 @@ fn templates_at(
     each_template(alloc, row, texts.as_slice())
 }
 
-/// The conditions of a row.
+/// Returns the conditions of a row.
 #[tactic(auto, unfolding(crate::specs::Reading::conditions_at))]
 fn conditions_at(
     alloc: Global,
@@ -82,7 +82,8 @@ fn conditions_at(
     names: &[NamedCounter],
     value: Option<&Value>,
 ) -> Result<Vec<Condition>, TableFault>
-    ensures { Gives (λ given. given.items) result (conditions_at names.now row (option_map (λ v. view v.now) value.entry)) }
+    ensures { Gives (λ given. given.items) result
+        (conditions_at names.now row (option_map (λ v. view v.now) value.entry)) }
 {
     let texts = phrases_at(alloc, in_row(row, RowFault::NotText), value)?;
     if MOST_PHRASES < texts.len() {
@@ -91,7 +92,7 @@ fn conditions_at(
     each_condition(alloc, row, names, texts.as_slice())
 }
 
-/// The marks of a row.
+/// Returns the marks of a row.
 #[tactic(auto, unfolding(crate::specs::Reading::effects_at))]
 fn effects_at(
     alloc: Global,
@@ -99,7 +100,8 @@ fn effects_at(
     names: &[NamedCounter],
     value: Option<&Value>,
 ) -> Result<Vec<Effect>, TableFault>
-    ensures { Gives (λ given. given.items) result (effects_at names.now row (option_map (λ v. view v.now) value.entry)) }
+    ensures { Gives (λ given. given.items) result
+        (effects_at names.now row (option_map (λ v. view v.now) value.entry)) }
 {
     let texts = phrases_at(alloc, in_row(row, RowFault::NotText), value)?;
     if MOST_PHRASES < texts.len() {
@@ -108,7 +110,7 @@ fn effects_at(
     each_effect(alloc, row, names, texts.as_slice())
 }
 
-/// Whether a value is a list of at most six members.
+/// Returns whether the value is a list of at most six members.
 fn is_short_list(value: &Value) -> bool
     ensures { result ≡ is_short_list (view value.now) }
 {
@@ -118,14 +120,14 @@ fn is_short_list(value: &Value) -> bool
     }
 }
 
-/// The state that a text names, or `same` where it is empty.
+/// Returns the name of the next state: the text, or `same` if it is empty.
 fn or_same(text: &str) -> &str
     ensures { result.now ≡ or_same text.now }
 {
     if text.is_empty() { "same" } else { text }
 }
 
-/// A row of a table.
+/// Returns the row that a value describes, with this number.
 #[tactic(auto, unfolding(crate::specs::Reading::row_at))]
 pub(crate) fn row_at(
     alloc: Global,
@@ -154,7 +156,7 @@ pub(crate) fn row_at(
     })
 }
 
-/// The rows of a list, the first of which has the number 1.
+/// Returns the rows that the values of a list describe, numbered from 1.
 pub(crate) fn each_row(
     alloc: Global,
     names: &[NamedCounter],

@@ -1,10 +1,10 @@
-//! The words that phrases begin with.
+//! The first words of phrases.
 ghost use Rattle.std.specs.Prelude.{◌≡◌};
 ghost use Rattle.wh_table_text.specs.Verbs.{job_verb, command_verb, source_of};
 
 use wh_rows::Source;
 
-/// What a phrase of a job begins with.
+/// The first word of a phrase for a job.
 #[derive(Clone, Copy)]
 pub(crate) enum JobVerb {
     Start,
@@ -20,7 +20,7 @@ pub(crate) enum JobVerb {
     Version,
 }
 
-/// What a phrase of a command begins with.
+/// The first word of a phrase for a command.
 #[derive(Clone, Copy)]
 pub(crate) enum CommandVerb {
     Activity,
@@ -38,7 +38,7 @@ pub(crate) enum CommandVerb {
     Again,
 }
 
-/// What the word of a job is.
+/// Returns what the first word of a job means.
 #[tactic(auto, unfolding(crate::specs::Verbs::job_verb))]
 pub(crate) fn job_verb(word: &str) -> Option<JobVerb>
     ensures { result ≡ job_verb word.now }
@@ -70,7 +70,7 @@ pub(crate) fn job_verb(word: &str) -> Option<JobVerb>
     }
 }
 
-/// What the word of a command is.
+/// Returns what the first word of a command means.
 #[tactic(auto, unfolding(crate::specs::Verbs::command_verb))]
 pub(crate) fn command_verb(word: &str) -> Option<CommandVerb>
     ensures { result ≡ command_verb word.now }
@@ -106,7 +106,7 @@ pub(crate) fn command_verb(word: &str) -> Option<CommandVerb>
     }
 }
 
-/// Where an input or a result comes from.
+/// Returns the source of an input or a result that a word names.
 pub(crate) fn source_of(word: &str) -> Option<Source>
     ensures { result ≡ source_of word.now }
 {

@@ -1,23 +1,23 @@
-//! Phrases, whose words stand between single spaces.
+//! Phrases, whose words are separated by single spaces.
 ghost use Rattle.std.specs.Prelude.{◌≡◌, option_map};
 ghost use Rattle.wh_table_text.specs.Words.{word, rest, is_none, phrase, phrase_seen, has_none, has_one, has_two, has_pair, has_kind, is_named, name_of};
 
-/// A phrase.
+/// A phrase, split into words.
 #[derive(Clone, Copy)]
 pub(crate) struct Phrase<'a> {
-    /// Its first word.
+    /// The first word.
     pub verb: &'a str,
-    /// What follows its first word.
+    /// All text after the first word.
     pub after: &'a str,
-    /// Its second word.
+    /// The second word.
     pub first: &'a str,
-    /// Its third word.
+    /// The third word.
     pub second: &'a str,
-    /// What follows its third word.
+    /// All text after the third word.
     pub third: &'a str,
 }
 
-/// The first word of a text: what stands before its first space.
+/// Returns the first word of a text: all before its first space.
 #[tactic(auto, unfolding(crate::specs::Words::word))]
 pub fn word(text: &str) -> &str
     ensures { result.now ≡ word text.now }
@@ -28,7 +28,7 @@ pub fn word(text: &str) -> &str
     }
 }
 
-/// What follows the first word of a text, behind its space; nothing where it has one word.
+/// Returns the text after the first word and its space; empty if there is only one word.
 #[tactic(auto, unfolding(crate::specs::Words::rest))]
 pub fn rest(text: &str) -> &str
     ensures { result.now ≡ rest text.now }
@@ -39,7 +39,7 @@ pub fn rest(text: &str) -> &str
     }
 }
 
-/// Whether a word is missing.
+/// Returns whether the word is missing.
 fn is_none(text: &str) -> bool
     ensures { result ≡ is_none text.now }
 {
@@ -47,7 +47,7 @@ fn is_none(text: &str) -> bool
 }
 
 impl<'a> Phrase<'a> {
-    /// The phrase that a text is.
+    /// Splits a text into the words of a phrase.
     pub(crate) fn of(text: &'a str) -> Self
         ensures { phrase_seen result ≡ phrase text.now }
     {
@@ -62,49 +62,49 @@ impl<'a> Phrase<'a> {
         }
     }
 
-    /// Whether nothing follows the first word.
+    /// Returns whether there is only the first word.
     pub(crate) fn has_none(&self) -> bool
         ensures { result ≡ has_none (phrase_seen self.now) }
     {
         is_none(self.after)
     }
 
-    /// Whether one word follows the first one.
+    /// Returns whether exactly one word follows the first one.
     pub(crate) fn has_one(&self) -> bool
         ensures { result ≡ has_one (phrase_seen self.now) }
     {
         !is_none(self.first) && is_none(self.second) && is_none(self.third)
     }
 
-    /// Whether the first word is there, and one word follows it.
+    /// Returns whether there are exactly two words, the first of them not empty.
     pub(crate) fn is_named(&self) -> bool
         ensures { result ≡ is_named (phrase_seen self.now) }
     {
         !is_none(self.verb) && self.has_one()
     }
 
-    /// Whether two words, and perhaps more, follow the first one.
+    /// Returns whether at least two words follow the first one.
     pub(crate) fn has_two(&self) -> bool
         ensures { result ≡ has_two (phrase_seen self.now) }
     {
         !is_none(self.first) && !is_none(self.second)
     }
 
-    /// Whether two words follow the first one.
+    /// Returns whether exactly two words follow the first one.
     pub(crate) fn has_pair(&self) -> bool
         ensures { result ≡ has_pair (phrase_seen self.now) }
     {
         self.has_two() && is_none(self.third)
     }
 
-    /// Whether a word follows the first one, and perhaps a second.
+    /// Returns whether one or two words follow the first one.
     pub(crate) fn has_kind(&self) -> bool
         ensures { result ≡ has_kind (phrase_seen self.now) }
     {
         !is_none(self.first) && is_none(self.third)
     }
 
-    /// The one word that follows the first one.
+    /// Returns the word after the first one, if it is the only other one.
     pub(crate) fn name(&self) -> Option<&'a str>
         ensures { option_map (λ name. name.now) result ≡ name_of (phrase_seen self.now) }
     {
