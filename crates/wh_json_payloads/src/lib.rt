@@ -1,5 +1,5 @@
-//! Inputs and results that are JSON (RFC 8259), each value a payload of the encoding `json/plain`, as
-//! Temporal's SDKs write them (Temporal documentation, "Default Data Converter").
+//! Inputs and results in JSON (RFC 8259): each value is a payload with the encoding `json/plain`,
+//! as Temporal's SDKs write them (Temporal documentation, "Default Data Converter").
 #![tactic(auto)]
 
 mod reading;

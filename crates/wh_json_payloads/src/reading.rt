@@ -1,4 +1,4 @@
-//! Reads values of payloads.
+//! Reads values from payloads.
 
 ghost use Rattle.std.specs.Prelude.{◌≡◌, IfOk, map, option_map};
 ghost use Rattle.serde_json.specs.View.{view};
@@ -10,7 +10,7 @@ use std::alloc::Global;
 use wh_events::{OutOfMemory, Payload, Text};
 use wh_payloads::text_in as utf8_text;
 
-/// The value that the bytes are the JSON text of.
+/// Returns the value of a JSON text, or `None` if the bytes are not one.
 #[tactic(auto, unfolding(crate::specs::Values::document))]
 fn document(alloc: Global, bytes: &[u8]) -> Result<Option<Value>, OutOfMemory>
     ensures { IfOk result (λ value. option_map view value ≡ document bytes.now) }
@@ -27,7 +27,7 @@ fn document(alloc: Global, bytes: &[u8]) -> Result<Option<Value>, OutOfMemory>
     }
 }
 
-/// A copy of the text that the value is.
+/// Returns a copy of the value's text, if it is a string.
 fn text_in(alloc: Global, value: Option<&Value>) -> Result<Option<Text>, OutOfMemory>
     ensures { IfOk result (λ text. text ≡ text_in (option_map (λ v. view v.now) value.entry)) }
 {
@@ -37,21 +37,21 @@ fn text_in(alloc: Global, value: Option<&Value>) -> Result<Option<Text>, OutOfMe
     }
 }
 
-/// The whole number that the value is.
+/// Returns the value's number, if it is a whole number of 64 bits.
 fn number_in(value: Option<&Value>) -> Option<i64>
     ensures { result ≡ number_in (option_map (λ v. view v.now) value.entry) }
 {
     value?.as_i64()
 }
 
-/// Whether the value is true or false.
+/// Returns the value, if it is true or false.
 fn flag_in(value: Option<&Value>) -> Option<bool>
     ensures { result ≡ flag_in (option_map (λ v. view v.now) value.entry) }
 {
     value?.as_bool()
 }
 
-/// The member of that name.
+/// Returns the member of this name, if the value is an object that has it.
 fn member<'v>(value: Option<&'v Value>, name: &str) -> Option<&'v Value>
     ensures { option_map (λ v. view v.now) result
         ≡ member name.now (option_map (λ v. view v.now) value.entry) }
@@ -59,9 +59,9 @@ fn member<'v>(value: Option<&'v Value>, name: &str) -> Option<&'v Value>
     value?.get(name)
 }
 
-/// The JSON value of the payload of this number, counted from 0. `None` where there are no more than so
-/// many payloads, or its content is no JSON in UTF-8, or nests deeper than 127. Its encoding is not
-/// looked at. `OutOfMemory` where there was no memory for the value.
+/// Returns the JSON value of the payload of this number, counted from 0. `None` if there is no such
+/// payload, or its content is not JSON in UTF-8 or nests deeper than 127. Its encoding is not
+/// checked. `OutOfMemory` if there is no memory for the value.
 pub fn json_value(
     alloc: Global,
     input: &[Payload],
@@ -75,8 +75,9 @@ pub fn json_value(
     }
 }
 
-/// The text that the JSON value of the payload of this number is, its escapes resolved. `None` where
-/// there is no such value (`json_value`), or it is no text. `OutOfMemory` where there was no memory.
+/// Returns the string that is the JSON value of the payload of this number, with its escapes
+/// resolved. `None` if there is no such value (`json_value`), or it is not a string. `OutOfMemory`
+/// if there is no memory.
 pub fn json_text(
     alloc: Global,
     input: &[Payload],
@@ -88,9 +89,9 @@ pub fn json_text(
     text_in(alloc, value.as_ref())
 }
 
-/// The number that the JSON value of the payload of this number is. `None` where there is no such value
-/// (`json_value`), or it is no whole number from -2^63 to 2^63 - 1 without point and exponent.
-/// `OutOfMemory` where there was no memory to read it.
+/// Returns the number that is the JSON value of the payload of this number. `None` if there is no
+/// such value (`json_value`), or it is not a whole number from -2^63 to 2^63 - 1 without point and
+/// exponent. `OutOfMemory` if there is no memory to read it.
 pub fn json_number(
     alloc: Global,
     input: &[Payload],
@@ -102,8 +103,9 @@ pub fn json_number(
     Ok(number_in(value.as_ref()))
 }
 
-/// Whether the JSON value of the payload of this number is true or false. `None` where there is no such
-/// value (`json_value`), or it is neither. `OutOfMemory` where there was no memory to read it.
+/// Returns the true or false that is the JSON value of the payload of this number. `None` if there
+/// is no such value (`json_value`), or it is neither. `OutOfMemory` if there is no memory to read
+/// it.
 pub fn json_flag(
     alloc: Global,
     input: &[Payload],
@@ -115,9 +117,9 @@ pub fn json_flag(
     Ok(flag_in(value.as_ref()))
 }
 
-/// The text that a member is of the object of the payload of this number. `None` where there is no such
-/// object or member, or it is no text; of several members of that name the last counts. `OutOfMemory`
-/// where there was no memory.
+/// Returns the string that a member has in the object of the payload of this number. `None` if
+/// there is no such object or member, or it is not a string; of several members of that name the
+/// last one applies. `OutOfMemory` if there is no memory.
 pub fn member_text(
     alloc: Global,
     input: &[Payload],
@@ -130,9 +132,9 @@ pub fn member_text(
     text_in(alloc, member(value.as_ref(), name))
 }
 
-/// The number that a member is of the object of the payload of this number. `None` where there is no such
-/// object or member, or it is no number as `json_number` reads; of several members of that name the
-/// last counts. `OutOfMemory` where there was no memory to read it.
+/// Returns the number that a member has in the object of the payload of this number. `None` if
+/// there is no such object or member, or it is not a number as `json_number` reads it; of several
+/// members of that name the last one applies. `OutOfMemory` if there is no memory to read it.
 pub fn member_number(
     alloc: Global,
     input: &[Payload],
@@ -145,9 +147,9 @@ pub fn member_number(
     Ok(number_in(member(value.as_ref(), name)))
 }
 
-/// Whether a member of the object of the payload of this number is true or false. `None` where there is
-/// no such object or member, or it is neither; of several members of that name the last counts.
-/// `OutOfMemory` where there was no memory to read it.
+/// Returns the true or false that a member has in the object of the payload of this number. `None`
+/// if there is no such object or member, or it is neither; of several members of that name the last
+/// one applies. `OutOfMemory` if there is no memory to read it.
 pub fn member_flag(
     alloc: Global,
     input: &[Payload],

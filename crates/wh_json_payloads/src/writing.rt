@@ -12,8 +12,9 @@ use serde_json::Value;
 use std::alloc::Global;
 use wh_events::{Items, OutOfMemory, Payload};
 
-/// The payload of a JSON value without a number that has a point or an exponent: its text without
-/// spaces, under the encoding `json/plain`. `OutOfMemory` where there was no memory for it.
+/// Returns the payload of a JSON value: its text without whitespace, with the encoding
+/// `json/plain`. No number in the value may have a point or an exponent. `OutOfMemory` if there is
+/// no memory for it.
 pub fn value_payload(alloc: Global, value: &Value) -> Result<Payload, OutOfMemory>
     requires { has_float (view value.now) ≡ false }
     ensures written { IfOk result (λ payload. payload ≡ payload_written (view value.now)) }
@@ -28,7 +29,7 @@ pub fn value_payload(alloc: Global, value: &Value) -> Result<Payload, OutOfMemor
     })
 }
 
-/// A payload as the only one of an input or a result. `OutOfMemory` where there was no memory for the
+/// Returns an input or a result of this one payload. `OutOfMemory` if there is no memory for the
 /// list.
 pub fn one_payload(alloc: Global, payload: Payload) -> Result<Items<Payload>, OutOfMemory>
     ensures { IfOk result (λ payloads. payloads ≡ payload ∷ []) }
@@ -36,8 +37,8 @@ pub fn one_payload(alloc: Global, payload: Payload) -> Result<Items<Payload>, Ou
     Ok(Items::new(vec![in alloc; payload]?))
 }
 
-/// The payload of a text in JSON, which `json_text` reads as that text. `OutOfMemory` where there was no
-/// memory for it.
+/// Returns the payload of a string. `json_text` reads it as that string. `OutOfMemory` if there is
+/// no memory for it.
 pub fn text_payload(alloc: Global, text: &str) -> Result<Payload, OutOfMemory>
     ensures written { IfOk result (λ payload. payload ≡ payload_written (string text.now)) }
     ensures read { IfOk result (λ payload. text_in (json_value (payload ∷ []) 0) ≡ Some text.now) }
@@ -46,8 +47,8 @@ pub fn text_payload(alloc: Global, text: &str) -> Result<Payload, OutOfMemory>
     value_payload(alloc, &value)
 }
 
-/// The payload of a whole number in JSON, which `json_number` reads as that number. `OutOfMemory` where
-/// there was no memory for it.
+/// Returns the payload of a whole number. `json_number` reads it as that number. `OutOfMemory` if
+/// there is no memory for it.
 pub fn number_payload(alloc: Global, whole: i64) -> Result<Payload, OutOfMemory>
     ensures written { IfOk result (λ payload. payload ≡ payload_written (number (of_integer whole))) }
     ensures read { IfOk result (λ payload. number_in (json_value (payload ∷ []) 0) ≡ Some whole) }
@@ -56,8 +57,8 @@ pub fn number_payload(alloc: Global, whole: i64) -> Result<Payload, OutOfMemory>
     value_payload(alloc, &value)
 }
 
-/// The payload of true or false in JSON, which `json_flag` reads as that. `OutOfMemory` where there was
-/// no memory for it.
+/// Returns the payload of true or false. `json_flag` reads it as that. `OutOfMemory` if there is no
+/// memory for it.
 pub fn flag_payload(alloc: Global, flag: bool) -> Result<Payload, OutOfMemory>
     ensures written { IfOk result (λ payload. payload ≡ payload_written (boolean flag)) }
     ensures read { IfOk result (λ payload. flag_in (json_value (payload ∷ []) 0) ≡ Some flag) }

@@ -1,4 +1,4 @@
--- Where replay accepts a history, its activations issue the commands of a run that begins with one start.
+-- If replay accepts a history, its activations issue the commands of a run that begins with the only start.
 use Rattle.std.proofs.Common.{◌≡◌, ℕ, Bool, true, false, not, List, [], ◌∷◌, ◌++◌, Option, Some, None, Result, Ok, Err, refl, ap, sym, subst, ◌∙◌}
 use Rattle.std.specs.Prelude.{if◌then◌else◌}
 use Rattle.std.proofs.lemmas.Bool.{and_parts}
@@ -40,7 +40,7 @@ no_starts_one between event rest first second =
     let parts : (not (is_start event) ≡ true) × (no_starts rest ≡ true) = and_parts (not (is_start event)) (no_starts rest) second in
     (no_starts_append between (event ∷ []) first (rw parts.0 refl), parts.1)
 
--- where no event begins a run, no job starts it
+-- if no event begins a run, no job starts it
 told_goes : (before between rest : List Event) (list : List Job) → Told before between rest list
     → no_starts between ≡ true → no_starts rest ≡ true → goes_on list ≡ true
 told_goes before between rest list (told_end b t) first second = refl
@@ -53,7 +53,7 @@ told_goes before between rest list (told_cut b t event later here l cut told nex
     (interleaved_goes (jobs_of (before ++ event ∷ []) between event) here told (cut_goes (before ++ event ∷ []) between event first))
     (told_goes (before ++ event ∷ []) [] later l next refl parts.1)
 
--- where the first event that no task has seen begins the run, the jobs begin with its start
+-- if the first event that no task has seen begins the run, the jobs begin with its start
 told_begins : (before : List Event) (first : Event) (between rest : List Event) (list : List Job) → Told before (first ∷ between) rest list
     → is_start first ≡ true → no_starts between ≡ true → no_starts rest ≡ true
     → BeginsWith (workflow_kind first.body) (input_in first.body) list
@@ -78,7 +78,7 @@ begun_once events once list told =
     subst (λ events. BeginsWith (workflow_of events) (input_of events) list) (sym once.are)
     (told_first once.first once.rest list (subst (λ events. Told [] [] events list) once.are told) once.starts once.later)
 
--- what a table promises holds of jobs that begin with one start
+-- a table keeps its promises at jobs that begin with the only start
 pub all_kept : (table : Definition) (promises : List Promise) → PromisesAll table promises → (list : List Job) → begins list ≡ true
     → KeptAllIn promises (course table (initial table) list)
 all_kept table [] kept list begun = tt
@@ -94,7 +94,7 @@ module _ {S : Type 0} (program : Program S) (lawful : IsLawful program) (still :
     plain : without_markers issued ≡ given_by program current.state list
     state : left.state ≡ left_by program current.state list
 
-  -- a task that comes to an end leaves the state of its activation
+  -- a completed task leaves the state of its activation
   closed_state : (history : List Event) (context : ActivationContext) (at : ℕ) (recorded : Option (List Event))
       (progress : Progress S) (left : ReplayResult S)
       → close_task history context at recorded progress ≡ Ok left → left.state ≡ progress.state
@@ -181,7 +181,7 @@ module _ {S : Type 0} (program : Program S) (lawful : IsLawful program) (still :
             state = behind.state;
           }
 
-  -- what replay does to a history that it accepts, from the first event on
+  -- what replay of a history that it accepts does, from the first event on
   pub record Whole (events : List Event) (left : Replayed S) : Type 0 where
     pub issued : List Command
     pub has : HasIssued program [] [] events (start program (workflow_of events) 0) issued
@@ -217,7 +217,7 @@ module _ {S : Type 0} (program : Program S) (lawful : IsLawful program) (still :
       by None placed false result is ok = cc
       by (Some fault) placed known result is ok = cc
 
-  -- where replay accepts a history, its events are in place
+  -- if replay accepts a history, its events are in place
   in_place : (events : List Event) (left : Replayed S) → replay program events 0 ≡ Ok left → history_fault events ≡ None
   unfolding replay_tasks
   in_place events left ok =
@@ -236,7 +236,7 @@ module _ {S : Type 0} (program : Program S) (lawful : IsLawful program) (still :
   told_starts events left ok list told = begun_once events (starts_once events (in_place events left ok)) list told
 
 module _ (table : Definition) (lawful : IsLawful (program table)) where
-  -- the time is given nothing
+  -- the job that gives the time gets no commands
   time_gives : TimeGivesNothing (program table)
   time_gives state (jobs.Time time) is = ap (λ row. row_gives row state (jobs.Time time)) (no_row_at table.rows state time)
   time_gives state _ is = cc
@@ -245,7 +245,7 @@ module _ (table : Definition) (lawful : IsLawful (program table)) where
   left_same state [] = refl
   left_same state (job ∷ later) = left_same (after table state job) later
 
-  -- the commands of a course are those that the jobs are given
+  -- the commands among the entries of a run are those that it gives to the jobs
   pub course_commands : (state : RowsState) (list : List Job)
       → commands_in (course table state list) ≡ given_by (program table) state list
   course_commands state [] = refl
@@ -265,7 +265,7 @@ module _ (table : Definition) (lawful : IsLawful (program table)) where
         all.state ∙ left_same (initial table) all.list,
       )
 
-  -- what a table promises holds of the jobs of a history
+  -- a table keeps its promises at the jobs of a history
   pub histories_keep : (promises : List Promise) → PromisesAll table promises → HistoriesKeep table promises
   histories_keep promises kept events left ok list told =
       all_kept table promises kept list

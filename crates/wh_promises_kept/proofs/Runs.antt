@@ -1,4 +1,4 @@
--- The run that a host holds keeps what its table promises.
+-- A run that a host holds keeps the promises of its table.
 use Rattle.std.proofs.Common.{◌≡◌, Bool, true, false, List, [], refl, Result, Ok, Err}
 use Rattle.std.specs.Prelude.{IsOkAnd, if◌then◌else◌}
 use Rattle.wh_workflow.specs.declared.job.Job.{Job}

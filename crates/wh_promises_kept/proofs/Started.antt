@@ -45,7 +45,7 @@ same_from true false is = cc
 same_from false true is = cc
 same_from false false is = refl
 
--- an event in place begins a run where it is the first one
+-- an event in place begins a run exactly if it is the first one
 begins_first : (before : List Event) (event : Event) → place_fault before event ≡ None → is_start event ≡ is_first before
 unfolding place_fault
 begins_first before event none =
@@ -140,7 +140,7 @@ no_start_jobs (event ∷ rest) none =
     let parts : (not (is_start event) ≡ true) × (no_starts rest ≡ true) = and_parts (not (is_start event)) (no_starts rest) none in
     rw (no_start_job event.body (not-true (is_start event) parts.0), no_start_jobs rest parts.1) refl
 
--- the jobs of a cut but for its time and the start
+-- the jobs of a cut except its time and the start
 abbrev others : List Event → List Event → List Job
 others seen between = jobs_by signal_job between ++ jobs_by (outside_job seen) between
 
@@ -149,7 +149,7 @@ others_go seen between =
     goes_append (jobs_by signal_job between) (jobs_by (outside_job seen) between) (goes_by signal_job signal_goes between)
     (goes_by (outside_job seen) (outside_goes seen) between)
 
--- where no event between the cuts begins the run, no job starts it
+-- if no event between the cuts begins the run, no job starts it
 pub cut_goes : (seen between : List Event) (cut : Event) → no_starts between ≡ true → goes_on (jobs_of seen between cut) ≡ true
 cut_goes seen between cut none = rw (no_start_jobs between none) (others_go seen between)
 
@@ -158,7 +158,7 @@ versions_go [] are = refl
 versions_go (jobs.Version change version ∷ rest) are = versions_go rest are
 versions_go (_ ∷ rest) are = cc
 
--- versions behind jobs start nothing
+-- versions after jobs start nothing
 pub interleaved_goes : (given list : List Job) → Interleaved given list → goes_on given ≡ true → goes_on list ≡ true
 interleaved_goes given list no_jobs go = refl
 interleaved_goes given list (next_job job versions rest behind are quiet later) go =
@@ -166,7 +166,7 @@ interleaved_goes given list (next_job job versions rest behind are quiet later) 
     and_from (not (starts_run job)) (goes_on (versions ++ behind)) parts.0
     (goes_append versions behind (versions_go versions are) (interleaved_goes rest behind later parts.1))
 
--- jobs begin with this start, with nothing but the time before it, and then none starts a run
+-- the jobs begin with this start, with nothing but the time before it, and none after it starts a run
 pub data BeginsWith (workflow : List ℕ) (input : List Payload) : List Job → Type 0 where
   not_begun : BeginsWith workflow input []
   with_start : (later : List Job) → goes_on later ≡ true → BeginsWith workflow input (jobs.Start workflow input ∷ later)
@@ -177,7 +177,7 @@ begins_by workflow input list not_begun = refl
 begins_by workflow input list (with_start later on) = on
 begins_by workflow input list (with_time time later next) = begins_by workflow input later next
 
--- behind a start, with nothing but the time before it
+-- jobs after a start, with nothing but the time before it
 starts_then : (workflow : List ℕ) (input : List Payload) (rest list later : List Job)
     → Interleaved (jobs.Start workflow input ∷ rest) list → goes_on rest ≡ true → goes_on later ≡ true
     → BeginsWith workflow input (list ++ later)
@@ -193,7 +193,7 @@ begins_then time workflow input rest list later (next_job job versions left behi
     subst (λ versions. BeginsWith workflow input ((jobs.Time time ∷ (versions ++ behind)) ++ later)) (sym (quiet refl))
     (with_time time (behind ++ later) (starts_then workflow input rest behind later next go on))
 
--- where the first event between the cuts begins the run, and no other does, the jobs of the cut begin with its start
+-- if the first event between the cuts begins the run, and no other does, the jobs of the cut begin with its start
 pub cut_begins : (seen : List Event) (first : Event) (between : List Event) (cut : Event) (list later : List Job)
     → is_start first ≡ true → no_starts between ≡ true → Interleaved (jobs_of seen (first ∷ between) cut) list
     → goes_on later ≡ true → BeginsWith (workflow_kind first.body) (input_in first.body) (list ++ later)

@@ -1,4 +1,4 @@
--- An activation steps a program by its jobs, with versions behind some, and issues what these are given.
+-- An activation steps a program by its jobs, some followed by versions, and issues the commands that they get.
 use Rattle.std.proofs.Common.{◌≡◌, ℕ, zero, suc, Bool, true, false, not, cond, ◌&&◌, List, [], ◌∷◌, ◌++◌, Option, Some, None, Result, Ok, Err, ℤ, refl, ap, sym, subst, ◌∙◌, append_assoc}
 use Rattle.std.proofs.lemmas.List.{append-nil}
 use Rattle.std.proofs.lemmas.Bool.{and_parts, and_from, not-true}
@@ -55,12 +55,12 @@ abbrev IsVersion : Option Job → Type 0
 IsVersion None = Unit {0}
 IsVersion (Some job) = is_version job ≡ true
 
--- what jobs leave, one after another
+-- the state after these jobs
 abbrev pub left_by : {S : Type 0} → Program S → S → List Job → S
 left_by program state [] = state
 left_by program state (job ∷ later) = left_by program (program.after state job) later
 
--- all commands that they are given
+-- all commands that the program gives to these jobs
 abbrev pub given_by : {S : Type 0} → Program S → S → List Job → List Command
 given_by program state [] = []
 given_by program state (job ∷ later) = program.gives state job ++ given_by program (program.after state job) later
@@ -78,12 +78,12 @@ given_append program state (job ∷ rest) second =
     ∙ sym (append_assoc (program.gives state job) (given_by program (program.after state job) rest)
     (given_by program (left_by program (program.after state job) rest) second))
 
--- the time is given nothing
+-- the job that gives the time gets no commands
 abbrev pub TimeGivesNothing : {S : Type 0} → Program S → Type 0
 TimeGivesNothing {S} program = (state : S) (job : Job) → is_time job ≡ true → program.gives state job ≡ []
 
 module _ {S : Type 0} (program : Program S) (lawful : IsLawful program) (still : TimeGivesNothing program) (context : ActivationContext) where
-  -- from one progress to another a program is stepped by these jobs
+  -- these jobs step a program from the first progress to the last
   pub record Steps (first last : Progress S) (list : List Job) : Type 0 where
     pub state : last.state ≡ left_by program first.state list
     pub issued : without_markers last.script.issued ≡ without_markers first.script.issued ++ given_by program first.state list

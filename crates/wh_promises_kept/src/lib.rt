@@ -1,4 +1,4 @@
-//! What tables promise holds of histories.
+//! The promises of tables hold for histories.
 #![tactic(auto)]
 
 pub mod laws;

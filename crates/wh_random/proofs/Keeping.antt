@@ -1,4 +1,4 @@
--- Later jobs change no source that is made.
+-- Later jobs do not change a source that is made.
 use Rattle.std.proofs.Common.{◌≡◌, ℕ, ℤ, List, [], ◌∷◌, ◌++◌, Some}
 use Rattle.wh_workflow.specs.declared.job.Job.{Job}
 use Rattle.wh_workflow.specs.declared.job.Job.TheVariants.{Time, Start}

@@ -1,4 +1,4 @@
--- Random numbers and ids that replay alike.
+-- Random numbers and ids, the same in each replay.
 use Rattle.std.specs.Prelude.{◌≡◌, ℕ, ◌+◌, ◌*◌, ◌%◌, ◌^◌, ℤ, List, [], ◌∷◌, ◌++◌, Option, Some, None, bit_xor}
 use Rattle.std.specs.Int.{w128, cast_unsigned, to_le_bytes, to_be_bytes}
 use Rattle.std.specs.List.{fold}
@@ -13,33 +13,33 @@ use Rattle.wh_workflow.specs.declared.job.Job.TheVariants.{Time, Start}
 
 -- ---- The seed
 
--- a byte more, by FNV-1a in 64 bits
+-- the hash extended by a byte, by FNV-1a in 64 bits
 abbrev pub mix_byte : ℕ → ℕ → ℕ
 mix_byte hash byte = bit_xor hash byte * 0x100000001b3 % 2 ^ 64
 
 abbrev pub mixed : ℕ → List ℕ → ℕ
 mixed hash bytes = fold mix_byte hash bytes
 
--- the contents of payloads more, one after another
+-- the hash extended by the contents of payloads, one after another
 abbrev pub contents_mixed : ℕ → List Payload → ℕ
 contents_mixed hash input = fold (λ hash payload. mixed hash payload.content) hash input
 
--- the seed of a run that was given this time first, and was started so
+-- the seed of a run with this first time, workflow type and input
 abbrev pub seed : ℤ → List ℕ → List Payload → ℕ
 seed time workflow input =
     contents_mixed (mixed (mixed 0xcbf29ce484222325 (to_le_bytes w128 (cast_unsigned w128 time))) workflow) input
 
--- ---- What is drawn
+-- ---- Numbers and ids
 
--- a number below a bound
+-- the next number below a bound
 abbrev pub below : ℕ → ℕ → ℕ
 below bound state = (mix_u64 state).0 % bound
 
--- after the two numbers of an id
+-- the state after the two numbers of an id
 abbrev pub after_id : ℕ → ℕ
 after_id state = (mix_u64 (mix_u64 state).1).1
 
--- the bytes of the two numbers, from the highest on
+-- the bytes of the next two numbers, from the highest on
 abbrev pub two_words : ℕ → List ℕ
 two_words state = to_be_bytes w128 ((mix_u64 state).0 * 2 ^ 64 + (mix_u64 (mix_u64 state).1).0)
 
@@ -49,14 +49,14 @@ id_text state = hyphenated_text lower (with_version (with_variant (two_words sta
 
 -- ---- Replay
 
--- the source that jobs make: that of the first start, and of the time before it
+-- the source of a run after these jobs: that of the first start, and of the time before it
 abbrev pub source_after : ℤ → List Job → Option ℕ
 source_after time [] = None
 source_after time (Time now ∷ jobs) = source_after now jobs
 source_after time (Start workflow input ∷ jobs) = Some (seed time workflow input)
 source_after time (_ ∷ jobs) = source_after time jobs
 
--- later jobs change no source that is made
+-- later jobs do not change a source that is made
 abbrev pub JobsKeepTheSource : Type 0
 JobsKeepTheSource = (time : ℤ) (jobs later : List Job) (state : ℕ) → source_after time jobs ≡ Some state
     → source_after time (jobs ++ later) ≡ Some state

@@ -1,5 +1,5 @@
-//! Random numbers and ids for workflows. Replay gives the same ones, since they come from what the
-//! first jobs of a run tell: its time and its start.
+//! Random numbers and ids for workflows. Replay gives the same ones, since they depend only on the
+//! first jobs of a run: its time and its start.
 #![tactic(auto)]
 
 ghost use Rattle.std.specs.Prelude.{◌≡◌, ◌≤◌, ◌<◌, IfOk};
@@ -18,11 +18,11 @@ use wh_events::{OutOfMemory, Payload, Text};
 
 /// A source of random numbers and ids, by SplitMix64 (G. L. Steele, D. Lea and C. H. Flood, "Fast
 /// splittable pseudorandom number generators", 2014). Contracts see it as its state, a number of 64
-/// bits: two sources of one state give the same from then on.
+/// bits: two sources with the same state return the same numbers and ids from then on.
 ///
-/// It is made of the time and the start that a run is given first, so each replay makes the same one.
-/// Runs that are started within one nanosecond with the same type and input share their numbers and
-/// ids. It is of no use where numbers are to be secret.
+/// It is made from the first time and the start of a run, so each replay makes the same one. Runs
+/// that start in the same nanosecond with the same type and input have the same numbers and ids. It
+/// must not be used for secrets.
 #[derive(Debug, Drop)]
 pub struct RandomSource {
     generator: SplitMix64,
@@ -42,7 +42,7 @@ const BASIS: u64 = 0xcbf2_9ce4_8422_2325;
 /// The prime of FNV-1a in 64 bits.
 const PRIME: u64 = 0x100_0000_01b3;
 
-/// The hash of these bytes after those of a hash.
+/// Returns the hash extended by these bytes.
 fn mixed(before: u64, bytes: &[u8]) -> u64
     ensures { result ≡ mixed before bytes.now }
 {
@@ -53,7 +53,7 @@ fn mixed(before: u64, bytes: &[u8]) -> u64
     hash
 }
 
-/// The hash of the contents of payloads after what a hash is of.
+/// Returns the hash extended by the contents of these payloads.
 fn contents_mixed(before: u64, input: &[Payload]) -> u64
     ensures { result ≡ contents_mixed before input.now }
 {
@@ -65,9 +65,10 @@ fn contents_mixed(before: u64, input: &[Payload]) -> u64
 }
 
 impl RandomSource {
-    /// The source of a run that was given this time first, in nanoseconds from 1970-01-01T00:00:00Z, and
-    /// was started as this workflow type with this input: its seed is their FNV-1a hash of 64 bits (G.
-    /// Fowler, L. C. Noll and K.-P. Vo), the time as 16 bytes from the lowest on.
+    /// Returns the source of a run whose first time is this one, in nanoseconds since
+    /// 1970-01-01T00:00:00Z, and which was started as this workflow type with this input. Its seed
+    /// is their FNV-1a hash of 64 bits (G. Fowler, L. C. Noll and K.-P. Vo), with the time as 16
+    /// bytes from the lowest on.
     pub fn new(time: i128, workflow: &str, input: &[Payload]) -> RandomSource
         ensures { result ≡ seed time workflow.now input.now }
     {
@@ -79,7 +80,7 @@ impl RandomSource {
         }
     }
 
-    /// The next number, each of 64 bits as likely as another.
+    /// Returns the next number of 64 bits; all are equally likely.
     pub fn next_number(&mut self) -> u64
         ensures number { result ≡ (mix_u64 self.old).0 }
         ensures left { self.new ≡ (mix_u64 self.old).1 }
@@ -87,8 +88,8 @@ impl RandomSource {
         self.generator.next_word()
     }
 
-    /// The next number below a bound: the remainder of the next number of 64 bits. Some numbers are more
-    /// likely than others, by less than one part in 2^64 / `bound`.
+    /// Returns the next number below the bound: the remainder of the next number of 64 bits. Some
+    /// numbers are more likely than others, by less than one part in 2^64 / `bound`.
     pub fn next_below(&mut self, bound: u64) -> u64
         requires { 1 ≤ bound }
         ensures within { result < bound }
@@ -98,9 +99,10 @@ impl RandomSource {
         self.next_number() % bound
     }
 
-    /// The next id, a UUID of version 4 in lower case, as `67e55044-10b1-426f-9247-bb680e5fe0c8` (RFC 9562,
-    /// sections 4 and 5.4), made of the next two numbers. `OutOfMemory` where there was no memory for its
-    /// text; the two numbers are spent then too.
+    /// Returns the next id, a UUID of version 4 in lower case, such as
+    /// `67e55044-10b1-426f-9247-bb680e5fe0c8` (RFC 9562, sections 4 and 5.4), made from the next
+    /// two numbers. `OutOfMemory` if there is no memory for its text; the two numbers are used up
+    /// then too.
     pub fn next_id(&mut self, alloc: Global) -> Result<Text, OutOfMemory>
         ensures id { IfOk result (λ id. id ≡ id_text self.old) }
         ensures left { self.new ≡ after_id self.old }

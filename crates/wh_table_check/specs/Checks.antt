@@ -1,4 +1,4 @@
--- What is found of a table in a file.
+-- The result of checking the table in a file.
 use Rattle.std.specs.Prelude.{◌≡◌, ⊤, ℕ, List, [], ◌∷◌, length, map, nat_eq, Bool, true, ◌&&◌, Result, Ok, Err, if◌then◌else◌}
 use Rattle.std.specs.List.{list_all}
 use Rattle.wh_row_rules.specs.declared.owned.OwnedTable.{OwnedTable}
@@ -12,7 +12,7 @@ use Rattle.wh_table_check.specs.declared.finding.Finding.{Finding}
 use Rattle.wh_table_check.specs.Findings.{fault_finding}
 use Rattle.wh_table_check.specs.Warnings.{warnings}
 
--- nothing more is found
+-- no further findings
 abbrev pub nothing : More
 nothing = record { good = true; text = []; members = []; paths = [] }
 
@@ -30,12 +30,12 @@ abbrev pub warnings_of : Result OwnedTable TableFault → List Finding
 warnings_of (Ok table) = warnings table.rows
 warnings_of (Err fault) = []
 
--- what else is found of it, by what may be found
+-- the further findings are possible for the table; a text that is no table has none
 abbrev pub IsMoreOf : (List ℕ → More → Type 0) → Result OwnedTable TableFault → List ℕ → More → Type 0
 IsMoreOf finds (Ok table) bytes more = finds bytes more
 IsMoreOf finds (Err fault) bytes more = more ≡ nothing
 
--- what is found of a text as a table, in a file of that name, beside what else is found
+-- the result for a text as a table, in a file of this name, with these further findings
 abbrev pub checked : List ℕ → List ℕ → More → Checked
 checked name bytes more = record {
   name = name;
@@ -45,21 +45,21 @@ checked name bytes more = record {
   more = more;
 }
 
--- what is found of a file
+-- the result for a file
 abbrev pub IsChecked : (List ℕ → More → Type 0) → TableFile → Checked → Type 0
 IsChecked finds file own =
     (own ≡ checked file.name file.bytes own.more) × IsMoreOf finds (table_of file.bytes) file.bytes own.more
 
--- what is found of files, one after another
+-- the results for files, one after another
 abbrev pub AreChecked : (List ℕ → More → Type 0) → List TableFile → List Checked → Type 0
 AreChecked finds [] [] = ⊤
 AreChecked finds (file ∷ files) (own ∷ others) = IsChecked finds file own × AreChecked finds files others
 AreChecked finds _ _ = ⊥
 
--- a table has no fault, and is good by what else is found of it
+-- a table has no fault, and its further findings leave it good
 abbrev pub is_good : Checked → Bool
 is_good own = nat_eq (length own.faults) 0 && own.more.good
 
--- 0 where each file is good, and else 1
+-- 0 if each file is good, and else 1
 abbrev pub status_of : List Checked → ℕ
 status_of files = if list_all is_good files then 0 else 1

@@ -1,4 +1,4 @@
--- What is found of a table.
+-- Faults and warnings of a table.
 use Rattle.std.specs.Prelude.{ℕ, List, ◌++◌, codes, decimal, Option, Some, None}
 use Rattle.wh_table_text.specs.declared.fault.TableFault.{TableFault}
 use Rattle.wh_table_text.specs.declared.fault.TableFault.TheVariants as faults
@@ -10,11 +10,11 @@ abbrev pub row_of : TableFault → Option ℕ
 row_of (faults.InRow row fault) = Some row
 row_of _ = None
 
--- a fault of a table
+-- a fault of a table, as a finding
 abbrev pub fault_finding : TableFault → Finding
 fault_finding fault = record { row = row_of fault; text = fault_text fault }
 
--- what is said of the row of that number, and of a name in it
+-- the finding about the row of this number: these words, and a name in that row
 abbrev pub finding_at : ℕ → List ℕ → List ℕ → Finding
 finding_at row words name = record {
   row = Some row;

@@ -1,4 +1,4 @@
--- What is written of tables in files.
+-- The report of tables in files.
 use Rattle.std.specs.Prelude.{ℕ, List, [], ◌∷◌, ◌++◌, length, nat_eq, count_by, codes, decimal, Bool, Option, Some, None, if◌then◌else◌}
 use Rattle.std.specs.List.{flat_map}
 use Rattle.wh_console.specs.declared.format.Format.{Format}
@@ -11,23 +11,24 @@ use Rattle.wh_table_check.specs.Checks.{is_good}
 
 -- ---- As text
 
--- the line of a finding, after some words
+-- the line of a finding, with these words before it
 abbrev pub finding_line : List ℕ → List ℕ → Finding → List ℕ
 finding_line name words found = shown name ++ (codes ": " ++ (words ++ (shown found.text ++ codes "\n")))
 
--- the lines of findings
+-- the lines of findings, with these words before each
 abbrev pub finding_lines : List ℕ → List ℕ → List Finding → List ℕ
 finding_lines name words list = flat_map (finding_line name words) list
 
--- the word for a good table, and for another one
+-- the word for a table: `ok` if it is good, and else `fault`
 abbrev pub verdict_word : Checked → List ℕ
 verdict_word own = if is_good own then codes "ok" else codes "fault"
 
 -- the line of a table that breaks no rule
 abbrev pub rows_line : Checked → List ℕ
-rows_line own = shown own.name ++ (codes ": " ++ (verdict_word own ++ (codes ", " ++ (decimal own.rows ++ codes " rows\n"))))
+rows_line own = shown own.name ++ (codes ": " ++ (verdict_word own ++ (codes ", " ++
+    (decimal own.rows ++ codes " rows\n"))))
 
--- that line, or those of the faults
+-- the line of a table that breaks no rule, or the lines of the faults
 abbrev pub verdict_lines : Checked → List ℕ
 verdict_lines own = if nat_eq (length own.faults) 0 then rows_line own else finding_lines own.name [] own.faults
 
@@ -38,7 +39,7 @@ checked_text own =
 
 -- ---- As JSON
 
--- the row of a finding, as a member before others
+-- the row of a finding, as the first member of an object
 abbrev pub row_member : Option ℕ → List ℕ
 row_member None = []
 row_member (Some row) = codes "\"row\":" ++ (decimal row ++ codes ",")
@@ -48,11 +49,11 @@ abbrev pub finding_object : Finding → List ℕ
 finding_object found =
     codes "{" ++ (row_member found.row ++ (codes "\"text\":\"" ++ (escaped (shown found.text) ++ codes "\"}")))
 
--- findings with a comma in front of each
+-- the objects of findings, each with a comma before it
 abbrev pub after_commas : List Finding → List ℕ
 after_commas list = flat_map (λ found. 44 ∷ finding_object found) list
 
--- findings with a comma between them
+-- the objects of findings, separated by commas
 abbrev pub finding_list : List Finding → List ℕ
 finding_list [] = []
 finding_list (first ∷ others) = finding_object first ++ after_commas others
@@ -75,12 +76,12 @@ checked_object own =
 
 -- ---- The report
 
--- what is written of a file
+-- a file's part of the report
 abbrev pub checked_as : Format → Checked → List ℕ
 checked_as formats.Text own = checked_text own
 checked_as formats.Json own = checked_object own
 
--- the line of so many files and good tables
+-- the last line of the report: the number of files and of good tables
 abbrev pub totals_as : Format → (files good : ℕ) → List ℕ
 totals_as formats.Text files good = decimal files ++ (codes " files, " ++ (decimal good ++ codes " ok\n"))
 totals_as formats.Json files good =
@@ -90,6 +91,6 @@ totals_as formats.Json files good =
 abbrev pub good_count : List Checked → ℕ
 good_count files = count_by is_good files
 
--- what is written of files: that of each, and then their number
+-- the report of files: a part for each, and their number
 abbrev pub report_as : Format → List Checked → List ℕ
 report_as format files = flat_map (checked_as format) files ++ totals_as format (length files) (good_count files)

@@ -1,4 +1,4 @@
--- What a table without a fault may have been meant otherwise.
+-- Warnings for what in a table without a fault may not be meant that way.
 use Rattle.std.specs.Prelude.{ℕ, ◌+◌, Bool, true, false, not, ◌&&◌, ◌||◌, List, [], ◌∷◌, ◌++◌, take, bytes_eq, codes, Option, Some, None, if◌then◌else◌}
 use Rattle.std.specs.List.{flat_map}
 use Rattle.wh_rows.specs.declared.row.JobPattern.TheVariants as patterns
@@ -12,18 +12,18 @@ use Rattle.wh_table_check.specs.Findings.{finding_at}
 
 -- ---- What a row opens
 
--- the row is for an end of the activity under the id
+-- the pattern matches an end of the activity with this id
 abbrev pub ends_activity : JobPattern → List ℕ → Bool
 ends_activity (patterns.Done other) id = bytes_eq other id
 ends_activity (patterns.NotDone other) id = bytes_eq other id
 ends_activity _ id = false
 
--- the row is for the timer under the id
+-- the pattern matches the firing of the timer with this id
 abbrev pub fires : JobPattern → List ℕ → Bool
 fires (patterns.Fired other) id = bytes_eq other id
 fires _ id = false
 
--- the row is for the start or an end of the child of the workflow id
+-- the pattern matches the start or an end of the child with this workflow id
 abbrev pub is_of_child : JobPattern → List ℕ → Bool
 is_of_child (patterns.ChildStarted other) id = bytes_eq other id
 is_of_child (patterns.ChildDone other) id = bytes_eq other id
@@ -31,53 +31,53 @@ is_of_child (patterns.ChildCanceled other) id = bytes_eq other id
 is_of_child (patterns.ChildNotDone other) id = bytes_eq other id
 is_of_child _ id = false
 
--- the row is for what becomes of what the command opens, if it opens something
+-- the pattern matches what becomes of the activity, timer or child that the command starts
 abbrev pub awaits : CommandTemplate → JobPattern → Bool
 awaits (templates.StartActivity id activity source) pattern = ends_activity pattern id
 awaits (templates.StartTimer id seconds) pattern = fires pattern id
 awaits (templates.StartChild id workflow source) pattern = is_of_child pattern id
 awaits _ pattern = true
 
--- one of the rows is
+-- one of the rows waits for what the command starts
 abbrev pub is_awaited : CommandTemplate → List Row → Bool
 is_awaited template [] = false
 is_awaited template (row ∷ rows) = awaits template row.job || is_awaited template rows
 
--- what is said of a command that opens something that no row waits for, and the id of that
+-- the words of the warning for a command that starts something that no row waits for, and its id
 abbrev pub opened : CommandTemplate → Option (List ℕ × List ℕ)
 opened (templates.StartActivity id activity source) = Some (codes "no row waits for the activity ", id)
 opened (templates.StartTimer id seconds) = Some (codes "no row waits for the timer ", id)
 opened (templates.StartChild id workflow source) = Some (codes "no row waits for the child ", id)
 opened _ = None
 
--- the warning of the row of that number, unless it is awaited
+-- the warning at the row of this number, unless a row waits for it
 abbrev pub unless_awaited : ℕ → Bool → Option (List ℕ × List ℕ) → List Finding
 unless_awaited number awaited None = []
 unless_awaited number awaited (Some said) = if awaited then [] else finding_at number said.0 said.1 ∷ []
 
--- the warning of a command of the row of that number
+-- the warning for a command of the row of this number
 abbrev pub unawaited : ℕ → List Row → CommandTemplate → List Finding
 unawaited number rows template = unless_awaited number (is_awaited template rows) (opened template)
 
 -- ---- States
 
--- the row counts in the state, and closes the run or leads to another one
+-- the row is for the state, and closes the run or leads to another state
 abbrev pub leads_out : List ℕ → Row → Bool
 leads_out name row =
     (bytes_eq row.state (codes "any") || bytes_eq row.state name)
     && (some_closes row.gives || not (bytes_eq row.next (codes "same") || bytes_eq row.next name))
 
--- one of the rows does
+-- one of the rows leads out of the state
 abbrev pub has_way_out : List ℕ → List Row → Bool
 has_way_out name [] = false
 has_way_out name (row ∷ rows) = leads_out name row || has_way_out name rows
 
--- it is the first row for its state, and that has a way out, or it is not
+-- the row is not the first one for its state, or a row leads out of that state; so many rows come before it
 unfoldable pub goes_on : ℕ → List Row → Row → Bool
 goes_on place rows row =
     bytes_eq row.state (codes "any") || (has_state row.state (take place rows) || has_way_out row.state rows)
 
--- the warning of the first row for a state without a way out
+-- the warning for the first row for a state that no row leads out of
 abbrev pub stuck : ℕ → List Row → Row → List Finding
 stuck place rows row =
     if goes_on place rows row then []
@@ -85,10 +85,10 @@ stuck place rows row =
 
 -- ---- All of them
 
--- the warnings of a row
+-- the warnings for a row
 abbrev pub row_warnings : List Row → ℕ → Row → List Finding
 row_warnings rows place row = stuck place rows row ++ flat_map (unawaited (place + 1) rows) row.gives
 
--- the warnings of the rows of a table
+-- the warnings for the rows of a table
 abbrev pub warnings : List Row → List Finding
 warnings rows = numbered (row_warnings rows) 0 rows

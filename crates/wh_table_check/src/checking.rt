@@ -1,4 +1,4 @@
-//! What is found of a table in a file.
+//! Checks the table in a file.
 ghost use Rattle.std.specs.Prelude.{◌≡◌, IfOk};
 ghost use Rattle.wh_table_check.specs.Checks.{nothing, faults_found, count_of, warnings_of, IsMoreOf, checked};
 ghost use Rattle.wh_table_text.specs.Reading.{table_of};
@@ -9,46 +9,46 @@ use std::alloc::Global;
 use wh_events::{Items, OutOfMemory, Text};
 use wh_table_text::{TableFault, list_faults, read_table};
 
-/// Rows that a run takes, which a picture of the table marks.
+/// Rows that a run follows; a picture of the table marks them.
 #[derive(Drop)]
 pub struct RowPath {
-    /// What the marks tell.
+    /// The text about the marks.
     pub text: Text,
-    /// The numbers of the rows, counted from 1, in the order in which they are taken.
+    /// The numbers of the rows, counted from 1, in the order in which the run follows them.
     pub rows: Items<usize>,
 }
 
-/// What else is found of a table that breaks no rule.
+/// Further findings about a table that breaks no rule.
 #[derive(Drop)]
 pub struct More {
-    /// Whether the table is as it is to be by that.
+    /// Whether these findings leave the table good.
     pub good: bool,
-    /// Lines of text, each with its line feed at the end.
+    /// Lines of text, each ending in a line feed.
     pub text: Text,
-    /// Members of a JSON object (RFC 8259), each with a comma in front.
+    /// Members of a JSON object (RFC 8259), each with a comma before it.
     pub members: Text,
-    /// Rows that a picture marks.
+    /// The rows that a picture marks.
     pub paths: Items<RowPath>,
 }
 
-/// What else is decided of a table that breaks no rule.
+/// Decides more about a table that breaks no rule.
 pub trait MoreFindings {
     ghost use Rattle.std.specs.Prelude.{ℕ, List};
     ghost use Rattle.wh_table_check.specs.declared.checking.More.{More};
 
-    /// What may be found of the table that the bytes are.
+    /// The findings that are possible for the table of these bytes.
     ghost finds: { List ℕ → More → Type 0 };
 
-    /// What is found. It is called with the bytes of a table that breaks no rule. `OutOfMemory`
-    /// where an allocation was refused.
+    /// Returns the findings for the table of these bytes, which breaks no rule. `OutOfMemory` if an
+    /// allocation was refused.
     fn more(alloc: Global, bytes: &[u8]) -> Result<More, OutOfMemory>
         ensures { IfOk result (λ found. finds bytes.now found) };
 }
 
-/// Nothing else.
+/// Decides nothing more.
 pub struct NoMore;
 
-/// Nothing more is found.
+/// Returns no further findings.
 fn nothing(alloc: Global) -> Result<More, OutOfMemory>
     ensures { IfOk result (λ found. found ≡ nothing) }
 {
@@ -71,22 +71,22 @@ impl MoreFindings for NoMore {
     }
 }
 
-/// What is found of a table in a file.
+/// The result of checking the table in a file.
 #[derive(Drop)]
 pub struct Checked {
     /// The name of the file.
     pub name: Text,
-    /// How many rows the table has, where it breaks no rule, or else 0.
+    /// The number of rows of the table, or 0 if it breaks a rule.
     pub rows: usize,
-    /// Its faults, the first of which is that at which reading it stops.
+    /// The faults of the table. Reading it stops at the first one.
     pub faults: Items<Finding>,
-    /// What it may have been meant otherwise. There are no warnings where it breaks a rule.
+    /// The warnings: what may not be meant that way. There are none if the table breaks a rule.
     pub warnings: Items<Finding>,
-    /// What else is decided of it, which is nothing where it breaks a rule.
+    /// The further findings; none if the table breaks a rule.
     pub more: More,
 }
 
-/// The faults of a text as a table.
+/// Returns the faults of a text as a table.
 fn faults_found(alloc: Global, bytes: &[u8]) -> Result<Vec<Finding>, OutOfMemory>
     ensures { IfOk result (λ found. found.items ≡ faults_found bytes.now) }
 {
@@ -94,7 +94,7 @@ fn faults_found(alloc: Global, bytes: &[u8]) -> Result<Vec<Finding>, OutOfMemory
     fault_findings(alloc, faults)
 }
 
-/// The number of rows of a table, its warnings, and what else is found of it.
+/// The number of rows of a table, its warnings, and the further findings.
 #[derive(Drop)]
 struct TableFacts {
     rows: usize,
@@ -102,7 +102,7 @@ struct TableFacts {
     more: More,
 }
 
-/// The same of a text that is a table.
+/// Returns these facts for a text that is a table.
 fn facts_of<M: MoreFindings>(alloc: Global, bytes: &[u8]) -> Result<TableFacts, OutOfMemory>
     ensures rows { IfOk result (λ facts. facts.rows ≡ count_of (table_of bytes.now)) }
     ensures warnings { IfOk result (λ facts. facts.warnings.items ≡ warnings_of (table_of bytes.now)) }
@@ -123,8 +123,8 @@ fn facts_of<M: MoreFindings>(alloc: Global, bytes: &[u8]) -> Result<TableFacts, 
     }
 }
 
-/// Checks the table that a file of that name and these bytes is, and what `M` decides of it.
-/// `OutOfMemory` where an allocation was refused.
+/// Checks the table in a file of this name and these bytes; `M` decides the further findings.
+/// `OutOfMemory` if an allocation was refused.
 pub fn check_table<M: MoreFindings>(
     alloc: Global,
     name: &Text,

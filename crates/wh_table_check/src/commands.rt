@@ -1,4 +1,4 @@
-//! The command `check` over files that are there already.
+//! The command `check` for files that have been read.
 ghost use Rattle.std.specs.Prelude.{◌≡◌, ◌++◌, Err, IfOk, OnOk, string_bytes};
 ghost use Rattle.std.specs.List.{flat_map, list_all};
 ghost use Rattle.std.specs.Io.KnownBytes.{Appends};
@@ -13,16 +13,16 @@ use wh_console::Format;
 use wh_events::{Items, OutOfMemory, Text};
 use wh_file_faults::CommandFault;
 
-/// A file that is there already.
+/// A file that has been read.
 #[derive(Drop)]
 pub struct TableFile {
     /// Its name.
     pub name: Text,
-    /// What it holds.
+    /// Its bytes.
     pub bytes: Items<u8>,
 }
 
-/// How many tables are good.
+/// Returns how many tables are good.
 fn good_count(files: &[Checked]) -> usize
     ensures { result ≡ good_count files.now }
 {
@@ -35,14 +35,14 @@ fn good_count(files: &[Checked]) -> usize
     count
 }
 
-/// Whether each table is good.
+/// Returns whether each table is good.
 fn are_good(files: &[Checked]) -> bool
     ensures { result ≡ list_all is_good files.now }
 {
     files.iter().all(|own| is_good(own))
 }
 
-/// The status of a check: 0 where each table is good, and else 1. Warnings don't change it.
+/// Returns the status of a check: 0 if each table is good, and else 1. Warnings don't change it.
 pub fn status_of(files: &[Checked]) -> u8
     ensures { result ≡ status_of files.now }
 {
@@ -64,7 +64,7 @@ fn check_files<M: MoreFindings>(
     Ok(all)
 }
 
-/// What is written of each file.
+/// Returns the report of these files without the totals.
 fn all_as(alloc: Global, files: &[Checked], format: Format) -> Result<String, AllocError>
     ensures { IfOk result (λ text. string_bytes text ≡ flat_map (checked_as format) files.now) }
 {
@@ -76,7 +76,7 @@ fn all_as(alloc: Global, files: &[Checked], format: Format) -> Result<String, Al
     Ok(text)
 }
 
-/// What is written of files.
+/// Returns the report of these files.
 fn report_as(alloc: Global, files: &[Checked], format: Format) -> Result<String, AllocError>
     ensures { IfOk result (λ text. string_bytes text ≡ report_as format files.now) }
 {
@@ -86,21 +86,23 @@ fn report_as(alloc: Global, files: &[Checked], format: Format) -> Result<String,
     Ok(text)
 }
 
-/// Writes what was found of files: as text the line `NAME: ok, N rows` of a table that is good,
-/// `fault` in place of `ok` where it breaks no rule but is not good, or a line `NAME: FAULT` for
-/// each fault; then a line `NAME: warning, WARNING` for each warning, and what else is found; and
-/// at the end the number of files and of good ones. As JSON (RFC 8259) an object on a line for each
-/// file, with `file`, `verdict` (`ok` or `fault`), `rows`, `faults` and `warnings`, lists of
-/// objects with `row`, if it is about one, and `text`, and what else is found; then one with
-/// `files` and `ok`. Names and texts stand as the report of `replay` shows names. Nothing is
-/// written where the answer is `OutOfMemory`.
+/// Writes the report of these files. As text, a good table has the line `NAME: ok, N rows`, with
+/// `fault` instead of `ok` if it breaks no rule but its further findings are bad; a table that
+/// breaks rules has a line `NAME: FAULT` for each fault. Then come a line `NAME: warning, WARNING`
+/// for each warning, and the further findings, and at the end the number of files and of good ones.
+/// As JSON (RFC 8259), each file has an object on a line, with `file`, `verdict` (`ok` or `fault`),
+/// `rows`, `faults` and `warnings`, which are lists of objects with `text` and, if it is about a
+/// row, `row`, and the further findings; the last object has `files` and `ok`. Names and texts are
+/// escaped as the report of `replay` escapes names. Nothing is written if the error is
+/// `OutOfMemory`.
 pub fn write_checked<O: Write>(
     alloc: Global,
     files: &[Checked],
     format: Format,
     writer: &mut O,
 ) -> Result<(), CommandFault>
-    ensures written { OnOk result (Appends (O.contents writer.old) (O.contents writer.new) (report_as format files.now)) }
+    ensures written { OnOk result (Appends (O.contents writer.old) (O.contents writer.new)
+        (report_as format files.now)) }
     ensures unwritten { result ≡ Err CommandFault.OutOfMemory → writer.new ≡ writer.old }
 {
     let Ok(text) = report_as(alloc, files, format) else {
@@ -112,8 +114,9 @@ pub fn write_checked<O: Write>(
     }
 }
 
-/// Checks the tables that files are, with what `M` decides of those without a fault, writes what
-/// was found, and gives that. Nothing is written where the answer is `OutOfMemory`.
+/// Checks the tables in these files, with `M` deciding the further findings for those without a
+/// fault, writes the report, and returns the results. Nothing is written if the error is
+/// `OutOfMemory`.
 pub fn check_command<M: MoreFindings, O: Write>(
     alloc: Global,
     files: &[TableFile],

@@ -1,4 +1,4 @@
-//! What is found of a table.
+//! Faults and warnings of a table.
 ghost use Rattle.std.specs.Prelude.{◌≡◌, IfOk, map};
 ghost use Rattle.wh_table_check.specs.Findings.{row_of, fault_finding, finding_at};
 
@@ -9,13 +9,13 @@ use wh_table_text::{TableFault, fault_text};
 /// A fault of a table, or a warning.
 #[derive(Drop)]
 pub struct Finding {
-    /// The row that it is about, counted from 1. `None` where it is about the whole table.
+    /// The row that it is about, counted from 1. `None` if it is about the whole table.
     pub row: Option<u64>,
-    /// What is said of it, which begins with `row N: ` where it is about a row.
+    /// Its text, which begins with `row N: ` if it is about a row.
     pub text: Text,
 }
 
-/// The row that a fault is about.
+/// Returns the row that a fault is about.
 fn row_of(fault: TableFault) -> Option<u64>
     ensures { result ≡ row_of fault }
 {
@@ -25,7 +25,7 @@ fn row_of(fault: TableFault) -> Option<u64>
     }
 }
 
-/// A fault of a table, as a finding.
+/// Returns a fault of a table, as a finding.
 fn fault_finding(alloc: Global, fault: TableFault) -> Result<Finding, OutOfMemory>
     ensures { IfOk result (λ finding. finding ≡ fault_finding fault) }
 {
@@ -35,7 +35,7 @@ fn fault_finding(alloc: Global, fault: TableFault) -> Result<Finding, OutOfMemor
     })
 }
 
-/// Faults of a table, as findings.
+/// Returns the faults of a table, as findings.
 pub(crate) fn fault_findings(
     alloc: Global,
     faults: Vec<TableFault>,
@@ -50,7 +50,7 @@ pub(crate) fn fault_findings(
     Ok(findings)
 }
 
-/// What is said of the row of that number, and of a name in it.
+/// Returns the finding about the row of this number: these words, and a name in that row.
 pub(crate) fn finding_at(
     alloc: Global,
     row: u64,

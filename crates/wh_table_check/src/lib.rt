@@ -1,4 +1,5 @@
-//! All faults of tables in files, warnings, and what else is decided of them, as text and as JSON.
+//! Finds all faults and warnings of tables in files, and writes them as text or as JSON. A caller
+//! can add further findings.
 #![tactic(auto)]
 
 mod checking;

@@ -1,4 +1,4 @@
-//! What is found of tables, as text and as JSON.
+//! Writes the findings about tables as text and as JSON.
 ghost use Rattle.std.specs.Prelude.{◌≡◌, ◌++◌, IfOk, OnOk, string_bytes};
 ghost use Rattle.std.specs.List.{flat_map};
 ghost use Rattle.wh_table_check.specs.Checks.{is_good};
@@ -12,21 +12,21 @@ use std::alloc::{AllocError, Global};
 use wh_console::Format;
 use wh_tester::{EscapedName, Shown};
 
-/// Whether a table has no fault, and is good by what else is found of it.
+/// Returns whether a table has no fault, and its further findings leave it good.
 pub fn is_good(own: &Checked) -> bool
     ensures { result ≡ is_good own.now }
 {
     own.faults.get().is_empty() && own.more.good
 }
 
-/// The word for a good table, and for another one.
+/// Returns the word for a table: `ok` if it is good, and else `fault`.
 pub fn verdict_word(own: &Checked) -> &'static str
     ensures { result.now ≡ verdict_word own.now }
 {
     if is_good(own) { "ok" } else { "fault" }
 }
 
-/// The line of a finding, after some words.
+/// Returns the line of a finding, with these words before it.
 fn finding_line(
     alloc: Global,
     name: &str,
@@ -40,7 +40,7 @@ fn finding_line(
     format!(in alloc; "{name}: {words}{text}\n")
 }
 
-/// The lines of findings.
+/// Returns the lines of findings, with these words before each.
 fn finding_lines(
     alloc: Global,
     name: &str,
@@ -57,7 +57,7 @@ fn finding_lines(
     Ok(text)
 }
 
-/// The line of a table that breaks no rule.
+/// Returns the line of a table that breaks no rule.
 fn rows_line(alloc: Global, own: &Checked) -> Result<String, AllocError>
     ensures { IfOk result (λ text. string_bytes text ≡ rows_line own.now) }
 {
@@ -67,7 +67,7 @@ fn rows_line(alloc: Global, own: &Checked) -> Result<String, AllocError>
     format!(in alloc; "{name}: {verdict}, {rows} rows\n")
 }
 
-/// That line, or those of the faults.
+/// Returns the line of a table that breaks no rule, or the lines of the faults.
 fn verdict_lines(alloc: Global, own: &Checked) -> Result<String, AllocError>
     ensures { IfOk result (λ text. string_bytes text ≡ verdict_lines own.now) }
 {
@@ -78,7 +78,7 @@ fn verdict_lines(alloc: Global, own: &Checked) -> Result<String, AllocError>
     }
 }
 
-/// The lines of a file.
+/// Returns the lines of a file.
 fn checked_text(alloc: Global, own: &Checked) -> Result<String, AllocError>
     ensures { IfOk result (λ text. string_bytes text ≡ checked_text own.now) }
 {
@@ -89,7 +89,7 @@ fn checked_text(alloc: Global, own: &Checked) -> Result<String, AllocError>
     Ok(text)
 }
 
-/// The row of a finding, as a member before others.
+/// Returns the row of a finding, as the first member of an object.
 fn row_member(alloc: Global, row: Option<u64>) -> Result<String, AllocError>
     ensures { IfOk result (λ text. string_bytes text ≡ row_member row) }
 {
@@ -99,7 +99,7 @@ fn row_member(alloc: Global, row: Option<u64>) -> Result<String, AllocError>
     }
 }
 
-/// The object of a finding.
+/// Returns the object of a finding.
 fn finding_object(alloc: Global, found: &Finding) -> Result<String, AllocError>
     ensures { IfOk result (λ text. string_bytes text ≡ finding_object found.now) }
 {
@@ -108,7 +108,7 @@ fn finding_object(alloc: Global, found: &Finding) -> Result<String, AllocError>
     format!(in alloc; "{{{row}\"text\":\"{text}\"}}")
 }
 
-/// Findings with a comma in front of each.
+/// Returns the objects of findings, each with a comma before it.
 fn after_commas(alloc: Global, list: &[Finding]) -> Result<String, AllocError>
     ensures { IfOk result (λ text. string_bytes text ≡ after_commas list.now) }
 {
@@ -121,7 +121,7 @@ fn after_commas(alloc: Global, list: &[Finding]) -> Result<String, AllocError>
     Ok(text)
 }
 
-/// Findings with a comma between them.
+/// Returns the objects of findings, separated by commas.
 fn finding_list(alloc: Global, list: &[Finding]) -> Result<String, AllocError>
     ensures { IfOk result (λ text. string_bytes text ≡ finding_list list.now) }
 {
@@ -134,7 +134,7 @@ fn finding_list(alloc: Global, list: &[Finding]) -> Result<String, AllocError>
     Ok(text)
 }
 
-/// The beginning of the object of a file: its name, its verdict, and its number of rows.
+/// Returns the beginning of the object of a file: its name, its verdict, and its number of rows.
 fn object_head(alloc: Global, own: &Checked) -> Result<String, AllocError>
     ensures { IfOk result (λ text. string_bytes text ≡ object_head own.now) }
 {
@@ -144,7 +144,7 @@ fn object_head(alloc: Global, own: &Checked) -> Result<String, AllocError>
     format!(in alloc; "{{\"file\":\"{name}\",\"verdict\":\"{verdict}\",\"rows\":{rows}")
 }
 
-/// A list of findings, as a member after others.
+/// Returns a list of findings, as a member after others.
 fn list_member(alloc: Global, key: &str, list: &[Finding]) -> Result<String, AllocError>
     ensures { IfOk result (λ text. string_bytes text ≡ list_member key.now list.now) }
 {
@@ -152,7 +152,7 @@ fn list_member(alloc: Global, key: &str, list: &[Finding]) -> Result<String, All
     format!(in alloc; ",\"{key}\":[{list}]")
 }
 
-/// The object of a file, on a line.
+/// Returns the object of a file, on a line.
 fn checked_object(alloc: Global, own: &Checked) -> Result<String, AllocError>
     ensures { IfOk result (λ text. string_bytes text ≡ checked_object own.now) }
 {
@@ -166,7 +166,7 @@ fn checked_object(alloc: Global, own: &Checked) -> Result<String, AllocError>
     Ok(text)
 }
 
-/// What is written of a file.
+/// Returns a file's part of the report.
 pub(crate) fn checked_as(alloc: Global, own: &Checked, format: Format) -> Result<String, AllocError>
     ensures { IfOk result (λ text. string_bytes text ≡ checked_as format own.now) }
 {
@@ -176,7 +176,7 @@ pub(crate) fn checked_as(alloc: Global, own: &Checked, format: Format) -> Result
     }
 }
 
-/// The line of so many files and good tables.
+/// Returns the last line of the report: the number of files and of good tables.
 pub(crate) fn totals_as(
     alloc: Global,
     files: usize,

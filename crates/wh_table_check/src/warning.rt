@@ -1,4 +1,4 @@
-//! What a table without a fault may have been meant otherwise.
+//! Warns of what in a table without a fault may not be meant that way.
 ghost use Rattle.std.specs.Prelude.{◌≡◌, ◌++◌, ◌≤◌, ◌<◌, length, option_map, option_to_list, IfOk, OnOk};
 ghost use Rattle.std.specs.List.{flat_map};
 ghost use Rattle.wh_table_check.specs.Warnings.{ends_activity, fires, is_of_child, awaits, is_awaited, opened, unawaited};
@@ -10,7 +10,7 @@ use wh_events::{OutOfMemory, Text};
 use wh_row_rules::{OwnedRow, has_state, some_closes, text_eq};
 use wh_rows::{CommandTemplate, JobPattern};
 
-/// Whether a row with the pattern is for an end of the activity under the id.
+/// Returns whether the pattern matches an end of the activity with this id.
 fn ends_activity(pattern: &JobPattern<Text>, id: &Text) -> bool
     ensures { result ≡ ends_activity pattern.now id.now }
 {
@@ -21,7 +21,7 @@ fn ends_activity(pattern: &JobPattern<Text>, id: &Text) -> bool
     }
 }
 
-/// Whether a row with the pattern is for the timer under the id.
+/// Returns whether the pattern matches the firing of the timer with this id.
 fn fires(pattern: &JobPattern<Text>, id: &Text) -> bool
     ensures { result ≡ fires pattern.now id.now }
 {
@@ -31,7 +31,7 @@ fn fires(pattern: &JobPattern<Text>, id: &Text) -> bool
     }
 }
 
-/// Whether a row with the pattern is for the start or an end of the child of the workflow id.
+/// Returns whether the pattern matches the start or an end of the child with this workflow id.
 fn is_of_child(pattern: &JobPattern<Text>, id: &Text) -> bool
     ensures { result ≡ is_of_child pattern.now id.now }
 {
@@ -44,8 +44,8 @@ fn is_of_child(pattern: &JobPattern<Text>, id: &Text) -> bool
     }
 }
 
-/// Whether a row with the pattern is for what becomes of what the command opens, if it opens
-/// something.
+/// Returns whether the pattern matches what becomes of the activity, timer or child that the
+/// command starts.
 fn awaits(template: &CommandTemplate<Text>, pattern: &JobPattern<Text>) -> bool
     ensures { result ≡ awaits template.now pattern.now }
 {
@@ -57,7 +57,7 @@ fn awaits(template: &CommandTemplate<Text>, pattern: &JobPattern<Text>) -> bool
     }
 }
 
-/// Whether one of the rows is.
+/// Returns whether one of the rows waits for what the command starts.
 fn is_awaited(template: &CommandTemplate<Text>, rows: &[OwnedRow]) -> bool
     ensures { result ≡ is_awaited template.now rows.now }
 {
@@ -69,7 +69,8 @@ fn is_awaited(template: &CommandTemplate<Text>, rows: &[OwnedRow]) -> bool
     false
 }
 
-/// What is said of a command that opens something that no row waits for, and the id of that.
+/// Returns the words of the warning for a command that starts something that no row waits for, and
+/// its id.
 fn opened(template: &CommandTemplate<Text>) -> Option<(&'static str, &Text)>
     ensures { option_map (λ said. (said.0.now, said.1.now)) result ≡ opened template.now }
 {
@@ -81,7 +82,7 @@ fn opened(template: &CommandTemplate<Text>) -> Option<(&'static str, &Text)>
     }
 }
 
-/// The warning of a command of the row of that number, if there is one.
+/// Returns the warning for a command of the row of this number, if there is one.
 fn unawaited(
     alloc: Global,
     number: u64,
@@ -102,7 +103,7 @@ fn unawaited(
     }
 }
 
-/// Whether the row counts in the state, and closes the run or leads to another one.
+/// Returns whether the row is for the state, and closes the run or leads to another state.
 fn leads_out(name: &Text, row: &OwnedRow) -> bool
     ensures { result ≡ leads_out name.now row.now }
 {
@@ -110,7 +111,7 @@ fn leads_out(name: &Text, row: &OwnedRow) -> bool
         && (some_closes(row.gives.get()) || !(row.next.get() == "same" || text_eq(&row.next, name)))
 }
 
-/// Whether one of the rows does.
+/// Returns whether one of the rows leads out of the state.
 fn has_way_out(name: &Text, rows: &[OwnedRow]) -> bool
     ensures { result ≡ has_way_out name.now rows.now }
 {
@@ -122,8 +123,8 @@ fn has_way_out(name: &Text, rows: &[OwnedRow]) -> bool
     false
 }
 
-/// Whether the row, before which stand so many, is not the first one for its state, or that has a
-/// way out.
+/// Returns whether the row is not the first one for its state, or a row leads out of that state;
+/// `place` rows come before it.
 #[tactic(auto, unfolding(crate::specs::Warnings::goes_on))]
 fn goes_on(place: usize, rows: &[OwnedRow], row: &OwnedRow) -> bool
     requires { place ≤ length rows.now }
@@ -133,7 +134,7 @@ fn goes_on(place: usize, rows: &[OwnedRow], row: &OwnedRow) -> bool
         || (has_state(&row.state, &rows[..place]) || has_way_out(&row.state, rows))
 }
 
-/// The warning of the first row for a state without a way out, if it is one.
+/// Returns the warning for a row, if it is the first one for a state that no row leads out of.
 fn stuck(
     alloc: Global,
     place: usize,
@@ -160,7 +161,7 @@ fn add(found: &mut Vec<Finding>, one: Option<Finding>) -> Result<(), OutOfMemory
     Ok(())
 }
 
-/// Adds the warnings of the commands of the row of that number.
+/// Adds the warnings for the commands of the row of this number.
 fn add_unawaited(
     alloc: Global,
     found: &mut Vec<Finding>,
@@ -177,7 +178,7 @@ fn add_unawaited(
     Ok(())
 }
 
-/// Adds the warnings of a row before which stand so many.
+/// Adds the warnings for a row; `place` rows come before it.
 fn add_row(
     alloc: Global,
     found: &mut Vec<Finding>,
@@ -193,9 +194,9 @@ fn add_row(
     add_unawaited(alloc, found, place as u64 + 1, rows, row.gives.get())
 }
 
-/// What a table without a fault may have been meant otherwise, row by row: a state from which no
-/// row leads on, at its first row, and each activity, timer and child that a row starts and no row
-/// of the table waits for. `OutOfMemory` where there was no memory for the list.
+/// Returns the warnings for a table without a fault, row by row: for each state that no row leads
+/// out of, at the first row for it, and for each activity, timer and child that a row starts and no
+/// row of the table waits for. `OutOfMemory` if there is no memory for the list.
 pub fn warnings(alloc: Global, rows: &[OwnedRow]) -> Result<Vec<Finding>, OutOfMemory>
     ensures { IfOk result (λ found. found.items ≡ warnings rows.now) }
 {

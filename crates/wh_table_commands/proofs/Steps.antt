@@ -1,4 +1,4 @@
--- What commands of tables wrote, one step after the other.
+-- What the commands of tables wrote, one step after another.
 use Rattle.std.proofs.Common.{◌≡◌, ◌∙◌, ℕ, List, [], ◌∷◌, ◌++◌, sym, ap, subst}
 use Rattle.std.specs.Prelude.{Bool, false, Option, Result, Ok, Err, IfOk}
 use Rattle.std.specs.Io.KnownBytes.{Keeps}
@@ -30,7 +30,7 @@ use Rattle.wh_table_trial.specs.Texts.{trial_text}
 use Rattle.wh_table_trial.specs.Trials.{trial}
 use Rattle.wh_table_trial.specs.declared.running.Trial.{Trial}
 
--- one more of each stands after those before them
+-- one more of each comes after those before them
 pub zip_more : {X Y : Type 0} (R : X → Y → Type 0) (xs : List X) (ys : List Y) (x : X) (y : Y) → AllZip R xs ys → R x y
     → AllZip R (xs ++ (x ∷ [])) (ys ++ (y ∷ []))
 zip_more R [] [] x y h r = (r, tt)
@@ -38,7 +38,7 @@ zip_more R [] (b ∷ ys) x y h r = absurd h
 zip_more R (a ∷ xs) [] x y h r = absurd h
 zip_more R (a ∷ xs) (b ∷ ys) x y h r = (h.0, zip_more R xs ys x y h.1 r)
 
--- a report of checks was printed, and it is out
+-- the report of a check was printed and flushed
 pub check_ended : (finds : Finds) (files : List TableFile) (format : Format) (lacks : Bool) (old first new : ConsoleView) (all seen : List Checked) (answer : Result ℕ CommandFault) (given own status : ℕ)
     → AreChecked finds files all → Printed old first (report_as format all)
     → IsQuiet first new → Keeps first.output new.output
@@ -79,7 +79,7 @@ checked_paths finds first others format left_out lacks inputs old between new (O
 }
 checked_paths finds first others format left_out lacks inputs old between new (Err failure) listed same h = tt
 
--- the page of a table was printed, and it is out
+-- the page of a table was printed and flushed
 pub picture_ended : (finds : Finds) (file : TableFile) (old first new : ConsoleView) (drawing : Drawing) (result : Result ℕ Failure) (answer : Result ℕ CommandFault) (given : ℕ)
     → drawing ≡ drawing_of file drawing.checked → IsChecked finds file drawing.checked
     → Printed old first (bytes (page_html drawing)) → IsQuiet first new → Keeps first.output new.output
@@ -95,7 +95,7 @@ picture_ended finds file old first new drawing (Ok status) answer given is check
     }
 picture_ended finds file old first new drawing (Err failure) answer given is checked printed quiet kept is_given made is_status = tt
 
--- the file of a path was drawn
+-- the file at a path was drawn
 pub drawn_path : (finds : Finds) (path : List ℕ) (input : Input) (file : TableFile) (old new : ConsoleView) (answer : Result ℕ Failure)
     → IsCalled false input → IsOf path input.origin → IsSingle input.origin → IsTableOf IsReadFrom input file
     → IfOk answer (HasDrawn finds file old new) → IfOk answer (HasDrawnPath finds path old new)
@@ -103,7 +103,7 @@ drawn_path finds path input file old new (Ok status) called from single read h =
     record { input = input; called = called; from = from; single = single; file = file; read = read; drawn = h }
 drawn_path finds path input file old new (Err failure) called from single read h = tt
 
--- what came of a trial was printed, and it is out
+-- the result of a trial was printed and flushed
 pub trial_ended : (file : TableFile) (scenario : List ℕ) (old first new : ConsoleView) (own : Trial) (result : Result ℕ Failure) (answer : Result ℕ CommandFault) (given : ℕ)
     → own ≡ trial file.bytes scenario → Printed old first (trial_text file.name own)
     → IsQuiet first new → Keeps first.output new.output
@@ -117,7 +117,7 @@ trial_ended file scenario old first new own (Ok status) answer given is printed 
     }
 trial_ended file scenario old first new own (Err failure) answer given is printed quiet kept is_given made is_status = tt
 
--- the file of a path was tried
+-- the file at a path was tried
 pub tried_path : (path : List ℕ) (given : Option (List ℕ)) (input : Input) (file : TableFile) (scenario : List ℕ) (old new : ConsoleView) (answer : Result ℕ Failure)
     → IsCalled false input → IsOf path input.origin → IsSingle input.origin → IsTableOf IsReadFrom input file → IsScenario path given scenario
     → IfOk answer (HasTried file scenario old new) → IfOk answer (HasTriedPath path given old new)

@@ -1,4 +1,4 @@
--- What a check of tables writes and reports.
+-- What a check of tables writes, and its status.
 use Rattle.std.specs.Prelude.{◌≡◌, ℕ, List, ◌∷◌, Bool, false}
 use Rattle.std.specs.List.{AllZip}
 use Rattle.wh_console.specs.Consoles.{ConsoleView, Printed}
@@ -15,12 +15,12 @@ use Rattle.wh_table_check.specs.declared.checking.More.{More}
 use Rattle.wh_table_check.specs.declared.commands.TableFile.{TableFile}
 use Rattle.wh_table_commands.specs.Files.{IsTableOf}
 
--- which findings more there may be of bytes
+-- the further findings that are possible for bytes
 abbrev pub Finds : Type 1
 Finds = List ℕ → More → Type 0
 
--- files were checked and what was found of them was written, and the status is that of the check, unless files are left
--- out
+-- the tables in these files were checked and the report was written; the status is that of the check, unless files were
+-- skipped
 pub record HasChecked (finds : Finds) (files : List TableFile) (format : Format) (lacks : Bool)
     (old new : ConsoleView) (status : ℕ) : Type 0 where
   pub all : List Checked
@@ -28,14 +28,14 @@ pub record HasChecked (finds : Finds) (files : List TableFile) (format : Format)
   pub printed : Printed old new (report_as format all)
   pub ends : status ≡ status_with lacks (status_of all)
 
--- inputs were read as the files of tables, and those were checked
+-- inputs were read as the files of tables, and these were checked
 pub record HasCheckedAll (gives : Gives) (finds : Finds) (inputs : List Input) (format : Format) (lacks : Bool)
     (old new : ConsoleView) (status : ℕ) : Type 0 where
   pub files : List TableFile
   pub read : AllZip (IsTableOf gives) inputs files
   pub checked : HasChecked finds files format lacks old new status
 
--- what paths name was checked
+-- the files at these paths were checked
 pub record HasCheckedPaths (finds : Finds) (first : List ℕ) (others : List (List ℕ)) (format : Format)
     (old new : ConsoleView) (status : ℕ) : Type 0 where
   pub inputs : List Input

@@ -1,4 +1,4 @@
--- What the picture of a table writes.
+-- What the page of a table shows, and its status.
 use Rattle.std.specs.Prelude.{◌≡◌, ℕ, List, [], ◌∷◌, false}
 use Rattle.wh_console.specs.Consoles.{ConsoleView, Printed}
 use Rattle.wh_files.specs.Inputs.{IsCalled, IsOf, IsReadFrom, IsSingle}
@@ -12,14 +12,14 @@ use Rattle.wh_table_commands.specs.Files.{IsTableOf}
 use Rattle.wh_table_picture.specs.Drawings.{drawing_of}
 use Rattle.wh_table_picture.specs.Pages.{page_html}
 
--- a table was checked and its page was written, and the status is that of the check
+-- a table was checked and its page was written; the status is that of the check
 pub record HasDrawn (finds : Finds) (file : TableFile) (old new : ConsoleView) (status : ℕ) : Type 0 where
   pub own : Checked
   pub checked : IsChecked finds file own
   pub printed : Printed old new (bytes (page_html (drawing_of file own)))
   pub ends : status ≡ status_of (own ∷ [])
 
--- what a path names, which is no folder, was read as the file of a table, and its page was written
+-- the file at a path, which is not a folder, was read as a table, and its page was written
 pub record HasDrawnPath (finds : Finds) (path : List ℕ) (old new : ConsoleView) (status : ℕ) : Type 0 where
   pub input : Input
   pub called : IsCalled false input

@@ -18,7 +18,7 @@ use wh_files::Input;
 use wh_inputs::{InputReader, all_inputs};
 use wh_table_check::{Checked, MoreFindings, TableFile, check_command, status_of};
 
-/// Checks files, and writes what was found of them.
+/// Checks the tables in these files, and writes the report.
 fn print_check<M: MoreFindings, O: Write, E: Write>(
     alloc: Global,
     files: &[TableFile],
@@ -31,7 +31,8 @@ fn print_check<M: MoreFindings, O: Write, E: Write>(
     check_command::<M, Outlet<O>>(alloc, files, format, &mut console.output)
 }
 
-/// Checks files, writes what was found of them, and gives the status once that is out.
+/// Checks the tables in these files, writes the report, and returns the status after the output is
+/// flushed.
 fn check_files<M: MoreFindings, O: Write, E: Write>(
     alloc: Global,
     files: &[TableFile],
@@ -49,7 +50,7 @@ fn check_files<M: MoreFindings, O: Write, E: Write>(
     Ok(status_with(lacks, status))
 }
 
-/// Reads inputs, and checks them.
+/// Reads the inputs as files, and checks their tables.
 fn check_inputs<M: MoreFindings, R: InputReader + AllocGlobal, O: Write, E: Write>(
     rt: &R,
     inputs: Vec<Input>,
@@ -63,9 +64,10 @@ fn check_inputs<M: MoreFindings, R: InputReader + AllocGlobal, O: Write, E: Writ
     check_files::<M, O, E>(rt.alloc(), files.as_slice(), format, lacks, console)
 }
 
-/// Checks the tables that the files at paths are, with what `M` decides of those that break no rule, and
-/// writes what was found. What is left out of folders is reported first. The status is 0 where each table
-/// is good and no file is left out, and else 1. Nothing is written before all files are read.
+/// Checks the tables in the files at these paths, and writes the report; `M` decides the further
+/// findings for tables that break no rule. Files of folders that are skipped are reported first.
+/// The status is 0 if each table is good and no file is skipped, and else 1. Nothing is written
+/// before all files are read.
 pub fn check_paths<M: MoreFindings, R: Runtime + AllocGlobal, O: Write, E: Write>(
     rt: &R,
     first: Text,

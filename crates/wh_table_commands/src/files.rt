@@ -1,4 +1,4 @@
-//! Files of tables.
+//! Reads files of tables.
 
 ghost use Rattle.std.specs.Prelude.{IfOk};
 ghost use Rattle.std.specs.List.{AllZip};
@@ -10,7 +10,7 @@ use wh_files::Input;
 use wh_inputs::{InputReader, file_from};
 use wh_table_check::TableFile;
 
-/// An input as the file of a table.
+/// Reads an input as the file of a table.
 pub(crate) fn table_file<R: InputReader>(rt: &R, input: Input) -> Result<TableFile, Failure>
     ensures { IfOk result (IsTableOf R.gives input) }
 {
@@ -21,7 +21,7 @@ pub(crate) fn table_file<R: InputReader>(rt: &R, input: Input) -> Result<TableFi
     })
 }
 
-/// Inputs as the files of tables, in their order.
+/// Reads inputs as the files of tables, in their order.
 pub(crate) fn table_files<R: InputReader + AllocGlobal>(
     rt: &R,
     inputs: Vec<Input>,

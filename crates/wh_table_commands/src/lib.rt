@@ -1,5 +1,5 @@
-//! The commands of workflows that are tables in files: `check`, `check --html` and `try`, each as what it
-//! writes, what it reports and its status.
+//! The commands for workflows that are tables in files: `check`, `check --html` and `try`. Each
+//! writes its output, reports problems, and returns its status.
 #![tactic(auto)]
 
 mod check;

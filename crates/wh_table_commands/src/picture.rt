@@ -21,7 +21,7 @@ use wh_inputs::input_of;
 use wh_table_check::{MoreFindings, TableFile, status_of};
 use wh_table_picture::{Drawing, picture_command};
 
-/// Checks the table that a file is, and writes its page.
+/// Checks the table in a file, and writes its page.
 fn print_picture<M: MoreFindings, O: Write, E: Write>(
     alloc: Global,
     file: &TableFile,
@@ -34,14 +34,14 @@ fn print_picture<M: MoreFindings, O: Write, E: Write>(
     picture_command::<M, Outlet<O>>(alloc, file, &mut console.output)
 }
 
-/// The status of a page: that of the check of its table.
+/// Returns the status of a page, which is that of the check of its table.
 fn picture_status(drawing: &Drawing) -> u8
     ensures { result ≡ status_of (drawing.now.checked ∷ []) }
 {
     status_of(slice::from_ref(&drawing.checked))
 }
 
-/// Checks the table that a file is, writes its page, and gives the status once that is out.
+/// Checks the table in a file, writes its page, and returns the status after the output is flushed.
 fn draw<M: MoreFindings, O: Write, E: Write>(
     alloc: Global,
     file: &TableFile,
@@ -56,9 +56,9 @@ fn draw<M: MoreFindings, O: Write, E: Write>(
     flushed(Ok(picture_status(&drawing)), console)
 }
 
-/// Checks the table that the file at a path is, with what `M` decides of it where it breaks no rule, and
-/// writes a page with what was found and a picture of its states, as HTML. The status is that of the
-/// check.
+/// Checks the table in the file at this path, and writes an HTML page with the findings and a
+/// picture of the table's states; `M` decides the further findings if the table breaks no rule. The
+/// status is that of the check.
 pub fn picture_path<M: MoreFindings, R: Runtime + AllocGlobal, O: Write, E: Write>(
     rt: &R,
     path: Text,

@@ -19,7 +19,7 @@ use wh_inputs::{file_from, input_of};
 use wh_table_check::TableFile;
 use wh_table_trial::{Trial, status_of, try_command};
 
-/// Tries the table that a file is on a scenario, and writes what came of it.
+/// Tries the table in a file on a scenario, and writes the result.
 fn print_trial<O: Write, E: Write>(
     alloc: Global,
     file: &TableFile,
@@ -38,8 +38,8 @@ fn print_trial<O: Write, E: Write>(
     )
 }
 
-/// Tries the table that a file is on a scenario, writes what came of it, and gives the status once that
-/// is out.
+/// Tries the table in a file on a scenario, writes the result, and returns the status after the
+/// output is flushed.
 fn try_file<O: Write, E: Write>(
     alloc: Global,
     file: &TableFile,
@@ -55,8 +55,8 @@ fn try_file<O: Write, E: Write>(
     flushed(Ok(status_of(&own)), console)
 }
 
-/// The path of the file beside that of a table which holds its scenario: with `.txt` in place of `.json`
-/// at its end, or behind it.
+/// Returns the path of the scenario of a table: its path with `.txt` instead of `.json` at the end,
+/// or with `.txt` added.
 fn beside(alloc: Global, path: &str) -> Result<Text, AllocError>
     ensures { IfOk result (IsBeside path.now) }
 {
@@ -65,7 +65,7 @@ fn beside(alloc: Global, path: &str) -> Result<Text, AllocError>
     Ok(Text::new(text))
 }
 
-/// The text in the file at a path.
+/// Reads the file at this path as a text.
 fn text_at<R: Files + io::Input + AllocGlobal>(rt: &R, path: Text) -> Result<Text, Failure>
     ensures { IfOk result (IsTextAt path) }
 {
@@ -79,7 +79,7 @@ fn text_at<R: Files + io::Input + AllocGlobal>(rt: &R, path: Text) -> Result<Tex
     }
 }
 
-/// The scenario that is given, or else the text of the file beside that of the table.
+/// Returns the scenario that is given, or else reads the one beside the table.
 fn scenario_of<R: Files + io::Input + AllocGlobal>(
     rt: &R,
     path: &str,
@@ -96,9 +96,9 @@ fn scenario_of<R: Files + io::Input + AllocGlobal>(
     }
 }
 
-/// Tries the table that the file at a path is on the scenario that is given, or else on that of the file
-/// beside it, whose path has `.txt` in place of `.json`, and writes what came of it. The status is 0 where
-/// nothing differs, and else 1. `NotText` where the file of the scenario is no UTF-8.
+/// Tries the table in the file at this path on the scenario that is given, or else on the one in
+/// the file beside it, whose path has `.txt` instead of `.json`, and writes the result. The status
+/// is 0 if nothing differs, and else 1. `NotText` if the file of the scenario is not UTF-8.
 pub fn try_path<R: Runtime + AllocGlobal, O: Write, E: Write>(
     rt: &R,
     path: Text,

@@ -1,4 +1,4 @@
--- A run that brings its table is given what a run of the table is, with the table where that goes on.
+-- A run with a table in its input gives what a run of the table does, with the table added for a new run.
 use Rattle.std.proofs.Common.{◌≡◌, ℕ, true, not, List, [], ◌∷◌, ◌++◌, map, None, Ok, ℤ, refl, ap, ap₂, sym, subst, ◌∙◌}
 use Rattle.std.proofs.lemmas.Bool.{and_parts, and_from}
 use Rattle.std.proofs.lemmas.List.{map-append}
@@ -26,7 +26,7 @@ use Rattle.wh_promises_kept.proofs.Started.{BeginsWith, not_begun, with_start, w
 use Rattle.wh_promises_kept.proofs.Kept.{Whole, whole, told_starts, course_commands, all_kept}
 use Rattle.wh_table_promises_kept.specs.Kept.{as_rows_see, BroughtHistoriesAreCourses, BroughtTablesKeep}
 
--- no row is for the time
+-- no row is for the job that gives the time
 time_gives_none : (table : Definition) (state : RowsState) (time : ℤ) → rows.gives table state (jobs.Time time) ≡ []
 time_gives_none table state time = ap (λ row. rows.row_gives row state (jobs.Time time)) (no_row_at table.rows state time)
 
@@ -34,7 +34,7 @@ time_leaves : (table : Definition) (state : RowsState) (time : ℤ) → rows.aft
 time_leaves table state time =
     ap (λ row. rows.after_found row table.bounds state (jobs.Time time)) (no_row_at table.rows state time)
 
--- so the time is given nothing
+-- so that job gets no commands
 time_is_still : TimeGivesNothing program
 time_is_still state (jobs.Time time) is =
     ap (held state.kind state.payload) (time_gives_none (definition state.table) state.run time)
@@ -69,7 +69,7 @@ see_same : (job : Job) → not (rows.is_start job) ≡ true → as_rows_see job 
 see_same (jobs.Start workflow input) is = cc
 see_same _ is = refl
 
--- rows see jobs that start nothing as they are
+-- rows see jobs that start nothing unchanged
 see_later : (list : List Job) → goes_on list ≡ true → map as_rows_see list ≡ list
 see_later [] on = refl
 see_later (job ∷ later) on =
@@ -86,7 +86,7 @@ see_begins workflow input list (with_time time later next) =
     with_time time (map as_rows_see later) (see_begins workflow input later next)
 
 module _ (workflow : List ℕ) (input : List Payload) (table : OwnedTable) (is : table_in input ≡ Ok table) where
-  -- the run is given what a run of the table is
+  -- the run gives what a run of the table does
   given_as_table : (state : TableState) (list : List Job) → BeginsWith workflow input list
       → given_by program state list
       ≡ map (with_table workflow (front input))
@@ -111,7 +111,7 @@ module _ (workflow : List ℕ) (input : List Payload) (table : OwnedTable) (is :
       (rows.after (definition table) (rows.initial (definition table)) (jobs.Time time)) (map as_rows_see later))
       (sym (time_gives_none (definition table) (rows.initial (definition table)) time)))
 
--- a table that an input brings breaks no rule
+-- a table in an input breaks no rule
 breaks_none : (input : List Payload) (table : OwnedTable) → table_in input ≡ Ok table → table_fault (definition table) ≡ None
 breaks_none [] table is = cc
 breaks_none (first ∷ others) table is = laws.read_breaks_none first.content table is

@@ -1,4 +1,4 @@
--- Where each promise of a table is found kept, the table keeps it.
+-- If each promise of a table is found kept, the table keeps it.
 use Rattle.std.proofs.Common.{◌≡◌, ℕ, true, List, [], ◌∷◌, Option, Some, None, ap, ◌∙◌}
 use Rattle.std.proofs.lemmas.Bool.{and_parts}
 use Rattle.wh_rows.specs.Tables.{Definition}
@@ -18,7 +18,7 @@ use Rattle.wh_table_promises_kept.specs.Kept.{with_promise, promises_said, promi
 use Rattle.wh_table_promises_kept.proofs.Brought.{brought_keep}
 
 module _ (table : Definition) where
-  -- a promise that is found kept is kept, and so are those behind it
+  -- a promise that is found kept is kept, and so are those after it
   outcome_keeps : (promise : Option TablePromise) (outcome : Outcome) (others : List (List ℕ)) → IsOutcome table promise outcome
       → is_kept_by outcome ≡ true → PromisesAll table (promises_said others)
       → PromisesAll table (with_promise promise (promises_said others))
@@ -34,7 +34,7 @@ module _ (table : Definition) where
       let parts : (is_kept finding ≡ true) × (all_kept list ≡ true) = and_parts (is_kept finding) (all_kept list) kept in
       outcome_keeps (promise_in phrase) finding.outcome phrases right.0.1 parts.0 (each_keeps phrases list right.1 parts.1)
 
-  -- so those that a table says
+  -- so the promises of a table are kept
   all_keep : (phrases : Option (List (List ℕ))) (findings : PromiseFindings) → AreDecided table phrases findings
       → are_kept findings ≡ true → PromisesAll table (promises_by phrases)
   all_keep None findings right kept = tt

@@ -1,4 +1,4 @@
--- What the table that comes with a run promises is kept in each history of it that replay accepts.
+-- Each history that replay accepts keeps the promises of the table that its run got with the input.
 use Rattle.std.specs.Prelude.{◌≡◌, ℕ, List, [], ◌∷◌, map, Option, Some, None, Ok, IsTrue}
 use Rattle.wh_events.specs.declared.event.Event.{Event}
 use Rattle.wh_events.specs.declared.event.Payload.{Payload}
@@ -22,18 +22,18 @@ use Rattle.wh_promise_check.specs.declared.findings.PromiseFindings.{PromiseFind
 use Rattle.wh_promise_check.specs.Phrases.{promise_in}
 use Rattle.wh_promise_check.specs.Findings.{phrases_in, AreDecided, are_kept}
 
--- a job as the rows of a table see it that came with the run: its start has the payloads behind the table as its input
+-- the job as the rows of the run's table see it: the input of the start has only the payloads after the table
 abbrev pub as_rows_see : Job → Job
 as_rows_see (jobs.Start workflow input) = jobs.Start workflow (tail input)
 as_rows_see job = job
 
--- what happens in a run of the table that came with it at these jobs
+-- the entries of a run at these jobs, by the table that it got with its input
 abbrev pub brought_course : OwnedTable → List Job → List Entry
 brought_course table list = course (definition table) (initial (definition table)) (map as_rows_see list)
 
--- where replay accepts a history of the workflow `Table` whose start brings a table, the jobs of its tasks, with versions
--- behind some of them, begin with one start; the commands that its activations issue, but for the markers of versions,
--- are those that a run of the table is given at these jobs, with the table where they start a new run of it
+-- If replay accepts a history of the workflow `Table` whose input begins with a table, the jobs of its tasks, some
+-- followed by versions, begin with the only start. The commands that its activations issue, except version markers, are
+-- those that a run of the table gives to these jobs, with the table added where they continue as a new run of it.
 abbrev pub BroughtHistoriesAreCourses : Type 0
 BroughtHistoriesAreCourses =
     (events : List Event) (left : Replayed TableState) → replay program events 0 ≡ Ok left
@@ -43,8 +43,7 @@ BroughtHistoriesAreCourses =
     × (without_markers issued
     ≡ map (with_table (workflow_of events) (front (input_of events))) (commands_in (brought_course table list)))
 
--- where the table promises something whatever jobs come, that is kept in what happens in a run of it at the jobs of the
--- history's tasks
+-- if the table keeps promises whatever jobs come, a run of it keeps them at the jobs of the history's tasks
 abbrev pub BroughtTablesKeep : Type 0
 BroughtTablesKeep =
     (events : List Event) (left : Replayed TableState) → replay program events 0 ≡ Ok left
@@ -52,28 +51,29 @@ BroughtTablesKeep =
     → (promises : List Promise) → PromisesAll (definition table) promises
     → (list : List Job) → Told [] [] events list → KeptAllIn promises (brought_course table list)
 
--- the promise that a phrase says, before others
+-- the promise of a phrase, if it is one, before others
 abbrev pub with_promise : Option TablePromise → List Promise → List Promise
 with_promise None others = others
 with_promise (Some promise) others = promise_of promise ∷ others
 
--- the promises that phrases say
+-- the promises of these phrases
 abbrev pub promises_said : List (List ℕ) → List Promise
 promises_said [] = []
 promises_said (phrase ∷ phrases) = with_promise (promise_in phrase) (promises_said phrases)
 
--- those that the member `promises` of a table's JSON says
+-- the promises of the member `promises` of a table's JSON
 abbrev pub promises_by : Option (List (List ℕ)) → List Promise
 promises_by None = []
 promises_by (Some phrases) = promises_said phrases
 
--- where each promise that such a table says is found kept, as `check` finds it, all of them are kept in what happens in a
--- run of it at the jobs of the history's tasks
+-- if `check` finds that such a table keeps each of its promises, a run of it keeps them at the jobs of the history's
+-- tasks
 abbrev pub CheckedTablesKeep : Type 0
 CheckedTablesKeep =
     (events : List Event) (left : Replayed TableState) → replay program events 0 ≡ Ok left
     → (first : Payload) (others : List Payload) → input_of events ≡ first ∷ others
     → (table : OwnedTable) → table_of first.content ≡ Ok table
-    → (found : PromiseFindings) → AreDecided (definition table) (phrases_in first.content) found → IsTrue (are_kept found)
+    → (found : PromiseFindings) → AreDecided (definition table) (phrases_in first.content) found
+    → IsTrue (are_kept found)
     → (list : List Job) → Told [] [] events list
     → KeptAllIn (promises_by (phrases_in first.content)) (brought_course table list)

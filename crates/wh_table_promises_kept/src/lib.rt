@@ -1,4 +1,4 @@
-//! What tables that come with their runs promise holds of histories.
+//! The promises of tables that runs get with their input hold for histories.
 #![tactic(auto)]
 
 pub mod laws;

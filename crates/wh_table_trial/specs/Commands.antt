@@ -3,7 +3,7 @@ use Rattle.std.specs.Prelude.{ℕ, Option, Some, None}
 use Rattle.wh_table_trial.specs.declared.running.Difference.{Difference}
 use Rattle.wh_table_trial.specs.declared.running.Trial.{Trial}
 
--- 0 where nothing differs
+-- 0 if nothing differs
 abbrev pub status_by : Option Difference → ℕ
 status_by None = 0
 status_by (Some difference) = 1

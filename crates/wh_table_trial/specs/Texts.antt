@@ -1,4 +1,4 @@
--- What is written of a scenario.
+-- The result of a trial as text.
 use Rattle.std.specs.Prelude.{ℕ, List, ◌++◌, length, nat_eq, codes, decimal, Option, Some, None, if◌then◌else◌}
 use Rattle.std.specs.List.{flat_map}
 use Rattle.wh_tester.specs.Report.{shown}
@@ -13,40 +13,40 @@ step_text step =
     if nat_eq (length step.given) 0 then step.words ++ codes " =>\n"
     else step.words ++ (codes " => " ++ (step.given ++ codes "\n"))
 
--- jobs and their commands, each so
+-- jobs and their commands, as lines of a scenario
 abbrev pub steps_text : List Step → List ℕ
 steps_text steps = flat_map step_text steps
 
--- what is said where nothing differs
+-- the last line if nothing differs
 abbrev pub ok_text : List ℕ → ℕ → List ℕ
 ok_text name count = shown name ++ (codes ": ok, " ++ (decimal count ++ codes " jobs\n"))
 
--- of a file that is no table
+-- the last line for a file that is not a table
 abbrev pub no_table_text : List ℕ → List ℕ → List ℕ
 no_table_text name reason = shown name ++ (codes ": " ++ (shown reason ++ codes "\n"))
 
--- of words that are no job
+-- the last line for words that are not a job
 abbrev pub no_job_text : List ℕ → ℕ → List ℕ → List ℕ
 no_job_text name line words =
     shown name ++ (codes ": line " ++ (decimal line ++ (codes ": no job is written `" ++ (words ++ codes "`\n"))))
 
--- of a line whose jobs are given other commands
+-- the last lines for commands that differ
 abbrev pub gives_text : List ℕ → ℕ → List ℕ → List ℕ → List ℕ
 gives_text name line given wanted =
     shown name ++ (codes ": line " ++ (decimal line ++ (codes " differs\n  expected " ++ (wanted
     ++ (codes "\n  gives    " ++ (given ++ codes "\n"))))))
 
--- what is said at the end: that nothing differs, with the number of jobs, or what does
+-- the last lines: that nothing differs, with the number of jobs, or the difference
 abbrev pub difference_text : List ℕ → ℕ → Option Difference → List ℕ
 difference_text name count None = ok_text name count
 difference_text name count (Some (differences.NoTable reason)) = no_table_text name reason
 difference_text name count (Some (differences.NoJob line words)) = no_job_text name line words
 difference_text name count (Some (differences.Gives line given wanted)) = gives_text name line given wanted
 
--- that of a trial
+-- the last lines of a trial
 abbrev pub end_text : List ℕ → Trial → List ℕ
 end_text name own = difference_text name (length own.steps) own.difference
 
--- what is written of a trial: its jobs, and what is said at the end
+-- a trial as text: its jobs, and the last lines
 abbrev pub trial_text : List ℕ → Trial → List ℕ
 trial_text name own = steps_text own.steps ++ end_text name own

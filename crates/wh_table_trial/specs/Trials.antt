@@ -1,4 +1,4 @@
--- What a table gives to the jobs of a scenario, and where it differs.
+-- The commands that a table gives to the jobs of a scenario, and where they differ from it.
 use Rattle.std.specs.Prelude.{ℕ, List, [], ◌∷◌, ◌++◌, map, bytes_eq, codes, Option, Some, None, Result, Ok, Err, if◌then◌else◌}
 use Rattle.wh_events.specs.declared.event.Payload.{Payload}
 use Rattle.wh_workflow.specs.declared.command.Command.{Command}
@@ -27,38 +27,38 @@ use Rattle.wh_table_trial.specs.Entries.{scenario_entries}
 abbrev pub table_payload : List ℕ → Payload
 table_payload bytes = record { encoding = codes "json/plain"; content = bytes }
 
--- the job, where a start brings the table
+-- the job; a start gets the table before its input
 abbrev pub started : List ℕ → Job → Job
 started bytes (jobs.Start workflow input) = jobs.Start workflow (table_payload bytes ∷ input)
 started bytes job = job
 
--- a payload, or `TABLE` in place of the table
+-- the payload, or `TABLE` instead of the table
 abbrev pub named : List ℕ → Payload → Payload
 named bytes payload =
     if bytes_eq payload.content bytes then record { encoding = payload.encoding; content = codes "TABLE" } else payload
 
--- a command, with `TABLE` in place of the table where it goes on as new
+-- the command, with `TABLE` instead of the table if it continues as a new run
 abbrev pub shorter : List ℕ → Command → Command
 shorter bytes (commands.ContinueAsNew workflow input) = commands.ContinueAsNew workflow (map (named bytes) input)
 shorter bytes command = command
 
--- commands, as a scenario writes them
+-- commands as a scenario writes them
 abbrev pub given_text : List ℕ → List Command → List ℕ
 given_text bytes given = commands_text (map (shorter bytes) given)
 
 -- ---- A run
 
--- how far a trial has come: the run, the commands of the line so far, and the jobs so far
+-- the state of a trial: the run, the commands of the line so far, and the jobs so far
 pub record At : Type 0 where
   pub state : TableState
   pub given : List Command
   pub steps : List Step
 
--- what the program has of it
+-- the same of the program's type
 abbrev pub seen : Run → At
 seen run = record { state = run.state; given = run.given.items; steps = run.steps.items }
 
--- it is given a job, whose words are these
+-- the trial after a job, with these words
 abbrev pub taken : List ℕ → At → List ℕ → Job → At
 taken bytes run words job = record {
   state = table.after run.state job;
@@ -66,57 +66,57 @@ taken bytes run words job = record {
   steps = run.steps ++ record { words = words; given = given_text bytes (table.gives run.state job) } ∷ [];
 }
 
--- it is given a job of a scenario
+-- the trial after a job of a scenario
 abbrev pub told : List ℕ → At → List ℕ → Job → At
 told bytes run words job = taken bytes run words (started bytes job)
 
--- what follows a thing that a scenario says
+-- the trial after an entry of a scenario
 abbrev pub later : List ℕ → At → Entry → At
 later bytes run (Told words job) = told bytes run words job
 later bytes run (NoJob line words) = run
 later bytes run (LineEnd line wanted) = record run { given = [] }
 
--- where a line wants other commands, if it says some
+-- the difference, if a line expects other commands
 abbrev pub differs : ℕ → List ℕ → Option (List ℕ) → Option Difference
 differs line given None = None
 differs line given (Some wanted) = if bytes_eq given wanted then None else Some (differences.Gives line given wanted)
 
--- where it differs at a thing that a scenario says
+-- the difference at an entry of a scenario
 abbrev pub stop : List ℕ → At → Entry → Option Difference
 stop bytes run (Told words job) = None
 stop bytes run (NoJob line words) = Some (differences.NoJob line words)
 stop bytes run (LineEnd line wanted) = differs line (given_text bytes run.given) wanted
 
--- what came of it
+-- the result
 abbrev pub ended : At → Option Difference → Trial
 ended run difference = record { steps = run.steps; difference = difference }
 
--- what came of it, where it differs, or else what comes of the rest
+-- the result if there is a difference, and else that of the rest
 abbrev pub unless : At → Option Difference → Trial → Trial
 unless run None rest = rest
 unless run (Some difference) rest = ended run (Some difference)
 
--- what comes of all that a scenario says
+-- the result of all entries of a scenario
 abbrev pub tried : List ℕ → At → List Entry → Trial
 tried bytes run [] = ended run None
 tried bytes run (entry ∷ rest) =
     unless (later bytes run entry) (stop bytes run entry) (tried bytes (later bytes run entry) rest)
 
--- before the first job
+-- the trial before the first job
 abbrev pub begun : At
 begun = record { state = table.begun (codes "Table") [] table.no_table; given = []; steps = [] }
 
 -- ---- A file
 
--- what comes of what is no table
+-- the result for a file that is not a table
 abbrev pub no_table : TableFault → Trial
 no_table fault = record { steps = []; difference = Some (differences.NoTable (fault_text fault)) }
 
--- what comes of a table, or of what is none
+-- the result for a table, or for a file that is none
 abbrev pub if_table : Result OwnedTable TableFault → Trial → Trial
 if_table (Ok read) own = own
 if_table (Err fault) own = no_table fault
 
--- what comes of a file on a scenario
+-- the result of trying a file on a scenario
 abbrev pub trial : List ℕ → List ℕ → Trial
 trial bytes scenario = if_table (table_of bytes) (tried bytes begun (scenario_entries scenario))

@@ -1,4 +1,4 @@
-//! The command `try` over a file that is there already.
+//! The command `try` for a table whose bytes have been read.
 ghost use Rattle.std.specs.Prelude.{◌≡◌, Err, IfOk};
 ghost use Rattle.std.specs.Io.KnownBytes.{Appends};
 ghost use Rattle.wh_table_trial.specs.Trials.{trial};
@@ -11,7 +11,7 @@ use std::alloc::Global;
 use std::io::Write;
 use wh_file_faults::CommandFault;
 
-/// The status of a trial: 0 where nothing differs, and else 1.
+/// Returns the status of a trial: 0 if nothing differs, and else 1.
 pub fn status_of(own: &Trial) -> u8
     ensures { result ≡ status_of own.now }
 {
@@ -21,11 +21,11 @@ pub fn status_of(own: &Trial) -> u8
     }
 }
 
-/// Tries the table that a file of that name and these bytes is on a scenario, writes what came of
-/// it, and gives that. Each job stands on a line of a scenario with the commands that it is given,
-/// up to the first line where the run differs; then the line `NAME: ok, N jobs`, or what differs:
-/// the number of the line with the expected commands and those that are given, or with the words
-/// that are no job, or the first fault of the table. Nothing is written where the answer is
+/// Tries the table in a file of this name and these bytes on a scenario, writes the result, and
+/// returns it. Each job is written as a line of a scenario, with the commands that the run gives to
+/// it, up to the first line where the run differs. Then comes the line `NAME: ok, N jobs`, or the
+/// difference: the number of the line with the expected and the given commands, or with the words
+/// that are not a job; or the first fault of the table. Nothing is written if the error is
 /// `OutOfMemory`.
 pub fn try_command<O: Write>(
     alloc: Global,

@@ -1,4 +1,4 @@
-//! What a scenario says, one thing after another.
+//! Splits a scenario into entries.
 ghost use Rattle.std.specs.Prelude.{◌≡◌, ◌++◌, IfOk, OnOk, map, option_map};
 ghost use Rattle.std.specs.Str.Lines.{lines};
 ghost use Rattle.wh_table_text.specs.Numbered.{numbered};
@@ -9,17 +9,17 @@ use wh_events::{OutOfMemory, Text};
 use wh_scenarios::{at_arrow, job_of, lines_of, parts_at};
 use wh_workflow::{Job, text_of};
 
-/// A thing that a scenario says. Lines are counted from 1.
+/// An entry of a scenario. Lines are counted from 1.
 #[derive(Drop)]
 pub(crate) enum Entry {
     /// A job.
     Told {
-        /// Its words.
+        /// The words of the job.
         words: Text,
         /// The job.
         job: Job,
     },
-    /// Words that are no job.
+    /// Words that are not a job.
     NoJob {
         /// The number of the line.
         line: usize,
@@ -30,12 +30,12 @@ pub(crate) enum Entry {
     LineEnd {
         /// The number of the line.
         line: usize,
-        /// The commands that its jobs are to be given, if it says them.
+        /// The commands that the line expects for its jobs, if it has an arrow.
         wanted: Option<Text>,
     },
 }
 
-/// The job that words of the line of that number are.
+/// Returns the entry of these words in the line of this number: a job, or words that are not one.
 fn entry_of(alloc: Global, line: usize, words: &str) -> Result<Entry, OutOfMemory>
     ensures { IfOk result (λ entry. entry ≡ entry_of line words.now) }
 {
@@ -52,7 +52,7 @@ fn entry_of(alloc: Global, line: usize, words: &str) -> Result<Entry, OutOfMemor
     }
 }
 
-/// Adds the jobs of the line of that number.
+/// Adds the entries of the parts of the line of this number.
 fn add_parts(
     alloc: Global,
     entries: &mut Vec<Entry>,
@@ -69,7 +69,7 @@ fn add_parts(
     Ok(())
 }
 
-/// Adds the jobs of words of a line, which are separated by semicolons.
+/// Adds the entries of words that are separated by semicolons, in the line of this number.
 fn add_jobs(
     alloc: Global,
     entries: &mut Vec<Entry>,
@@ -82,7 +82,7 @@ fn add_jobs(
     add_parts(alloc, entries, line, parts.as_slice())
 }
 
-/// The commands that a line wants, if it says them.
+/// Returns the commands that a line expects, if it has an arrow.
 fn wanted_of(alloc: Global, wanted: Option<&str>) -> Result<Option<Text>, OutOfMemory>
     ensures { IfOk result (λ text. text ≡ option_map (λ words. words.now) wanted.entry) }
 {
@@ -92,7 +92,7 @@ fn wanted_of(alloc: Global, wanted: Option<&str>) -> Result<Option<Text>, OutOfM
     }
 }
 
-/// Adds the end of the line of that number.
+/// Adds the end of the line of this number.
 fn add_end(
     alloc: Global,
     entries: &mut Vec<Entry>,
@@ -107,7 +107,7 @@ fn add_end(
     Ok(())
 }
 
-/// Adds what the line of that number says, which is not blank.
+/// Adds the entries of the line of this number, which is not blank.
 fn add_sides(
     alloc: Global,
     entries: &mut Vec<Entry>,
@@ -128,7 +128,7 @@ fn add_sides(
     }
 }
 
-/// Adds what the line of that number says.
+/// Adds the entries of the line of this number; a blank line has none.
 fn add_line(
     alloc: Global,
     entries: &mut Vec<Entry>,
@@ -143,7 +143,7 @@ fn add_line(
     add_sides(alloc, entries, line, words)
 }
 
-/// What lines say.
+/// Returns the entries of these lines.
 fn lines_entries(alloc: Global, lines: &[&str]) -> Result<Vec<Entry>, OutOfMemory>
     ensures { IfOk result (λ entries.
         entries.items ≡ numbered place_entries 0 (map (λ line. line.now) lines.now)) }
@@ -155,7 +155,7 @@ fn lines_entries(alloc: Global, lines: &[&str]) -> Result<Vec<Entry>, OutOfMemor
     Ok(entries)
 }
 
-/// What a scenario says.
+/// Returns the entries of a scenario.
 pub(crate) fn scenario_entries(alloc: Global, scenario: &str) -> Result<Vec<Entry>, OutOfMemory>
     ensures { IfOk result (λ entries. entries.items ≡ scenario_entries scenario.now) }
 {

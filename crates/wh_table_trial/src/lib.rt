@@ -1,8 +1,8 @@
-//! Tries the table of a file on a scenario: which commands each job is given.
+//! Tries the table of a file on a scenario, and shows which commands a run gives to each job.
 //!
-//! A scenario is written as `wh_scenarios` says, for one run of the type `Table` after another:
-//! each `start` begins a run of the table, which is put in front of its input. A line without an
-//! arrow wants nothing. Where a run goes on as new with the same table, that stands as `TABLE`.
+//! A scenario is written as in `wh_scenarios`, for runs of the type `Table` one after another: each
+//! `start` begins a new run, with the table added before its input. A line without an arrow expects
+//! nothing. If a run continues as a new run of the same table, the table is written as `TABLE`.
 #![tactic(auto)]
 
 mod commands;

@@ -1,4 +1,4 @@
-//! A run of a table on a scenario.
+//! Runs a table on a scenario.
 ghost use Rattle.std.specs.Prelude.{◌≡◌, ◌∷◌, [], IfOk, OnOk, map};
 ghost use Rattle.wh_table.specs.Program.{after, gives};
 ghost use Rattle.wh_table_trial.specs.Entries.{scenario_entries};
@@ -13,7 +13,7 @@ use wh_table::{TableState, TableWorkflow};
 use wh_table_text::{TableFault, fault_text, read_table};
 use wh_workflow::{Command, Job, Meter, Workflow};
 
-/// A job of a scenario, and the commands that it is given.
+/// A job of a scenario, and the commands that the run gives to it.
 #[derive(Drop)]
 pub struct Step {
     /// The words of the job.
@@ -25,57 +25,57 @@ pub struct Step {
 /// Where a run differs from a scenario. Lines are counted from 1.
 #[derive(Drop)]
 pub enum Difference {
-    /// The file is no table.
+    /// The file is not a table.
     NoTable {
-        /// Why it is none.
+        /// The reason: the first fault of the table.
         reason: Text,
     },
-    /// A line has words that are no job.
+    /// A line has words that are not a job.
     NoJob {
         /// The number of the line.
         line: usize,
         /// The words.
         words: Text,
     },
-    /// The jobs of a line are given other commands.
+    /// The run gives other commands to the jobs of a line.
     Gives {
         /// The number of the line.
         line: usize,
-        /// What they are given.
+        /// The commands that it gives.
         given: Text,
-        /// What the line wants.
+        /// The commands that the line expects.
         wanted: Text,
     },
 }
 
-/// What came of a scenario.
+/// The result of trying a table on a scenario.
 #[derive(Drop)]
 pub struct Trial {
-    /// Its jobs, up to the first line where a run differs.
+    /// The jobs, up to the first line where the run differs.
     pub steps: Items<Step>,
-    /// Where it differs, if it does.
+    /// The difference, if there is one.
     pub difference: Option<Difference>,
 }
 
-/// How far a trial has come.
+/// The state of a trial.
 #[derive(Drop)]
 struct Run {
-    /// The run of the table.
+    /// The state of the run.
     state: TableState,
     /// The commands of the line so far.
     given: Vec<Command>,
-    /// The jobs so far.
+    /// The jobs so far, with their commands.
     steps: Vec<Step>,
 }
 
-/// The bytes of a text.
+/// Returns the bytes of a text.
 fn bytes_of(alloc: Global, text: &str) -> Result<Items<u8>, OutOfMemory>
     ensures { IfOk result (λ bytes. bytes ≡ text.now) }
 {
     Ok(Items::new(text.as_bytes().to_vec(alloc)?))
 }
 
-/// The payload of a JSON text.
+/// Returns a JSON text as a payload with the encoding `json/plain`.
 fn table_payload(alloc: Global, table: &[u8]) -> Result<Payload, OutOfMemory>
     ensures { IfOk result (λ payload. payload ≡ table_payload table.now) }
 {
@@ -85,7 +85,7 @@ fn table_payload(alloc: Global, table: &[u8]) -> Result<Payload, OutOfMemory>
     })
 }
 
-/// The payloads, behind the table.
+/// Returns the payloads with the table before them.
 fn behind_table(
     alloc: Global,
     table: &[u8],
@@ -101,7 +101,7 @@ fn behind_table(
     Ok(Items::new(all))
 }
 
-/// Gives a run of the table a job.
+/// Gives a job to a run of the table, and returns its commands.
 fn answer(alloc: Global, state: &mut TableState, job: &Job) -> Result<Vec<Command>, OutOfMemory>
     ensures commands { IfOk result (λ given. given.items ≡ gives state.old job.now) }
     ensures state { OnOk result (state.new ≡ after state.old job.now) }
@@ -112,7 +112,7 @@ fn answer(alloc: Global, state: &mut TableState, job: &Job) -> Result<Vec<Comman
     Ok(given)
 }
 
-/// Gives a run of the table a job, where a start brings the table.
+/// Gives a job to a run of the table; a start gets the table before its input.
 fn give(
     alloc: Global,
     table: &[u8],
@@ -134,7 +134,7 @@ fn give(
     }
 }
 
-/// A payload, or `TABLE` in place of the table.
+/// Returns the payload, or `TABLE` instead of the table.
 fn named(alloc: Global, table: &[u8], payload: &Payload) -> Result<Payload, OutOfMemory>
     ensures { IfOk result (λ own. own ≡ named table.now payload.now) }
 {
@@ -148,7 +148,7 @@ fn named(alloc: Global, table: &[u8], payload: &Payload) -> Result<Payload, OutO
     }
 }
 
-/// Payloads, with `TABLE` in place of the table.
+/// Returns the payloads, with `TABLE` instead of the table.
 fn all_named(alloc: Global, table: &[u8], input: &[Payload]) -> Result<Items<Payload>, OutOfMemory>
     ensures { IfOk result (λ all. all ≡ map (named table.now) input.now) }
 {
@@ -160,7 +160,7 @@ fn all_named(alloc: Global, table: &[u8], input: &[Payload]) -> Result<Items<Pay
     Ok(Items::new(all))
 }
 
-/// A command, with `TABLE` in place of the table where it goes on as new.
+/// Returns the command, with `TABLE` instead of the table if it continues as a new run.
 fn shorter(alloc: Global, table: &[u8], command: &Command) -> Result<Command, OutOfMemory>
     ensures { IfOk result (λ own. own ≡ shorter table.now command.now) }
 {
@@ -173,7 +173,7 @@ fn shorter(alloc: Global, table: &[u8], command: &Command) -> Result<Command, Ou
     }
 }
 
-/// Commands, each so.
+/// Returns the commands, with `TABLE` instead of the table.
 fn all_shorter(
     alloc: Global,
     table: &[u8],
@@ -189,7 +189,7 @@ fn all_shorter(
     Ok(all)
 }
 
-/// Commands, as a scenario writes them.
+/// Returns the commands as a scenario writes them.
 fn given_text(alloc: Global, table: &[u8], commands: &[Command]) -> Result<Text, OutOfMemory>
     ensures { IfOk result (λ text. text ≡ given_text table.now commands.now) }
 {
@@ -198,7 +198,7 @@ fn given_text(alloc: Global, table: &[u8], commands: &[Command]) -> Result<Text,
     Ok(Text::new(text))
 }
 
-/// Where a line wants other commands than its jobs are given, if it says some.
+/// Returns the difference, if a line expects other commands than the run gives.
 fn differs(
     line: usize,
     given: Text,
@@ -222,7 +222,7 @@ fn differs(
     }
 }
 
-/// Gives a run a job of a scenario.
+/// Gives a job of a scenario to the run, and notes its commands.
 fn take_job(
     alloc: Global,
     table: &[u8],
@@ -242,7 +242,7 @@ fn take_job(
     Ok(())
 }
 
-/// Ends a line.
+/// Ends a line: compares the commands if it expects some.
 fn end_line(
     alloc: Global,
     table: &[u8],
@@ -260,7 +260,7 @@ fn end_line(
     Ok(difference)
 }
 
-/// Takes a thing that a scenario says.
+/// Processes an entry of a scenario.
 fn take_entry(
     alloc: Global,
     table: &[u8],
@@ -283,7 +283,7 @@ fn take_entry(
     }
 }
 
-/// Takes all that a scenario says, up to the first line where the run differs.
+/// Processes the entries of a scenario, up to the first line where the run differs.
 fn take_entries(
     alloc: Global,
     table: &[u8],
@@ -301,7 +301,7 @@ fn take_entries(
     Ok(None)
 }
 
-/// Tries a table that can be read.
+/// Runs a valid table on a scenario.
 fn run_scenario(alloc: Global, table: &[u8], scenario: &str) -> Result<Trial, OutOfMemory>
     ensures { IfOk result (λ own. own ≡ tried table.now begun (scenario_entries scenario.now)) }
 {
@@ -325,7 +325,7 @@ fn run_scenario(alloc: Global, table: &[u8], scenario: &str) -> Result<Trial, Ou
     })
 }
 
-/// Tries what is no table.
+/// Returns the result for a file that is not a table.
 fn no_table(alloc: Global, fault: TableFault) -> Result<Trial, OutOfMemory>
     ensures { IfOk result (λ own. own ≡ no_table fault) }
 {
@@ -336,9 +336,9 @@ fn no_table(alloc: Global, fault: TableFault) -> Result<Trial, OutOfMemory>
     })
 }
 
-/// Tries the table that these bytes are on a scenario: the jobs, each with the commands that a run
-/// of the type `Table` is given, up to the first line that wants others or has words that are no
-/// job. `OutOfMemory` where an allocation was refused.
+/// Tries the table that these bytes are on a scenario. The result has the jobs, each with the
+/// commands that a run of the type `Table` gives to it, up to the first line that expects other
+/// commands or has words that are not a job. `OutOfMemory` if an allocation was refused.
 pub fn try_table(alloc: Global, table: &[u8], scenario: &str) -> Result<Trial, OutOfMemory>
     ensures { IfOk result (λ own. own ≡ trial table.now scenario.now) }
 {

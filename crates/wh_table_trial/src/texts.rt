@@ -1,4 +1,4 @@
-//! What came of a scenario, as text.
+//! Writes the result of a trial as text.
 ghost use Rattle.std.specs.Prelude.{◌≡◌, IfOk, string_bytes};
 ghost use Rattle.wh_table_trial.specs.Texts.{step_text, steps_text, ok_text, no_table_text, no_job_text, gives_text, end_text, trial_text};
 
@@ -6,7 +6,7 @@ use crate::running::{Difference, Step, Trial};
 use std::alloc::{AllocError, Global};
 use wh_tester::Shown;
 
-/// A job and its commands, as a line of a scenario.
+/// Returns a job and its commands, as a line of a scenario.
 fn step_text(alloc: Global, step: &Step) -> Result<String, AllocError>
     ensures { IfOk result (λ text. string_bytes text ≡ step_text step.now) }
 {
@@ -19,7 +19,7 @@ fn step_text(alloc: Global, step: &Step) -> Result<String, AllocError>
     }
 }
 
-/// Jobs and their commands, each so.
+/// Returns jobs and their commands, as lines of a scenario.
 fn steps_text(alloc: Global, steps: &[Step]) -> Result<String, AllocError>
     ensures { IfOk result (λ text. string_bytes text ≡ steps_text steps.now) }
 {
@@ -31,7 +31,7 @@ fn steps_text(alloc: Global, steps: &[Step]) -> Result<String, AllocError>
     Ok(text)
 }
 
-/// What is said where nothing differs.
+/// Returns the last line if nothing differs.
 fn ok_text(alloc: Global, name: &str, count: usize) -> Result<String, AllocError>
     ensures { IfOk result (λ text. string_bytes text ≡ ok_text name.now count) }
 {
@@ -39,7 +39,7 @@ fn ok_text(alloc: Global, name: &str, count: usize) -> Result<String, AllocError
     format!(in alloc; "{name}: ok, {count} jobs\n")
 }
 
-/// What is said of a file that is no table.
+/// Returns the last line for a file that is not a table.
 fn no_table_text(alloc: Global, name: &str, reason: &str) -> Result<String, AllocError>
     ensures { IfOk result (λ text. string_bytes text ≡ no_table_text name.now reason.now) }
 {
@@ -48,7 +48,7 @@ fn no_table_text(alloc: Global, name: &str, reason: &str) -> Result<String, Allo
     format!(in alloc; "{name}: {reason}\n")
 }
 
-/// What is said of words that are no job.
+/// Returns the last line for words that are not a job.
 fn no_job_text(alloc: Global, name: &str, line: usize, words: &str) -> Result<String, AllocError>
     ensures { IfOk result (λ text. string_bytes text ≡ no_job_text name.now line words.now) }
 {
@@ -56,7 +56,7 @@ fn no_job_text(alloc: Global, name: &str, line: usize, words: &str) -> Result<St
     format!(in alloc; "{name}: line {line}: no job is written `{words}`\n")
 }
 
-/// What is said of a line whose jobs are given other commands.
+/// Returns the last lines for commands that differ.
 fn gives_text(
     alloc: Global,
     name: &str,
@@ -70,7 +70,7 @@ fn gives_text(
     format!(in alloc; "{name}: line {line} differs\n  expected {wanted}\n  gives    {given}\n")
 }
 
-/// What is said at the end.
+/// Returns the last lines: that nothing differs, or the difference.
 fn end_text(alloc: Global, name: &str, own: &Trial) -> Result<String, AllocError>
     ensures { IfOk result (λ text. string_bytes text ≡ end_text name.now own.now) }
 {
@@ -88,7 +88,7 @@ fn end_text(alloc: Global, name: &str, own: &Trial) -> Result<String, AllocError
     }
 }
 
-/// What came of a scenario of the table in a file of that name.
+/// Returns the result of trying the table in a file of this name, as text.
 pub(crate) fn trial_text(alloc: Global, name: &str, own: &Trial) -> Result<String, AllocError>
     ensures { IfOk result (λ text. string_bytes text ≡ trial_text name.now own.now) }
 {
