@@ -1,11 +1,11 @@
-//! Whether two lists of sources were sent the same answers.
+//! Compares the answers that two lists of sources were sent.
 ghost use Rattle.std.specs.Prelude.{◌≡◌, IsTrue, map};
 
 use crate::same::same_all;
 use wh_recorded::ScriptSource;
 
-/// Whether each source was sent what the other one in its place was sent. Answers to activities are
-/// never found the same.
+/// Returns whether each source was sent the same as the other one at its place. Answers to
+/// activities are never the same.
 pub fn are_alike(sources: &[ScriptSource], others: &[ScriptSource]) -> bool
     ensures { IsTrue result → map (λ source. source.answers) sources.now ≡ map (λ source. source.answers) others.now }
 {

@@ -1,4 +1,5 @@
-//! Compares what sources of recorded histories were sent: whether two hosts gave the same answers.
+//! Compares the answers that sources of recorded histories were sent: whether two hosts gave the
+//! same.
 #![tactic(auto)]
 
 mod alike;

@@ -1,4 +1,4 @@
-//! Whether two answers are the same: in each function, what it finds the same is equal.
+//! Compares two answers. Each function returns true only for answers that are equal.
 ghost use Rattle.std.specs.Prelude.{◌≡◌, IsTrue};
 
 use wh_events::{Items, Payload, Text};
@@ -7,16 +7,16 @@ use wh_slots::TaskName;
 use wh_tasks::Sent;
 use wh_workflow::Command;
 
-/// What can be compared.
+/// A value that can be compared.
 pub(crate) trait Same {
     ghost use Rattle.std.specs.Prelude.{◌≡◌, IsTrue};
 
-    /// Whether both are the same.
+    /// Returns whether both are the same.
     fn is_same(&self, other: &Self) -> bool
         ensures { IsTrue result → self.now ≡ other.now };
 }
 
-/// Whether both lists have the same items in the same order.
+/// Returns whether both lists have the same items in the same order.
 pub(crate) fn same_all<T: Same>(left: &[T], right: &[T]) -> bool
     ensures { IsTrue result → left.now ≡ right.now }
 {
@@ -37,14 +37,14 @@ impl Same for Payload {
     }
 }
 
-/// Whether both texts are the same.
+/// Returns whether both texts are the same.
 fn same_text(left: &Text, right: &Text) -> bool
     ensures { IsTrue result → left.now ≡ right.now }
 {
     left.get() == right.get()
 }
 
-/// Whether both names and what they are given are the same.
+/// Returns whether both names and inputs are the same.
 fn same_call(
     name: &Text,
     input: &Items<Payload>,
@@ -57,7 +57,7 @@ fn same_call(
     same_text(name, other_name) && same_all(input.get(), other_input.get())
 }
 
-/// Whether both ids, names and what they are given are the same.
+/// Returns whether both ids, names and inputs are the same.
 fn same_work(
     id: &Text,
     name: &Text,
@@ -73,7 +73,7 @@ fn same_work(
     same_text(id, other_id) && same_call(name, input, other_name, other_input)
 }
 
-/// Whether both give the same work to others.
+/// Returns whether both commands start the same.
 #[rattlefmt::skip]
 fn same_order(left: &Command, right: &Command) -> bool
     ensures { IsTrue result → left.now ≡ right.now }
@@ -92,7 +92,7 @@ fn same_order(left: &Command, right: &Command) -> bool
     }
 }
 
-/// Whether both close the run, and with the same.
+/// Returns whether both commands close the run in the same way.
 #[rattlefmt::skip]
 fn same_close(left: &Command, right: &Command) -> bool
     ensures { IsTrue result → left.now ≡ right.now }
@@ -110,7 +110,7 @@ fn same_close(left: &Command, right: &Command) -> bool
 }
 
 impl Same for Command {
-    /// Asks are never found the same: none is sent.
+    /// Requests for versions are never the same, since none is sent.
     #[rattlefmt::skip]
     fn is_same(&self, other: &Command) -> bool {
         match (self, other) {
@@ -127,7 +127,7 @@ impl Same for Command {
     }
 }
 
-/// Whether both answers are the same. Those to activities never are.
+/// Returns whether both answers are the same. Answers to activities never are.
 fn same_answer(left: &Sent, right: &Sent) -> bool
     ensures { IsTrue result → left.now ≡ right.now }
 {

@@ -1,4 +1,4 @@
-//! A workflow that is easily told what it can't do.
+//! A workflow whose timers come and go, so that many histories do not fit it.
 ghost use Rattle.std.specs.Prelude.{◌≡◌, codes, if◌then◌else◌, IfOk};
 ghost use Rattle.wh_workflow.specs.declared.command.Command.TheVariants.{StartTimer, CancelTimer};
 

@@ -1,6 +1,6 @@
-//! Makes calls of the libraries, each by its name on fixed histories, and prints for each what
-//! stands before it, what it answers and what stands after it. tests/refusals.py refuses requests
-//! for memory between the first of these lines and the second.
+//! Makes calls of the libraries, each by its name on fixed histories, and prints for each the state
+//! before it, its answer and the state after it. tests/refusals.py refuses allocations between the
+//! first of these lines and the second.
 
 mod files;
 mod hosts;
@@ -91,7 +91,7 @@ impl Call {
     }
 }
 
-/// Makes a call. `None` where what it is made on can't be made.
+/// Makes a call. `None` if its arguments can't be made.
 fn make<R: Print + Threads + Wait + Sync>(rt: &R, alloc: Global, call: Call) -> Option<()> {
     let name = call.name();
     match call {
@@ -119,8 +119,8 @@ fn make<R: Print + Threads + Wait + Sync>(rt: &R, alloc: Global, call: Call) -> 
     }
 }
 
-/// Makes each call that has this name, or all calls where it is "". `None` where what one is made
-/// on can't be made.
+/// Makes each call that has this name, or all calls if it is "". `None` if the arguments of one
+/// can't be made.
 pub(crate) fn call_all<R: Print + Threads + Wait + Sync>(
     rt: &R,
     alloc: Global,

@@ -1,4 +1,4 @@
-//! Counts of histories, of which both replays say the same or not.
+//! Counts histories whose two replays are compared.
 use crate::lookups::same_lookups;
 use crate::replay::{check, copy_of};
 use std::alloc::Global;
@@ -6,18 +6,18 @@ use wh_events::{Event, OutOfMemory};
 use wh_replay::{Checked, Fault, RunFault};
 use wh_workflow::Workflow;
 
-/// How many histories were compared, and what both replays said of them.
+/// How many histories were compared, and the results of both replays.
 #[derive(Clone, Copy)]
 pub(crate) struct Counts {
     /// All histories.
     pub(crate) histories: u64,
-    /// Those of which both replays say the same, and whose look-ups are alike if they are in place.
+    /// Those with the same result of both replays and, if they are in place, the same look-ups.
     pub(crate) alike: u64,
     /// Those that replay.
     pub(crate) good: u64,
     /// Those with a fault of place.
     pub(crate) misplaced: u64,
-    /// Those with a command that can't stand, or without code.
+    /// Those with an invalid command, or whose workflow type is not registered.
     pub(crate) faulty: u64,
     /// Those whose commands differ from a record.
     pub(crate) different: u64,
@@ -48,7 +48,7 @@ impl Counts {
     }
 }
 
-/// Compares what both replays say of a history, and counts it.
+/// Compares the results of both replays of a history, and counts it.
 pub(crate) fn compare<W: Workflow>(
     alloc: Global,
     events: &[Event],
@@ -66,7 +66,7 @@ pub(crate) fn compare<W: Workflow>(
     Ok(())
 }
 
-/// Compares what both replays say of each beginning of a history.
+/// Compares the results of both replays of each beginning of a history.
 pub(crate) fn compare_all<W: Workflow>(
     alloc: Global,
     events: &[Event],

@@ -1,4 +1,4 @@
-//! Which events are cuts, and what their records are, found by going over what follows.
+//! Which events are cuts, and what their records are, found by going through the later events.
 use wh_events::{Class, Event, EventKind};
 
 /// The first event that is not inert.
@@ -36,7 +36,7 @@ pub(crate) fn is_recorded(rest: &[Event]) -> bool {
     }
 }
 
-/// What stands before the next completed task, or the end.
+/// The events before the next completed task, or all.
 pub(crate) fn until_completed(events: &[Event]) -> &[Event] {
     for (place, event) in events.iter().enumerate() {
         if completes(event) {
@@ -46,7 +46,7 @@ pub(crate) fn until_completed(events: &[Event]) -> &[Event] {
     events
 }
 
-/// What stands after the next completed task.
+/// The events after the next completed task.
 pub(crate) fn after_completed(events: &[Event]) -> &[Event] {
     for (place, event) in events.iter().enumerate() {
         if completes(event) {

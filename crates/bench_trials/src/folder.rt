@@ -4,7 +4,7 @@ use std::rt::Files;
 use wh_files::{Input, folder_inputs, read_input};
 
 /// The files of a folder whose names end in `.json`, by name and bytes, in the order of the bytes
-/// of their names. `None` where one of them can't be read, as where a name is no UTF-8.
+/// of their names. `None` if one of them can't be read, for example if a name is not UTF-8.
 pub(crate) fn files_of<R: Files + AllocGlobal + Clone + Drop>(
     rt: &R,
     dir: &str,

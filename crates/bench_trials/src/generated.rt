@@ -8,7 +8,7 @@ use wh_events::{Event, OutOfMemory};
 /// The most events after the start of a history of letters.
 const MOST_EVENTS: usize = 14;
 
-/// A number below the bound; 0 where that is 0.
+/// A number below the bound, or 0 if the bound is 0.
 fn below(random: &mut Pcg32, bound: usize) -> usize {
     random.next_word() as usize % bound.max(1)
 }
@@ -35,7 +35,7 @@ fn push_letters(
     Ok(())
 }
 
-/// A history of letters, most of which are those of tasks and timers, with small references.
+/// A history of letters, mostly those of tasks and timers, with small references.
 pub(crate) fn of_letters(alloc: Global, random: &mut Pcg32) -> Result<Vec<Event>, OutOfMemory> {
     let mut events = Vec::new(alloc);
     let pushed = push_letters(alloc, random, &mut events);
@@ -47,8 +47,8 @@ fn append_copy(events: &mut Vec<Event>, event: &Event) -> Result<(), OutOfMemory
     append(events, 0, event.body.try_copy()?)
 }
 
-/// Appends the events of a history, with one left out, with that of another place after it, or
-/// with that in its place.
+/// Appends the events of a history with one omitted, one replaced by that of another place, or that
+/// one added after it.
 fn push_changed(
     random: &mut Pcg32,
     events: &mut Vec<Event>,

@@ -1,4 +1,4 @@
-//! A long run that goes on by so many tasks, one call of `Run::advance` for each.
+//! A long run that advances by so many tasks, with one call of `Run::advance` for each.
 ghost use Rattle.std.specs.Prelude.{◌≡◌, ◌++◌, IfSome};
 ghost use Rattle.wh_replay.specs.Runs.{advance_steps};
 ghost use Rattle.wh_workflow.specs.Counting.{risen};
@@ -19,16 +19,16 @@ const LONG: LongRun = LongRun {
     timers: 64,
 };
 
-/// What is done with it.
+/// The calls of a plan.
 #[derive(Clone, Copy)]
 pub(crate) struct Plan {
     /// How many tasks of the run are completed before the calls.
     pub(crate) tasks: u64,
-    /// How many calls are made. Each lets the run go on by one task.
+    /// How many calls are made. Each advances the run by one task.
     pub(crate) calls: u64,
 }
 
-/// What the calls of a plan counted and took.
+/// The steps and the time of the calls of a plan.
 #[derive(Clone, Copy)]
 struct Measured {
     /// By how many steps they raised the meter.
@@ -37,7 +37,7 @@ struct Measured {
     took: Duration,
 }
 
-/// Lets the run go on by one task. `None` where it can't go on.
+/// Advances the run by one task. `None` if it can't advance.
 fn go_on_once<W: Workflow>(
     alloc: Global,
     run: Run<W>,
@@ -52,8 +52,8 @@ fn go_on_once<W: Workflow>(
     run.advance(alloc, more, meter).ok()
 }
 
-/// How long calls took together with one that has begun at an instant. `None` where there was no
-/// clock for one of them.
+/// The time of the calls together with one that began at this instant. `None` if there was no clock
+/// for one of them.
 fn with_call<R: Clock>(
     rt: &R,
     took: Option<Duration>,
@@ -63,7 +63,7 @@ fn with_call<R: Clock>(
     Some(took?.saturating_add(call))
 }
 
-/// The run, where it ends with a task's timers to be sent.
+/// The run, if it ends with a task's timers to be sent.
 fn with_timers(run: Run<Flood>) -> Option<Run<Flood>> {
     if run.commands().len() as u64 == LONG.timers {
         Some(run)
@@ -73,9 +73,9 @@ fn with_timers(run: Run<Flood>) -> Option<Run<Flood>> {
     }
 }
 
-/// Lets the run go on by the task after so many completed ones, and adds how long the call took, if
-/// there is a clock. `None` where the run can't go on, and where it does not end with a task's
-/// timers to be sent.
+/// Advances the run by the task after so many completed ones, and adds the time of the call, if
+/// there is a clock. `None` if the run can't advance, or does not end with a task's timers to be
+/// sent.
 fn go_on<R: Clock>(
     rt: &R,
     alloc: Global,
@@ -94,8 +94,7 @@ fn go_on<R: Clock>(
     with_timers(next?)
 }
 
-/// Makes the calls of a plan. `None` where replay has a fault or no memory, and where there is no
-/// clock.
+/// Makes the calls of a plan. `None` if replay has a fault or no memory, or there is no clock.
 fn measure<R: Clock>(rt: &R, alloc: Global, plan: Plan) -> Option<Measured> {
     let Plan { tasks, calls } = plan;
     let mut meter = Meter::new();
@@ -110,8 +109,7 @@ fn measure<R: Clock>(rt: &R, alloc: Global, plan: Plan) -> Option<Measured> {
     Some(Measured { steps, took: took? })
 }
 
-/// Tells the steps that the calls of a plan count, and how long they took. `None` where they can't
-/// be made.
+/// Prints the steps and the time of the calls of a plan. `None` if they can't be made.
 pub(crate) fn tell<R: Clock + Print + Eprint>(rt: &R, alloc: Global, plan: Plan) -> Option<()> {
     let Plan { tasks, calls } = plan;
     let Measured { steps, took } = measure(rt, alloc, plan)?;

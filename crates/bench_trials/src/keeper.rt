@@ -1,4 +1,4 @@
-//! A workflow whose steps take memory for good.
+//! A workflow whose steps take memory and never free it.
 
 use std::alloc::Global;
 use std::mem;
@@ -8,12 +8,12 @@ use wh_workflow::{Command, Job, Meter, Workflow};
 /// How many bytes each signal takes.
 const BLOCK: usize = 1 << 20;
 
-/// Gives nothing to any job. Each step by a signal takes a block of memory, writes all of it and
-/// never gives it back, so the peak of the process's memory tells how many signals were given in
-/// it, whatever became of the states.
+/// Gives nothing to any job. Each step by a signal allocates a block of memory, writes all of it
+/// and never frees it, so the peak of the process's memory shows how many signals it got, whatever
+/// became of the states.
 pub(crate) struct Keeper;
 
-/// Takes a block of memory for good by a signal, and nothing by another job.
+/// Allocates a block of memory at a signal, which is never freed, and nothing at another job.
 fn keep_block(alloc: Global, job: &Job) -> Result<(), OutOfMemory> {
     if matches!(job, Job::Signal { .. }) {
         mem::forget(vec![in alloc; 1u8; BLOCK]?);

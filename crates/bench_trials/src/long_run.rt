@@ -1,4 +1,4 @@
-//! Histories of long runs, each of whose tasks does the same.
+//! Histories of long runs whose tasks are all alike.
 use crate::notation::{append, signal, start};
 use std::alloc::Global;
 use wh_events::{Event, EventKind, OutOfMemory, RunKey, Text};
@@ -15,17 +15,17 @@ pub(crate) struct LongRun {
 }
 
 impl LongRun {
-    /// How many events stand before the task that is taken after so many completed ones: those of
-    /// each, which are its completion, its timers, a signal and the start of the next, and the
-    /// first three of the run.
+    /// Returns how many events come before the task that starts after so many completed ones: for
+    /// each of those its completion, its timers, a signal and the start of the next, and the first
+    /// three of the run.
     fn events_before(self, tasks: u64) -> u64 {
         tasks
             .saturating_mul(self.timers.saturating_add(4))
             .saturating_add(3)
     }
 
-    /// Appends what completes a task, counted from 0, and the next one up to its start, to events
-    /// that go on after so many others.
+    /// Appends the events that complete a task, counted from 0, and the next one up to its start,
+    /// to events that come after so many others.
     fn append_task(
         self,
         alloc: Global,
@@ -41,7 +41,7 @@ impl LongRun {
         append_start(events, after, signal(alloc, "more")?)
     }
 
-    /// So many completed tasks, and one more that is taken.
+    /// Returns so many completed tasks, and one more that is started.
     fn first_tasks(self, alloc: Global, tasks: u64) -> Result<Vec<Event>, OutOfMemory> {
         let mut events = Vec::new(alloc);
         append_start(&mut events, 0, start(alloc, self.workflow)?)?;
@@ -51,14 +51,14 @@ impl LongRun {
         Ok(events)
     }
 
-    /// What completes the task after so many, and the next one up to its start.
+    /// Returns the events that complete the task after so many, and the next one up to its start.
     pub(crate) fn next_task(self, alloc: Global, tasks: u64) -> Result<Vec<Event>, OutOfMemory> {
         let mut events = Vec::new(alloc);
         self.append_task(alloc, &mut events, self.events_before(tasks), tasks)?;
         Ok(events)
     }
 
-    /// The run of so many completed tasks. `None` where it can't be made.
+    /// Returns the run of so many completed tasks. `None` if it can't be made.
     pub(crate) fn replayed<W: Workflow>(
         self,
         alloc: Global,
@@ -70,7 +70,7 @@ impl LongRun {
     }
 }
 
-/// Appends a task up to its start: what it is told, and that it is put in the queue and taken.
+/// Appends a task up to its start: its signal or start event, and that it is scheduled and started.
 fn append_start(events: &mut Vec<Event>, after: u64, told: EventKind) -> Result<(), OutOfMemory> {
     append(events, after, told)?;
     append(events, after, EventKind::WorkflowTaskScheduled)?;

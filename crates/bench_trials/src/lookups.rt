@@ -1,4 +1,4 @@
-//! The look-ups of a track, compared with going over its events.
+//! The look-ups of a track, compared with going through its events.
 use crate::replay::track_of;
 use crate::things::{last_named, open_named, status_at};
 use std::alloc::Global;
@@ -8,13 +8,13 @@ use wh_machines::Track;
 /// The kinds of things that are looked up by id.
 const KINDS: [OpenKind; 3] = [OpenKind::Activity, OpenKind::Timer, OpenKind::Child];
 
-/// The last thing of a kind and an id, and where it stands after the events.
+/// The last thing of a kind and an id, and its status after the events.
 fn last_of(events: &[Event], thing: Thing, id: &str) -> Option<(EventNo, Status)> {
     let last = last_named(events, thing, id)?;
     Some((last, status_at(events, last)?))
 }
 
-/// Whether the things of a kind and an id are looked up alike, the last one at each place.
+/// Whether the look-ups of things of a kind and an id agree, for the last one at each place.
 fn same_names(track: &Track, events: &[Event], kind: OpenKind, id: &str) -> bool {
     let thing = kind.thing();
     for place in 0..=events.len() {
@@ -26,7 +26,7 @@ fn same_names(track: &Track, events: &[Event], kind: OpenKind, id: &str) -> bool
         && track.last_named(kind, id) == last_named(events, thing, id)
 }
 
-/// Whether all things with the id that an event opens one under are looked up alike.
+/// Whether the look-ups of all things with the id of the one that an event opens agree.
 fn same_things(track: &Track, events: &[Event], event: &Event) -> bool {
     let Role::Opens { id, .. } = event.role() else {
         return true;
@@ -39,7 +39,7 @@ fn same_things(track: &Track, events: &[Event], event: &Event) -> bool {
     true
 }
 
-/// Whether the status of each event, and the things of each id, are looked up alike.
+/// Whether the look-ups of the status of each event, and of the things of each id, agree.
 fn same_events(track: &Track, events: &[Event]) -> bool {
     for event in events {
         if track.status(event.number) != status_at(events, event.number)
@@ -51,8 +51,7 @@ fn same_events(track: &Track, events: &[Event]) -> bool {
     true
 }
 
-/// Whether all look-ups in a history are alike: the status of each event, and the things of each
-/// id.
+/// Whether all look-ups in a history agree: the status of each event, and the things of each id.
 pub(crate) fn same_lookups(alloc: Global, events: &[Event]) -> bool {
     let Some(track) = track_of(alloc, events) else {
         return false;

@@ -1,9 +1,10 @@
 //! Tries the libraries. `wh_replay::check` is compared with replay as its definition computes it:
-//! by going over the list of events anew for each place, each task and each look-up, in quadratic
-//! time. Of `Run::advance` the steps and the time of calls on a long run are told, and by the peak
-//! of the process's memory whether a call steps its task alone. bench/growths.py counts the growths
-//! of memory and the instructions of one call, and refuses single growths. Calls of the libraries
-//! are made by their names, for tests/refusals.py. A host is soaked, for bench/soak.py.
+//! by going through the list of events anew for each place, each task and each look-up, in
+//! quadratic time. The steps and the time of calls of `Run::advance` on a long run are printed, and
+//! the peak of the process's memory shows whether a call steps only its own task. bench/growths.py
+//! counts the growths of memory and the instructions of one call, and refuses single growths. Calls
+//! of the libraries are made by their names, for tests/refusals.py. A host is soaked, for
+//! bench/soak.py.
 #![tactic(auto)]
 
 mod blink;
@@ -38,13 +39,13 @@ use std::thread::Threads;
 const USAGE: &str =
     "bench_trials [NAME | TASKS CALLS | FOLDER WORKERS CACHE HISTORIES]: the name of one call; or 1 to 650 completed tasks before 0 to 100 calls; or a soak by 1 to 64 workers with a cache of 0 to 10000 runs over 1 to 100000 histories; or all that is tried";
 
-/// The calls that are made where all is tried.
+/// The calls that are made if everything is tried.
 const FEW: Plan = Plan {
     tasks: 100,
     calls: 3,
 };
 
-/// The soak that is done where all is tried.
+/// The soak that is done if everything is tried.
 const SMALL: Soak<'static> = Soak {
     dir: samples::FOLDER,
     workers: 4,
@@ -52,7 +53,7 @@ const SMALL: Soak<'static> = Soak {
     histories: 20,
 };
 
-/// What is tried.
+/// What is to be tried.
 #[derive(Clone, Copy)]
 enum Request<'a> {
     /// The call of a name.
@@ -61,12 +62,12 @@ enum Request<'a> {
     Calls(Plan),
     /// A soak of a host.
     Soak(Soak<'a>),
-    /// Those of a small plan, the peak of memory, the comparison, each call that has a name, and a
-    /// small soak.
+    /// The calls of a small plan, the peak of memory, the comparison, each call that has a name,
+    /// and a small soak.
     All,
 }
 
-/// The number that the text is, where it is one from the least to the most.
+/// The number that the text writes, if it is one from the least to the most.
 fn count_of(text: &str, least: u64, most: u64) -> Option<u64> {
     let Ok(count) = text.parse::<u64>() else {
         return None;
@@ -97,7 +98,7 @@ fn soak_of<'a>(dir: &'a str, workers: &str, cache: &str, histories: &str) -> Opt
     }))
 }
 
-/// What the words of the command line ask for.
+/// The request of the words of the command line.
 fn asked_by(words: &[String]) -> Option<Request<'_>> {
     match words {
         [] | [_] => Some(Request::All),
@@ -118,7 +119,7 @@ fn words_of<R: Env + AllocGlobal>(rt: &R) -> Option<Vec<String>> {
     env::args(rt).ok()?.collect(rt.alloc()).ok()
 }
 
-/// Tries all there is, and says whether all of it holds. `None` where it can't be tried.
+/// Tries everything, and returns whether all of it holds. `None` if it can't be tried.
 fn try_all<R: Runtime + AllocGlobal + Threads + Wait + Sync>(rt: &R) -> Option<bool> {
     let is_alone = peak::tell(rt)?;
     growing::tell(rt, rt.alloc(), FEW)?;
@@ -128,7 +129,7 @@ fn try_all<R: Runtime + AllocGlobal + Threads + Wait + Sync>(rt: &R) -> Option<b
     Some(is_alone && is_same && is_sound)
 }
 
-/// Tries what is asked for, and says whether all of it holds. `None` where it can't be tried.
+/// Tries what is requested, and returns whether all of it holds. `None` if it can't be tried.
 fn run<R: Runtime + AllocGlobal + Threads + Wait + Sync>(
     rt: &R,
     asked: Request<'_>,
@@ -142,14 +143,14 @@ fn run<R: Runtime + AllocGlobal + Threads + Wait + Sync>(
     Some(true)
 }
 
-/// Tells how the program is called.
+/// Prints how the program is called.
 fn tell_usage<R: Eprint>(rt: &R) -> ExitCode {
     let _ = eprintln!(rt; "{USAGE}");
     ExitCode::from(2)
 }
 
-/// The status is 0 where all that was tried holds, 1 where some of it does not, and 2 where it
-/// could not be tried, by a bad command line, or for want of the histories, a clock or memory.
+/// The status is 0 if all that was tried holds, 1 if some of it does not, and 2 if it could not be
+/// tried: because of a bad command line, or because the histories, a clock or memory are missing.
 fn main(rt: HostRuntime) -> ExitCode {
     let Some(words) = words_of(&rt) else {
         return tell_usage(&rt);

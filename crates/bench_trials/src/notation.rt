@@ -3,11 +3,11 @@ use std::alloc::Global;
 use wh_events::{Event, EventKind, EventNo, OutOfMemory};
 use wh_workflow::{no_payloads, text_of, texts_of};
 
-/// The letters that `kind_of` knows, but for those of starts.
+/// The letters that `kind_of` knows, except those of starts.
 pub(crate) const LETTERS: &[u8] = b"qscfngTUFCAarKkxmD";
 
-/// Histories that a blinking workflow gives, and some that it can't give. Where an event refers to
-/// another, that is event 6.
+/// Histories that a blinking workflow gives, and some that it can't give. An event that refers to
+/// another refers to event 6.
 pub(crate) const ROWS: [&[u8]; 15] = [
     b"",
     b"Bqs",
@@ -79,7 +79,7 @@ fn marker(alloc: Global) -> Result<EventKind, OutOfMemory> {
     })
 }
 
-/// The event without a text that a letter stands for, which refers to the event of the number, if
+/// The event without a text that a letter stands for, which refers to the event of this number, if
 /// to any.
 #[rattlefmt::skip]
 fn plain_kind(letter: u8, number: u64) -> EventKind {
@@ -99,7 +99,7 @@ fn plain_kind(letter: u8, number: u64) -> EventKind {
     }
 }
 
-/// The event that a letter stands for, which refers to the event of the number, if to any.
+/// The event that a letter stands for, which refers to the event of this number, if to any.
 fn kind_of(alloc: Global, letter: u8, number: u64) -> Result<EventKind, OutOfMemory> {
     match letter {
         b'B' => start(alloc, "Blink"),
@@ -126,8 +126,8 @@ pub(crate) fn push(
     append(events, 0, kind_of(alloc, letter, number)?)
 }
 
-/// Appends an event of the kind, with the next number, to events that go on after so many others.
-/// `OutOfMemory` too where the numbers end.
+/// Appends an event of the kind, with the next number, to events that come after so many others.
+/// `OutOfMemory` also if the numbers end.
 pub(crate) fn append(
     events: &mut Vec<Event>,
     after: u64,

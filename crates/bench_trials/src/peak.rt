@@ -1,5 +1,5 @@
-//! A run of a workflow that takes memory for good: whether going on by one task steps that task
-//! alone, told by the peak of the process's memory, which Linux keeps in a file.
+//! A run of a workflow that never frees memory. The peak of the process's memory, which Linux keeps
+//! in a file, shows whether advancing by one task steps only that task.
 use crate::keeper::Keeper;
 use crate::long_run::LongRun;
 use std::io::{Eprint, Print};
@@ -8,7 +8,7 @@ use std::str;
 use wh_files::read_file;
 use wh_workflow::Meter;
 
-/// The run, whose workflow takes a block of memory by each signal.
+/// The run, whose workflow allocates a block of memory at each signal.
 const LONG: LongRun = LongRun {
     workflow: "Keeper",
     timers: 0,
@@ -41,7 +41,7 @@ fn peak_in(status: &[u8]) -> Option<u64> {
     None
 }
 
-/// The most memory, in KiB, that the process had up to now.
+/// The most memory, in KiB, that the process has had so far.
 fn peak<R: Files + AllocGlobal>(rt: &R) -> Option<u64> {
     let status = read_file(rt, "/proc/self/status").ok()?;
     let peak = peak_in(status.as_slice());
@@ -49,8 +49,8 @@ fn peak<R: Files + AllocGlobal>(rt: &R) -> Option<u64> {
     peak
 }
 
-/// By how many KiB the peak rises in the replay of all tasks, and then in the call that goes on by
-/// one more. `None` where there is no run, or no peak.
+/// By how many KiB the peak rises in the replay of all tasks, and then in the call that advances by
+/// one more. `None` if there is no run, or no peak.
 fn rises<R: Files + AllocGlobal>(rt: &R) -> Option<(u64, u64)> {
     let first = peak(rt)?;
     let run = LONG.replayed::<Keeper>(rt.alloc(), TASKS, &mut Meter::new());
@@ -61,8 +61,8 @@ fn rises<R: Files + AllocGlobal>(rt: &R) -> Option<(u64, u64)> {
     Some((before.saturating_sub(first), after.saturating_sub(before)))
 }
 
-/// Tells whether the peak shows a replay, and whether the call stepped the new task alone: whether
-/// both hold. `None` where that can't be told.
+/// Prints whether the peak shows a replay, and whether the call stepped only the new task, and
+/// returns whether both hold. `None` if the peak can't be read.
 pub(crate) fn tell<R: Files + Print + Eprint + AllocGlobal>(rt: &R) -> Option<bool> {
     let (replay, call) = rises(rt)?;
     let (shows, is_within) = (LEAST <= replay, call <= MOST);

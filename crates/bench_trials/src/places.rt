@@ -1,4 +1,4 @@
-//! Whether the events of a history are in place, found for each by going over those before it.
+//! Whether the events of a history are in place, found for each by going through those before it.
 
 use crate::things::{closed_by, open_named};
 use wh_events::{Class, Event, EventKind, PlaceFault, Role, Thing};
@@ -55,7 +55,7 @@ fn opening_fault(before: &[Event], thing: Thing, id: &str) -> Option<PlaceFault>
     }
 }
 
-/// The least fault that lies in what the event does to the things of the history.
+/// The first fault that the event has by the things of the history.
 fn role_fault(before: &[Event], kind: &EventKind) -> Option<PlaceFault> {
     match kind.role() {
         Role::Opens {

@@ -1,6 +1,6 @@
-//! Replay as its definition computes it: each task goes over the history anew, up to the end of its
-//! own record. Which jobs a workflow is given, which commands can stand and whether a record
-//! matches them is asked of the crates that say so.
+//! Replay as its definition computes it: each task goes through the history anew, up to the end of
+//! its own record. The crates that define the jobs of a workflow, the valid commands and the
+//! matches of a record are asked for these.
 ghost use Rattle.std.specs.Prelude.{◌≡◌, ◌<◌, ◌≤◌, ◌+◌, false, length};
 ghost use Rattle.wh_workflow.specs.Law.{is_ask, is_marker};
 
@@ -17,16 +17,16 @@ use wh_workflow::{Command, Job, Meter, Workflow, WorkflowFault};
 /// How often a workflow may be stepped for one job: each step but the last gives a command.
 const MOST_STEPS: usize = 5_000;
 
-/// What no check answers: the tables refuse events that the lists allow.
+/// The answer that no check gives: the tables refuse events that the lists allow.
 const REFUSED: RunFault = RunFault::Fault(Fault::NotATask);
 
-/// A task of a history: what stands up to the end of its record, and the commands so far.
+/// A task of a history: the events up to the end of its record, and the commands so far.
 #[derive(Drop)]
 struct Task<'a> {
     track: Track,
     previous: u64,
     cut: EventNo,
-    /// Where the cut is recorded, what stands between its completion and the next.
+    /// The events between its completion and the next, if the cut is recorded.
     record: Option<&'a [Event]>,
     script: Script,
 }
@@ -46,7 +46,7 @@ pub(crate) fn copy_of(alloc: Global, events: &[Event]) -> Result<Vec<Event>, Out
     pushed.and(Ok(copies))
 }
 
-/// Pushes a copy of each event. `None` where the track refuses one, or there is no memory.
+/// Pushes a copy of each event. `None` if the track refuses one, or there is no memory.
 fn push_all(track: &mut Track, events: &[Event]) -> Option<()> {
     for event in events {
         track.push(event.try_copy().ok()?).ok()?;
@@ -54,14 +54,14 @@ fn push_all(track: &mut Track, events: &[Event]) -> Option<()> {
     Some(())
 }
 
-/// A track of the events. `None` where it refuses one of them, or there is no memory.
+/// A track of the events. `None` if it refuses one of them, or there is no memory.
 pub(crate) fn track_of(alloc: Global, events: &[Event]) -> Option<Track> {
     let mut track = Track::new(alloc);
     let pushed = push_all(&mut track, events);
     pushed.and(Some(track))
 }
 
-/// What stands between the completion of a cut before the rest and the next, where it is recorded.
+/// The events between the completion of a cut before the rest and the next, if it is recorded.
 fn record_of(rest: &[Event]) -> Option<&[Event]> {
     if !is_recorded(rest) {
         return None;
@@ -69,7 +69,7 @@ fn record_of(rest: &[Event]) -> Option<&[Event]> {
     Some(until_completed(after_completed(rest)))
 }
 
-/// The end of the record that a cut before the rest has, in the rest; 0 where it has none.
+/// The end of the record of a cut before the rest; 0 if it has none.
 fn record_end(rest: &[Event]) -> usize {
     if !is_recorded(rest) {
         return 0;
@@ -117,8 +117,7 @@ fn match_record(
 }
 
 impl<'a> Task<'a> {
-    /// The task of the cut in a place, after the last cut. `None` where the tables refuse the
-    /// events.
+    /// The task of the cut at a place, after the last cut. `None` if the tables refuse the events.
     fn new(alloc: Global, events: &'a [Event], last: usize, place: usize) -> Option<Task<'a>> {
         let after = place.saturating_add(1);
         let rest = events.get(after..)?;
@@ -134,7 +133,7 @@ impl<'a> Task<'a> {
         })
     }
 
-    /// Asks for the version of a change, and answers by the job that has to be next.
+    /// Asks for the version of a change, and answers by the job that has to come next.
     fn ask(
         &mut self,
         versions: &mut Versions,
@@ -152,7 +151,7 @@ impl<'a> Task<'a> {
         }
     }
 
-    /// Issues a command that asks nothing.
+    /// Issues a command that asks for nothing.
     fn issue_plain(&mut self, command: Command) -> Result<Option<Job>, ScriptFault>
         requires not_ask { is_ask command ≡ false }
         requires not_marker { is_marker command ≡ false }
@@ -163,7 +162,7 @@ impl<'a> Task<'a> {
         }
     }
 
-    /// Issues a command, and answers what it asks by the job that has to be next.
+    /// Issues a command, and answers a request for a version by the job that has to come next.
     fn issue(
         &mut self,
         versions: &mut Versions,
@@ -181,7 +180,7 @@ impl<'a> Task<'a> {
         }
     }
 
-    /// Steps a workflow by one job, and answers what it asks.
+    /// Steps a workflow by one job, and answers its request for a version.
     fn step<W: Workflow>(
         &mut self,
         alloc: Global,
@@ -333,7 +332,7 @@ fn replay<W: Workflow>(alloc: Global, events: &[Event]) -> Result<Checked, RunFa
     checked
 }
 
-/// Replays a history that may end anywhere. Gives what `wh_replay::check` gives.
+/// Replays a history that may end anywhere. Returns what `wh_replay::check` returns.
 pub(crate) fn check<W: Workflow>(alloc: Global, events: &[Event]) -> Result<Checked, RunFault> {
     if let Some((at, fault)) = history_fault(events) {
         return Err(RunFault::Fault(Fault::Place { at, fault }));

@@ -117,7 +117,7 @@ fn compare_histories<R: Files + AllocGlobal + Clone + Drop, W: Workflow>(
     }
 }
 
-/// Tells what both replays say of how many histories.
+/// Prints how many histories have which result of both replays.
 fn tell_answers<R: Print>(rt: &R, counts: Counts) -> io::Result<()> {
     let (good, misplaced) = (counts.good, counts.misplaced);
     let (faulty, different) = (counts.faulty, counts.different);
@@ -126,8 +126,8 @@ fn tell_answers<R: Print>(rt: &R, counts: Counts) -> io::Result<()> {
     )
 }
 
-/// Tells how many histories were compared, what both replays say of how many, and whether they say
-/// the same of all. An error where the histories can't be read, or there is no memory.
+/// Prints how many histories were compared, how many have which result of both replays, and whether
+/// all results agree. An error if the histories can't be read, or there is no memory.
 pub(crate) fn tell<R: Files + Print + AllocGlobal + Clone + Drop>(rt: &R) -> io::Result<bool> {
     let counts = compare_histories::<R, Pair<Blink, All>>(rt)?;
     let (histories, alike) = (counts.histories, counts.alike);

@@ -1,5 +1,5 @@
 //! Soaks a worker host: many workers serve many short histories while another thread evicts runs at
-//! random. What they answer is compared with what as many workers answer without a cache.
+//! random. Their answers are compared with those of as many workers without a cache.
 ghost use Rattle.std.specs.Prelude.{◌<◌, length};
 
 mod histories;
@@ -34,7 +34,7 @@ pub(crate) struct Soak<'a> {
     pub(crate) histories: u64,
 }
 
-/// Writes the figures, in which no two soaks agree, to the standard error.
+/// Writes the figures, which differ in each soak, to standard error.
 fn print_figures<R: Eprint>(rt: &R, found: &Findings) -> io::Result<()> {
     let (hits, misses) = (found.tally.hits, found.tally.misses);
     let (evicted, micros) = (found.evicted, found.micros);
@@ -44,7 +44,7 @@ fn print_figures<R: Eprint>(rt: &R, found: &Findings) -> io::Result<()> {
     )
 }
 
-/// Writes what was checked to the standard output.
+/// Writes what was checked to standard output.
 fn print_checked<R: Print>(rt: &R, found: &Findings) -> io::Result<()> {
     let (tasks, totals) = (found.tally.tasks, found.totals);
     let (taken, in_hand) = (totals.taken, totals.in_hand);
@@ -54,8 +54,8 @@ fn print_checked<R: Print>(rt: &R, found: &Findings) -> io::Result<()> {
     )
 }
 
-/// Soaks the host once, on sources that are made anew, with a cache of so many runs, while the runs
-/// of the keys are evicted.
+/// Soaks the host once, on new sources, with a cache of so many runs, while the runs of the keys
+/// are evicted.
 fn soak_once<R: Clock + Threads + Wait + Sync>(
     rt: &R,
     alloc: Global,
@@ -71,7 +71,7 @@ fn soak_once<R: Clock + Threads + Wait + Sync>(
     serve::<All, R>(rt, alloc, sources, tasks, keys, cache)
 }
 
-/// Says what a soak refuted beside the plain one, if anything, and prints it else.
+/// Returns what a soak refuted compared with the plain one, if anything, and prints it otherwise.
 fn judge_and_print<R: Print + Eprint>(
     rt: &R,
     found: &Findings,
@@ -86,7 +86,8 @@ fn judge_and_print<R: Print + Eprint>(
     Ok(judged)
 }
 
-/// Soaks the host, after a plain soak without a cache, and says what the soak refuted, if anything.
+/// Soaks the host, after a plain soak without a cache, and returns what the soak refuted, if
+/// anything.
 fn soak_beside<R: Clock + Print + Eprint + Threads + Wait + Sync>(
     rt: &R,
     alloc: Global,
@@ -107,7 +108,7 @@ fn soak_beside<R: Clock + Print + Eprint + Threads + Wait + Sync>(
     judged
 }
 
-/// Soaks the host on the files, of which there are some.
+/// Soaks the host on the files, which are not empty.
 fn soak_files<R: Clock + Print + Eprint + Threads + Wait + Sync>(
     rt: &R,
     alloc: Global,
@@ -123,7 +124,7 @@ fn soak_files<R: Clock + Print + Eprint + Threads + Wait + Sync>(
     judged
 }
 
-/// Soaks the host, and says what the soak refuted, if anything.
+/// Soaks the host, and returns what the soak refuted, if anything.
 fn run<R: Runtime + AllocGlobal + Threads + Wait + Sync>(
     rt: &R,
     soak: Soak<'_>,
@@ -136,7 +137,7 @@ fn run<R: Runtime + AllocGlobal + Threads + Wait + Sync>(
     judged
 }
 
-/// Soaks the host, and says whether nothing was refuted. `None` where there was no soak. Standard
+/// Soaks the host, and returns whether nothing was refuted. `None` if there was no soak. Standard
 /// error has the reason for either.
 pub(crate) fn tell<R: Runtime + AllocGlobal + Threads + Wait + Sync>(
     rt: &R,

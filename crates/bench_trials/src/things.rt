@@ -1,8 +1,8 @@
-//! What a history has opened and where each thing stands, found by going over its events.
+//! The things that a history has opened and their status, found by going through its events.
 
 use wh_events::{Effect, Event, EventNo, Role, Status, Thing};
 
-/// Whether the event opens such a thing under the id.
+/// Whether the event opens such a thing with the id.
 fn opens(thing: Thing, id: &str, event: &Event) -> bool {
     match event.role() {
         Role::Opens {
@@ -45,7 +45,7 @@ pub(crate) fn open_named(events: &[Event], thing: Thing, id: &str) -> Option<Eve
     None
 }
 
-/// The number of the last thing that was opened of a kind under an id.
+/// The number of the last thing of a kind that was opened with an id.
 pub(crate) fn last_named(events: &[Event], thing: Thing, id: &str) -> Option<EventNo> {
     let mut last = None;
     for event in events {
@@ -56,7 +56,7 @@ pub(crate) fn last_named(events: &[Event], thing: Thing, id: &str) -> Option<Eve
     last
 }
 
-/// Whether the event asks for the thing that the event of the number opened to be canceled.
+/// Whether the event requests the cancellation of the thing that the event of the number opened.
 fn cancels(before: &[Event], number: u64, event: &Event) -> bool {
     match event.role() {
         Role::Refers {
@@ -74,8 +74,8 @@ fn cancels(before: &[Event], number: u64, event: &Event) -> bool {
     }
 }
 
-/// Whether one of the events asks for the thing that the event of the number opened to be
-/// canceled.
+/// Whether one of the events requests the cancellation of the thing that the event of the number
+/// opened.
 pub(crate) fn is_cancelling(events: &[Event], number: u64) -> bool {
     for (place, event) in events.iter().enumerate() {
         if cancels(&events[..place], number, event) {
@@ -106,7 +106,7 @@ fn opens_any(event: &Event) -> bool {
     matches!(event.role(), Role::Opens { .. } | Role::CancelsChild { .. })
 }
 
-/// Where the thing that the event of the number opened stands after the events, if it opened one.
+/// The status after the events of the thing that the event of the number opened, if it opened one.
 pub(crate) fn status_at(events: &[Event], number: EventNo) -> Option<Status> {
     let number = number.get();
     let event = events.get((number - 1) as usize)?;

@@ -13,7 +13,7 @@ use Rattle.order.specs.Naming.{parcel_id}
 use Rattle.order.specs.declared.OrderState.{OrderState}
 use Rattle.order.specs.declared.OrderState.TheVariants.{Charging, Held, Shipping, Closed}
 
--- what an order that is charged for gives to a job
+-- the commands of an order in the state `Charging` for a job
 abbrev pub charging_gives : Job → List Command
 charging_gives (Start _ input) = StartActivity (codes "charge") (codes "ChargeCard") input ∷ []
 charging_gives (Activity id (Completed _)) =
@@ -21,7 +21,7 @@ charging_gives (Activity id (Completed _)) =
 charging_gives (Activity id _) = if bytes_eq id (codes "charge") then Fail (codes "charge") ∷ [] else []
 charging_gives _ = []
 
--- and what the job leaves, where its child is to have the id `parcel`
+-- the state after it; `parcel` is the id of the child
 abbrev pub charging_after : List ℕ → Job → OrderState
 charging_after parcel (Start _ input) = Charging (parcel_id input)
 charging_after parcel (Activity id (Completed _)) =
@@ -29,27 +29,27 @@ charging_after parcel (Activity id (Completed _)) =
 charging_after parcel (Activity id _) = if bytes_eq id (codes "charge") then Closed else Charging parcel
 charging_after parcel _ = Charging parcel
 
--- the order is called off
+-- the commands that cancel the order
 abbrev pub calling_off : List Command
 calling_off = CancelTimer (codes "hold") ∷ Complete [] ∷ []
 
--- what an order that is held gives to a job
+-- the commands of an order in the state `Held` for a job
 abbrev pub held_gives : Job → List Command
 held_gives (Signal name _) = if bytes_eq name (codes "cancel") then calling_off else []
 held_gives (TimerFired id) = if bytes_eq id (codes "hold") then Ask (codes "tracked") (negsuc 0) (pos 1) ∷ [] else []
 held_gives _ = []
 
--- and what the job leaves
+-- the state after it
 abbrev pub held_after : List ℕ → Job → OrderState
 held_after parcel (Signal name _) = if bytes_eq name (codes "cancel") then Closed else Held parcel
 held_after parcel (TimerFired id) = if bytes_eq id (codes "hold") then Shipping parcel else Held parcel
 held_after parcel _ = Held parcel
 
--- the workflow that ships a parcel: -1 is the one before the change
+-- the type of the workflow that ships a parcel; -1 is the version before the change
 abbrev pub parcel_type : ℤ → List ℕ
 parcel_type version = if int_eq version (negsuc 0) then codes "Ship" else codes "ShipTracked"
 
--- what an order that is shipped gives to a job, where its child has the id `parcel`
+-- the commands of an order in the state `Shipping` for a job; `parcel` is the id of the child
 abbrev pub shipping_gives : List ℕ → Job → List Command
 shipping_gives parcel (Version change_id version) =
     if bytes_eq change_id (codes "tracked") then StartChild parcel (parcel_type version) [] ∷ [] else []
@@ -59,26 +59,26 @@ shipping_gives parcel (Child workflow_id _) =
     if bytes_eq workflow_id parcel then Fail (codes "parcel") ∷ [] else []
 shipping_gives parcel _ = []
 
--- and what the job leaves
+-- the state after it
 abbrev pub shipping_after : List ℕ → Job → OrderState
 shipping_after parcel (Child workflow_id _) = if bytes_eq workflow_id parcel then Closed else Shipping parcel
 shipping_after parcel _ = Shipping parcel
 
--- what an order gives to a job
+-- the commands of an order for a job
 abbrev pub order_gives : OrderState → Job → List Command
 order_gives (Charging parcel) job = charging_gives job
 order_gives (Held parcel) job = held_gives job
 order_gives (Shipping parcel) job = shipping_gives parcel job
 order_gives Closed job = []
 
--- what a job leaves
+-- the state after a job
 abbrev pub order_after : OrderState → Job → OrderState
 order_after (Charging parcel) job = charging_after parcel job
 order_after (Held parcel) job = held_after parcel job
 order_after (Shipping parcel) job = shipping_after parcel job
 order_after Closed job = Closed
 
--- what it computes
+-- the workflow as a program
 abbrev pub order : Program OrderState
 order = record {
   knows = λ kind. bytes_eq kind (codes "Order");
@@ -110,7 +110,7 @@ shipping_answers parcel (Child workflow_id _) =
     either_is_answer (bytes_eq workflow_id parcel) _ _ (one_is_answer _ refl) none_is_answer
 shipping_answers parcel _ = none_is_answer
 
--- each step gives few commands, no marker, and an ask only as the last one
+-- each step returns at most 64 commands, no marker, and asks for a version only by its last one
 pub order_lawful : IsLawful order
 order_lawful (Charging parcel) job = charging_answers job
 order_lawful (Held parcel) job = held_answers job

@@ -1,4 +1,4 @@
--- What an order answers to queries.
+-- How an order answers queries.
 use Rattle.std.specs.Prelude.{ℕ, List, ◌∷◌, [], codes, bytes_eq, if◌then◌else◌}
 use Rattle.serde_json.specs.Data.{string}
 use Rattle.wh_json_payloads.specs.Values.{payload_written}
@@ -7,14 +7,14 @@ use Rattle.wh_queryable.specs.declared.queryable.QueryResult.TheVariants.{Answer
 use Rattle.order.specs.declared.OrderState.{OrderState}
 use Rattle.order.specs.declared.OrderState.TheVariants.{Charging, Held, Shipping, Closed}
 
--- how far an order has come
+-- the name of the order's state
 abbrev pub status : OrderState → List ℕ
 status (Charging parcel) = codes "charging"
 status (Held parcel) = codes "held"
 status (Shipping parcel) = codes "shipping"
 status Closed = codes "closed"
 
--- `status` gives that, and no other query type is known
+-- the answer to a query: only `status` is known
 abbrev pub order_queries : Queries OrderState
 order_queries state query_type input =
     if bytes_eq query_type (codes "status") then Answered (payload_written (string (status state)) ∷ [])

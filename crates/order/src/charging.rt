@@ -1,11 +1,11 @@
-//! What charging for an order gives.
+//! The activity that charges for an order.
 ghost use Rattle.std.specs.Prelude.{◌≡◌, IfOk};
 ghost use Rattle.order.specs.Charging.{receipt};
 
 use wh_events::{Items, OutOfMemory, Payload};
 
-/// What an activity of this type gives back: the receipt of a charged card is what the card was
-/// charged with. None where there is no such activity.
+/// Returns the result of an activity of this type: the receipt of a charged card is the activity's
+/// input. `None` if there is no such activity.
 pub fn receipt(
     activity: &str,
     input: &Items<Payload>,

@@ -23,11 +23,11 @@ use wh_workflow::{
     ActivityEnd, ChildEnd, Command, Job, Meter, Workflow, give_all, no_payloads, text_of, texts_of,
 };
 
-/// Charges for an order, holds it for a day, in which a signal calls it off, and ships it.
+/// Charges for an order, holds it for a day, during which a signal cancels it, and ships it.
 ///
 /// | State | Job | Gives | Then |
 /// |---|---|---|---|
-/// | charging | `Start` with an input | `StartActivity{charge, ChargeCard}` with it | charging, ID known |
+/// | charging | `Start` | `StartActivity{charge, ChargeCard}` with its input | charging, ID known |
 /// | charging | `Activity` `charge`, `Completed` | `StartTimer{hold, 86400}` | held |
 /// | charging | `Activity` `charge`, another end | `Fail{charge}` | closed |
 /// | held | `Signal` `cancel` | `CancelTimer{hold}`, `Complete` without a result | closed |
@@ -39,29 +39,29 @@ use wh_workflow::{
 ///
 /// Other jobs change nothing and give nothing. The child is started without an input.
 ///
-/// The query `status` gives the state in JSON: `"charging"`, `"held"`, `"shipping"` or `"closed"`.
+/// The query `status` returns the state as JSON: `"charging"`, `"held"`, `"shipping"` or
+/// `"closed"`.
 ///
-/// The first payload of the input is the price. The second one names the order: with `"order-1"`,
-/// in JSON, ID is `parcel-order-1`. Without a second payload that is such a text ID is `parcel`, and
-/// only one such child can be open at a time, over all runs. A text with an escape (a backslash) is
-/// no name.
+/// The first payload of the input is the price. The second one names the order: with the JSON
+/// string `"order-1"`, ID is `parcel-order-1`. If there is no second payload, or it is not such a
+/// string, ID is `parcel`, and only one such child can be open at a time, over all runs. A string
+/// with an escape (a backslash) is not a name.
 pub struct Order;
 
-/// How far an order has come, with the workflow id of its child: of the one that it has, or is to
-/// have.
+/// The state of an order, with the workflow id of its child: the one that it has, or will start.
 #[derive(Debug, Drop)]
 pub enum OrderState {
-    /// It is charged for.
+    /// The card is being charged.
     Charging {
         /// The id of its child.
         parcel: Text,
     },
-    /// It may be called off until the timer fires.
+    /// The order is held: a signal can cancel it until the timer fires.
     Held {
         /// The id of its child.
         parcel: Text,
     },
-    /// Its parcel is on its way.
+    /// The child that ships the parcel is starting or running.
     Shipping {
         /// The id of its child.
         parcel: Text,
@@ -70,10 +70,10 @@ pub enum OrderState {
     Closed,
 }
 
-/// For how many seconds an order is held: a day.
+/// How many seconds an order is held: a day.
 const HOLD: u64 = 86_400;
 
-/// One command, as a list.
+/// Returns one command, as a list.
 fn one(alloc: Global, command: Command) -> Result<Vec<Command>, OutOfMemory>
     ensures { IfOk result (λ given. given.items ≡ command ∷ []) }
 {
@@ -104,7 +104,7 @@ fn hold(alloc: Global) -> Result<Vec<Command>, OutOfMemory>
     one(alloc, Command::StartTimer { id, seconds: HOLD })
 }
 
-/// Calls the order off.
+/// Cancels the order.
 fn call_off(alloc: Global) -> Result<Vec<Command>, OutOfMemory>
     ensures { IfOk result (λ given. given.items ≡ calling_off) }
 {
@@ -117,7 +117,8 @@ fn call_off(alloc: Global) -> Result<Vec<Command>, OutOfMemory>
     Ok(vec![in alloc; cancel, complete]?)
 }
 
-/// Asks whether parcels of this run are tracked: those that began before the change are not.
+/// Asks for the version of the change `tracked`: parcels of runs that began before the change are
+/// not tracked.
 fn ask(alloc: Global) -> Result<Vec<Command>, OutOfMemory>
     ensures { IfOk result (λ given. given.items ≡ Ask (codes "tracked") (negsuc 0) (pos 1) ∷ []) }
 {
@@ -132,7 +133,7 @@ fn ask(alloc: Global) -> Result<Vec<Command>, OutOfMemory>
     )
 }
 
-/// Ships the order, by the version of the change.
+/// Ships the order, depending on the version of the change.
 fn ship(alloc: Global, parcel: &Text, version: i32) -> Result<Vec<Command>, OutOfMemory>
     ensures { IfOk result (λ given. given.items ≡ StartChild parcel.now (parcel_type version) [] ∷ []) }
 {
@@ -148,7 +149,7 @@ fn ship(alloc: Global, parcel: &Text, version: i32) -> Result<Vec<Command>, OutO
     )
 }
 
-/// Completes the run by what its child has given.
+/// Completes the run with the result of its child.
 fn complete(alloc: Global, payloads: &Items<Payload>) -> Result<Vec<Command>, OutOfMemory>
     ensures { IfOk result (λ given. given.items ≡ Complete payloads.now ∷ []) }
 {
@@ -164,7 +165,7 @@ fn fail(alloc: Global, message: &str) -> Result<Vec<Command>, OutOfMemory>
     one(alloc, Command::Fail { message })
 }
 
-/// What an order that is charged for gives to a job.
+/// Returns the commands of an order in the state `Charging` for a job.
 fn given_charging(alloc: Global, job: &Job) -> Result<Vec<Command>, OutOfMemory>
     ensures { IfOk result (λ given. given.items ≡ charging_gives job.now) }
 {
@@ -178,7 +179,7 @@ fn given_charging(alloc: Global, job: &Job) -> Result<Vec<Command>, OutOfMemory>
     }
 }
 
-/// What an order that is held gives to a job.
+/// Returns the commands of an order in the state `Held` for a job.
 fn given_held(alloc: Global, job: &Job) -> Result<Vec<Command>, OutOfMemory>
     ensures { IfOk result (λ given. given.items ≡ held_gives job.now) }
 {
@@ -189,7 +190,7 @@ fn given_held(alloc: Global, job: &Job) -> Result<Vec<Command>, OutOfMemory>
     }
 }
 
-/// What an order that is shipped gives to a job.
+/// Returns the commands of an order in the state `Shipping` for a job.
 fn given_shipping(alloc: Global, parcel: &Text, job: &Job) -> Result<Vec<Command>, OutOfMemory>
     ensures { IfOk result (λ given. given.items ≡ shipping_gives parcel.now job.now) }
 {
@@ -205,7 +206,7 @@ fn given_shipping(alloc: Global, parcel: &Text, job: &Job) -> Result<Vec<Command
     }
 }
 
-/// What an order gives to a job.
+/// Returns the commands of an order for a job.
 fn given(alloc: Global, state: &OrderState, job: &Job) -> Result<Vec<Command>, OutOfMemory>
     ensures { IfOk result (λ given. given.items ≡ order_gives state.now job.now) }
 {
@@ -217,7 +218,7 @@ fn given(alloc: Global, state: &OrderState, job: &Job) -> Result<Vec<Command>, O
     }
 }
 
-/// What a job leaves of an order that is charged for.
+/// Returns the state after a job in the state `Charging`.
 fn after_charging(alloc: Global, parcel: Text, job: &Job) -> Result<OrderState, OutOfMemory>
     ensures { IfOk result (λ after. after ≡ charging_after parcel job.now) }
 {
@@ -233,7 +234,7 @@ fn after_charging(alloc: Global, parcel: Text, job: &Job) -> Result<OrderState, 
     })
 }
 
-/// What a job leaves of an order that is held.
+/// Returns the state after a job in the state `Held`.
 fn after_held(parcel: Text, job: &Job) -> OrderState
     ensures { result ≡ held_after parcel job.now }
 {
@@ -244,7 +245,7 @@ fn after_held(parcel: Text, job: &Job) -> OrderState
     }
 }
 
-/// What a job leaves of an order that is shipped.
+/// Returns the state after a job in the state `Shipping`.
 fn after_shipping(parcel: Text, job: &Job) -> OrderState
     ensures { result ≡ shipping_after parcel job.now }
 {
@@ -254,7 +255,7 @@ fn after_shipping(parcel: Text, job: &Job) -> OrderState
     }
 }
 
-/// What a job leaves. The id moves from state to state, and is never copied.
+/// Returns the state after a job. The id moves from state to state, and is never copied.
 fn after(alloc: Global, state: OrderState, job: &Job) -> Result<OrderState, OutOfMemory>
     ensures { IfOk result (λ after. after ≡ order_after state job.now) }
 {

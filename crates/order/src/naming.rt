@@ -1,4 +1,4 @@
-//! The id of an order's child, which the input names.
+//! The workflow id of an order's child, from the input.
 ghost use Rattle.std.specs.Prelude.{◌≡◌, IfOk};
 ghost use Rattle.order.specs.Naming.{parcel_id};
 
@@ -7,8 +7,9 @@ use wh_events::{Items, OutOfMemory, Payload, Text};
 use wh_payloads::payload_text;
 use wh_workflow::text_of;
 
-/// The workflow id of the child of an order: `parcel-NAME` where the second payload of its input is
-/// the plain JSON of the text NAME, and otherwise `parcel`, of which only one can be open at a time.
+/// Returns the workflow id of the child of an order: `parcel-NAME` if the second payload of its
+/// input is the JSON string of NAME without escapes, and otherwise `parcel`, of which only one can
+/// be open at a time.
 pub fn parcel_id(alloc: Global, input: &Items<Payload>) -> Result<Text, OutOfMemory>
     ensures { IfOk result (λ id. id ≡ parcel_id input.now) }
 {

@@ -1,4 +1,4 @@
-//! What an order answers to queries.
+//! How an order answers queries.
 ghost use Rattle.std.specs.Prelude.{◌≡◌};
 ghost use Rattle.order.specs.Status.{status};
 
@@ -8,7 +8,7 @@ use wh_events::{OutOfMemory, Payload};
 use wh_json_payloads::{one_payload, text_payload};
 use wh_queryable::{QueryResult, Queryable, unknown_query};
 
-/// How far an order has come.
+/// Returns the name of the order's state.
 fn status(state: &OrderState) -> &'static str
     ensures { result.now ≡ status state.now }
 {

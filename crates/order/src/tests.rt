@@ -12,7 +12,7 @@ fn text(rt: &impl Abort, alloc: Global, content: &str) -> Text {
     text_of(alloc, content).expect(rt, "memory")
 }
 
-/// A value without an encoding.
+/// A payload without an encoding.
 fn payload(rt: &impl Abort, alloc: Global, content: &[u8]) -> Payload {
     let mut bytes = Vec::new(alloc);
     for byte in content {
@@ -24,7 +24,7 @@ fn payload(rt: &impl Abort, alloc: Global, content: &[u8]) -> Payload {
     }
 }
 
-/// An input of a price and one value more.
+/// An input of a price and one more payload.
 fn priced(rt: &impl Abort, alloc: Global, content: &[u8]) -> Items<Payload> {
     let price = payload(rt, alloc, b"1999");
     let second = payload(rt, alloc, content);
@@ -39,7 +39,7 @@ fn start(rt: &impl Abort, alloc: Global, input: Items<Payload>) -> Job {
     }
 }
 
-/// The job that tells that the card was charged.
+/// The job of the charge that completed.
 fn charged(rt: &impl Abort, alloc: Global) -> Job {
     Job::Activity {
         id: text(rt, alloc, "charge"),
@@ -47,14 +47,14 @@ fn charged(rt: &impl Abort, alloc: Global) -> Job {
     }
 }
 
-/// The job that tells that the day is over.
+/// The job of the timer that fired after the day.
 fn fired(rt: &impl Abort, alloc: Global) -> Job {
     Job::TimerFired {
         id: text(rt, alloc, "hold"),
     }
 }
 
-/// The job that calls an order off.
+/// The job of the signal that cancels an order.
 fn cancel(rt: &impl Abort, alloc: Global) -> Job {
     Job::Signal {
         name: text(rt, alloc, "cancel"),
@@ -62,7 +62,7 @@ fn cancel(rt: &impl Abort, alloc: Global) -> Job {
     }
 }
 
-/// The job that tells that parcels are tracked.
+/// The job of the version with tracked parcels.
 fn tracked(rt: &impl Abort, alloc: Global) -> Job {
     Job::Version {
         change_id: text(rt, alloc, "tracked"),
@@ -70,7 +70,7 @@ fn tracked(rt: &impl Abort, alloc: Global) -> Job {
     }
 }
 
-/// The job that tells that the parcel of an id has arrived.
+/// The job of the child with this id that completed.
 fn arrived(rt: &impl Abort, alloc: Global, parcel: &str) -> Job {
     Job::Child {
         workflow_id: text(rt, alloc, parcel),
@@ -78,7 +78,7 @@ fn arrived(rt: &impl Abort, alloc: Global, parcel: &str) -> Job {
     }
 }
 
-/// What an order answers to the job.
+/// The commands that an order gives to the job.
 fn step(rt: &impl Abort, alloc: Global, state: &mut OrderState, job: Job) -> Vec<Command> {
     let mut out = Vec::new(alloc);
     let stepped = Order::step(alloc, state, &job, &mut out, &mut Meter::new());
@@ -160,7 +160,7 @@ fn an_order_with_a_name_waits_for_its_own_parcel(rt: HostRuntime) {
     assert!(&rt; matches!(given.as_slice(), [Command::Complete { .. }]));
 }
 
-/// The id of the child of an order whose second payload has the content is the wanted one.
+/// The child of an order whose second payload has this content has the expected id.
 fn is_named(rt: &impl Abort, alloc: Global, content: &[u8], wanted: &str) {
     let input = priced(rt, alloc, content);
     let id = parcel_id(alloc, &input).expect(rt, "memory");
@@ -186,7 +186,7 @@ fn the_name_of_an_order_is_a_plain_json_text(rt: HostRuntime) {
     is_named(&rt, alloc, b"\"\xff\"", "parcel");
 }
 
-/// An order that is called off cancels the timer and ends.
+/// An order that is canceled cancels the timer and completes.
 fn calls_off(rt: &impl Abort, alloc: Global) -> OrderState {
     let mut state = holds(rt, alloc, no_payloads(alloc));
     let given = step(rt, alloc, &mut state, cancel(rt, alloc));
@@ -206,7 +206,7 @@ fn an_order_is_called_off(rt: HostRuntime) {
     assert!(&rt; given.is_empty());
 }
 
-/// What a charged card gives back of a price.
+/// The result of charging a card with a price.
 fn price_back(rt: &impl Abort, alloc: Global, kind: &str) -> Option<Items<Payload>> {
     let price = payload(rt, alloc, b"9");
     let input = Items::new(vec![in alloc; price].expect(rt, "memory"));
@@ -222,7 +222,7 @@ fn a_charged_card_gives_back_what_it_was_charged_with(rt: HostRuntime) {
     assert!(&rt; price_back(&rt, rt.alloc(), "RefundCard").is_none());
 }
 
-/// What a query of an order gives, as a text: that of the only payload, or why there is none.
+/// The answer of an order to a query, as a text: that of the only payload, or why there is none.
 fn queried(rt: &impl Abort, alloc: Global, state: &OrderState, query_type: &str) -> String {
     let given = query_state::<Order>(alloc, state, query_type, &[]).expect(rt, "memory");
     let text = match &given {

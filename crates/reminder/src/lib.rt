@@ -1,4 +1,4 @@
-//! A workflow to copy: it reminds by mail, an hour after it starts.
+//! A workflow to copy: it sends a reminder by mail an hour after it starts.
 #![tactic(auto)]
 
 ghost use Rattle.std.specs.Prelude.{refl};
@@ -20,10 +20,10 @@ pub static REMINDER: Definition = DefinitionOf { kind: "Reminder", first: "waiti
     sending: NotDone("mail") => [Fail("mail")];
 } };
 
-/// Reminds by mail, an hour after the run starts.
+/// Sends a reminder by mail an hour after the run starts.
 pub type Reminder = Rows<ReminderTable>;
 
-/// Its table.
+/// The table of `Reminder`.
 pub struct ReminderTable;
 
 impl Table for ReminderTable {

@@ -1,4 +1,4 @@
--- The table of Nap does what its code does.
+-- The table of Nap gives the same commands as its code.
 use Rattle.std.specs.Prelude.{◌≡◌, ℕ, Bool, true, false, ◌&&◌, List, [], ◌∷◌, ◌++◌, slice_get, Option, None, bytes_eq, codes, refl, if◌then◌else◌}
 use Rattle.std.proofs.Common.{ap}
 use Rattle.wh_events.specs.declared.event.Payload.{Payload}

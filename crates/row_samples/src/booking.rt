@@ -1,4 +1,5 @@
-//! Charges for a room and books it. Where it can't be had, the charge is refunded before the run fails.
+//! Charges for a room and books it. If it can't be booked, the charge is refunded before the run
+//! fails.
 ghost use Rattle.std.specs.Prelude.{refl, codes, [], ◌∷◌};
 ghost use Rattle.wh_rows.specs.declared.row.JobPattern.TheVariants.{Fired};
 ghost use Rattle.wh_rows.specs.Tables.{seen};
@@ -12,7 +13,7 @@ use wh_promises::Promising;
 use wh_rows::rows;
 use wh_rows::words::*;
 
-/// Whether a charge is to be refunded, unless the run completes.
+/// Whether a charge must be refunded unless the run completes.
 const OWED: Counter = Counter::A;
 
 /// The rows of `Booking`.
@@ -31,7 +32,7 @@ pub static BOOKING: Definition = DefinitionOf { kind: "Booking", first: "chargin
 /// Charges for a room and books it.
 pub type Booking = Rows<BookingTable>;
 
-/// Its table.
+/// The table of `Booking`.
 pub struct BookingTable;
 
 impl Table for BookingTable {
@@ -44,8 +45,8 @@ impl Table for BookingTable {
     }
 }
 
-/// Each refund after another one waits for the timer. The watch is in state 1 at first and after the
-/// timer, and in state 2 after a refund; another refund there would cost.
+/// Each refund after another one waits for the timer. The watch is in state 1 at first and after
+/// the timer, and in state 2 after a refund; another refund in state 2 would exceed its budget.
 impl Promising for BookingTable {
     ghost promises = { keeps_watch (record {
       turns = record { from = 1; what = Gives (StartsActivity (codes "RefundCard")); to = 2; cost = 0 }
@@ -59,8 +60,8 @@ impl Promising for BookingTable {
 }
 
 /// Each charge of a booking is followed by its refund, unless the run completes. The rows show it:
-/// each that charges raises the counter and asks for it to be 0, each that sets it to 0 refunds, and
-/// each that fails asks for it to be 0 (`each_followed` of wh_rows).
+/// each row that charges raises the counter and requires it to be 0, each that sets it to 0
+/// refunds, and each that fails requires it to be 0 (`each_followed` of wh_rows).
 pub fn refunds_each_charge()
     ensures { EachFollowed (seen BOOKING) (StartsActivity (codes "ChargeCard"))
         (StartsActivity (codes "RefundCard")) unsuccessful }

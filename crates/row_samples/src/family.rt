@@ -1,4 +1,4 @@
-//! Runs a child, and cancels it at the signal `stop`.
+//! Runs a child, and cancels it on the signal `stop`.
 ghost use Rattle.std.specs.Prelude.{refl, codes, [], ◌∷◌};
 ghost use Rattle.wh_rows.specs.declared.row.JobPattern.TheVariants.{ChildDone};
 ghost use Rattle.wh_rows.specs.Tables.{seen};
@@ -22,10 +22,10 @@ pub static FAMILY: Definition = DefinitionOf { kind: "Family", first: "running",
     any:      ChildNotDone("kid")  => [Fail("kid")];
 } };
 
-/// Runs a child, and cancels it at the signal `stop`.
+/// Runs a child, and cancels it on the signal `stop`.
 pub type Family = Rows<FamilyTable>;
 
-/// Its table.
+/// The table of `Family`.
 pub struct FamilyTable;
 
 impl Table for FamilyTable {

@@ -1,7 +1,7 @@
-//! Workflows as tables of rows. Of `Nap` it is proved that the table does what the sample of this
-//! name in code does (`does_as_code`). `Family` and `Order` have code beside them too, and it is
-//! tested that they do alike where the start is the first job; with a signal before the start
-//! `Family` differs from its code.
+//! Workflows as tables of rows. It is proved that the table `Nap` does the same as the sample of
+//! this name in code (`does_as_code`). `Family` and `Order` also exist in code, and it is tested
+//! that they do the same if the start is the first job; with a signal before the start, `Family`
+//! differs from its code.
 #![tactic(auto)]
 
 mod booking;
@@ -19,5 +19,5 @@ pub use plan::{PLAN, Plan, PlanTable, charges_twelve_times_at_most};
 pub use subscription::{SUBSCRIPTION, Subscription, SubscriptionTable, charges_36_times_at_most};
 use wh_workflow::Pair;
 
-/// Each of them, by its workflow type.
+/// All of them, by workflow type.
 pub type All = Pair<Nap, Pair<Family, Pair<Order, Pair<Plan, Pair<Subscription, Booking>>>>>;

@@ -22,7 +22,7 @@ pub static NAP: Definition = DefinitionOf { kind: "Nap", first: "asleep", name: 
 /// Sleeps for a minute.
 pub type Nap = Rows<NapTable>;
 
-/// Its table.
+/// The table of `Nap`.
 pub struct NapTable;
 
 impl Table for NapTable {
@@ -41,8 +41,8 @@ impl Promising for NapTable {
     ghost promised = { refl };
 }
 
-/// Up to the step that closes a run, the table gives what the sample `Nap` in code does, whatever
-/// jobs come.
+/// Up to the step that closes a run, the table gives the same commands as the sample `Nap` in code,
+/// whatever jobs come.
 pub fn does_as_code()
     ensures { GivesAsCode (seen NAP) nap (codes "Nap") }
 {}

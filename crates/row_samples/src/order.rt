@@ -1,4 +1,4 @@
-//! Charges for an order, holds it for a day, in which a signal calls it off, and ships it.
+//! Charges for an order, holds it for a day, during which a signal cancels it, and ships it.
 ghost use Rattle.std.specs.Prelude.{refl, codes, [], ◌∷◌};
 ghost use Rattle.wh_rows.specs.declared.row.JobPattern.TheVariants.{Fired, ChildDone};
 ghost use Rattle.wh_rows.specs.Tables.{seen};
@@ -25,10 +25,10 @@ pub static ORDER: Definition = DefinitionOf { kind: "Order", first: "charging", 
     shipping: ChildNotDone("@")      => [Fail("parcel")];
 } };
 
-/// Charges for an order, holds it for a day, in which a signal calls it off, and ships it.
+/// Charges for an order, holds it for a day, during which a signal cancels it, and ships it.
 pub type Order = Rows<OrderTable>;
 
-/// Its table.
+/// The table of `Order`.
 pub struct OrderTable;
 
 impl Table for OrderTable {

@@ -1,5 +1,5 @@
-//! Charges for twelve months, and never more often, whatever jobs come. A signal calls it off, once
-//! a charge that is out has ended.
+//! Charges for twelve months, and never more often, whatever jobs come. A signal cancels the plan,
+//! once a charge in progress has ended.
 ghost use Rattle.std.specs.Prelude.{refl, codes, [], ◌∷◌};
 ghost use Rattle.wh_rows.specs.declared.row.JobPattern.TheVariants.{Signal};
 ghost use Rattle.wh_rows.specs.Tables.{seen};
@@ -32,7 +32,7 @@ pub static PLAN: Definition = DefinitionOf { kind: "Plan", first: "paying", name
 /// Charges for twelve months.
 pub type Plan = Rows<PlanTable>;
 
-/// Its table.
+/// The table of `Plan`.
 pub struct PlanTable;
 
 impl Table for PlanTable {
@@ -53,8 +53,8 @@ impl Promising for PlanTable {
     ghost promised = { refl };
 }
 
-/// A plan charges the card twelve times at most. The rows show it: each that charges raises the
-/// counter, asks for it to be below 12, and no row sets it to 0 (`at_most` of wh_rows).
+/// A plan charges the card at most twelve times. The rows show it: each row that charges raises the
+/// counter and requires it to be below 12, and no row sets it to 0 (`at_most` of wh_rows).
 pub fn charges_twelve_times_at_most()
     ensures { AtMost (seen PLAN) (StartsActivity (codes "ChargeCard")) 12 }
 {}

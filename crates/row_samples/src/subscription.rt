@@ -1,4 +1,4 @@
-//! Charges for twelve months, each month with three tries, until it is canceled.
+//! Charges for twelve months, each month with three attempts, until it is canceled.
 ghost use Rattle.std.specs.Prelude.{refl, codes, [], ◌∷◌};
 ghost use Rattle.wh_rows.specs.declared.row.JobPattern.TheVariants.{Signal};
 ghost use Rattle.wh_rows.specs.Tables.{seen};
@@ -36,10 +36,10 @@ pub static SUBSCRIPTION: Definition = DefinitionOf { kind: "Subscription", first
     failing:   NotDone("mail")                         => [Fail("charge")];
 } };
 
-/// Charges for twelve months, each month with three tries, until it is canceled.
+/// Charges for twelve months, each month with three attempts, until it is canceled.
 pub type Subscription = Rows<SubscriptionTable>;
 
-/// Its table.
+/// The table of `Subscription`.
 pub struct SubscriptionTable;
 
 impl Table for SubscriptionTable {
@@ -61,7 +61,7 @@ impl Promising for SubscriptionTable {
     ghost promised = { refl };
 }
 
-/// A subscription charges the card 36 times at most, whatever jobs come.
+/// A subscription charges the card at most 36 times, whatever jobs come.
 pub fn charges_36_times_at_most()
     ensures { HappensAtMost (seen SUBSCRIPTION) 36 (Gives (StartsActivity (codes "ChargeCard"))) }
 {

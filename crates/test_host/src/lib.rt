@@ -1,5 +1,5 @@
-//! Tests of what serves tasks, from the slots to the workers, each of a library by its public
-//! calls: what no contract says.
+//! Tests of the libraries that serve tasks, from the slots to the workers, by their public calls:
+//! what no contract says.
 #![tactic(auto)]
 
 #[cfg(test)]

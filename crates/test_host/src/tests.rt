@@ -1,4 +1,4 @@
-//! A module for each file of `src/tests`. `fixtures` holds what `hosting` and `working` use.
+//! A module for each file of `src/tests`. `fixtures` holds what `hosting` and `working` share.
 
 mod cache;
 mod fixtures;

@@ -1,4 +1,4 @@
-//! Tests of what replays histories, from the events to the explanation, each of a library by its
+//! Tests of the libraries that replay histories, from the events to the explanation, by their
 //! public calls: what no contract says.
 #![tactic(auto)]
 

@@ -1,4 +1,4 @@
--- A workflow of the tests that gives the command that a signal names.
+-- A test workflow that gives the commands that signals name.
 use Rattle.std.specs.Prelude.{ℕ, pos, negsuc, Bool, true, false, List, [], ◌∷◌, codes, bytes_eq, Option, Some, None}
 use Rattle.std.specs.Prelude.{refl}
 use Rattle.wh_workflow.specs.declared.command.Command.{Command}
@@ -12,12 +12,12 @@ use Rattle.wh_workflow.specs.Law.{Program, IsAnswer, IsLawful}
 use Rattle.wh_workflow.specs.Answering.{none_is_answer as none, one_is_answer as one}
 use Rattle.wh_sample_workflows.specs.declared.stateless.NoState.{NoState}
 
--- the value where the test holds, else what another test gives
+-- the command if the test holds, and else another one
 abbrev pub given_if : Bool → Command → Option Command → Option Command
 given_if true command otherwise = Some command
 given_if false command otherwise = otherwise
 
--- asks about a change with some range
+-- the request for a version that the name describes
 abbrev pub ask_named : List ℕ → Option Command
 ask_named name =
     given_if (bytes_eq name (codes "ask")) (Ask (codes "chg") (negsuc 0) (pos 1))
@@ -28,7 +28,7 @@ ask_named name =
     (given_if (bytes_eq name (codes "ask_below")) (Ask (codes "chg") (negsuc 1) (pos 1))
     (given_if (bytes_eq name (codes "ask_none")) (Ask (codes "chg") (negsuc 0) (negsuc 0)) None))))))
 
--- closes the run, or signals another one
+-- the command of this name that closes the run or signals another workflow
 abbrev pub closing_named : List ℕ → Option Command
 closing_named name =
     given_if (bytes_eq name (codes "complete")) (Complete [])
@@ -38,7 +38,7 @@ closing_named name =
     (given_if (bytes_eq name (codes "signal_other")) (SignalExternal (codes "other") (codes "go") [])
     (ask_named name)))))
 
--- starts or cancels something
+-- the command of this name that starts or cancels something
 abbrev pub command_named : List ℕ → Option Command
 command_named name =
     given_if (bytes_eq name (codes "start_timer")) (StartTimer (codes "t") 1)
@@ -53,12 +53,12 @@ abbrev pub commands_in : Option Command → List Command
 commands_in None = []
 commands_in (Some command) = command ∷ []
 
--- what it gives to a job
+-- the commands that it gives to a job
 abbrev pub scripted_gives : Job → List Command
 scripted_gives (Signal name _) = commands_in (command_named name)
 scripted_gives _ = []
 
--- what it computes
+-- the workflow as a program
 abbrev pub scripted : Program NoState
 scripted = record {
   knows = λ _. true;

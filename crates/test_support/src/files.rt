@@ -1,11 +1,11 @@
-//! Files with histories in short words, and reports of them.
+//! Files of histories in short words, and reports of them.
 
 use std::alloc::Global;
 use std::io::Write;
 use wh_histories::{HistoryFault, json};
 
-/// The bytes of a file with a history, none where there is no history. The fault is that of its
-/// words.
+/// Returns the bytes of a file of this history; none if the history is empty. The fault is that of
+/// its words.
 pub fn bytes_of(alloc: Global, history: &'static str) -> Result<Vec<u8>, HistoryFault> {
     if history.is_empty() {
         return Ok(Vec::new(alloc));
@@ -13,7 +13,8 @@ pub fn bytes_of(alloc: Global, history: &'static str) -> Result<Vec<u8>, History
     Ok(json(alloc, history)?.into_bytes())
 }
 
-/// A report with its status after it. `None` where it is no text, or an allocation was refused.
+/// Returns a report followed by its status. `None` if it is not a text, or an allocation was
+/// refused.
 pub fn with_status(mut report: Vec<u8>, status: u8) -> Option<String> {
     write!(report, "status {status}").ok()?;
     String::from_utf8(report).ok()

@@ -1,6 +1,6 @@
-//! What the crates of tests share: rows of tables, files with histories, runs in words, and
-//! workflows that do as they are told. What a function cannot give is in its answer, so that it is
-//! the test which ends.
+//! What the test crates share: rows of tables, files of histories, runs in words, and workflows
+//! that follow a script. A function that can't return its value returns an error, so that only the
+//! test itself ends.
 #![tactic(auto)]
 
 mod files;

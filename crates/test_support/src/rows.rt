@@ -1,29 +1,29 @@
-//! Tables of rows, each of which says what is given and what is wanted of it.
+//! Tables of rows, each with an input and the expected result.
 
 use std::alloc::{AllocError, Global};
 use std::fmt;
 use std::fmt::Debug;
 
-/// What is given in a row, and what is wanted of it. `None` where the row has no ` => `.
+/// Returns the input and the expected result of a row. `None` if the row has no ` => `.
 pub fn row(line: &'static str) -> Option<(&'static str, &'static str)> {
     line.split_once(" => ")
 }
 
-/// The text in front of a sign, or the whole where the sign is not there. What stands after the
-/// sign is left.
+/// Returns the text before a sign, or all of it if there is no sign, and leaves the text after the
+/// sign.
 pub fn cut(text: &mut &'static str, sign: &str) -> &'static str {
     let (front, rest) = text.split_once(sign).unwrap_or((text, ""));
     *text = rest;
     front
 }
 
-/// The number in front of a blank. What stands after the blank is left. `None` where no number
-/// stands there.
+/// Returns the number before a space, and leaves the text after the space. `None` if there is no
+/// number.
 pub fn next_number(text: &mut &'static str) -> Option<u64> {
     cut(text, " ").parse::<u64>().ok()
 }
 
-/// What a derived text has around its names and numbers.
+/// The marks around names and numbers in a derived `Debug` text.
 const MARKS: [&str; 6] = [
     "Text { text: ",
     "Items { items: ",
@@ -33,8 +33,8 @@ const MARKS: [&str; 6] = [
     "\"",
 ];
 
-/// A value as its derived text says it, with nothing around its names and numbers. The error is
-/// that of an allocation.
+/// Returns the derived `Debug` text of a value without the marks around its names and numbers. The
+/// error is that of an allocation.
 pub fn shown<T: Debug>(alloc: Global, value: &T) -> Result<String, AllocError> {
     let mut text = format!(in alloc; "{value:?}")?;
     for mark in MARKS {
@@ -43,10 +43,10 @@ pub fn shown<T: Debug>(alloc: Global, value: &T) -> Result<String, AllocError> {
     Ok(text)
 }
 
-/// Why words are not what is wanted.
+/// Why words are not as expected.
 #[derive(Drop)]
 pub enum Unlike {
-    /// They are others. The text says them, and what is wanted.
+    /// They are different. The text has them and the expected ones.
     Words(String),
     /// An allocation was refused.
     OutOfMemory,
@@ -67,7 +67,7 @@ impl From<AllocError> for Unlike {
     }
 }
 
-/// The words are what is wanted.
+/// Checks that the words are as expected.
 pub fn same(alloc: Global, words: &str, wanted: &str) -> Result<(), Unlike> {
     if words == wanted {
         return Ok(());
@@ -75,20 +75,20 @@ pub fn same(alloc: Global, words: &str, wanted: &str) -> Result<(), Unlike> {
     Err(Unlike::Words(format!(in alloc; "{words} in place of {wanted}")?))
 }
 
-/// The value is what is wanted, in words.
+/// Checks that the `Debug` text of the value is as expected.
 pub fn wants<T: Debug + Drop>(alloc: Global, value: T, wanted: &str) -> Result<(), Unlike> {
     let text = shown(alloc, &value)?;
     same(alloc, text.as_str(), wanted)
 }
 
-/// Adds a value to a list. Where an allocation is refused, the list is as it was.
+/// Adds a value to a list. If an allocation is refused, the list is as it was.
 pub fn push<T: Drop>(list: &mut Vec<T>, value: T) -> Result<(), AllocError> {
     list.reserve(1)?;
     list.push_reserved(value);
     Ok(())
 }
 
-/// These words as often as this, and others after them. The error is that of an allocation.
+/// Returns these words so many times, followed by others. The error is that of an allocation.
 pub fn repeated(alloc: Global, words: &str, count: usize, end: &str) -> Result<String, AllocError> {
     let mut text = words.repeat(alloc, count)?;
     text.push_str(end)?;

@@ -6,7 +6,7 @@ use wh_histories::{HistoryFault, events_after};
 use wh_replay::{AdvanceFault, Run, RunFault};
 use wh_workflow::{Meter, Workflow};
 
-/// The version of the change `chg`.
+/// Returns the version of the change `chg`.
 fn version_text(alloc: Global, version: Option<i32>) -> Result<String, AllocError> {
     match version {
         Some(version) => format!(in alloc; ", chg is {version}"),
@@ -14,8 +14,8 @@ fn version_text(alloc: Global, version: Option<i32>) -> Result<String, AllocErro
     }
 }
 
-/// A run after a word and so many steps: how many events it holds, its unsent commands, and the
-/// version of the change `chg`. The error is that of an allocation.
+/// Returns a run as text, after a word and a number of steps: how many events it holds, its unsent
+/// commands, and the version of the change `chg`. The error is that of an allocation.
 pub fn run_text<W: Workflow>(
     alloc: Global,
     word: &str,
@@ -28,7 +28,7 @@ pub fn run_text<W: Workflow>(
     format!(in alloc; "{word}{steps} steps, holds {held}, {commands}{version}")
 }
 
-/// What came of a run that was advanced in so many steps.
+/// Returns the result of advancing a run in so many steps, as text.
 fn advanced_text<W: Workflow>(
     alloc: Global,
     steps: u64,
@@ -43,8 +43,8 @@ fn advanced_text<W: Workflow>(
     }
 }
 
-/// What comes of a run that goes on by the events of a history after those that it holds, or after
-/// as many as the history says itself. The fault is that of its words.
+/// Returns the result of advancing a run by the events of a history after those that it holds, or
+/// after as many as the history says itself. The fault is that of its words.
 pub fn advance<W: Workflow>(
     alloc: Global,
     run: Run<W>,

@@ -1,4 +1,4 @@
-//! A workflow that gives the command that a signal names.
+//! A workflow that gives the commands that signals name.
 
 ghost use Rattle.std.specs.Prelude.{◌≡◌, Some, IfOk, codes};
 ghost use Rattle.test_support.specs.Scripted.{scripted, scripted_lawful, ask_named, closing_named, command_named};
@@ -9,11 +9,11 @@ use wh_events::OutOfMemory;
 use wh_sample_workflows::NoState;
 use wh_workflow::{Command, Job, Meter, Workflow, no_payloads, text_of};
 
-/// Gives the command that a signal names. A name that is none of a command gives nothing, and nor
-/// do other jobs. It has code for every workflow type.
+/// Gives the command that a signal names. It gives nothing for a name that is not one of a command,
+/// nor for other jobs. It is registered for every workflow type.
 pub struct Scripted;
 
-/// The question about the change `chg` with this range.
+/// Returns the request for the version of the change `chg` with this range.
 fn ask(alloc: Global, min: i32, max: i32) -> Result<Option<Command>, OutOfMemory>
     ensures { IfOk result (λ given. given ≡ Some (Ask (codes "chg") min max)) }
 {
@@ -24,7 +24,7 @@ fn ask(alloc: Global, min: i32, max: i32) -> Result<Option<Command>, OutOfMemory
     }))
 }
 
-/// Asks about a change with some range.
+/// Returns the request for a version that the name describes.
 fn ask_named(alloc: Global, name: &str) -> Result<Option<Command>, OutOfMemory>
     ensures { IfOk result (λ given. given ≡ ask_named name.now) }
 {
@@ -47,7 +47,8 @@ fn ask_named(alloc: Global, name: &str) -> Result<Option<Command>, OutOfMemory>
     }
 }
 
-/// Closes the run, signals another one, or asks.
+/// Returns the command that the name describes, if it closes the run, signals another workflow or
+/// asks for a version.
 fn closing_named(alloc: Global, name: &str) -> Result<Option<Command>, OutOfMemory>
     ensures { IfOk result (λ given. given ≡ closing_named name.now) }
 {
@@ -77,7 +78,7 @@ fn closing_named(alloc: Global, name: &str) -> Result<Option<Command>, OutOfMemo
     }
 }
 
-/// Starts or cancels something, or gives one of the other commands.
+/// Returns the command that the name describes.
 fn command_named(alloc: Global, name: &str) -> Result<Option<Command>, OutOfMemory>
     ensures { IfOk result (λ given. given ≡ command_named name.now) }
 {

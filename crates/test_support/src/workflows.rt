@@ -1,4 +1,4 @@
-//! Workflows that answer the same to each job.
+//! Workflows that give the same commands to each job.
 
 use std::alloc::Global;
 use wh_events::OutOfMemory;
@@ -44,7 +44,7 @@ impl Workflow for Brief {
     }
 }
 
-/// Answers nothing.
+/// Gives nothing.
 pub struct Still;
 
 impl Workflow for Still {

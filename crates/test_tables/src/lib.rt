@@ -1,4 +1,4 @@
-//! Tests of workflows whose table comes with the run: what is no table, and scenarios.
+//! Tests of workflows that get their table with each run: what is not a table, and scenarios.
 #![tactic(auto)]
 
 #[cfg(test)]

@@ -1,4 +1,4 @@
-//! Tests of a view of any history by its public calls: what no contract says.
+//! Tests of the view of any history by its public calls: what no contract says.
 #![tactic(auto)]
 
 #[cfg(test)]

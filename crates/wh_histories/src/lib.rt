@@ -1,18 +1,18 @@
-//! Histories in short words, for tests: each word is an event, and the whole is read as JSON.
+//! Histories in short words, for tests: each word is an event, and the history is read as JSON.
 #![tactic(auto)]
 
 use std::alloc::{AllocError, Global};
 use wh_events::{Event, RunKey, Text};
 use wh_json::read_events;
 
-/// Why words are no history.
+/// Why words are not a history.
 #[derive(Debug, Drop)]
 pub enum HistoryFault {
-    /// No event is written so.
+    /// A word is not one of an event.
     BadWord,
-    /// What is to be replaced is not there.
+    /// The text to be replaced is missing.
     BadChange,
-    /// The reader refuses what the words stand for.
+    /// The reader refuses the JSON of the words.
     Unreadable,
     OutOfMemory,
 }
@@ -23,8 +23,8 @@ impl From<AllocError> for HistoryFault {
     }
 }
 
-/// How an event is written, by a short word: its type, and what else it has. `$1` and `$2` stand
-/// for what follows the short word after colons, and `'` stands for a quotation mark.
+/// The form of each event: its short word, its type, and its attributes. `$1` and `$2` are replaced
+/// by the words after its colons, and `'` by a quotation mark.
 const FORMS: &str = "\
 start WorkflowExecutionStarted ,'workflowExecutionStartedEventAttributes':{'workflowType':{'name':'$1'}}
 S WorkflowTaskScheduled
@@ -84,7 +84,7 @@ late start:Racer S T C activity:1:race timer:t activity_started:5 timer_fired:6 
 caller start:Caller S T C external:other:go external_sent:5 S T C completed
 ";
 
-/// What stands after a name in a list with a line for each name.
+/// Returns the text after a name in a list with a line for each name.
 fn line_named(lines: &'static str, name: &str) -> Option<&'static str> {
     for line in lines.lines() {
         let (first, rest) = line.split_once(' ').unwrap_or((line, ""));
@@ -95,7 +95,7 @@ fn line_named(lines: &'static str, name: &str) -> Option<&'static str> {
     None
 }
 
-/// A word, and the number after a sign in it, if there is one.
+/// Returns a word without the number after a sign in it, and that number, if there is one.
 fn counted(
     word: &'static str,
     sign: &str,
@@ -148,7 +148,7 @@ fn push_events(words: &mut Vec<&'static str>, word: &'static str) -> Result<(), 
     }
 }
 
-/// Short words, one for each event.
+/// Returns the short words of a history, one for each event.
 fn words_of(alloc: Global, history: &'static str) -> Result<Vec<&'static str>, HistoryFault> {
     let mut words = Vec::new(alloc);
     for word in history.split_whitespace() {
@@ -157,7 +157,7 @@ fn words_of(alloc: Global, history: &'static str) -> Result<Vec<&'static str>, H
     Ok(words)
 }
 
-/// A form with what stands for `$1` and `$2`.
+/// Returns a form with these texts instead of `$1` and `$2`.
 fn filled(alloc: Global, form: &str, first: &str, second: &str) -> Result<String, AllocError> {
     let half = form.replace(alloc, "$1", first)?;
     let filled = half.as_str().replace(alloc, "$2", second);
@@ -165,7 +165,7 @@ fn filled(alloc: Global, form: &str, first: &str, second: &str) -> Result<String
     filled
 }
 
-/// Adds an event in JSON by its form, but for its quotation marks.
+/// Adds an event in JSON by its form, with `'` instead of quotation marks.
 fn push_form(
     alloc: Global,
     text: &mut String,
@@ -183,7 +183,7 @@ fn push_form(
     pushed
 }
 
-/// Adds an event in JSON, but for its quotation marks.
+/// Adds an event in JSON, with `'` instead of quotation marks.
 fn push_event(
     alloc: Global,
     text: &mut String,
@@ -201,7 +201,7 @@ fn push_event(
     Ok(pushed?)
 }
 
-/// Adds events in JSON, but for their quotation marks, and the end of their list.
+/// Adds events in JSON, with `'` instead of quotation marks, and the end of their list.
 fn push_each(alloc: Global, text: &mut String, words: &[&'static str]) -> Result<(), HistoryFault> {
     for (place, word) in words.iter().enumerate() {
         text.push_str(if place == 0 { "" } else { ",\n" })?;
@@ -210,14 +210,14 @@ fn push_each(alloc: Global, text: &mut String, words: &[&'static str]) -> Result
     Ok(text.push_str("]")?)
 }
 
-/// Events in JSON, but for their quotation marks.
+/// Returns events in JSON, with `'` instead of quotation marks.
 fn events_text(alloc: Global, words: &[&'static str]) -> Result<String, HistoryFault> {
     let mut text = String::from_str(alloc, "[")?;
     let pushed = push_each(alloc, &mut text, words);
     pushed.and(Ok(text))
 }
 
-/// The events of a history in JSON, but for their quotation marks.
+/// Returns the events of a history in JSON, with `'` instead of quotation marks.
 fn text_of(alloc: Global, history: &'static str) -> Result<String, HistoryFault> {
     let words = words_of(alloc, history)?;
     let text = events_text(alloc, words.as_slice());
@@ -225,7 +225,7 @@ fn text_of(alloc: Global, history: &'static str) -> Result<String, HistoryFault>
     text
 }
 
-/// A text with a change, which is what is replaced, `->` and what it becomes.
+/// Returns a text with a change, which is written as the old text, `->` and the new one.
 fn changed(alloc: Global, text: &str, change: &str) -> Result<String, HistoryFault> {
     match change.split_once(" -> ") {
         Some((old, new)) if text.contains(old) => Ok(text.replace(alloc, old, new)?),
@@ -233,7 +233,7 @@ fn changed(alloc: Global, text: &str, change: &str) -> Result<String, HistoryFau
     }
 }
 
-/// The events of a history with its changes, but for their quotation marks.
+/// Returns the events of a history with its changes, with `'` instead of quotation marks.
 fn changed_text(alloc: Global, history: &'static str) -> Result<String, HistoryFault> {
     let mut parts = history.split(" | ");
     let mut text = text_of(alloc, parts.next().unwrap_or(""))?;
@@ -243,7 +243,7 @@ fn changed_text(alloc: Global, history: &'static str) -> Result<String, HistoryF
     Ok(text)
 }
 
-/// A history in JSON. After the events stand changes of its text, each after a `|`.
+/// Returns a history as JSON. After the events it may have changes of that text, each after a `|`.
 pub fn json(alloc: Global, history: &'static str) -> Result<String, HistoryFault> {
     let text = changed_text(alloc, history)?;
     let json = text.as_str().replace(alloc, "'", "\"");
@@ -251,7 +251,7 @@ pub fn json(alloc: Global, history: &'static str) -> Result<String, HistoryFault
     Ok(json?)
 }
 
-/// The events that a text stands for.
+/// Returns the events of a JSON text.
 fn read(alloc: Global, text: &str) -> Result<Vec<Event>, HistoryFault> {
     match read_events(alloc, text.as_bytes()) {
         Ok(events) => Ok(events),
@@ -262,7 +262,7 @@ fn read(alloc: Global, text: &str) -> Result<Vec<Event>, HistoryFault> {
     }
 }
 
-/// The events of a history, none of an empty one.
+/// Returns the events of a history; none if it is empty.
 pub fn events(alloc: Global, history: &'static str) -> Result<Vec<Event>, HistoryFault> {
     if history.is_empty() {
         return Ok(Vec::new(alloc));
@@ -273,7 +273,7 @@ pub fn events(alloc: Global, history: &'static str) -> Result<Vec<Event>, Histor
     events
 }
 
-/// The events after so many, which are left.
+/// Keeps the first events, so many, and returns the later ones.
 fn split_after(events: &mut Vec<Event>, after: usize) -> Result<Vec<Event>, HistoryFault> {
     if events.len() < after {
         return Err(HistoryFault::BadWord);
@@ -281,8 +281,8 @@ fn split_after(events: &mut Vec<Event>, after: usize) -> Result<Vec<Event>, Hist
     Ok(events.split_off(after)?)
 }
 
-/// The events of a history after so many, or after as many as the history says itself: those of
-/// `nap/8 after 3` are events 4 to 8 of `nap`.
+/// Returns the events of a history after so many, or after as many as the history says itself:
+/// those of `nap/8 after 3` are events 4 to 8 of `nap`.
 pub fn events_after(
     alloc: Global,
     history: &'static str,
@@ -295,7 +295,7 @@ pub fn events_after(
     later
 }
 
-/// A key of a run, by the id of its workflow.
+/// Returns the key of a run by its workflow id.
 pub fn key(alloc: Global, workflow_id: &str) -> Result<RunKey, HistoryFault> {
     Ok(RunKey {
         workflow_id: Text::new(String::from_str(alloc, workflow_id)?),

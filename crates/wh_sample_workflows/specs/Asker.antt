@@ -8,13 +8,13 @@ use Rattle.wh_workflow.specs.Law.{Program, IsAnswer, IsLawful}
 use Rattle.wh_workflow.specs.Answering.{none_is_answer, one_is_answer}
 use Rattle.wh_sample_workflows.specs.declared.stateless.NoState.{NoState}
 
--- what it gives to a job
+-- the commands that it gives to a job
 abbrev pub asker_gives : Job → List Command
 asker_gives (Start _ _) = Ask (codes "a") (negsuc 0) (pos 1) ∷ []
 asker_gives (Version _ _) = Ask (codes "a") (negsuc 0) (pos 1) ∷ []
 asker_gives _ = []
 
--- what it computes
+-- the workflow as a program
 abbrev pub asker : Program NoState
 asker = record {
   knows = λ kind. bytes_eq kind (codes "Asker");

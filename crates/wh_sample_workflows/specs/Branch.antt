@@ -12,11 +12,11 @@ use Rattle.wh_sample_workflows.specs.Endings.{result_or_failure}
 use Rattle.wh_workflow.specs.Answering.{none_is_answer, one_is_answer, either_is_answer}
 use Rattle.wh_sample_workflows.specs.declared.stateless.NoState.{NoState}
 
--- the activity of a version
+-- the activity for a version
 abbrev pub branch_activity : ℤ → List ℕ
 branch_activity version = if int_eq version (negsuc 0) then codes "old" else codes "new"
 
--- what it gives to a job
+-- the commands that it gives to a job
 abbrev pub branch_gives : Job → List Command
 branch_gives (Start _ _) = Ask (codes "chg") (negsuc 0) (pos 1) ∷ []
 branch_gives (Version change_id version) =
@@ -24,7 +24,7 @@ branch_gives (Version change_id version) =
 branch_gives (Activity id end) = if bytes_eq id (codes "1") then result_or_failure (codes "branch") end ∷ [] else []
 branch_gives _ = []
 
--- what it computes
+-- the workflow as a program
 abbrev pub branch : Program NoState
 branch = record {
   knows = λ kind. bytes_eq kind (codes "Branch");

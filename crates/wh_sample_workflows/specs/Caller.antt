@@ -8,14 +8,14 @@ use Rattle.wh_workflow.specs.Law.{Program, IsAnswer, IsLawful}
 use Rattle.wh_workflow.specs.Answering.{none_is_answer, one_is_answer}
 use Rattle.wh_sample_workflows.specs.declared.stateless.NoState.{NoState}
 
--- what it gives to a job
+-- the commands that it gives to a job
 abbrev pub caller_gives : Job → List Command
 caller_gives (Start _ _) = SignalExternal (codes "other") (codes "go") [] ∷ []
 caller_gives (SignalSent _ _) = Complete [] ∷ []
 caller_gives (SignalFailed _ _) = Fail (codes "signal") ∷ []
 caller_gives _ = []
 
--- what it computes
+-- the workflow as a program
 abbrev pub caller : Program NoState
 caller = record {
   knows = λ kind. bytes_eq kind (codes "Caller");

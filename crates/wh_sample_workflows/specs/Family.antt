@@ -10,13 +10,13 @@ use Rattle.wh_workflow.specs.Law.{Program, IsAnswer, IsLawful}
 use Rattle.wh_workflow.specs.Answering.{none_is_answer, one_is_answer, either_is_answer}
 use Rattle.wh_sample_workflows.specs.declared.family.FamilyState.{FamilyState}
 
--- how the run ends where its child ends
+-- the command that closes the run when its child ends
 abbrev pub family_end : ChildEnd → Command
 family_end (Completed result) = Complete result
 family_end Canceled = Cancel
 family_end _ = Fail (codes "kid")
 
--- what it gives to a job
+-- the commands that it gives to a job
 abbrev pub family_gives : FamilyState → Job → List Command
 family_gives state (Start _ _) = StartChild (codes "kid") (codes "Nap") [] ∷ []
 family_gives state (Signal name _) =
@@ -24,14 +24,14 @@ family_gives state (Signal name _) =
 family_gives state (Child workflow_id end) = if bytes_eq workflow_id (codes "kid") then family_end end ∷ [] else []
 family_gives _ _ = []
 
--- after the signal to stop, or the end of the child, the child isn't canceled any more
+-- the state after a job: after the signal `stop`, or the end of the child, the child is not canceled any more
 abbrev pub family_after : FamilyState → Job → FamilyState
 family_after state (Signal name _) = if bytes_eq name (codes "stop") then record { cancellable = false } else state
 family_after state (Child workflow_id _) =
     if bytes_eq workflow_id (codes "kid") then record { cancellable = false } else state
 family_after state _ = state
 
--- what it computes
+-- the workflow as a program
 abbrev pub family : Program FamilyState
 family = record {
   knows = λ kind. bytes_eq kind (codes "Family");

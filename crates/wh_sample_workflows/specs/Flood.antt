@@ -9,33 +9,33 @@ use Rattle.wh_workflow.specs.Law.{Program, IsAnswer, IsLawful, asks_last, record
 use Rattle.wh_workflow.specs.Answering.{none_is_answer}
 use Rattle.wh_sample_workflows.specs.declared.flood.FloodState.{FloodState}
 
--- the number after; after the last number of 64 bits comes 0
+-- the next number; 0 follows the last number of 64 bits
 abbrev pub next_number : ℕ → ℕ
 next_number n = if eqb n 0xffff_ffff_ffff_ffff then 0 else n + 1
 
--- the number counted on so many times
+-- the number after so many more
 unfoldable pub counted : ℕ → ℕ → ℕ
 counted zero n = n
 counted (suc times) n = next_number (counted times n)
 
--- so many timers, named by the numbers from one on
+-- so many timers, named by numbers from this one on
 unfoldable pub timers : ℕ → ℕ → List Command
 timers zero n = []
 timers (suc times) n = timers times n ++ StartTimer (decimal (counted times n)) 1 ∷ []
 
--- what it gives to a job
+-- the commands that it gives to a job
 abbrev pub flood_gives : FloodState → Job → List Command
 flood_gives state (Start _ _) = timers 64 state.next
 flood_gives state (Signal _ _) = timers 64 state.next
 flood_gives _ _ = []
 
--- what a job leaves
+-- the state after a job
 abbrev pub flood_after : FloodState → Job → FloodState
 flood_after state (Start _ _) = record { next = counted 64 state.next }
 flood_after state (Signal _ _) = record { next = counted 64 state.next }
 flood_after state _ = state
 
--- what it computes
+-- the workflow as a program
 abbrev pub flood : Program FloodState
 flood = record {
   knows = λ kind. bytes_eq kind (codes "Flood");
@@ -44,7 +44,7 @@ flood = record {
   gives = flood_gives;
 }
 
--- nothing but timers, and how many
+-- the commands are only timers, and so many of them
 data OnlyTimers : ℕ → List Command → Type 0 where
   Nothing : OnlyTimers 0 []
   Timer : (count : ℕ) (id : List ℕ) (seconds : ℕ) (rest : List Command) → OnlyTimers count rest
@@ -75,7 +75,7 @@ timers_record : (count : ℕ) (commands : List Command) → OnlyTimers count com
 timers_record _ _ Nothing = refl
 timers_record _ _ (Timer count id seconds rest timers) = timers_record count rest timers
 
--- at most 64 timers may be answered in one step
+-- a step may return at most 64 timers
 pub timers_answer : (times n : ℕ) → times ≤ 64 → IsAnswer (timers times n)
 timers_answer times n few =
     let timers_only = only_timers times n in

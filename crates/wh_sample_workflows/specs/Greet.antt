@@ -10,27 +10,27 @@ use Rattle.wh_workflow.specs.Law.{Program, IsAnswer, IsLawful}
 use Rattle.wh_workflow.specs.Answering.{none_is_answer, one_is_answer, either_is_answer}
 use Rattle.wh_sample_workflows.specs.declared.greet.GreetState.{GreetState}
 
--- how the run ends where its activity ends
+-- the command that closes the run when its activity ends
 abbrev pub greet_end : ActivityEnd → Command
 greet_end (Completed result) = Complete result
 greet_end Canceled = Cancel
 greet_end Failed = Fail (codes "greet")
 greet_end TimedOut = Fail (codes "greet")
 
--- what it gives to a job
+-- the commands that it gives to a job
 abbrev pub greet_gives : GreetState → Job → List Command
 greet_gives state (Start _ input) = StartActivity (codes "1") (codes "greet") input ∷ []
 greet_gives state CancelRequested = if state.cancellable then CancelActivity (codes "1") ∷ [] else []
 greet_gives state (Activity id end) = if bytes_eq id (codes "1") then greet_end end ∷ [] else []
 greet_gives _ _ = []
 
--- after a request to cancel, or the end of the activity, none is passed on
+-- the state after a job: after a request to cancel, or the end of the activity, no request is passed on
 abbrev pub greet_after : GreetState → Job → GreetState
 greet_after state CancelRequested = record { cancellable = false }
 greet_after state (Activity id _) = if bytes_eq id (codes "1") then record { cancellable = false } else state
 greet_after state _ = state
 
--- what it computes
+-- the workflow as a program
 abbrev pub greet : Program GreetState
 greet = record {
   knows = λ kind. bytes_eq kind (codes "Greet");

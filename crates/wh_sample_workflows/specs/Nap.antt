@@ -8,13 +8,13 @@ use Rattle.wh_workflow.specs.Law.{Program, IsAnswer, IsLawful}
 use Rattle.wh_workflow.specs.Answering.{none_is_answer, one_is_answer, either_is_answer}
 use Rattle.wh_sample_workflows.specs.declared.stateless.NoState.{NoState}
 
--- what it gives to a job
+-- the commands that it gives to a job
 abbrev pub nap_gives : Job → List Command
 nap_gives (Start _ _) = StartTimer (codes "nap") 60 ∷ []
 nap_gives (TimerFired id) = if bytes_eq id (codes "nap") then Complete [] ∷ [] else []
 nap_gives _ = []
 
--- what it computes
+-- the workflow as a program
 abbrev pub nap : Program NoState
 nap = record {
   knows = λ kind. bytes_eq kind (codes "Nap");

@@ -25,7 +25,7 @@ lateness = CancelActivity (codes "1") ∷ StartTimer (codes "u") 5 ∷ []
 abbrev pub ending : ActivityEnd → List Command
 ending end = CancelTimer (codes "t") ∷ result_or_failure (codes "race") end ∷ []
 
--- what it gives to a job
+-- the commands that it gives to a job
 abbrev pub racer_gives : Phase → Job → List Command
 racer_gives Racing (Start _ _) = race
 racer_gives Racing (TimerFired id) = if bytes_eq id (codes "t") then lateness else []
@@ -33,14 +33,14 @@ racer_gives Racing (Activity id end) = if bytes_eq id (codes "1") then ending en
 racer_gives Late (TimerFired id) = if bytes_eq id (codes "u") then Complete [] ∷ [] else []
 racer_gives _ _ = []
 
--- what a job leaves
+-- the phase after a job
 abbrev pub racer_after : Phase → Job → Phase
 racer_after Racing (TimerFired id) = if bytes_eq id (codes "t") then Late else Racing
 racer_after Racing (Activity id _) = if bytes_eq id (codes "1") then Done else Racing
 racer_after Late (TimerFired id) = if bytes_eq id (codes "u") then Done else Late
 racer_after phase _ = phase
 
--- what it computes
+-- the workflow as a program
 abbrev pub racer : Program Phase
 racer = record {
   knows = λ kind. bytes_eq kind (codes "Racer");
@@ -68,7 +68,7 @@ phase_text Racing = codes "\"racing\""
 phase_text Late = codes "\"late\""
 phase_text Done = codes "\"done\""
 
--- `phase` gives that, and no other query type is known
+-- the answer to a query: only `phase` is known
 abbrev pub racer_queries : Queries Phase
 racer_queries phase query_type input =
     if bytes_eq query_type (codes "phase") then json_result (phase_text phase)

@@ -1,4 +1,4 @@
-//! Asker: asks for a version again and again.
+//! Asker: asks for a version at every chance.
 ghost use Rattle.std.specs.Prelude.{◌≡◌, option_to_list, IfOk};
 ghost use Rattle.wh_sample_workflows.specs.Asker.{asker, asker_gives, asker_lawful};
 
@@ -7,7 +7,7 @@ use std::alloc::Global;
 use wh_events::OutOfMemory;
 use wh_workflow::{Command, Job, Meter, Workflow, give, text_of};
 
-/// Asks again and again.
+/// Asks for the same version again after each answer.
 ///
 /// | Job | Gives |
 /// |---|---|
@@ -16,7 +16,7 @@ use wh_workflow::{Command, Job, Meter, Workflow, give, text_of};
 /// Other jobs change nothing and give nothing.
 pub struct Asker;
 
-/// What it gives to a job.
+/// Returns the command that it gives to a job.
 fn given(alloc: Global, job: &Job) -> Result<Option<Command>, OutOfMemory>
     ensures { IfOk result (λ given. option_to_list given ≡ asker_gives job.now) }
 {

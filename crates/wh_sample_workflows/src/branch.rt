@@ -1,4 +1,4 @@
-//! Branch: runs the old or the new activity, by the version of a change.
+//! Branch: runs the old or the new activity, depending on the version of a change.
 ghost use Rattle.std.specs.Prelude.{◌≡◌, [], codes, option_to_list, IfOk};
 ghost use Rattle.wh_sample_workflows.specs.Branch.{branch, branch_activity, branch_gives, branch_lawful};
 ghost use Rattle.wh_workflow.specs.declared.command.Command.TheVariants.{StartActivity};
@@ -9,7 +9,7 @@ use std::alloc::Global;
 use wh_events::OutOfMemory;
 use wh_workflow::{Command, Job, Meter, Workflow, give, no_payloads, text_of, texts_of};
 
-/// Runs the old or the new activity, by the version of a change.
+/// Runs the old or the new activity, depending on the version of a change.
 ///
 /// | Job | Gives |
 /// |---|---|
@@ -22,7 +22,7 @@ use wh_workflow::{Command, Job, Meter, Workflow, give, no_payloads, text_of, tex
 /// Other jobs change nothing and give nothing.
 pub struct Branch;
 
-/// Starts the activity of a version.
+/// Starts the activity for a version.
 fn start(alloc: Global, version: i32) -> Result<Command, OutOfMemory>
     ensures { IfOk result (λ command. command ≡ StartActivity (codes "1") (branch_activity version) []) }
 {
@@ -35,7 +35,7 @@ fn start(alloc: Global, version: i32) -> Result<Command, OutOfMemory>
     })
 }
 
-/// What it gives to a job.
+/// Returns the command that it gives to a job.
 fn given(alloc: Global, job: &Job) -> Result<Option<Command>, OutOfMemory>
     ensures { IfOk result (λ given. option_to_list given ≡ branch_gives job.now) }
 {

@@ -18,7 +18,7 @@ use wh_workflow::{Command, Job, Meter, Workflow, give, no_payloads, text_of, tex
 /// Other jobs change nothing and give nothing.
 pub struct Caller;
 
-/// What it gives to a job.
+/// Returns the command that it gives to a job.
 fn given(alloc: Global, job: &Job) -> Result<Option<Command>, OutOfMemory>
     ensures { IfOk result (λ given. option_to_list given ≡ caller_gives job.now) }
 {

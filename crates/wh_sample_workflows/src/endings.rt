@@ -1,4 +1,4 @@
-//! How runs end where what they wait for ends.
+//! Closes a run when what it waits for ends.
 ghost use Rattle.std.specs.Prelude.{◌≡◌, IfOk};
 ghost use Rattle.wh_sample_workflows.specs.Endings.{result_or_failure};
 
@@ -6,7 +6,7 @@ use std::alloc::Global;
 use wh_events::OutOfMemory;
 use wh_workflow::{ActivityEnd, Command, text_of};
 
-/// `Complete` with the result of the activity, and `Fail` with the message where it has none.
+/// Returns `Complete` with the result of the activity, or `Fail` with the message if it has none.
 pub(crate) fn result_or_failure(
     alloc: Global,
     end: &ActivityEnd,

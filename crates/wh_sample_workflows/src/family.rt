@@ -1,4 +1,4 @@
-//! Family: runs a child, and cancels it at a signal.
+//! Family: runs a child, and cancels it on a signal.
 ghost use Rattle.std.specs.Prelude.{◌≡◌, option_to_list, IfOk};
 ghost use Rattle.wh_sample_workflows.specs.Family.{family, family_after, family_end, family_gives, family_lawful};
 
@@ -6,7 +6,7 @@ use std::alloc::Global;
 use wh_events::OutOfMemory;
 use wh_workflow::{ChildEnd, Command, Job, Meter, Workflow, give, no_payloads, text_of, texts_of};
 
-/// Runs a child, and cancels it at the signal `stop`.
+/// Runs a child, and cancels it on the signal `stop`.
 ///
 /// | Job | Gives |
 /// |---|---|
@@ -19,14 +19,15 @@ use wh_workflow::{ChildEnd, Command, Job, Meter, Workflow, give, no_payloads, te
 /// Other jobs change nothing and give nothing.
 pub struct Family;
 
-/// Whether the signal cancels the child: it has not ended, and was not canceled.
+/// Whether the signal cancels the child: the child has not ended, and its cancellation is not
+/// requested yet.
 #[derive(Clone, Copy, Debug, PartialEq, Eq)]
 pub struct FamilyState {
-    /// True from the start to the first such signal or the child's end.
+    /// True from the start until the first such signal or the end of the child.
     pub cancellable: bool,
 }
 
-/// How the run ends where its child ends.
+/// Returns the command that closes the run when its child ends.
 fn end_of(alloc: Global, end: &ChildEnd) -> Result<Command, OutOfMemory>
     ensures { IfOk result (λ command. command ≡ family_end end.now) }
 {
@@ -41,7 +42,7 @@ fn end_of(alloc: Global, end: &ChildEnd) -> Result<Command, OutOfMemory>
     }
 }
 
-/// What it gives to a job.
+/// Returns the command that it gives to a job.
 fn given(alloc: Global, state: FamilyState, job: &Job) -> Result<Option<Command>, OutOfMemory>
     ensures { IfOk result (λ given. option_to_list given ≡ family_gives state job.now) }
 {
@@ -64,7 +65,7 @@ fn given(alloc: Global, state: FamilyState, job: &Job) -> Result<Option<Command>
     })
 }
 
-/// What a job leaves.
+/// Returns the state after a job.
 fn after(state: FamilyState, job: &Job) -> FamilyState
     ensures { result ≡ family_after state job.now }
 {

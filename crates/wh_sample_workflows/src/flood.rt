@@ -1,4 +1,4 @@
-//! Flood: starts as many timers in one step as it may.
+//! Flood: starts as many timers in one step as are allowed.
 ghost use Rattle.std.specs.Prelude.{◌≡◌, ◌++◌, length, take, drop, decimal, OnOk, OnErr, IfOk};
 ghost use Rattle.wh_workflow.specs.Law.{IsAnswer};
 ghost use Rattle.wh_sample_workflows.specs.Flood.{flood, timers, counted, next_number, flood_lawful};
@@ -7,7 +7,7 @@ use std::alloc::Global;
 use wh_events::{OutOfMemory, Text};
 use wh_workflow::{Command, Job, Meter, Workflow};
 
-/// Starts 64 timers at a time, as many as one step may.
+/// Starts 64 timers at a time, the most that are allowed in one step.
 ///
 /// | Job | Gives |
 /// |---|---|
@@ -26,7 +26,7 @@ pub struct FloodState {
 /// How many timers one step starts.
 const TIMERS: u64 = 64;
 
-/// The number after. After the last one comes 0.
+/// Returns the next number. 0 follows the last one.
 fn next_number(number: u64) -> u64
     ensures { result ≡ next_number number }
 {

@@ -19,14 +19,15 @@ use wh_workflow::{ActivityEnd, Command, Job, Meter, Workflow, give, text_of, tex
 /// Other jobs change nothing and give nothing.
 pub struct Greet;
 
-/// Whether a request to cancel the activity is passed on: it has not ended, and none was.
+/// Whether a request to cancel is passed on: the activity has not ended, and none was passed on
+/// yet.
 #[derive(Clone, Copy, Debug, PartialEq, Eq)]
 pub struct GreetState {
-    /// True from the start to the first request or the activity's end.
+    /// True from the start until the first request or the end of the activity.
     pub cancellable: bool,
 }
 
-/// How the run ends where its activity ends.
+/// Returns the command that closes the run when its activity ends.
 fn end_of(alloc: Global, end: &ActivityEnd) -> Result<Command, OutOfMemory>
     ensures { IfOk result (λ command. command ≡ greet_end end.now) }
 {
@@ -41,7 +42,7 @@ fn end_of(alloc: Global, end: &ActivityEnd) -> Result<Command, OutOfMemory>
     }
 }
 
-/// What it gives to a job.
+/// Returns the command that it gives to a job.
 fn given(alloc: Global, state: GreetState, job: &Job) -> Result<Option<Command>, OutOfMemory>
     ensures { IfOk result (λ given. option_to_list given ≡ greet_gives state job.now) }
 {
@@ -63,7 +64,7 @@ fn given(alloc: Global, state: GreetState, job: &Job) -> Result<Option<Command>,
     })
 }
 
-/// What a job leaves.
+/// Returns the state after a job.
 fn after(state: GreetState, job: &Job) -> GreetState
     ensures { result ≡ greet_after state job.now }
 {

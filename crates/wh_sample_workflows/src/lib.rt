@@ -1,4 +1,5 @@
-//! Small workflows, each a table of what it gives to a job. The workflow type is the sample's name.
+//! Small workflows, each a table of the commands that it gives to jobs. The workflow type is the
+//! name of the sample.
 #![tactic(auto)]
 
 mod asker;
@@ -26,8 +27,8 @@ pub use stateless::NoState;
 use wh_queryable::NoQueries;
 use wh_workflow::Pair;
 
-/// The samples that the program has code for. Flood and Asker, which only go past limits, are not
-/// among them. Racer answers a query, and no other sample knows one.
+/// The samples that the program registers. Flood and Asker are not among them, since they only
+/// exceed limits. Only Racer answers a query.
 pub type All = Pair<
     NoQueries<Nap>,
     Pair<

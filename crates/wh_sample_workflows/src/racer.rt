@@ -23,10 +23,10 @@ use wh_workflow::{
 ///
 /// Other jobs change nothing and give nothing.
 ///
-/// The query `phase` gives the phase in JSON: `"racing"`, `"late"` or `"done"`.
+/// The query `phase` returns the phase as JSON: `"racing"`, `"late"` or `"done"`.
 pub struct Racer;
 
-/// How far the race has come.
+/// The phase of the race.
 #[derive(Clone, Copy, Debug, PartialEq, Eq)]
 pub enum Phase {
     /// Neither the activity nor the timer has ended.
@@ -37,7 +37,7 @@ pub enum Phase {
     Done,
 }
 
-/// Both commands, in their order.
+/// Returns both commands, in this order.
 fn both(alloc: Global, first: Command, second: Command) -> Result<Vec<Command>, OutOfMemory>
     ensures { IfOk result (λ given. given.items ≡ first ∷ second ∷ []) }
 {
@@ -76,7 +76,7 @@ fn come_late(alloc: Global) -> Result<Vec<Command>, OutOfMemory>
     both(alloc, cancel, timer)
 }
 
-/// Cancels the timer, and ends as the activity did.
+/// Cancels the timer, and closes the run as the activity ended.
 fn end_race(alloc: Global, end: &ActivityEnd) -> Result<Vec<Command>, OutOfMemory>
     ensures { IfOk result (λ given. given.items ≡ ending end.now) }
 {
@@ -85,7 +85,7 @@ fn end_race(alloc: Global, end: &ActivityEnd) -> Result<Vec<Command>, OutOfMemor
     both(alloc, Command::CancelTimer { id }, end)
 }
 
-/// What it gives to a job.
+/// Returns the commands that it gives to a job.
 fn given(alloc: Global, phase: Phase, job: &Job) -> Result<Vec<Command>, OutOfMemory>
     ensures { IfOk result (λ given. given.items ≡ racer_gives phase job.now) }
 {
@@ -101,7 +101,7 @@ fn given(alloc: Global, phase: Phase, job: &Job) -> Result<Vec<Command>, OutOfMe
     }
 }
 
-/// What a job leaves.
+/// Returns the phase after a job.
 fn after(phase: Phase, job: &Job) -> Phase
     ensures { result ≡ racer_after phase job.now }
 {
@@ -142,7 +142,7 @@ impl Workflow for Racer {
     }
 }
 
-/// A phase, as a JSON text.
+/// Returns a phase, as a JSON text.
 fn phase_text(phase: Phase) -> &'static str
     ensures { result.now ≡ phase_text phase }
 {

@@ -1,4 +1,4 @@
-//! Relay: hands its input on from run to run, one payload less each time.
+//! Relay: passes its input from run to run, one payload less each time.
 ghost use Rattle.std.specs.Prelude.{◌≡◌, drop, option_to_list, IfOk, OnOk};
 ghost use Rattle.wh_sample_workflows.specs.Relay.{relay, relay_after, relay_gives, relay_lawful, relay_start};
 
@@ -6,7 +6,7 @@ use std::alloc::Global;
 use wh_events::{Items, OutOfMemory, Payload};
 use wh_workflow::{Command, Job, Meter, Workflow, give, no_payloads, text_of};
 
-/// Waits five seconds for each payload of its input, each time in a run of its own.
+/// Waits five seconds for each payload of its input, in a new run for each.
 ///
 /// | Job | Gives |
 /// |---|---|
@@ -14,18 +14,18 @@ use wh_workflow::{Command, Job, Meter, Workflow, give, no_payloads, text_of};
 /// | `Start` with an input | `StartTimer{leg, 5}` |
 /// | `TimerFired` of `leg` | `ContinueAsNew{Relay}` with the payloads after the first one |
 ///
-/// Other jobs change nothing and give nothing. So a run with so many payloads is continued by as
-/// many runs, of which the last one completes at once.
+/// Other jobs change nothing and give nothing. So a run with N payloads is continued by N runs, and
+/// the last of them completes at once.
 pub struct Relay;
 
-/// What the next run is started with.
+/// The input of the next run.
 #[derive(Debug, Drop)]
 pub struct RelayState {
     /// The payloads of the input after the first one; none before the start.
     pub left: Items<Payload>,
 }
 
-/// What a run with this input begins with.
+/// Returns the command at the start of a run with this input.
 fn start(alloc: Global, input: &[Payload]) -> Result<Command, OutOfMemory>
     ensures { IfOk result (λ command. command ≡ relay_start input.now) }
 {
@@ -40,7 +40,7 @@ fn start(alloc: Global, input: &[Payload]) -> Result<Command, OutOfMemory>
     }
 }
 
-/// What it gives to a job.
+/// Returns the command that it gives to a job.
 fn given(alloc: Global, state: &RelayState, job: &Job) -> Result<Option<Command>, OutOfMemory>
     ensures { IfOk result (λ given. option_to_list given ≡ relay_gives state.now job.now) }
 {
@@ -57,7 +57,7 @@ fn given(alloc: Global, state: &RelayState, job: &Job) -> Result<Option<Command>
     })
 }
 
-/// Copies of the payloads after the first one.
+/// Returns copies of the payloads after the first one.
 fn after_first(alloc: Global, payloads: &[Payload]) -> Result<Items<Payload>, OutOfMemory>
     ensures { IfOk result (λ left. left ≡ drop 1 payloads.now) }
 {
@@ -67,7 +67,7 @@ fn after_first(alloc: Global, payloads: &[Payload]) -> Result<Items<Payload>, Ou
     }
 }
 
-/// What a job leaves. After `OutOfMemory` nothing is changed.
+/// Changes the state by a job. After `OutOfMemory` it is unchanged.
 fn note(alloc: Global, state: &mut RelayState, job: &Job) -> Result<(), OutOfMemory>
     ensures { OnOk result (state.new ≡ relay_after state.old job.now) }
 {

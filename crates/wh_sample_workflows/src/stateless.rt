@@ -1,5 +1,5 @@
-//! The state of workflows that remember nothing.
+//! The state of workflows that need none.
 
-/// The state of a workflow that has nothing to remember.
+/// The state of a workflow that needs none.
 #[derive(Clone, Copy, Debug, PartialEq, Eq)]
 pub struct NoState;

@@ -28,7 +28,7 @@ const SMALL: Config = Config {
     seats: 1,
 };
 
-/// Opens slots, and prints what they count, or why they were not opened.
+/// Opens slots, and prints their counts, or why they were not opened.
 pub(crate) fn open_slots<R: Print>(rt: &R, alloc: Global, name: &str) -> Option<()> {
     say_nothing(rt, name, "before");
     let opened = Slots::open(alloc, SlotKind::Workflow, 3);
@@ -61,15 +61,15 @@ fn is_on_open(call: Call) -> bool {
     matches!(call, Call::GiveRun | Call::ServeOne | Call::ServeNext)
 }
 
-/// Prints what stands before or after a call that opens something, which is nothing. No line about
-/// another call.
+/// Prints what is there before or after a call that opens something, which is nothing. Prints no
+/// line about another call.
 fn say_beside<R: Print>(rt: &R, call: Call, part: &str) {
     if !is_on_open(call) {
         say_nothing(rt, call.name(), part);
     }
 }
 
-/// Prints why nothing could be opened. `None` where that was to be called.
+/// Prints why nothing could be opened. `None` if the call was to be made on what is opened.
 fn say_fault<R: Print>(rt: &R, call: Call, fault: OpenFault) -> Option<()> {
     if is_on_open(call) {
         return None;
@@ -104,7 +104,7 @@ fn open_books<R: Print, T: Ledger, C: Ledger, F: Ledger>(
     Some(())
 }
 
-/// Prints what the state of a host has counted.
+/// Prints the counts of the state of a host.
 fn say_counts<R: Print, T: Ledger, C: Ledger, F: Ledger>(
     rt: &R,
     name: &str,
@@ -116,7 +116,7 @@ fn say_counts<R: Print, T: Ledger, C: Ledger, F: Ledger>(
     say(rt, name, part, &counts);
 }
 
-/// Prints what a host has counted.
+/// Prints the counts of a host.
 fn say_shared<R: Print + Wait, T: Ledger, C: Ledger, F: Ledger>(
     rt: &R,
     name: &str,
@@ -128,8 +128,8 @@ fn say_shared<R: Print + Wait, T: Ledger, C: Ledger, F: Ledger>(
     say(rt, name, part, &counts);
 }
 
-/// Prints what became of a run that was given back, and how many events the run holds that came
-/// back, if one did, and lets it go.
+/// Prints the result of giving a run back, and how many events the run holds that is returned, if
+/// one is, and drops it.
 fn say_given<R: Print>(rt: &R, name: &str, given: Given<Nap>) {
     let seen = match &given {
         Given::Put(put) => put_seen(put),
@@ -140,7 +140,7 @@ fn say_given<R: Print>(rt: &R, name: &str, given: Given<Nap>) {
     drop(given);
 }
 
-/// Takes a task in hand.
+/// Holds a task.
 fn take<T: Ledger, C: Ledger, F: Ledger>(
     alloc: Global,
     host: &mut HostState<Nap, T, C, F>,
@@ -153,7 +153,7 @@ fn take<T: Ledger, C: Ledger, F: Ledger>(
     Some(held)
 }
 
-/// Takes a task in hand, and gives the run of a nap back under it.
+/// Holds a task, and gives the run of a nap back with it.
 fn give_nap<R: Print, T: Ledger, C: Ledger, F: Ledger>(
     rt: &R,
     alloc: Global,
@@ -169,8 +169,7 @@ fn give_nap<R: Print, T: Ledger, C: Ledger, F: Ledger>(
     Some(())
 }
 
-/// Makes a call on the state of a host with a seat: gives a run back to it, or tells what it has
-/// counted.
+/// Makes a call on the state of a host with a seat: gives a run back to it, or reads its counts.
 fn on_seat<R: Print, T: Ledger, C: Ledger, F: Ledger>(
     rt: &R,
     alloc: Global,
@@ -184,7 +183,7 @@ fn on_seat<R: Print, T: Ledger, C: Ledger, F: Ledger>(
     }
 }
 
-/// Makes a call on the state of a host with its first seat, and lets both go.
+/// Makes a call on the state of a host with its first seat, and drops both.
 fn on_state<R: Print, T: Ledger, C: Ledger, F: Ledger>(
     rt: &R,
     alloc: Global,
@@ -201,8 +200,8 @@ fn on_state<R: Print, T: Ledger, C: Ledger, F: Ledger>(
     called
 }
 
-/// Opens the state of a host, with no workflow slots where the call is to be refused, and makes a
-/// call on it.
+/// Opens the state of a host, without workflow slots if the call is to be refused, and makes a call
+/// on it.
 fn call_state<R: Print, T: Ledger, C: Ledger, F: Ledger>(
     rt: &R,
     alloc: Global,
@@ -241,7 +240,7 @@ fn serve<R: Wait, T: Ledger, C: Ledger, F: Ledger, S: TaskSource>(
     serve_one(rt, alloc, host, seat, source, &mut handler, &OpenGate, kind)
 }
 
-/// Serves the next task of a source, and prints what it answers and what is counted.
+/// Serves the next task of a source, and prints the answer and the counts.
 fn say_served<R: Print + Wait, T: Ledger, C: Ledger, F: Ledger, S: TaskSource>(
     rt: &R,
     alloc: Global,
@@ -270,8 +269,8 @@ fn serve_nap<R: Print + Wait, T: Ledger, C: Ledger, F: Ledger>(
     Some(())
 }
 
-/// Serves the second task of a nap, once the answer to the first one was taken, over a source that
-/// lets a run be cached only where the answer to its task was.
+/// Serves the second task of a nap after the answer to the first one was taken, over a source that
+/// lets a run be cached only if the answer to its task was taken.
 fn serve_next<R: Print + Wait, T: Ledger, C: Ledger, F: Ledger>(
     rt: &R,
     alloc: Global,
@@ -288,7 +287,7 @@ fn serve_next<R: Print + Wait, T: Ledger, C: Ledger, F: Ledger>(
     first.map(|_| ())
 }
 
-/// Makes a call on a host: serves a task on it, or tells what it has counted.
+/// Makes a call on a host: serves a task on it, or reads its counts.
 fn on_host<R: Print + Wait, T: Ledger, C: Ledger, F: Ledger>(
     rt: &R,
     alloc: Global,
@@ -303,7 +302,7 @@ fn on_host<R: Print + Wait, T: Ledger, C: Ledger, F: Ledger>(
     }
 }
 
-/// Makes a call on a host with its first seat, and lets both go.
+/// Makes a call on a host with its first seat, and drops both.
 fn on_opened<R: Print + Wait, T: Ledger, C: Ledger, F: Ledger>(
     rt: &R,
     alloc: Global,

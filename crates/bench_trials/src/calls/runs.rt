@@ -20,7 +20,7 @@ pub(crate) const ID: &str = "nap";
 /// The type of their workflow.
 const KIND: &str = "Nap";
 
-/// Prints what became of a history that was replayed, and lets it go.
+/// Prints the result of replaying a history, and drops it.
 fn say_replayed<R: Print>(rt: &R, name: &str, run: Result<Run<Nap>, RunFault>) {
     match &run {
         Ok(run) => say_run(rt, name, "answer", run),
@@ -68,7 +68,7 @@ pub(crate) fn step<R: Print>(rt: &R, alloc: Global, name: &str) -> Option<()> {
     Some(())
 }
 
-/// Asks a run for its answer.
+/// Gets the answer of a run.
 pub(crate) fn answer<R: Print>(rt: &R, alloc: Global, name: &str) -> Option<()> {
     let run = run_of(alloc, ID, "nap/3")?;
     say_run(rt, name, "before", &run);
@@ -78,7 +78,7 @@ pub(crate) fn answer<R: Print>(rt: &R, alloc: Global, name: &str) -> Option<()> 
     Some(())
 }
 
-/// Prints what stands after a call: the run that is left, if one is.
+/// Prints the state after a call: the run that is left, if there is one.
 fn say_after<R: Print>(rt: &R, name: &str, run: Option<&Run<Nap>>) {
     match run {
         Some(run) => say_run(rt, name, "after", run),
@@ -86,7 +86,7 @@ fn say_after<R: Print>(rt: &R, name: &str, run: Option<&Run<Nap>>) {
     }
 }
 
-/// What became of a run that was to go on, and what is left of it, if anything is.
+/// The result of advancing a run, and what is left of it, if anything is.
 fn advanced_seen(
     advanced: &Result<Run<Nap>, AdvanceFault<Nap>>,
 ) -> (&'static str, Option<&Run<Nap>>) {
@@ -99,7 +99,7 @@ fn advanced_seen(
     }
 }
 
-/// Prints what became of a run that was to go on, and what is left of it, and lets it go.
+/// Prints the result of advancing a run, and what is left of it, and drops it.
 fn say_advanced<R: Print>(rt: &R, name: &str, advanced: Result<Run<Nap>, AdvanceFault<Nap>>) {
     let (seen, left) = advanced_seen(&advanced);
     say(rt, name, "answer", &seen);
@@ -107,7 +107,7 @@ fn say_advanced<R: Print>(rt: &R, name: &str, advanced: Result<Run<Nap>, Advance
     drop(advanced);
 }
 
-/// Lets a run go on with the later events of a history.
+/// Advances a run by the later events of a history.
 pub(crate) fn advance<R: Print>(
     rt: &R,
     alloc: Global,
@@ -120,8 +120,8 @@ pub(crate) fn advance<R: Print>(
     Some(())
 }
 
-/// What became of a run that was put into a cache, and how many events the run holds that came
-/// back, if one did.
+/// The result of putting a run into a cache, and how many events the run holds that is returned, if
+/// one is.
 pub(crate) fn put_seen(put: &Put<Nap>) -> (&'static str, Option<usize>) {
     match put {
         Put::Kept => ("Kept", None),
@@ -133,7 +133,7 @@ pub(crate) fn put_seen(put: &Put<Nap>) -> (&'static str, Option<usize>) {
     }
 }
 
-/// Prints of a cache how many runs and how many events it holds, and how many of these under a key.
+/// Prints how many runs and how many events a cache holds, and how many events under a key.
 fn say_cache<R: Print>(rt: &R, name: &str, part: &str, cache: &Sticky<Nap>, key: &RunKey) {
     let seen = (cache.len(), cache.held(), cache.peek_len(key));
     say(rt, name, part, &seen);
@@ -147,13 +147,13 @@ fn cache_of(alloc: Global) -> Option<Sticky<Nap>> {
     Some(cache)
 }
 
-/// Prints what became of a run that was put into a cache, and lets it go.
+/// Prints the result of putting a run into a cache, and drops it.
 fn say_put<R: Print>(rt: &R, name: &str, put: Put<Nap>) {
     say(rt, name, "answer", &put_seen(&put));
     drop(put);
 }
 
-/// Puts the run of an id into a cache that holds one of three events, as many runs as it may.
+/// Puts the run of an id into a cache that is full with one run of three events.
 pub(crate) fn put<R: Print>(rt: &R, alloc: Global, name: &str, id: &str) -> Option<()> {
     let run = key(alloc, id).ok().zip(run_of(alloc, id, "nap/8"));
     let ((key, run), mut cache) = run.zip(cache_of(alloc))?;
@@ -193,7 +193,7 @@ pub(crate) fn source_of(alloc: Global, history: &'static str) -> Option<ScriptSo
     ScriptSource::new(alloc, pushed.and(Some(histories))?).ok()
 }
 
-/// Prints what replay of a task answered, and which run is left, and lets it go.
+/// Prints the answer of replaying a task, and which run is left, and drops it.
 fn say_stepped<R: Print>(rt: &R, name: &str, stepped: Result<Stepped<Nap>, StepFault>) {
     match &stepped {
         Ok(stepped) => {

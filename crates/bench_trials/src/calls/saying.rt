@@ -1,4 +1,4 @@
-//! What is printed of a call, and what the calls are made on.
+//! Prints calls, and makes what they are made on.
 
 ghost use Rattle.std.specs.Prelude.{◌≡◌, IfSome};
 
@@ -13,25 +13,25 @@ use wh_replay::Run;
 use wh_sample_workflows::Nap;
 use wh_workflow::Meter;
 
-/// Prints a line about a call: what stands before it, what it answers, or what stands after it.
-/// Where it can't be printed, the line is missing.
+/// Prints a line about a call: the state before it, its answer, or the state after it. If it can't
+/// be printed, the line is missing.
 pub(crate) fn say<R: Print>(rt: &R, call: &str, part: &str, value: &impl Debug) {
     let _ = println!(rt; "{call} {part}: {value:?}");
 }
 
-/// Prints that nothing stands before a call, or after it.
+/// Prints that there is nothing before a call, or after it.
 pub(crate) fn say_nothing<R: Print>(rt: &R, call: &str, part: &str) {
     say(rt, call, part, &());
 }
 
-/// Prints what a call answers, and lets it go.
+/// Prints the answer of a call, and drops it.
 pub(crate) fn say_answer<R: Print>(rt: &R, call: &str, answer: impl Debug + Drop) {
     say(rt, call, "answer", &answer);
     drop(answer);
 }
 
-/// Prints of a run that stands before or after a call how many events it holds, and which commands
-/// it did not send yet.
+/// Prints how many events a run before or after a call holds, and which commands it did not send
+/// yet.
 pub(crate) fn say_run<R: Print>(rt: &R, call: &str, part: &str, run: &Run<Nap>) {
     say(rt, call, part, &(run.held_len(), run.commands()));
 }

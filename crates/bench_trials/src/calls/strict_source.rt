@@ -1,4 +1,4 @@
-//! A source that lets runs be cached only where it took their answers.
+//! A source that lets runs be cached only if it took their answers.
 
 ghost use Rattle.std.specs.Prelude.{◌≡◌};
 
@@ -10,8 +10,8 @@ use wh_recorded::ScriptSource;
 use wh_replay::Answer;
 use wh_slots::TaskName;
 
-/// A source of recorded histories that lets the run of a task be cached only where it took the
-/// answer to that task, as a live source does.
+/// A source of recorded histories that lets the run of a task be cached only if it took the answer
+/// to that task, as a live source does.
 #[derive(Drop)]
 pub(crate) struct StrictSource {
     script: ScriptSource,
@@ -19,7 +19,7 @@ pub(crate) struct StrictSource {
 }
 
 impl StrictSource {
-    /// The source of these histories, which was sent nothing yet.
+    /// Returns the source of these histories, which was sent nothing yet.
     pub(crate) fn new(script: ScriptSource) -> StrictSource {
         StrictSource {
             script,

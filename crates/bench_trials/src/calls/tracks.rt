@@ -13,8 +13,7 @@ use wh_workflow::{Command, text_of};
 /// A history whose last event starts a task.
 const STARTED: &str = "nap/3";
 
-/// Prints of a track that stands before or after a call its events, and whether they open the timer
-/// of a nap.
+/// Prints the events of a track before or after a call, and whether they open the timer of a nap.
 fn say_track<R: Print>(rt: &R, name: &str, part: &str, track: &Track) {
     let opened = track.last_named(OpenKind::Timer, "nap");
     let status = match opened {
@@ -60,7 +59,7 @@ pub(crate) fn issue<R: Print>(rt: &R, alloc: Global, name: &str) -> Option<()> {
     Some(())
 }
 
-/// Asks for the version of a change, for which a marker is issued.
+/// Asks for the version of a change; a marker is issued for it.
 pub(crate) fn ask<R: Print>(rt: &R, alloc: Global, name: &str) -> Option<()> {
     let mut script = new_script(alloc)?;
     let mut versions = Versions::new(alloc);
@@ -72,7 +71,7 @@ pub(crate) fn ask<R: Print>(rt: &R, alloc: Global, name: &str) -> Option<()> {
     Some(())
 }
 
-/// Asks for what is sent of a script with an issued marker.
+/// Gets the commands that are sent of a script with an issued marker.
 pub(crate) fn reduced<R: Print>(rt: &R, alloc: Global, name: &str) -> Option<()> {
     let mut script = new_script(alloc)?;
     let mut versions = Versions::new(alloc);
@@ -84,7 +83,7 @@ pub(crate) fn reduced<R: Print>(rt: &R, alloc: Global, name: &str) -> Option<()>
     is_marked.then_some(())
 }
 
-/// Asks for the jobs of a task.
+/// Gets the jobs of a task.
 pub(crate) fn tell<R: Print>(rt: &R, alloc: Global, name: &str) -> Option<()> {
     let (track, cut) = track_of(alloc, STARTED).zip(EventNo::new(3))?;
     say_track(rt, name, "before", &track);

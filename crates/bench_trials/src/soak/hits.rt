@@ -1,4 +1,4 @@
-//! What is counted of the turns of a worker.
+//! Counts the turns of a worker.
 
 use wh_poll::{Observer, Served, SourceFault};
 

@@ -23,9 +23,9 @@ fn check(totals: Totals, tally: Tally) -> Result<(), &'static str>
     Ok(())
 }
 
-/// Checks what a soak with a cache found: the host's totals, what the workers counted, that the
-/// host drained, that runs were evicted where there is a cache, and that the answers are those of a
-/// plain soak without a cache.
+/// Checks the results of a soak with a cache: the host's totals, the counts of the workers, that
+/// the host drained, that runs were evicted if there is a cache, and that the answers are those of
+/// a plain soak without a cache.
 pub(crate) fn judge(found: &Findings, plain: &Findings, cache: usize) -> Result<(), &'static str>
     ensures sound { OnOk result (IsSound found.now.totals found.now.tally) }
     ensures drained { OnOk result (found.now.is_drained ≡ true) }

@@ -35,7 +35,7 @@ const ROUND: u32 = 64;
 /// For how many microseconds it sleeps then.
 const PAUSE: u64 = 2_000;
 
-/// What workers counted.
+/// The counts of workers.
 #[derive(Clone, Copy)]
 pub(crate) struct Tally {
     /// The tasks that their sources had.
@@ -46,7 +46,7 @@ pub(crate) struct Tally {
     pub(crate) misses: u64,
 }
 
-/// What a soak gave.
+/// The results of a soak.
 #[derive(Drop)]
 pub(crate) struct Findings {
     /// What the closed host counted.
@@ -63,13 +63,13 @@ pub(crate) struct Findings {
     pub(crate) sources: Vec<ScriptSource>,
 }
 
-/// What a worker begins with.
+/// The setup of a worker.
 type SoakSetup = WorkerSetup<ScriptSource, NoActivities, HitCount>;
 
-/// What a worker leaves.
+/// The end of a worker.
 type SoakEnd = WorkerEnd<ScriptSource, NoActivities, HitCount>;
 
-/// The seats that come back, and what their workers leave.
+/// The seats that are returned, and the ends of their workers.
 type Ended<T, C, F> = (Vec<Seat<T, C, F>>, Vec<SoakEnd>);
 
 /// A setup for each source, with so many turns at most.
@@ -92,7 +92,7 @@ fn setups_of(
     Ok(setups)
 }
 
-/// Evicts a run, and says whether it was cached.
+/// Evicts a run, and returns whether it was cached.
 fn evict<R: Wait, W: Workflow, T: Ledger, C: Ledger, F: Ledger>(
     rt: &R,
     host: &Host<W, T, C, F>,
@@ -102,7 +102,7 @@ fn evict<R: Wait, W: Workflow, T: Ledger, C: Ledger, F: Ledger>(
     matches!(evicted, Evict::Evicted)
 }
 
-/// Evicts a few runs picked at random, and says how many of them were cached.
+/// Evicts a few runs picked at random, and returns how many of them were cached.
 fn evict_some<R: Wait, W: Workflow, T: Ledger, C: Ledger, F: Ledger>(
     rt: &R,
     host: &Host<W, T, C, F>,
@@ -121,7 +121,7 @@ fn evict_some<R: Wait, W: Workflow, T: Ledger, C: Ledger, F: Ledger>(
     evicted
 }
 
-/// Evicts each run, and says how many of them were cached.
+/// Evicts each run, and returns how many of them were cached.
 fn evict_each<R: Wait, W: Workflow, T: Ledger, C: Ledger, F: Ledger>(
     rt: &R,
     host: &Host<W, T, C, F>,
@@ -137,7 +137,7 @@ fn evict_each<R: Wait, W: Workflow, T: Ledger, C: Ledger, F: Ledger>(
 }
 
 /// Evicts runs picked at random, a few at a time, until the workers have ended, and at most
-/// `MOST_ROUNDS` times; then each run once. Says how many of them were cached.
+/// `MOST_ROUNDS` times; then each run once. Returns how many of them were cached.
 fn evict_all<R: Wait + Clock, W: Workflow, T: Ledger, C: Ledger, F: Ledger>(
     rt: &R,
     host: &Host<W, T, C, F>,
@@ -165,13 +165,13 @@ struct Run {
     micros: u64,
 }
 
-/// How many microseconds it is since the clock told an instant.
+/// How many microseconds have passed since an instant of the clock.
 fn micros_since<R: Clock>(rt: &R, begun: io::Result<Instant>) -> io::Result<u64> {
     let elapsed = begun?.elapsed(rt)?;
     Ok(u64::try_from(elapsed.as_micros()).unwrap_or(u64::MAX))
 }
 
-/// What came back, with what happened meanwhile.
+/// The result, with what happened meanwhile.
 fn timed<E: Drop>(
     ended: Result<E, OutOfMemory>,
     evicted: u64,
@@ -237,7 +237,7 @@ fn is_refused<R: Wait, W: Workflow, T: Ledger, C: Ledger, F: Ledger>(
     matches!(reserved, Err(ReserveFault::Draining))
 }
 
-/// Drains the host, and says whether no slot of either kind can be reserved then.
+/// Drains the host, and returns whether no slot of either kind can be reserved then.
 fn drain<R: Wait, W: Workflow, T: Ledger, C: Ledger, F: Ledger>(
     rt: &R,
     host: &Host<W, T, C, F>,
@@ -246,7 +246,7 @@ fn drain<R: Wait, W: Workflow, T: Ledger, C: Ledger, F: Ledger>(
     is_refused(rt, host, SlotKind::Workflow) && is_refused(rt, host, SlotKind::Activity)
 }
 
-/// What the workers counted, where their sources had so many tasks.
+/// The counts of the workers, whose sources had so many tasks.
 fn tally_of(left: &[SoakEnd], tasks: u64) -> Tally {
     let (mut hits, mut misses) = (0u64, 0u64);
     for worker in left {
@@ -274,7 +274,7 @@ fn sources_left(alloc: Global, left: Vec<SoakEnd>) -> Result<Vec<ScriptSource>, 
     Ok(sources)
 }
 
-/// Closes a host, and gives what its setups left with what the host has counted.
+/// Closes a host, and returns the ends of its setups with the counts of the host.
 fn end<W: Workflow, T: Ledger, C: Ledger, F: Ledger>(
     alloc: Global,
     host: Host<W, T, C, F>,
@@ -340,7 +340,7 @@ fn soak_with<
 
 /// Serves so many tasks of the sources, each by a worker, with a cache of so many runs, while the
 /// runs of the keys are evicted. A worker serves each kind of tasks by turns, so it has two turns
-/// for each task, and two by which it learns that there are no more.
+/// for each task, and two to learn that there are no more.
 pub(crate) fn serve<W: Workflow + Send, R: Threads + Wait + Clock + Sync>(
     rt: &R,
     alloc: Global,

@@ -1,4 +1,4 @@
-//! What the cache keeps, and what has to go.
+//! What the cache keeps, and what it evicts.
 
 use std::alloc::Global;
 use std::process::Abort;
@@ -9,8 +9,8 @@ use wh_histories::{events_after, key};
 use wh_replay::Run;
 use wh_workflow::Meter;
 
-/// How many runs and how much weight a cache may hold, and below it what is done with it, with its
-/// answers and how much weight it then holds. After `with` stand the sizes of a run's payloads.
+/// How many runs and how much weight a cache may hold, followed by the steps, with the answers and
+/// the weight that it then holds. `with` is followed by the sizes of a run's payloads.
 const CACHES: &str = "\
 10 10
 put a start:Still S T => kept, holds 3
@@ -95,7 +95,7 @@ pub(crate) fn run_of(rt: &impl Abort, alloc: Global, run: &'static str) -> Run<S
     Run::from_first(alloc, key, events, &mut Meter::new()).expect(rt, run)
 }
 
-/// The names of the runs that had to go.
+/// The names of the runs that were evicted.
 fn gone(rt: &impl Abort, alloc: Global, runs: &[Run<Still>]) -> String {
     let mut names = String::from_str(alloc, "gone").expect(rt, "memory");
     for run in runs {
@@ -107,7 +107,7 @@ fn gone(rt: &impl Abort, alloc: Global, runs: &[Run<Still>]) -> String {
     names
 }
 
-/// What became of a run that was put into a cache.
+/// The result of putting a run into a cache.
 pub(crate) fn put_word(rt: &impl Abort, alloc: Global, put: &Put<Still>) -> String {
     let word = match put {
         Put::Kept => "kept",
@@ -120,7 +120,7 @@ pub(crate) fn put_word(rt: &impl Abort, alloc: Global, put: &Put<Still>) -> Stri
     String::from_str(alloc, word).expect(rt, "memory")
 }
 
-/// Puts a run by its name and its history into a cache, and says what became of it.
+/// Puts a run, by its name and its history, into a cache, and returns the result.
 fn put(rt: &impl Abort, alloc: Global, cache: &mut Sticky<Still>, run: &'static str) -> String {
     let put = cache.put(run_of(rt, alloc, run));
     let word = put_word(rt, alloc, &put);
@@ -128,7 +128,7 @@ fn put(rt: &impl Abort, alloc: Global, cache: &mut Sticky<Still>, run: &'static 
     word
 }
 
-/// How many events a run held that is let go, if there was one.
+/// How many events the run that is returned held, if there is one.
 pub(crate) fn held_len(run: Option<Run<Still>>) -> Option<usize> {
     let length = match &run {
         Some(run) => Some(run.held_len()),
@@ -138,7 +138,7 @@ pub(crate) fn held_len(run: Option<Run<Still>>) -> Option<usize> {
     length
 }
 
-/// What a cache answers to a step with a run of some name.
+/// The answer of a cache to a step with a run of some name.
 fn answered(
     rt: &impl Abort,
     alloc: Global,
@@ -158,7 +158,7 @@ fn answered(
     }
 }
 
-/// Takes a step, and tells the answer and how much weight the cache then holds.
+/// Takes a step, and returns the answer and the weight that the cache then holds.
 fn step_text(
     rt: &impl Abort,
     alloc: Global,
@@ -170,7 +170,7 @@ fn step_text(
     format!(in alloc; "{answer}, holds {held}").expect(rt, "memory")
 }
 
-/// Takes the steps, and compares what a cache answers.
+/// Takes the steps, and compares the answers of a cache.
 fn follows(rt: &impl Abort, alloc: Global, mut cache: Sticky<Still>, steps: &'static str) {
     for line in steps.lines() {
         let (step, wanted) = row(line).expect(rt, line);
@@ -179,7 +179,7 @@ fn follows(rt: &impl Abort, alloc: Global, mut cache: Sticky<Still>, steps: &'st
     }
 }
 
-/// Opens a cache, and compares what it answers.
+/// Opens a cache, and compares its answers.
 fn answers(rt: &impl Abort, alloc: Global, given: &'static str) {
     let mut steps = given;
     let runs = next_number(&mut steps).expect(rt, "a number") as usize;

@@ -1,5 +1,5 @@
-//! What a host is tried with: a gate, a source and a handler of activities that note each call that
-//! a worker makes of them.
+//! What tests of a host need: a gate, a source and a handler of activities, which note each call of
+//! a worker.
 
 use std::alloc::Global;
 use std::fmt::Debug;
@@ -32,7 +32,7 @@ fn file_of(rt: &impl Abort, alloc: Global, line: &'static str) -> (u64, String, 
     )
 }
 
-/// A source of histories, between each two of which stands a comma.
+/// A source of histories, separated by commas.
 pub(crate) fn script(rt: &impl Abort, alloc: Global, table: &'static str) -> ScriptSource {
     let mut histories = Vec::new(alloc);
     for line in table.split(", ") {
@@ -41,24 +41,24 @@ pub(crate) fn script(rt: &impl Abort, alloc: Global, table: &'static str) -> Scr
     ScriptSource::new(alloc, histories).expect(rt, "memory")
 }
 
-/// The workflows of a host: the samples, and what signals name.
+/// The workflows of a host: the samples, and the one that signals control.
 pub(crate) type Workflows = Pair<All, Scripted>;
 
-/// Notes calls, and is a gate. It takes the host's lock at each call, so that one that is made
-/// while the lock is held waits for ever.
+/// Notes calls, and is a gate. It takes the host's lock at each call, so that a call that is made
+/// under the lock waits forever.
 #[derive(Drop)]
 pub(crate) struct Notebook<'r, 'h, R: Wait + Abort, T: Ledger, C: Ledger, F: Ledger> {
     pub(crate) rt: &'r R,
     pub(crate) alloc: Global,
     pub(crate) host: &'h Host<Workflows, T, C, F>,
-    /// What is done when tasks enter, and of which answers the runs are discarded, each after the
-    /// call that it follows.
+    /// What happens when tasks enter, and the answers whose runs are discarded, each after the call
+    /// that it follows.
     deeds: &'static str,
     calls: Mutex<String>,
 }
 
 impl<'r, 'h, R: Wait + Abort, T: Ledger, C: Ledger, F: Ledger> Notebook<'r, 'h, R, T, C, F> {
-    /// Nothing was noted yet.
+    /// Returns notes without a call.
     pub(crate) fn new(
         rt: &'r R,
         alloc: Global,
@@ -81,26 +81,26 @@ impl<'r, 'h, R: Wait + Abort, T: Ledger, C: Ledger, F: Ledger> Notebook<'r, 'h, 
         noted.expect(self.rt, "memory");
     }
 
-    /// Notes what a task is answered.
+    /// Notes the answer to a task.
     fn note_answer<A: Debug>(&self, name: TaskName, answer: &A) {
         let answer = shown(self.alloc, answer).expect(self.rt, "memory");
         let call = format!(in self.alloc; "answer {} {answer}, ", name.0);
         self.note(call.expect(self.rt, "memory").as_str());
     }
 
-    /// The calls since this was asked last.
+    /// Returns the calls since this was last called.
     pub(crate) fn calls(&self) -> String {
         let mut calls = self.calls.lock(self.rt);
         mem::replace(&mut *calls, String::new(self.alloc))
     }
 
-    /// Whether a call was noted.
+    /// Returns whether a call was noted.
     fn is_noted(&self, call: &str) -> bool {
         self.calls.lock(self.rt).as_str().contains(call)
     }
 
-    /// Waits until a call is noted, for ten million looks at most. Each look takes the lock of the
-    /// notes.
+    /// Waits until a call is noted, and checks at most ten million times. Each check takes the lock
+    /// of the notes.
     fn await_call(&self, call: &str) {
         let call = format!(in self.alloc; "{call}, ").expect(self.rt, "memory");
         for _look in 0..10_000_000 {
@@ -112,7 +112,7 @@ impl<'r, 'h, R: Wait + Abort, T: Ledger, C: Ledger, F: Ledger> Notebook<'r, 'h, 
         self.rt.panic(call.as_str())
     }
 
-    /// Evicts the run of a name.
+    /// Evicts the run of this name.
     fn evict(&self, run: &str) {
         let key = key(self.alloc, run).expect(self.rt, "memory");
         let answer = self.host.lock(self.rt).evict(&key);
@@ -120,7 +120,7 @@ impl<'r, 'h, R: Wait + Abort, T: Ledger, C: Ledger, F: Ledger> Notebook<'r, 'h, 
         self.note(call.as_str());
     }
 
-    /// What becomes of a run: it is cached, unless this deed is there.
+    /// Returns the use of a run: it is cached, unless there is this deed.
     fn run_use(&self, deed: &str) -> RunUse {
         if self.deeds.contains(deed) {
             RunUse::Discard
@@ -129,8 +129,8 @@ impl<'r, 'h, R: Wait + Abort, T: Ledger, C: Ledger, F: Ledger> Notebook<'r, 'h, 
         }
     }
 
-    /// What becomes of the run of a task. Where it is discarded, that is noted, with the numbers of
-    /// the events that it holds and of the steps that it took.
+    /// Returns the use of the run of a task. If it is discarded, that is noted, with the numbers of
+    /// its events and of its steps.
     fn run_after(&self, name: TaskName, events: usize, steps: u64) -> RunUse {
         let deed = format!(in self.alloc; "answer {}, discard", name.0).expect(self.rt, "memory");
         let run = self.run_use(deed.as_str());
@@ -141,7 +141,7 @@ impl<'r, 'h, R: Wait + Abort, T: Ledger, C: Ledger, F: Ledger> Notebook<'r, 'h, 
         run
     }
 
-    /// Does a deed: it waits for a call, evicts a run, or drains the host.
+    /// Does a deed: waits for a call, evicts a run, or drains the host.
     fn act(&self, deed: &str) {
         match deed.split_once(' ') {
             Some(("await", call)) => self.await_call(call),
@@ -164,10 +164,10 @@ impl<'r, 'h, R: Wait + Abort, T: Ledger, C: Ledger, F: Ledger> Gate
     }
 }
 
-/// A source that notes its calls, and stores the answers that it is sent. Its polls give what their
-/// words say: `nothing`, `closed`, a workflow task by the name of its run and the history that its
-/// events are of, or an activity task by its name. Without a word, or where it is `next`, a poll
-/// gives what that of the script gives, and so does `whole`.
+/// A source that notes its calls, and stores the answers that it is sent. Its polls return what
+/// their words say: `nothing`, `closed`, a workflow task by the name of its run and the history of
+/// its events, or an activity task by its name. Without a word, or for `next`, a poll returns what
+/// that of the script returns, and so it does for `whole`.
 #[derive(Drop)]
 pub(crate) struct NotedSource<'b, 'r, 'h, R: Wait + Abort, T: Ledger, C: Ledger, F: Ledger> {
     pub(crate) book: &'b Notebook<'r, 'h, R, T, C, F>,
@@ -281,7 +281,7 @@ impl<'b, 'r, 'h, R: Wait + Abort, T: Ledger, C: Ledger, F: Ledger> TaskSource
     }
 }
 
-/// Completes each activity with what it was given, and notes that it ran.
+/// Completes each activity with its input, and notes that it ran.
 #[derive(Drop)]
 pub(crate) struct Echo<'b, 'r, 'h, R: Wait + Abort, T: Ledger, C: Ledger, F: Ledger> {
     pub(crate) book: &'b Notebook<'r, 'h, R, T, C, F>,

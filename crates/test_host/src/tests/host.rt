@@ -15,12 +15,12 @@ use wh_ledger::Seat;
 use wh_slots::{Held, Permit, SlotKind, TaskName, UseFault};
 use wh_workflow::Workflow;
 
-/// Days of a host: its sizes, and below them what is done with it before it is closed. The end is
-/// how many events its cache then holds of run `c`, and what it has counted.
+/// Days of a host: its sizes, followed by its steps before it is closed. The end is how many events
+/// of run `c` its cache then holds, and its counts.
 ///
-/// On the first day, of two tasks of one run the longer run stays. A cached run is evicted, one in
-/// hand is marked, and a run of another key is not the task's. The least recently used run goes. A
-/// name is in hand once. A task stays in hand.
+/// On the first day, of two tasks of one run the longer run stays cached. A cached run is evicted,
+/// one that is held is marked, and a run with another key is not the task's. The least recently
+/// used run is evicted. A name is held once. A held task stays held.
 const DAYS: &str = "\
 2 1 2 0 3
 hold 1 a => 0
@@ -78,8 +78,8 @@ finish 1 => true
 counts => taken 3, completed 3, cached 0, cached events 0
 end => 0 events, Totals taken: 4, completed: 4, failed: 0, in_hand: 0";
 
-/// The sizes of a host: its places for workflow tasks and for activity tasks, how many runs and how
-/// many events its cache holds, and its seats. What stands after them is left.
+/// Reads the sizes of a host: its slots for workflow tasks and for activity tasks, how many runs
+/// and how many events its cache holds, and its seats. Leaves the words after them.
 pub(crate) fn sizes(rt: &impl Abort, words: &mut &'static str) -> Config {
     let workflow_slots = next_number(words).expect(rt, "a number") as usize;
     let activity_slots = next_number(words).expect(rt, "a number") as usize;
@@ -95,19 +95,19 @@ pub(crate) fn sizes(rt: &impl Abort, words: &mut &'static str) -> Config {
     }
 }
 
-/// A task in hand.
+/// A task that is held.
 #[derive(Drop)]
 struct Task {
     name: TaskName,
     held: Held,
 }
 
-/// The name of a task in a step. What stands after it is left.
+/// Reads the name of a task in a step. Leaves the words after it.
 pub(crate) fn next_name(rt: &impl Abort, words: &mut &'static str) -> TaskName {
     TaskName(u128::from(next_number(words).expect(rt, "a number")))
 }
 
-/// The place of the task of a name among those in hand.
+/// The place of the task of this name among those that are held.
 fn place_of(rt: &impl Abort, tasks: &[Task], name: TaskName) -> usize {
     for place in 0..tasks.len() {
         if tasks[place].name == name {
@@ -127,7 +127,7 @@ fn given_word(rt: &impl Abort, alloc: Global, given: &Given<Still>) -> String {
     String::from_str(alloc, word).expect(rt, "memory")
 }
 
-/// Reserves a place.
+/// Reserves a slot.
 fn reserve<T: Ledger, C: Ledger, F: Ledger>(
     rt: &impl Abort,
     state: &mut HostState<Still, T, C, F>,
@@ -136,7 +136,7 @@ fn reserve<T: Ledger, C: Ledger, F: Ledger>(
     state.reserve(kind).expect(rt, "reserve")
 }
 
-/// Gives a reserved place back.
+/// Frees a reserved slot.
 fn release<T: Ledger, C: Ledger, F: Ledger>(
     rt: &impl Abort,
     state: &mut HostState<Still, T, C, F>,
@@ -145,8 +145,8 @@ fn release<T: Ledger, C: Ledger, F: Ledger>(
     state.release(permit).expect(rt, "release");
 }
 
-/// Uses a reserved place for a task of a run: how many events its run holds, 0 where there is none,
-/// or why not.
+/// Uses a reserved slot for a task of a run: how many events its cached run holds, 0 if there is
+/// none, or why it can't be used.
 fn use_place<T: Ledger, C: Ledger, F: Ledger>(
     rt: &impl Abort,
     alloc: Global,
@@ -163,7 +163,7 @@ fn use_place<T: Ledger, C: Ledger, F: Ledger>(
     }
 }
 
-/// Takes the task of a run in hand at a reserved place, and tells how many events its run holds.
+/// Holds the task of a run in a reserved slot, and returns how many events its run holds.
 fn hold<T: Ledger, C: Ledger, F: Ledger>(
     rt: &impl Abort,
     alloc: Global,
@@ -200,13 +200,13 @@ fn repeat<T: Ledger, C: Ledger, F: Ledger>(
     fault
 }
 
-/// What is held for the task of a name.
+/// The held slot of the task of this name.
 fn held_of<'a>(rt: &impl Abort, tasks: &'a [Task], name: TaskName) -> &'a Held {
     let task = tasks.get(place_of(rt, tasks, name));
     &task.expect(rt, "no such task").held
 }
 
-/// Gives a run back under a task in hand.
+/// Gives a run back with a held task.
 fn give<T: Ledger, C: Ledger, F: Ledger>(
     rt: &impl Abort,
     alloc: Global,
@@ -235,7 +235,7 @@ fn finish<T: Ledger, C: Ledger, F: Ledger>(
     state.finish(task.held, outcome, seat).is_ok()
 }
 
-/// What a host has counted, in words.
+/// The counts of a host, as text.
 fn counts_text(rt: &impl Abort, alloc: Global, counts: &Counts) -> String {
     let text = format!(in alloc;
         "taken {}, completed {}, cached {}, cached events {}",
@@ -244,7 +244,7 @@ fn counts_text(rt: &impl Abort, alloc: Global, counts: &Counts) -> String {
     text.expect(rt, "memory")
 }
 
-/// Takes the task of a run in hand at the next place, and tells how many events its run holds.
+/// Holds the task of a run in the next slot, and returns how many events its run holds.
 fn hold_next<T: Ledger, C: Ledger, F: Ledger>(
     rt: &impl Abort,
     alloc: Global,
@@ -258,7 +258,7 @@ fn hold_next<T: Ledger, C: Ledger, F: Ledger>(
     hold(rt, alloc, state, seat, tasks, permit, name, run)
 }
 
-/// What a host answers to a step about the task of a name: a word, the name, and most often a run.
+/// The answer of a host to a step about the task of a name: a word, the name, and mostly a run.
 fn task_step<T: Ledger, C: Ledger, F: Ledger>(
     rt: &impl Abort,
     alloc: Global,
@@ -288,7 +288,7 @@ fn task_step<T: Ledger, C: Ledger, F: Ledger>(
     shown(alloc, &finish(rt, state, seat, tasks, name, outcome)).expect(rt, "memory")
 }
 
-/// What a host answers to a step.
+/// The answer of a host to a step.
 fn answered<T: Ledger, C: Ledger, F: Ledger>(
     rt: &impl Abort,
     alloc: Global,
@@ -323,7 +323,7 @@ fn follows<T: Ledger, C: Ledger, F: Ledger>(
     }
 }
 
-/// Places of activities are numbered from 1 upwards, until the host drains.
+/// Slots of activities are numbered from 1, until the host drains.
 fn places_are_numbered<T: Ledger, C: Ledger, F: Ledger>(
     rt: &impl Abort,
     alloc: Global,
@@ -341,8 +341,8 @@ fn places_are_numbered<T: Ledger, C: Ledger, F: Ledger>(
     wants(alloc, state.reserve(kind).err(), "Some(Draining)").expect(rt, "drained");
 }
 
-/// How many events the run of the last task holds, of run `c`, at a place that was reserved before
-/// the host drained.
+/// How many events of run `c` the last task holds, in a slot that was reserved before the host
+/// drained.
 fn last_task<R: Wait + Abort, T: Ledger, C: Ledger, F: Ledger>(
     rt: &R,
     alloc: Global,
@@ -359,7 +359,7 @@ fn last_task<R: Wait + Abort, T: Ledger, C: Ledger, F: Ledger>(
     found
 }
 
-/// Follows the steps of a day, and then numbers places. One place stays reserved.
+/// Follows the steps of a day, and then numbers slots. One slot stays reserved.
 fn works<R: Wait + Abort, T: Ledger, C: Ledger, F: Ledger>(
     rt: &R,
     alloc: Global,
@@ -376,7 +376,7 @@ fn works<R: Wait + Abort, T: Ledger, C: Ledger, F: Ledger>(
     permit
 }
 
-/// A host that is closed with a seat missing comes back, with the seats that are there.
+/// A host that is closed with a seat missing is returned, with the seats that are there.
 fn not_closed<T: Ledger, C: Ledger, F: Ledger>(
     rt: &impl Abort,
     host: Host<Still, T, C, F>,
@@ -388,7 +388,7 @@ fn not_closed<T: Ledger, C: Ledger, F: Ledger>(
     }
 }
 
-/// What a host has counted when it is closed with all seats.
+/// The counts of a host that is closed with all seats.
 pub(crate) fn closed<W: Workflow, T: Ledger, C: Ledger, F: Ledger>(
     rt: &impl Abort,
     host: Host<W, T, C, F>,
@@ -418,16 +418,16 @@ pub(crate) fn open<R: Abort, W: Workflow, T: Ledger, C: Ledger, F: Ledger>(
     Host::open(alloc, config, taken, completed, failed).expect(rt, "open")
 }
 
-/// The sizes of a host, and what is done with it.
+/// The sizes of a host, and its steps.
 #[derive(Drop)]
 struct Day {
     config: Config,
     steps: &'static str,
 }
 
-/// How a day ends: how many events the cache holds of run `c`, and what the host has counted. It is
-/// closed twice, first with a seat missing: the host that comes back serves one more task, of a run
-/// that it may still cache.
+/// The end of a day: how many events of run `c` the cache holds, and the counts of the host. It is
+/// closed twice, first with a seat missing: the host that is returned serves one more task, of a
+/// run that it may still cache.
 fn day_text<R: Wait + Abort, T: Ledger, C: Ledger, F: Ledger>(
     rt: &R,
     alloc: Global,
@@ -473,7 +473,7 @@ fn days_of_a_host(rt: HostRuntime) {
     }
 }
 
-/// Why no host of these sizes is opened, `None` where one is.
+/// Why a host of these sizes is not opened, `None` if it is.
 fn fault_of<T: Ledger, C: Ledger, F: Ledger>(
     alloc: Global,
     config: Config,
@@ -488,8 +488,8 @@ fn fault_of<T: Ledger, C: Ledger, F: Ledger>(
     HostState::<Still, T, C, F>::open(alloc, config, taken, completed, failed).err()
 }
 
-/// Sizes of a host, and why it is not opened: within their limits, too many seats, and no place for
-/// a workflow task.
+/// Sizes of a host, and why it is not opened: sizes within their limits, too many seats, and no
+/// slot for a workflow task.
 const SIZES: &str = "\
 2 1 2 0 3 => None
 2 1 2 0 65 => Some(BadConfig)

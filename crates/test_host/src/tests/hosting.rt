@@ -1,4 +1,4 @@
-//! Days of a host: what each turn does, which calls it makes, and what is counted.
+//! Days of a host: what each turn does, which calls it makes, and what it counts.
 
 ghost use Rattle.std.specs.Prelude.{◌≡◌};
 
@@ -18,9 +18,9 @@ use wh_poll::{SourceFault, Worker, serve_one, work};
 use wh_replay::Run;
 use wh_slots::{Held, Permit, SlotKind, TaskName};
 
-/// What a host and its source are: the sizes, which of the source's calls fails, its script and the
-/// words of its polls, what is done when tasks enter, and which runs are discarded. Then come the
-/// steps that are taken, and how many turns a worker does.
+/// The setting of a host and its source: the sizes, which call of the source fails, its script and
+/// the words of its polls, what happens when tasks enter, and which runs are discarded. Then the
+/// steps, and the number of turns of a worker.
 #[derive(Drop)]
 pub(crate) struct Day {
     pub(crate) config: Config,
@@ -35,9 +35,9 @@ pub(crate) struct Day {
 
 /// Days of a host. The first line says what a day shows. The second one has its setting: the sizes
 /// of the host and which call fails, how many turns a worker does at the end, and after `|` the
-/// script, the words of the polls of both kinds, and what is done when tasks enter, with the
-/// answers whose runs are discarded. Then come steps, each with the calls that it makes and its answer. The end tells the calls of the worker,
-/// the first fault of its source, and what is counted.
+/// script, the words of the polls of both kinds, and what happens when tasks enter, with the
+/// answers whose runs are discarded. Then come steps, each with the calls that it makes and its
+/// answer. The end has the calls of the worker, the first fault of its source, and the counts.
 ///
 /// The names of the tasks of file 1 begin at 2^64, those of file 2 at 2^65.
 const DAYS: &str = "\
@@ -204,8 +204,8 @@ workflow => poll, Ok(Closed)
 advance nap/6 after 3 => NotATask, 0 steps, holds 3, [StartTimer id: nap, seconds: 60]
 end => None, Counts taken: 2, completed: 2, failed: 0, in_hand: 0, cached: 0, cached_events: 0, workflow: SlotCount free: 2, reserved: 0, held: 0, activity: SlotCount free: 1, reserved: 0, held: 0";
 
-/// Closes a host once each seat is there, and gives what it counted last, which its seats have
-/// counted together.
+/// Closes a host once each seat is there, and returns its last counts, which its seats made
+/// together.
 pub(crate) fn close<R: Wait + Abort, T: Ledger, C: Ledger, F: Ledger>(
     rt: &R,
     host: Host<Workflows, T, C, F>,
@@ -224,7 +224,7 @@ pub(crate) fn close<R: Wait + Abort, T: Ledger, C: Ledger, F: Ledger>(
     counts
 }
 
-/// How a day ends, in words.
+/// The end of a day, as text.
 fn end_text(
     rt: &impl Abort,
     alloc: Global,
@@ -266,7 +266,7 @@ fn turn<R: Wait + Abort, T: Ledger, C: Ledger, F: Ledger>(
     text
 }
 
-/// Reserves a place.
+/// Reserves a slot.
 fn reserved<R: Wait + Abort, T: Ledger, C: Ledger, F: Ledger>(
     book: &Notebook<'_, '_, R, T, C, F>,
     kind: SlotKind,
@@ -275,7 +275,7 @@ fn reserved<R: Wait + Abort, T: Ledger, C: Ledger, F: Ledger>(
     reserved.expect(book.rt, "reserve")
 }
 
-/// Takes a workflow task in hand, and gives its run, if one is cached.
+/// Holds a workflow task, and returns its run, if one is cached.
 fn hold<R: Wait + Abort, T: Ledger, C: Ledger, F: Ledger>(
     book: &Notebook<'_, '_, R, T, C, F>,
     seat: &mut Seat<T, C, F>,
@@ -292,7 +292,7 @@ fn hold<R: Wait + Abort, T: Ledger, C: Ledger, F: Ledger>(
     run
 }
 
-/// Ends the task that was taken in hand last, and says whether it could be.
+/// Finishes the task that is held last, and returns whether it could.
 fn finish<R: Wait + Abort, T: Ledger, C: Ledger, F: Ledger>(
     book: &Notebook<'_, '_, R, T, C, F>,
     seat: &mut Seat<T, C, F>,
@@ -306,7 +306,7 @@ fn finish<R: Wait + Abort, T: Ledger, C: Ledger, F: Ledger>(
     finished.is_ok()
 }
 
-/// Takes the cached run of `nap` with its next task, ends that, and advances the run.
+/// Takes the cached run of `nap` with its next task, finishes that, and advances the run.
 fn advance<R: Wait + Abort, T: Ledger, C: Ledger, F: Ledger>(
     book: &Notebook<'_, '_, R, T, C, F>,
     seat: &mut Seat<T, C, F>,
@@ -320,7 +320,7 @@ fn advance<R: Wait + Abort, T: Ledger, C: Ledger, F: Ledger>(
     test_support::advance(alloc, run, history).expect(rt, history)
 }
 
-/// What is counted, in words.
+/// The counts, as text.
 fn counts_text<R: Wait + Abort, T: Ledger, C: Ledger, F: Ledger>(
     book: &Notebook<'_, '_, R, T, C, F>,
     seat: &mut Seat<T, C, F>,
@@ -329,7 +329,7 @@ fn counts_text<R: Wait + Abort, T: Ledger, C: Ledger, F: Ledger>(
     shown(book.alloc, &counts).expect(book.rt, "memory")
 }
 
-/// Takes a workflow task in hand, by its name and its run, and says whether the run was cached.
+/// Holds a workflow task, by its name and its run, and returns whether the run was cached.
 fn hold_text<R: Wait + Abort, T: Ledger, C: Ledger, F: Ledger>(
     book: &Notebook<'_, '_, R, T, C, F>,
     seat: &mut Seat<T, C, F>,
@@ -344,7 +344,7 @@ fn hold_text<R: Wait + Abort, T: Ledger, C: Ledger, F: Ledger>(
     shown(book.alloc, &is_cached).expect(book.rt, "memory")
 }
 
-/// Takes an activity task in hand, by its name, and says that it could be.
+/// Holds an activity task, by its name, and returns that it could.
 fn hold_activity<R: Wait + Abort, T: Ledger, C: Ledger, F: Ledger>(
     book: &Notebook<'_, '_, R, T, C, F>,
     seat: &mut Seat<T, C, F>,
@@ -368,7 +368,7 @@ fn drain<R: Wait + Abort, T: Ledger, C: Ledger, F: Ledger>(
     String::from_str(book.alloc, "()").expect(book.rt, "memory")
 }
 
-/// What a step answers: a word, and most often what it is about.
+/// The answer of a step: a word, and mostly what it is about.
 fn answered<R: Wait + Abort, T: Ledger, C: Ledger, F: Ledger>(
     book: &Notebook<'_, '_, R, T, C, F>,
     seat: &mut Seat<T, C, F>,
@@ -390,7 +390,7 @@ fn answered<R: Wait + Abort, T: Ledger, C: Ledger, F: Ledger>(
     }
 }
 
-/// Takes the steps of a day, and compares what each of them answers.
+/// Takes the steps of a day, and compares their answers.
 fn take_steps<R: Wait + Abort, T: Ledger, C: Ledger, F: Ledger>(
     book: &Notebook<'_, '_, R, T, C, F>,
     seat: &mut Seat<T, C, F>,
@@ -405,15 +405,15 @@ fn take_steps<R: Wait + Abort, T: Ledger, C: Ledger, F: Ledger>(
     }
 }
 
-/// What is left of a worker: its seat, and the first fault of its source.
+/// What a worker returns: its seat, and the first fault of its source.
 pub(crate) fn left<T: Ledger, C: Ledger, F: Ledger, S: Drop>(
     worker: Worker<T, C, F, S>,
 ) -> (Seat<T, C, F>, Option<SourceFault>) {
     (worker.seat, worker.fault)
 }
 
-/// Takes the steps of a day, and then lets a worker do so many turns over a source of its own: the
-/// seat comes back, with the first fault of the source and the calls of the worker.
+/// Takes the steps of a day, and then lets a worker do so many turns over its own source. Returns
+/// the seat, with the first fault of the source and the calls of the worker.
 fn worked<R: Wait + Abort, T: Ledger, C: Ledger, F: Ledger>(
     book: &Notebook<'_, '_, R, T, C, F>,
     mut seat: Seat<T, C, F>,
@@ -428,7 +428,7 @@ fn worked<R: Wait + Abort, T: Ledger, C: Ledger, F: Ledger>(
     (seat, fault, book.calls())
 }
 
-/// Spends a day, closes the host, and tells how the day ended.
+/// Spends a day, closes the host, and returns the end of the day.
 fn spend<R: Wait + Abort, T: Ledger, C: Ledger, F: Ledger>(
     rt: &R,
     alloc: Global,
@@ -460,7 +460,7 @@ pub(crate) fn spent<R: Wait + Abort>(rt: &R, alloc: Global, day: &Day) -> String
     spend::<R, Brand, Brand, Brand>(rt, alloc, day, Blank::new(1), Blank::new(1), Blank::new(1))
 }
 
-/// Spends a day of a list, and compares how it ends.
+/// Spends a day of a list, and compares its end.
 fn passes<R: Wait + Abort>(rt: &R, alloc: Global, given: &'static str) {
     let (mut steps, end) = given.split_once("\nend => ").expect(rt, given);
     let title = cut(&mut steps, "\n");
@@ -483,7 +483,7 @@ fn passes<R: Wait + Abort>(rt: &R, alloc: Global, given: &'static str) {
     same(alloc, text.as_str(), end).expect(rt, title);
 }
 
-/// Spends days, and compares how each of them ends.
+/// Spends days, and compares the end of each.
 pub(crate) fn pass<R: Wait + Abort>(rt: &R, alloc: Global, days: &'static str) {
     for day in days.split("\n\n") {
         passes(rt, alloc, day);

@@ -9,7 +9,7 @@ use std::sync::ledger::{Blank, Ledger};
 use test_support::push;
 use wh_ledger::{Books, Seat, SeatsMissing, Shares};
 
-/// With a seat missing the books come back, with the seats that are there.
+/// With a seat missing the books are returned, with the seats that are there.
 fn not_gathered<T: Ledger, C: Ledger, F: Ledger>(
     rt: &impl Abort,
     books: Books<T, C, F>,

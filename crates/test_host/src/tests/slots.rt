@@ -5,7 +5,7 @@ use std::process::Abort;
 use test_support::{same, shown, wants};
 use wh_slots::{Held, Permit, SlotKind, Slots, TaskName};
 
-/// Reserves a place, which this says in words.
+/// Reserves a slot, whose text is this.
 fn reserve(rt: &impl Abort, alloc: Global, slots: &mut Slots, wanted: &str) -> Permit {
     let permit = slots.reserve().expect(rt, "reserve");
     let words = shown(alloc, &permit).expect(rt, "memory");
@@ -13,17 +13,17 @@ fn reserve(rt: &impl Abort, alloc: Global, slots: &mut Slots, wanted: &str) -> P
     permit
 }
 
-/// Nothing can be reserved, for this reason.
+/// No slot can be reserved, for this reason.
 fn reserve_fails(rt: &impl Abort, alloc: Global, slots: &mut Slots, wanted: &str) {
     wants(alloc, slots.reserve().err(), wanted).expect(rt, "reserve");
 }
 
-/// Gives a reserved place back.
+/// Frees a reserved slot.
 fn release(rt: &impl Abort, slots: &mut Slots, permit: Permit) {
     slots.release(permit).expect(rt, "release");
 }
 
-/// The one place is held, for task 7.
+/// The one slot is held, for task 7.
 fn holds(rt: &impl Abort, alloc: Global, slots: &mut Slots, permit: Permit) -> Held {
     let held = slots.use_slot(permit, TaskName(7)).expect(rt, "use");
     let words = shown(alloc, &held).expect(rt, "memory");
@@ -47,7 +47,7 @@ fn a_slot_is_reserved_used_and_freed(rt: HostRuntime) {
     reserve_fails(&rt, alloc, &mut slots, "Some(Draining)");
 }
 
-/// Task 7 is in hand already: the permit comes back, and is good.
+/// Task 7 is held already: the permit is returned, and is valid.
 fn use_fails(rt: &impl Abort, alloc: Global, slots: &mut Slots, permit: Permit) {
     let Err((permit, fault)) = slots.use_slot(permit, TaskName(7)) else {
         panic!(rt; "used twice")

@@ -85,12 +85,12 @@ fn shifts_of_a_worker(rt: HostRuntime) {
 const SAMPLES: &str =
     "0 branch.json => branch, 1 family.json => family, 2 greet.json => greet, 3 nap.json => nap, 4 racer.json => racer";
 
-/// How the counts end where each place is free.
+/// The counts at the end, with each slot free.
 const FREE: &str =
     "workflow: SlotCount free: 2, reserved: 0, held: 0, activity: SlotCount free: 1, reserved: 0, held: 0";
 
-/// How a worker ends that serves five runs, with a cache of so many runs and a source of which one
-/// call fails.
+/// The end of a worker that serves five runs, with a cache of so many runs and a source whose call
+/// of this number fails.
 fn end_of_samples<R: Wait + Abort>(rt: &R, alloc: Global, cache: usize, fail_at: u64) -> String {
     let day = Day {
         config: Config {
@@ -111,8 +111,8 @@ fn end_of_samples<R: Wait + Abort>(rt: &R, alloc: Global, cache: usize, fail_at:
     spent(rt, alloc, &day)
 }
 
-/// Each task of five runs was taken once, and none has failed, or one where a call does. At the end
-/// each place is free.
+/// Each task of five runs was taken once, and none has failed, or one if a call fails. At the end
+/// each slot is free.
 fn served_all(rt: &impl Abort, text: &str, fails: bool) {
     let none_fails = text.contains("Counts taken: 13, completed: 13, failed: 0, in_hand: 0, ");
     let one_fails = text.contains("Counts taken: 13, completed: 12, failed: 1, in_hand: 0, ");
@@ -136,7 +136,7 @@ fn each_call_fails(rt: HostRuntime) {
     }
 }
 
-/// What is counted of five runs is the same with each cache.
+/// The counts of five runs are the same with each cache.
 #[test]
 fn any_cache_serves(rt: HostRuntime) {
     serves_samples(&rt, rt.alloc(), 0, 0);
@@ -153,13 +153,13 @@ fn no_activity_is_known(rt: HostRuntime) {
     wants(alloc, answer, "Failed(no activities)").expect(&rt, "no activities");
 }
 
-/// Workers side by side: the sizes of their host, their turns, what they leave, which is the fewest
+/// Workers side by side: the sizes of their host, their turns, their results, which are the fewest
 /// and the most tasks and the cached events, and after `|` the scripts of their sources and what
-/// is done when tasks enter. Each task is completed.
+/// happens when tasks enter. Each task is completed.
 ///
-/// The first task of each run waits until that of the other has entered: two tasks are in hand and
-/// replayed at once. Then two tasks of run `a` are in hand: that with six events comes back first,
-/// and that with three does not take its place. Then the second task of the first worker's run
+/// The first task of each run waits until that of the other has entered: two tasks are held and
+/// replayed at once. Then two tasks of run `a` are held: the run with six events comes back first,
+/// and the one with three does not replace it. Then the second task of the first worker's run
 /// drains the host, and most turns are left.
 const CREWS: &str = "\
 2 1 2 0 2 20 4 4 16 | 0 one => nap; 1 two => nap | enter 3, await enter 18446744073709551619; enter 18446744073709551619, await enter 3
@@ -176,7 +176,7 @@ fn sources_of(rt: &impl Abort, alloc: Global, scripts: &'static str) -> Vec<Scri
     sources
 }
 
-/// As many handlers that have no activities.
+/// So many handlers without activities.
 fn handlers_of(rt: &impl Abort, alloc: Global, count: usize) -> Vec<NoActivities> {
     let mut handlers = Vec::new(alloc);
     for _ in 0..count {
@@ -218,7 +218,7 @@ fn seats_of<T: Ledger, C: Ledger, F: Ledger>(
 }
 
 /// Workers side by side: the sizes of their host, their turns, the scripts of their sources, and
-/// what is done when tasks enter.
+/// what happens when tasks enter.
 #[derive(Drop)]
 struct Crew {
     config: Config,
@@ -227,7 +227,7 @@ struct Crew {
     deeds: &'static str,
 }
 
-/// What is counted of a crew when its work is over.
+/// The counts of a crew after its work.
 fn counts_of<
     R: Threads + Wait + Abort + Sync,
     T: Ledger + Send,
@@ -254,7 +254,7 @@ fn counts_of<
     close(rt, host, seats, seat)
 }
 
-/// What a crew has counted is what it leaves.
+/// The counts of a crew are those that it returns.
 fn crew_left(rt: &impl Abort, counts: &Counts, fewest: u64, most: u64, cached_events: u64) {
     let taken = counts.completed.max(fewest).min(most);
     let left = Counts {
@@ -268,7 +268,7 @@ fn crew_left(rt: &impl Abort, counts: &Counts, fewest: u64, most: u64, cached_ev
     assert!(rt; fewest <= most && *counts == left);
 }
 
-/// Lets a crew work, and compares what it leaves.
+/// Lets a crew work, and compares its results.
 fn crew_works<R: Threads + Wait + Abort + Sync>(rt: &R, alloc: Global, line: &'static str) {
     let mut rest = line;
     let mut words = cut(&mut rest, " | ");
@@ -321,7 +321,7 @@ fn setups_of(
     setups
 }
 
-/// Runs the setups of these scripts, and gives the seats that come back.
+/// Runs the setups of these scripts, and returns the seats.
 fn posted<R: Threads + Wait + Abort + Sync, T: Ledger + Send, C: Ledger + Send, F: Ledger + Send>(
     book: &Notebook<'_, '_, R, T, C, F>,
     seats: Vec<Seat<T, C, F>>,
@@ -336,7 +336,7 @@ fn posted<R: Threads + Wait + Abort + Sync, T: Ledger + Send, C: Ledger + Send, 
     seats
 }
 
-/// What a host has counted on which setups were run twice.
+/// The counts of a host on which setups were run twice.
 fn counts_of_both<
     R: Threads + Wait + Abort + Sync,
     T: Ledger + Send,
@@ -356,7 +356,7 @@ fn counts_of_both<
     close(rt, host, seats, seat)
 }
 
-/// Setups are run a second time on one host: what was cached and counted stays.
+/// Setups are run a second time on one host: what is cached and counted stays.
 #[test]
 fn setups_are_run_again(rt: HostRuntime) {
     let config = Config {
@@ -377,7 +377,7 @@ fn setups_are_run_again(rt: HostRuntime) {
     wants(alloc, counts, text).expect(&rt, "setups run twice");
 }
 
-/// Waits until the workers have ended, and then wants to know once what they counted.
+/// Waits until the workers have ended, and then asks once what they counted.
 #[derive(Drop)]
 struct Onlooker<'r, R> {
     rt: &'r R,
@@ -394,7 +394,7 @@ impl<R: Wait + Clock> Companion for Onlooker<'_, R> {
     }
 }
 
-/// A companion is told at its seat what the workers have counted, and counts nothing itself.
+/// A companion gets the counts of the workers at its seat, and counts nothing itself.
 #[test]
 fn a_companion_looks_on(rt: HostRuntime) {
     let config = Config {

@@ -7,7 +7,7 @@ use wh_command_line::{Plan, Refusal, Selection, ServeOptions, WorkOptions, parse
 use wh_console::Format;
 use wh_events::Text;
 
-/// What a line after the program's name asks for.
+/// The plan of a line after the program's name.
 const LINES: &str = "\
 replay d => replay d
 replay ./a/b.c => replay ./a/b.c
@@ -116,10 +116,10 @@ replay --help => help
 work --help => help
 ";
 
-/// What a line after the program's name and `work` asks for: its Task Queue, namespace and identity,
-/// workers and activity workers, cache, its events and slots, the timeout and attempts of activities,
-/// the file of policies, the sticky timeout, whether it is verbose, the time between counts, their
-/// form, and the file that they are kept in.
+/// The plan of a line after the program's name and `work`: its Task Queue, namespace and identity,
+/// workers and activity workers, cache, its events and slots, the timeout and attempts of
+/// activities, the file of policies, the sticky timeout, whether it is verbose, the time between
+/// counts, their form, and the file for them.
 const WORK_LINES: &str = "\
 --task-queue q => work q, default, wfhost, 2, 0, 100, 0, 100, 60, 1, None, 10, false, None, Text, None
 --task-queue q --namespace n --identity i => work q, n, i, 2, 0, 100, 0, 100, 60, 1, None, 10, false, None, Text, None
@@ -152,7 +152,7 @@ d --task-queue q => bad line
 --task-queue q --stats => bad line
 ";
 
-/// What the program `shop` says to a line without a command, and to one without a file.
+/// The answers of the program `shop` to a line without a command, and to one without a file.
 const NO_COMMAND: &str = "\
 error: a command is needed
 
@@ -170,7 +170,7 @@ Usage: shop explain <FILE>
 For more information, try '--help'.
 ";
 
-/// What the text of a refused line says after `error: --` of an option with a bad value.
+/// The text of a refused line after `error: --`, for an option with a bad value.
 const BAD_VALUES: &str = "\
 serve d --workers 65 => workers must be 1 to 64
 serve d --workers 0 => workers must be 1 to 64
@@ -197,7 +197,7 @@ work --task-queue q --stats x => stats must be a number
 work --task-queue= => task-queue must not be empty
 ";
 
-/// What follows a plan's words where a flag is set.
+/// The text after a plan's words if a flag is set.
 fn add_flags(rt: &impl Abort, text: &mut String, json: bool, require_files: bool) {
     text.push_str(if json { " as JSON" } else { "" })
         .expect(rt, "memory");
@@ -219,7 +219,7 @@ fn command_text(rt: &impl Abort, alloc: Global, name: &str, first: &Text, more: 
     text
 }
 
-/// A plan to serve, in words.
+/// A plan to serve, as text.
 fn serve_text(rt: &impl Abort, alloc: Global, dir: &Text, options: &ServeOptions) -> String {
     let dir = dir.get();
     let ServeOptions {
@@ -234,14 +234,15 @@ fn serve_text(rt: &impl Abort, alloc: Global, dir: &Text, options: &ServeOptions
     text.expect(rt, "memory")
 }
 
-/// A word, and what stands after it.
+/// A word, and the text after it.
 fn joined(rt: &impl Abort, alloc: Global, word: &str, rest: &str) -> String {
     let mut text = String::from_str(alloc, word).expect(rt, "memory");
     text.push_str(rest).expect(rt, "memory");
     text
 }
 
-/// What the derived text of options has in front of each, none of which is the end of a later one.
+/// The text before each of the options in their derived `Debug` text; none is the end of a later
+/// one.
 const NAMES: [&str; 17] = [
     "WorkOptions ",
     "task_queue: ",
@@ -262,7 +263,7 @@ const NAMES: [&str; 17] = [
     "metrics: ",
 ];
 
-/// A plan to work, in words: its options in their order.
+/// A plan to work, as text: its options in their order.
 fn work_text(rt: &impl Abort, alloc: Global, options: &WorkOptions) -> String {
     let mut text = shown(alloc, options).expect(rt, "memory");
     for name in NAMES {
@@ -271,7 +272,7 @@ fn work_text(rt: &impl Abort, alloc: Global, options: &WorkOptions) -> String {
     joined(rt, alloc, "work ", text.as_str())
 }
 
-/// A command on tasks of a file, in words.
+/// A command on tasks of a file, as text.
 fn selected_text(
     rt: &impl Abort,
     alloc: Global,
@@ -288,7 +289,7 @@ fn selected_text(
     joined(rt, alloc, view.as_str(), file.get())
 }
 
-/// A plan in words.
+/// A plan, as text.
 fn plan_text(rt: &impl Abort, alloc: Global, plan: &Plan) -> String {
     match plan {
         Plan::Replay {
@@ -374,7 +375,7 @@ fn plan_text(rt: &impl Abort, alloc: Global, plan: &Plan) -> String {
     }
 }
 
-/// A refusal in words, and in further lines the text of a bad line.
+/// A refusal, as text, followed by the lines of the text of a bad line.
 fn refusal_text(rt: &impl Abort, alloc: Global, refusal: &Refusal) -> String {
     match refusal {
         Refusal::BadLine { text } => joined(rt, alloc, "bad line\n", text.get()),
@@ -401,7 +402,7 @@ fn words_of(rt: &impl Abort, alloc: Global, line: &str) -> Vec<String> {
     words
 }
 
-/// The answer to words, in words.
+/// The answer to words, as text.
 fn answer_text(rt: &impl Abort, alloc: Global, words: &[String]) -> String {
     match parse(alloc, "wfhost", "", words) {
         Ok(plan) => plan_text(rt, alloc, &plan),
@@ -420,7 +421,7 @@ fn answers(rt: &impl Abort, alloc: Global, line: &str, wanted: &str) {
     same(alloc, first, wanted).expect(rt, line);
 }
 
-/// A line of a program under a name is answered by a text.
+/// The answer to a line of a program with this name is this text.
 fn says(rt: &impl Abort, alloc: Global, name: &str, line: &str, wanted: &str) {
     let words = words_of(rt, alloc, line);
     match parse(alloc, name, "", words.as_slice()) {

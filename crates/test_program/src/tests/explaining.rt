@@ -1,4 +1,4 @@
-//! What is explained of histories as JSON, line by line.
+//! Explanations of histories as JSON, line by line.
 
 use std::alloc::Global;
 use std::process::Abort;
@@ -112,7 +112,7 @@ nap/5 | 'timerId':'nap' -> 'timerId':'\u{e9}\\\\b'
 {'file':'x.json','verdict':'fault','event':5,'fault':'event 5 differs','sends':'StartTimer','timerId':'nap','seconds':60,'recorded':{'event':5,'type':'TimerStarted','timerId':'?\\\\b'}}
 status 1";
 
-/// What explains a history as JSON, with the status after it.
+/// The explanation of a history as JSON, followed by the status.
 fn explanation(rt: &impl Abort, alloc: Global, history: &'static str) -> String {
     let bytes = bytes_of(alloc, history).expect(rt, history);
     let name = String::from_str(alloc, "x.json").expect(rt, "memory");

@@ -1,4 +1,4 @@
-//! What a query of a history file writes, and which words are its arguments.
+//! The output of a query of a history file, and which words are its arguments.
 
 use std::alloc::Global;
 use std::process::Abort;
@@ -10,7 +10,7 @@ use wh_query_report::{
 use wh_queryable::{Query, QueryResult};
 use wh_sample_workflows::All;
 
-/// Histories, the query type, and what is written, with `/` in place of each line feed.
+/// Histories, the query type, and the output, with `/` for each line feed.
 const QUERIES: &str = "\
 racer/9 ? phase => x.json: ok, 2 tasks, last live/\"late\"/status 0
 racer ? phase => x.json: ok, 4 tasks/\"done\"/status 0
@@ -38,13 +38,13 @@ fn query(rt: &impl Abort, alloc: Global, query_type: &str) -> Query {
     query.expect(rt, "no arguments")
 }
 
-/// What was written, with `/` in place of each line feed, and the status.
+/// The output, with `/` for each line feed, and the status.
 fn written(rt: &impl Abort, alloc: Global, text: Vec<u8>, status: u8) -> String {
     let text = with_status(text, status).expect(rt, "a text");
     text.as_str().replace(alloc, "\n", "/").expect(rt, "memory")
 }
 
-/// Each query of these lines writes what the line says.
+/// Each query of these lines has this output.
 fn are_written(rt: &impl Abort, alloc: Global, lines: &'static str, format: Format) {
     for line in lines.lines() {
         let (mut words, wanted) = row(line).expect(rt, line);
@@ -66,7 +66,7 @@ fn files_are_queried(rt: HostRuntime) {
     are_written(&rt, rt.alloc(), QUERIES_AS_JSON, Format::Json);
 }
 
-/// A payload under an encoding.
+/// A payload with an encoding.
 fn payload(rt: &impl Abort, alloc: Global, encoding: &str, content: &[u8]) -> Payload {
     Payload {
         encoding: Items::new(Vec::from_slice(alloc, encoding.as_bytes()).expect(rt, "memory")),
@@ -74,7 +74,7 @@ fn payload(rt: &impl Abort, alloc: Global, encoding: &str, content: &[u8]) -> Pa
     }
 }
 
-/// What is written of a query that gave these payloads.
+/// The output of a query with these payloads as its answer.
 fn given(rt: &impl Abort, alloc: Global, payloads: Vec<Payload>, format: Format) -> String {
     let name = String::from_str(alloc, "x").expect(rt, "memory");
     let file = (name, bytes_of(alloc, "nap").expect(rt, "nap"));

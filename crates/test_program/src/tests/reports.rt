@@ -19,7 +19,7 @@ b.json: nap; a.json: greet/2 C; c: S => b.json: ok, 2 tasks, a.json: ok, 0 tasks
  => 0 files, 0 ok, status 0
 ";
 
-/// Adds a file with a history. That of an empty history is empty.
+/// Adds a file with a history. The file of an empty history is empty.
 fn push_history(
     rt: &impl Abort,
     alloc: Global,
@@ -47,7 +47,7 @@ pub(crate) fn named_files(
     files
 }
 
-/// What the command writes of the files, with its status after it.
+/// The output of the command for the files, followed by its status.
 fn replayed<R: Threads + Sync + Abort>(
     rt: &R,
     alloc: Global,

@@ -16,7 +16,7 @@ use wh_service_command::{serve_command, serve_with_failures};
 const SAMPLES: &str =
     "branch.json: branch; caller.json: caller; family.json: family; greet.json: greet; nap.json: nap; racer.json: racer";
 
-/// What is reported of all samples.
+/// The report of all samples.
 const SAMPLES_SERVED: &str = "\
 branch.json: 2 tasks, 2 completed, 0 failed
 caller.json: 2 tasks, 2 completed, 0 failed
@@ -47,13 +47,13 @@ const SIZES: &str = "\
 4 100 3
 ";
 
-/// How many workers serve files, and below it the report with what else is told after it: the
-/// failed tasks, whether a last record was not compared, and the status.
+/// How many workers serve files, followed by the report and what comes after it: the failed tasks,
+/// whether a last record was not compared, and the status.
 ///
 /// There are no files, five samples, histories that end after their last task in an event that is
-/// passed over or not in place, a file that is no JSON, an activity that the workflow does not ask
-/// for, a workflow that the program does not know, a command that can't stand in a task before the
-/// last, and histories that end in their last task, alone and between others.
+/// skipped or not in place, a file that is not JSON, an activity that the workflow does not
+/// schedule, a workflow type that is not registered, an invalid command in a task before the last,
+/// and histories that end in their last task, alone and between others.
 const SERVICES: &str = "\
 4
 taken 0, completed 0, failed 0, in hand 0
@@ -169,7 +169,7 @@ fn serve<R: Threads + Wait + Abort + Sync, O: Write>(
     )
 }
 
-/// The sizes that a line says.
+/// The sizes in a line.
 fn sizes_of(rt: &impl Abort, line: &'static str) -> Sizes {
     let mut words = line;
     Sizes {
@@ -179,7 +179,7 @@ fn sizes_of(rt: &impl Abort, line: &'static str) -> Sizes {
     }
 }
 
-/// The report of all samples, with its status after it.
+/// The report of all samples, followed by its status.
 fn samples_served<R: Threads + Wait + Abort + Sync>(rt: &R, alloc: Global, sizes: Sizes) -> String {
     let mut out = Vec::new(alloc);
     let files = named_files(rt, alloc, SAMPLES);
@@ -211,7 +211,7 @@ fn service<R: Threads + Wait + Abort + Sync>(
     }
 }
 
-/// The report of a service with what else is told of it after it.
+/// The report of a service and what comes after it.
 fn told(rt: &impl Abort, end: &ServiceEnd, mut out: Vec<u8>) -> String {
     for failure in &end.failures {
         write!(out, "{failure}\n").expect(rt, "written");
@@ -221,7 +221,7 @@ fn told(rt: &impl Abort, end: &ServiceEnd, mut out: Vec<u8>) -> String {
     with_status(out, end.status).expect(rt, "a text")
 }
 
-/// What is told of a service is the text below its first line.
+/// The report of a service is the text after its first line.
 fn is_served<R: Threads + Wait + Abort + Sync>(rt: &R, alloc: Global, block: &'static str) {
     let (mut files, wanted) = block.split_once("\n").expect(rt, block);
     let workers = next_number(&mut files).expect(rt, "a number");

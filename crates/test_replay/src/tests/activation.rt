@@ -7,7 +7,7 @@ use test_support::{cut, next_number, row, wants};
 use wh_activation::jobs;
 use wh_events::EventNo;
 
-/// A history, two numbers of tasks, and what the second one is told.
+/// A history, two numbers of tasks, and the jobs of the second one.
 const ROWS: &str = "\
 nap/3 from 0 to 3 => [Time(1714557603000000000), Start workflow: Nap, input: []]
 nap/8 from 3 to 8 => [Time(1714557608000000000), TimerFired id: nap]
@@ -22,7 +22,7 @@ nap/8 from 9 to 8 => [Time(1714557608000000000)]
 nap/8 from 3 to 9 => []
 ";
 
-/// The second task of a row is told what is wanted.
+/// The second task of a row has the expected jobs.
 fn tells(rt: &impl Abort, alloc: Global, given: &'static str, wanted: &str) {
     let mut rest = given;
     let track = track_of(rt, alloc, cut(&mut rest, " from "));

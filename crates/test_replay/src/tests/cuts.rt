@@ -1,7 +1,7 @@
 //! Which tasks are cuts, what their records are, and which jobs they have.
 
-/// Tasks that ended in one way or another; records, which go on to the next completion, whichever
-/// it is; and events of failed tasks and of no record, which give jobs all the same.
+/// Tasks that ended in different ways; records, which end at the next completion of either kind;
+/// and events of failed tasks, which have no record, and give jobs all the same.
 pub(crate) const CUTS: &str = "\
 start:Nap => x.json: ok, 0 tasks
 start:Nap S => x.json: ok, 0 tasks

@@ -1,4 +1,4 @@
-//! The text of an error, and that copies are made where there is memory.
+//! The text of an error, and that values are copied if there is memory.
 
 use std::alloc::Global;
 use std::process::Abort;

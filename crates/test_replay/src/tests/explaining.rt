@@ -1,4 +1,4 @@
-//! What is explained of histories, line by line.
+//! The explanations of histories, line by line.
 
 use std::alloc::Global;
 use std::process::Abort;
@@ -344,7 +344,7 @@ nap/3 unknown
 x.json: unreadable, event 4 has the unsupported type EVENT_TYPE_SOMETHING_NEW
 status 1";
 
-/// Histories of a workflow that gives what signals name.
+/// Histories of a workflow that gives the commands that signals name.
 const SCRIPTED: &str = "\
 start:Scripted signal:start_timer signal:cancel_timer signal:start_timer S T
 task at 6
@@ -405,7 +405,7 @@ task at 14
 x.json: ok, 3 tasks
 status 0";
 
-/// Histories of which tasks are folded, since they are alike, or left out, since they are not about the
+/// Histories whose tasks are folded, since they are alike, or omitted, since they are not about the
 /// timer of the fault.
 const FOLDED: &str = "\
 nap/5 signal:a7 S T C signal:a30 S T C signal:a S T C signal:b S T C timer_fired:5 S T C completed
@@ -488,7 +488,7 @@ task at 19
 x.json: ok, 4 tasks
 status 0";
 
-/// The tasks of a nap with three signals round that which was told the last.
+/// The tasks of a nap with three signals, around the task of the last signal.
 const AROUND: &str = "\
 1 tasks are left out: --all shows them, --last N or --around EVENT some of them
 task at 8
@@ -508,7 +508,8 @@ task at 20
 x.json: ok, 5 tasks
 status 0";
 
-/// What explains a history of a type without code: what is recorded follows the line of the file.
+/// The explanation of a history whose type is not registered: the recorded events follow the line
+/// of the file.
 const NOPE: &str = "\
 no code for the workflow type Nope
 x.json: fault, task at 1: UnknownWorkflow
@@ -521,7 +522,7 @@ status 1";
 const SIGNALLED: &str =
     "nap/5 signal:a S T C signal:a S T C signal:a S T C timer_fired:5 S T C completed";
 
-/// Times of a task, and the line that tells them.
+/// Times of a task, and the line that has them.
 const TIMES: &str = "\
 nap/3 | '2024-05-01T10:00:03Z' -> '2024-02-29T23:59:59Z' =>   told Time 2024-02-29T23:59:59Z (event 3)
 nap/3 | '2024-05-01T10:00:03Z' -> '2024-03-01T00:00:00.5Z' =>   told Time 2024-03-01T00:00:00.500Z (event 3)
@@ -533,7 +534,7 @@ nap/3 | '2024-05-01T10:00:03Z' -> '0001-01-01T00:00:00Z' =>   told Time 0001-01-
 nap/3 | '2024-05-01T10:00:03Z' -> '9999-12-30T00:00:00Z' =>   told Time 9999-12-30T00:00:00Z (event 3)
 ";
 
-/// What explains a history, and below it the status: 0 where the history is good, and else 1.
+/// The explanation of a history, followed by the status: 0 if the history is good, and else 1.
 fn explanation<W: Workflow>(
     rt: &impl Abort,
     alloc: Global,
@@ -621,7 +622,7 @@ fn count_lines(text: &str, wanted: &str) -> u64 {
     count
 }
 
-/// Times are told as RFC 3339 writes them.
+/// Times are written as in RFC 3339.
 #[test]
 fn tells_times(rt: HostRuntime) {
     for line in TIMES.lines() {
@@ -631,7 +632,7 @@ fn tells_times(rt: HostRuntime) {
     }
 }
 
-/// A workflow that asks at each answer asks 4,097 times.
+/// A workflow that asks for a version at each answer asks 4,097 times.
 #[test]
 fn explains_endless_questions(rt: HostRuntime) {
     let text = explanation::<Asker>(&rt, rt.alloc(), "start:Asker S T", None);

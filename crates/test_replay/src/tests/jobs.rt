@@ -6,8 +6,8 @@ use test_support::Scripted;
 use wh_sample_workflows::Nap;
 use wh_workflow::Pair;
 
-/// What the task of a history is told, of all tasks that went before it without a record, and what
-/// a second task is told after a recorded one.
+/// The jobs of the task of a history, after tasks without a record, and those of a second task
+/// after a recorded one.
 const JOBS: &str = "\
 nap/3
 task at 3
@@ -199,7 +199,7 @@ task at 13
 x.json: ok, 2 tasks, last live
 status 0";
 
-/// How many jobs a workflow that gives nothing was told up to the last task.
+/// How many jobs a workflow that gives nothing gets up to the last task.
 const STEPS: &str = "\
 nap/3 => 2 steps, holds 3, []
 start:Any signal:b signal:a S T => 4 steps, holds 5, []
@@ -221,8 +221,8 @@ start:Any signal:a S T attributes_upserted C S T => 4 steps, holds 8, []
 start:Any timer:t S T C signal:a timer_fired:2 S T signal:b task_timed_out S T => 6 steps, holds 13, []
 ";
 
-/// What the first part of a pair gives to a history that both parts have code for, and the second
-/// one to a history that the first one has no code for.
+/// The commands of the first part of a pair for a history whose type both parts register, and those
+/// of the second one for a history whose type only it registers.
 const PARTS: &str = "\
 nap/3 => 2 steps, holds 3, [StartTimer id: nap, seconds: 60]
 nap/8 => 4 steps, holds 8, [Complete result: []]
@@ -230,7 +230,7 @@ greet/3 => 2 steps, holds 3, []
 start:nap S T => 2 steps, holds 3, []
 ";
 
-/// What the second part is told of a history that the first one has no code for.
+/// The jobs of the second part for a history whose type the first part does not register.
 const SECOND_PART: &str = "\
 greet/3
 task at 3

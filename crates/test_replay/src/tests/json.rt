@@ -1,4 +1,4 @@
-//! What texts are read as.
+//! How texts are read.
 
 use std::alloc::Global;
 use std::process::Abort;
@@ -33,48 +33,48 @@ const PLAIN_NAP: &str = r#"[
 {"eventId":10,"eventTime":"2024-05-01T10:00:10Z","eventType":"WorkflowExecutionCompleted"}
 ]"#;
 
-/// One event, with `@` in place of its number.
+/// One event, with `@` for its number.
 const NUMBERED: &str =
     r#"[{"eventId":@,"eventTime":"2024-05-01T10:00:01Z","eventType":"WorkflowTaskStarted"}]"#;
 
-/// One event, with `@` in place of its time.
+/// One event, with `@` for its time.
 const TIMED: &str = r#"[{"eventId":1,"eventTime":@,"eventType":"WorkflowTaskStarted"}]"#;
 
-/// One event, with `@` in place of its type.
+/// One event, with `@` for its type.
 const TYPED: &str = r#"[{"eventId":1,"eventTime":"2024-05-01T10:00:01Z","eventType":@}]"#;
 
-/// A timer that fired, with `@` in place of its reference.
+/// A timer that fired, with `@` for its reference.
 const FIRED: &str =
     r#"[{"eventId":1,"eventTime":"2024-05-01T10:00:01Z","eventType":"TimerFired","timerFiredEventAttributes":{"startedEventId":@}}]"#;
 
-/// A timer that was started, with `@` in place of its id.
+/// A timer that was started, with `@` for its id.
 const STARTED: &str =
     r#"[{"eventId":1,"eventTime":"2024-05-01T10:00:01Z","eventType":"TimerStarted","timerStartedEventAttributes":{"timerId":@}}]"#;
 
-/// An activity that completed, with `@` in place of its result.
+/// An activity that completed, with `@` for its result.
 const COMPLETED: &str =
     r#"[{"eventId":1,"eventTime":"2024-05-01T10:00:01Z","eventType":"ActivityTaskCompleted","activityTaskCompletedEventAttributes":{"result":@}}]"#;
 
-/// A version marker, with `@` in place of the data of its version.
+/// A version marker, with `@` for the data of its version.
 const VERSIONED: &str =
     r#"[{"eventId":1,"eventTime":"2024-05-01T10:00:01Z","eventType":"MarkerRecorded","markerRecordedEventAttributes":{"markerName":"Version","details":{"change-id":{"payloads":[{"metadata":{"encoding":"anNvbi9wbGFpbg=="},"data":"ImNoZyI="}]},"version":{"payloads":[{"metadata":{"encoding":"anNvbi9wbGFpbg=="},"data":@}]}}}}]"#;
 
-/// Two events, with `@` in place of the second one's number.
+/// Two events, with `@` for the second one's number.
 const FOLLOWED: &str =
     r#"[{"eventId":1,"eventTime":"2024-05-01T10:00:01Z","eventType":"WorkflowTaskStarted"},{"eventId":@,"eventTime":"2024-05-01T10:00:02Z","eventType":"WorkflowTaskCompleted"}]"#;
 
-/// A signal, with `@` in place of the data of its payload.
+/// A signal, with `@` for the data of its payload.
 const SIGNALED: &str =
     r#"[{"eventId":1,"eventTime":"2024-05-01T10:00:01Z","eventType":"WorkflowExecutionSignaled","workflowExecutionSignaledEventAttributes":{"signalName":"s","input":{"payloads":[{"data":@}]}}}]"#;
 
-/// A marker, with `@` in place of its attributes.
+/// A marker, with `@` for its attributes.
 const MARKED: &str =
     r#"[{"eventId":1,"eventTime":"2024-05-01T10:00:01Z","eventType":"MarkerRecorded","markerRecordedEventAttributes":@}]"#;
 
-/// One event, with `@` in place of its type and `%` in place of its attributes.
+/// One event, with `@` for its type and `%` for its attributes.
 const ONE: &str = r#"[{"eventId":4,"eventTime":"2024-05-01T12:00:03.5+02:00","eventType":"@"%}]"#;
 
-/// How it is read, with `@` in place of what it says.
+/// How it is read, with `@` for its content.
 const ONE_READ: &str = "Ok([Event number: 4, time: 1714557603500000000, body: @])";
 
 /// Texts as a whole, the empty one first.
@@ -204,8 +204,8 @@ const MARKERS: &str = r#"{"markerName":"SideEffect"} => UnsupportedMarker at: 1,
 {"markerName":"Version","details":{"change-id":["chg"],"version":{"payloads":[{"data":"?"}]}}} => BadPayload at: 1
 "#;
 
-/// Types of events in both spellings, what stands after the type, and what the event says. First
-/// the start, and what is said of tasks.
+/// Types of events in both spellings, the attributes after them, and how the event is read. First
+/// the start and the events of tasks.
 const TASK_KINDS: &str =
     r#"WorkflowExecutionStarted EVENT_TYPE_WORKFLOW_EXECUTION_STARTED ,"workflowExecutionStartedEventAttributes":{"workflowType":{"name":"w"},"input":{"payloads":[{"metadata":{"encoding":"YQ=="},"data":"Yg=="}]}} => WorkflowExecutionStarted workflow: w, input: [Payload encoding: [97], content: [98]]
 WorkflowTaskScheduled EVENT_TYPE_WORKFLOW_TASK_SCHEDULED  => WorkflowTaskScheduled
@@ -262,7 +262,7 @@ UpsertWorkflowSearchAttributes EVENT_TYPE_UPSERT_WORKFLOW_SEARCH_ATTRIBUTES  => 
 WorkflowPropertiesModified EVENT_TYPE_WORKFLOW_PROPERTIES_MODIFIED  => Inert
 "#;
 
-/// A form with other texts in place of its `@` and its `%`.
+/// A form with these texts instead of `@` and `%`.
 fn filled(rt: &impl Abort, alloc: Global, form: &str, first: &str, second: &str) -> String {
     let text = form.replace(alloc, "@", first).expect(rt, "memory");
     text.as_str()
@@ -270,7 +270,7 @@ fn filled(rt: &impl Abort, alloc: Global, form: &str, first: &str, second: &str)
         .expect(rt, "memory")
 }
 
-/// How many events there are, or the fault.
+/// The number of events, or the fault.
 fn answer(rt: &impl Abort, alloc: Global, bytes: &[u8]) -> String {
     match read_events(alloc, bytes) {
         Ok(events) => format!(in alloc; "{} events", events.len()).expect(rt, "memory"),
@@ -278,7 +278,7 @@ fn answer(rt: &impl Abort, alloc: Global, bytes: &[u8]) -> String {
     }
 }
 
-/// The answer to the bytes is what is wanted.
+/// The answer to the bytes is as expected.
 fn answers(rt: &impl Abort, alloc: Global, bytes: &[u8], wanted: &str) {
     let answer = answer(rt, alloc, bytes);
     same(alloc, answer.as_str(), wanted).expect(rt, wanted);
@@ -360,7 +360,7 @@ fn reads_both_forms_alike(rt: HostRuntime) {
     reads_alike(&rt, rt.alloc(), NAP, PLAIN_NAP);
 }
 
-/// A text is no JSON without its last bytes, whatever their number.
+/// A text without its last bytes is not JSON, however many are missing.
 fn refuses_fronts(rt: &impl Abort, alloc: Global, text: &str) {
     for length in 0..text.len() {
         answers(rt, alloc, &text.as_bytes()[..length], "BadJson");
@@ -372,7 +372,7 @@ fn refuses_each_front(rt: HostRuntime) {
     refuses_fronts(&rt, rt.alloc(), NAP);
 }
 
-/// A text is no JSON where other bytes stand for its letters `p`.
+/// A text with other bytes instead of its letters `p` is not JSON.
 fn refuses_others(rt: &impl Abort, alloc: Global, text: &str) {
     let mut bytes = text.as_bytes().to_vec(alloc).expect(rt, "memory");
     for byte in bytes.iter_mut() {
@@ -388,7 +388,7 @@ fn refuses_other_bytes(rt: HostRuntime) {
     refuses_others(&rt, rt.alloc(), NAP);
 }
 
-/// How many lists stand within one another, and what is answered.
+/// The depth of nested lists, and the answer.
 const DEPTHS: &str = "\
 100 => BadNumber at: 1
 127 => BadNumber at: 1
@@ -396,7 +396,7 @@ const DEPTHS: &str = "\
 1000 => BadJson
 ";
 
-/// As many lists within one another.
+/// Lists nested so deep.
 fn nested(rt: &impl Abort, alloc: Global, depth: usize) -> String {
     let close = repeated(alloc, "]", depth, "").expect(rt, "memory");
     repeated(alloc, "[", depth, close.as_str()).expect(rt, "memory")

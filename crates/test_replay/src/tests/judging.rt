@@ -1,4 +1,4 @@
-//! What a task may command, and whether it is what was recorded.
+//! Which commands a task may give, and whether they match the record.
 
 use crate::tests::cuts::CUTS;
 use crate::tests::places::PLACES;
@@ -6,8 +6,7 @@ use crate::tests::reading::{READ, REFUSED, REFUSED_FIRST};
 use crate::tests::replaying::replays;
 use wh_sample_workflows::{All, Asker, Flood};
 
-/// Commands that match their record or do not, versions of a change, and commands that cannot
-/// stand.
+/// Commands that match their record or do not, versions of a change, and invalid commands.
 const ACTIVATIONS: &str = "\
 greet => x.json: ok, 2 tasks
 branch => x.json: ok, 2 tasks
@@ -89,7 +88,7 @@ start:Flood signal:s*63 S T => x.json: ok, 1 tasks, last live
 start:Flood signal:s*64 S T => x.json: fault, task at 67: TooManyCommands
 ";
 
-/// Questions without an end.
+/// Requests for versions without an end.
 const ASKS: &str = "\
 start:Asker S T => x.json: fault, task at 3: TooManyCommands
 ";

@@ -1,4 +1,4 @@
-//! Which events are in place, and where things stand.
+//! Which events are in place, and the status of each thing.
 
 use std::alloc::Global;
 use std::process::Abort;
@@ -8,7 +8,7 @@ use wh_histories::{events, events_after};
 use wh_machines::{PushFault, Track};
 use wh_workflow::text_of;
 
-/// A history, what becomes of further events, each pushed with the next number, and how many events
+/// A history, the result of pushing further events, each with the next number, and how many events
 /// the track then holds.
 const PLACES: &str = "\
 nap/5 then timer_fired:9 timer_fired:6 timer_fired:0 timer_fired:3 cancel_child:kid timer:nap completed S => ([Err(Place(NoSuchRef)), Err(Place(NoSuchRef)), Err(Place(NoSuchRef)), Err(Place(WrongKindRef)), Err(Place(NoSuchRef)), Err(Place(IdInUse)), Ok(()), Err(Place(AfterClose))], 6)
@@ -35,7 +35,8 @@ fn push(rt: &impl Abort, track: &mut Track, body: EventKind) -> Result<(), PushF
     })
 }
 
-/// What becomes of further events on the track of a history, and how many events it then holds.
+/// The result of pushing further events to the track of a history, and how many events it then
+/// holds.
 fn pushes(
     rt: &impl Abort,
     alloc: Global,
@@ -84,13 +85,13 @@ fn last_nap(rt: &impl Abort, track: &Track, place: u64, opened: u64, status: Sta
     assert!(rt; last == Some((opened, status)), "at {place}");
 }
 
-/// The event of a number has this status, in words.
+/// The thing that the event of this number opened has this status, as text.
 fn stands(rt: &impl Abort, alloc: Global, track: &Track, opened: u64, status: &str) {
     let opened = EventNo::new(opened).expect(rt, "a number");
     wants(alloc, track.status(opened), status).expect(rt, "a status");
 }
 
-/// A copy of a track of six events takes a seventh, and the first has six still.
+/// A copy of a track of six events takes a seventh, and the original still has six.
 fn copies(rt: &impl Abort, track: &Track) {
     let mut copy = track.try_copy().expect(rt, "memory");
     push(rt, &mut copy, EventKind::WorkflowTaskScheduled).expect(rt, "in place");
@@ -113,7 +114,7 @@ fn follows_the_timer_of_a_nap(rt: HostRuntime) {
     assert!(rt; track.into_events().len() == 6);
 }
 
-/// No history in JSON has so large a number.
+/// No history in JSON has such a large number.
 #[test]
 fn refuses_a_number_that_no_event_has(rt: HostRuntime) {
     let mut track = track_of(&rt, rt.alloc(), "nap/5");
@@ -122,8 +123,8 @@ fn refuses_a_number_that_no_event_has(rt: HostRuntime) {
     wants(rt.alloc(), pushed, "Err(Place(NoSuchRef))").expect(&rt, "2^63");
 }
 
-/// The timers `nap` of event 3 and each second one after it, up to event 199, each of which the
-/// event after it fires.
+/// Timers named `nap` are opened by event 3 and each second one after it, up to event 199; the
+/// event after each fires it.
 fn finds_each_nap(rt: &impl Abort, track: &Track) {
     for pair in 2..100u64 {
         let opened = 2 * pair + 1;
@@ -177,7 +178,7 @@ fn new_timer(rt: &impl Abort, alloc: Global, number: u64) -> EventKind {
     EventKind::TimerStarted { id: Text::new(id) }
 }
 
-/// The start of a run, for which no text is made.
+/// The start of a run, which allocates no text.
 fn start(alloc: Global) -> EventKind {
     EventKind::WorkflowExecutionStarted {
         workflow: Text::new(String::new(alloc)),
@@ -185,7 +186,7 @@ fn start(alloc: Global) -> EventKind {
     }
 }
 
-/// A track of one event. Its push is made again where a growth is refused.
+/// A track of one event. Its push is repeated if a growth is refused.
 fn started(rt: &impl Abort, alloc: Global) -> Track {
     let mut track = Track::new(alloc);
     if push(rt, &mut track, start(alloc)).is_err() {
@@ -194,8 +195,8 @@ fn started(rt: &impl Abort, alloc: Global) -> Track {
     track
 }
 
-/// Where memory is out the track is as it was before this number, and the same push can be made
-/// again.
+/// If memory runs out, the track is as it was before this number, and the same push can be
+/// repeated.
 fn pushes_again(rt: &impl Abort, alloc: Global, track: &mut Track, number: u64, fault: PushFault) {
     assert!(rt; fault == PushFault::OutOfMemory);
     assert!(rt; (track.len() as u64).saturating_add(1) == number);
@@ -203,8 +204,8 @@ fn pushes_again(rt: &impl Abort, alloc: Global, track: &mut Track, number: u64, 
     push(rt, track, new_timer(rt, alloc, number)).expect(rt, "in place");
 }
 
-/// Each timer is open after its push. A growth is refused only where the tests are run so, and then
-/// once.
+/// Each timer is open after its push. A growth is refused only if the tests run with refusals, and
+/// then once.
 #[test]
 fn a_push_can_be_made_again(rt: HostRuntime) {
     let alloc = rt.alloc();

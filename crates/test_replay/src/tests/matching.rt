@@ -1,4 +1,4 @@
-//! What a task may command, which versions it is told, and whether commands match their record.
+//! Which commands a task may give, which versions it gets, and whether commands match their record.
 
 use crate::tests::machines::track_of;
 use std::alloc::Global;
@@ -9,8 +9,9 @@ use wh_machines::Track;
 use wh_match::{Script, ScriptFault, Versions, matches};
 use wh_workflow::{Command, WorkflowFault, text_of};
 
-/// A history, two numbers of tasks, and what the code of the second commands or asks, by short
-/// words: the answer to each of these, with what is settled after an ask, and then what is sent.
+/// A history, two numbers of tasks, and the commands and version requests of the second task, in
+/// short words: the answer to each of these, with the version that is settled after a request, and
+/// then the commands that are sent.
 const ROWS: &str = "\
 start:Racer S T from 0 to 3 gives timer:t cancel_timer:t timer:t cancel_timer:t => None None Some(IdReused) Some(NotOpen) sends []
 start:Racer S T from 0 to 3 gives activity:9:race cancel_activity:9 cancel_activity:9 => None None Some(NotOpen) sends []
@@ -27,7 +28,7 @@ late from 11 to 8 gives cancel_timer:t cancel_activity:1 => Some(NotOpen) None s
 late from 3 to 20 gives cancel_activity:1 timer:t => None None sends [StartTimer id: t, seconds: 30]
 ";
 
-/// A command by a short word: what it does, and what it names.
+/// The command of a short word, with the name that it has.
 fn command(rt: &impl Abort, alloc: Global, word: &str) -> Command {
     let (deed, names) = word.split_once(':').unwrap_or((word, ""));
     let (name, second) = names.split_once(':').unwrap_or((names, ""));
@@ -62,7 +63,8 @@ fn give(
     }
 }
 
-/// What a script answers to an ask about a range, and what is settled then.
+/// The answer of a script to a request for a version in a range, and the version that is settled
+/// then.
 fn asked(
     rt: &impl Abort,
     alloc: Global,
@@ -81,7 +83,8 @@ fn asked(
     format!(in alloc; "{answer} {settled}").expect(rt, "memory")
 }
 
-/// What a script answers to a word. An ask is one of a live task, a recall one of a recorded task.
+/// The answer of a script to a word. `ask` is a request in a live task, `recall` one in a recorded
+/// task.
 fn answered(
     rt: &impl Abort,
     alloc: Global,
@@ -101,13 +104,13 @@ fn answered(
     shown(alloc, &give(rt, script, track, command)).expect(rt, "memory")
 }
 
-/// What is sent of the commands of a script.
+/// The commands of a script that are sent.
 fn sent_text(rt: &impl Abort, alloc: Global, script: Script) -> String {
     shown(alloc, &script.reduced().expect(rt, "memory")).expect(rt, "memory")
 }
 
-/// The answers of a script to words, and then what is sent. What is recorded of a task stands
-/// after its completion, which is the event after the task.
+/// The answers of a script to words, and then the commands that are sent. The record of a task
+/// comes after its completion, which is the event after the task.
 fn answers_text(
     rt: &impl Abort,
     alloc: Global,
@@ -132,7 +135,7 @@ fn answers_text(
     all
 }
 
-/// The answers to what is given in a row are what is wanted.
+/// The answers to a row are as expected.
 fn answers(rt: &impl Abort, alloc: Global, given: &'static str, wanted: &str) {
     let mut words = given;
     let track = track_of(rt, alloc, cut(&mut words, " from "));
@@ -170,8 +173,8 @@ fn takes_as_many_asks_as_commands(rt: HostRuntime) {
     wants(alloc, refused, "Err(Workflow(TooManyCommands))").expect(&rt, "an ask");
 }
 
-/// What comes of two commands, to race and to start a timer, before the record that stands after
-/// the fourth event of a history.
+/// The result of two commands, to race and to start a timer, with the record that comes after the
+/// fourth event of a history.
 const RECORDS: &str = "\
 start:Racer S T C activity:1:race => Err(CommandExtra index: 2)
 start:Racer S T C activity:1:race timer:t => Ok(())
@@ -179,7 +182,7 @@ start:Racer S T C activity:1:race timer:t timer:x => Err(CommandMissing event: 7
 start:Racer S T C activity:1:greets => Err(Different event: 5)
 ";
 
-/// The commands to race, which a run that begins gives.
+/// The commands of a race that begins.
 fn race(rt: &impl Abort, alloc: Global) -> Vec<Command> {
     let mut commands = Vec::new(alloc);
     push(&mut commands, command(rt, alloc, "activity:1:race")).expect(rt, "memory");

@@ -3,7 +3,7 @@
 use crate::tests::replaying::replays;
 use wh_sample_workflows::All;
 
-/// Events that are not in place, and then events that are, with what the task makes of them.
+/// Events that are not in place, and then events that are, with the result of the task.
 pub(crate) const PLACES: &str = "\
 S => x.json: fault, event 1 is not in place: FirstNotStart
 ignored start:Nap => x.json: fault, event 1 is not in place: FirstNotStart

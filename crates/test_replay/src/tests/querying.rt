@@ -11,7 +11,7 @@ use wh_replay::{Run, RunFault};
 use wh_sample_workflows::All;
 use wh_workflow::{Meter, text_of};
 
-/// Histories that end anywhere, the query type, and what the query gives.
+/// Histories that end anywhere, the query type, and the answer.
 const HISTORIES: &str = "\
 racer/1 ? phase => \"racing\"
 racer/3 ? phase => \"racing\"
@@ -32,7 +32,7 @@ start:Nope ? phase => Fault(Workflow at: 1, fault: UnknownWorkflow)
 S ? phase => Fault(Place at: 1, fault: FirstNotStart)
 ";
 
-/// Runs, and what the query `phase` gives at them.
+/// Runs, and their answers to the query `phase`.
 const RUNS: &str = "\
 racer/3 => \"racing\"
 racer/9 => \"late\"
@@ -41,7 +41,7 @@ racer/19 => \"done\"
 nap/8 => unknown query type phase; known: none
 ";
 
-/// What a query gave, in words: the text of its only payload, or why there is none.
+/// The answer to a query as text: that of the only payload, or why there is none.
 fn given_text(rt: &impl Abort, alloc: Global, given: &Result<QueryResult, RunFault>) -> String {
     let text = match given {
         Ok(QueryResult::Answered(payloads)) => match payloads.get() {
@@ -68,7 +68,7 @@ fn histories_are_queried(rt: HostRuntime) {
     }
 }
 
-/// What each of two queries of a run gives.
+/// The answers of a run to two queries.
 fn each_text(rt: &impl Abort, alloc: Global, run: &Run<All>, wanted: &str) {
     let query = Query {
         query_type: text_of(alloc, "phase").expect(rt, "memory"),

@@ -1,4 +1,4 @@
-//! What the reader takes, and what it refuses.
+//! What the reader accepts and what it refuses.
 
 use crate::tests::replaying::reads;
 use std::alloc::Global;
@@ -106,7 +106,7 @@ nap/4 chg_marker:MjE0NzQ4MzY0OA== => x.json: unreadable, event 5 has the unsuppo
 nap/4 chg_marker:MQ== | 'ImNoZyI=' -> 'IiI=' => x.json: unreadable, event 5 has the unsupported marker Version
 ";
 
-/// More that is refused, where one thing stands before another.
+/// More that is refused, where one thing comes before another.
 pub(crate) const REFUSED_FIRST: &str = "\
 nap | 'eventId':'1' -> 'eventId':-0 => x.json: unreadable, event 1 has a bad number
 nap | 'eventId':'1' -> 'eventId':10e-1 => x.json: unreadable, event 1 has a bad number

@@ -9,8 +9,9 @@ use wh_replay::{Run, check};
 use wh_sample_workflows::All;
 use wh_workflow::{Meter, Workflow};
 
-/// The steps to the second event of a history, and those on to its end: the time and the start, and
-/// then the time and the signal, with the start before it where the first task did not complete.
+/// The steps up to the second event of a history, and those from there to its end: the time and the
+/// start, and then the time and the signal, with the start before them if the first task did not
+/// complete.
 const STEPS: &str = "\
 start:Still T C signal:s T => 2, then 4, holds 5
 start:Still T task_timed_out signal:s T => 2, then 5, holds 5
@@ -28,7 +29,7 @@ fn first_task<W: Workflow>(
     Run::from_first(alloc, key(alloc, "w").expect(rt, "memory"), events, meter).expect(rt, history)
 }
 
-/// A run that goes on, whose advance has no fault.
+/// A run after an advance without a fault.
 fn advanced<W: Workflow>(
     rt: &impl Abort,
     alloc: Global,
@@ -42,7 +43,7 @@ fn advanced<W: Workflow>(
     }
 }
 
-/// How a run goes on after the first two events of a history.
+/// The steps of a run that advances after the first two events of a history.
 fn steps<W: Workflow>(rt: &impl Abort, alloc: Global, history: &'static str) -> String {
     let mut meter = Meter::new();
     let run = first_task::<W>(rt, alloc, history, &mut meter);
@@ -107,14 +108,14 @@ nap/5 timer_fired:3 => Err(Fault(Place at: 6, fault: WrongKindRef))
 start:Nap timer:nap S T => Err(Fault(Workflow at: 4, fault: IdInUse))
 ";
 
-/// What a history has.
+/// The result of checking a history.
 const CHECKED: &str = "\
 start:Still T C signal:s T => Ok(Checked tasks: 2, live: true)
 C signal:s T => Err(Fault(Place at: 1, fault: FirstNotStart))
 C signal:s T | 'eventId':'3' -> 'eventId':'5' | 'eventId':'2' -> 'eventId':'4' | 'eventId':'1' -> 'eventId':'3' => Err(Fault(Place at: 1, fault: FirstNotStart))
 ";
 
-/// What a history has, or its fault.
+/// The result of checking a history, or its fault.
 fn checked_text<W: Workflow>(rt: &impl Abort, alloc: Global, history: &'static str) -> String {
     shown(
         alloc,

@@ -9,7 +9,7 @@ use wh_report::{Format, Record, report};
 use wh_tester::{Line, verdict};
 use wh_workflow::{Workflow, text_of};
 
-/// The record of a file of which its line alone is known.
+/// The record of a file with this line.
 pub(crate) fn record_with(alloc: Global, line: Line) -> Record {
     Record {
         line,
@@ -20,7 +20,7 @@ pub(crate) fn record_with(alloc: Global, line: Line) -> Record {
     }
 }
 
-/// The report of one file, `x.json`, and below it the status: 0 where the file is good, and else 1.
+/// The report of one file, `x.json`, followed by the status: 0 if the file is good, and else 1.
 fn report_of<W: Workflow>(rt: &impl Abort, alloc: Global, bytes: &[u8]) -> String {
     let name = text_of(alloc, "x.json").expect(rt, "memory");
     let verdict = verdict::<W>(alloc, bytes);

@@ -1,4 +1,4 @@
-//! Runs, from their first event and as they go on.
+//! Runs, from their first event on, and as they advance.
 
 use std::alloc::Global;
 use std::process::Abort;
@@ -78,7 +78,7 @@ nap/3 then nap/3 after 2 => Gap, 0 steps, holds 3, [StartTimer id: nap, seconds:
 nap/3 then nap/8 after 4 => Gap, 0 steps, holds 3, [StartTimer id: nap, seconds: 60]
 ";
 
-/// Where something stands that an event of a run opened.
+/// The status of a thing that an event of a run opened.
 const STATUSES: &str = "\
 nap/8 at 5 => Some(Closed by: 6)
 nap/8 at 6 => None
@@ -114,7 +114,7 @@ fn begun<W: Workflow>(
     )
 }
 
-/// What came of a run in so many steps.
+/// The result of a run in so many steps.
 fn text_of<W: Workflow>(
     rt: &impl Abort,
     alloc: Global,
@@ -127,7 +127,7 @@ fn text_of<W: Workflow>(
     }
 }
 
-/// What comes of a history from its first event.
+/// The result of a history from its first event on.
 fn begun_text<W: Workflow>(rt: &impl Abort, alloc: Global, history: &'static str) -> String {
     let mut meter = Meter::new();
     let begun = begun::<W>(rt, alloc, history, &mut meter);
@@ -141,7 +141,7 @@ fn good<W: Workflow>(rt: &impl Abort, alloc: Global, history: &'static str) -> R
     begun(rt, alloc, history, &mut Meter::new()).expect(rt, history)
 }
 
-/// Where something stands that the event of a number opened.
+/// The status of the thing that the event of this number opened.
 fn status_text<W: Workflow>(
     rt: &impl Abort,
     alloc: Global,
@@ -154,7 +154,7 @@ fn status_text<W: Workflow>(
     text
 }
 
-/// What comes of a run that goes on.
+/// The result of a run that advances.
 fn goes_on<W: Workflow>(
     rt: &impl Abort,
     alloc: Global,
@@ -165,8 +165,8 @@ fn goes_on<W: Workflow>(
     advance(alloc, run, after).expect(rt, after)
 }
 
-/// What comes of what a row gives: the run of a history, a run that goes on after ` then `, or
-/// what the event of the number after ` at ` opened.
+/// The result of the input of a row: the run of a history, a run that advances after ` then `, or
+/// the thing that the event of the number after ` at ` opened.
 fn given_text<W: Workflow>(rt: &impl Abort, alloc: Global, given: &'static str) -> String {
     if let Some((before, after)) = given.split_once(" then ") {
         return goes_on::<W>(rt, alloc, before, after);
@@ -180,7 +180,7 @@ fn given_text<W: Workflow>(rt: &impl Abort, alloc: Global, given: &'static str) 
     }
 }
 
-/// Compares what comes of what each row gives.
+/// Compares the result of each row.
 pub(crate) fn begins<W: Workflow>(rt: &impl Abort, alloc: Global, table: &'static str) {
     for line in table.lines() {
         let (given, wanted) = row(line).expect(rt, line);
@@ -196,7 +196,7 @@ fn runs_begin_and_go_on(rt: HostRuntime) {
     begins::<All>(&rt, rt.alloc(), STATUSES);
 }
 
-/// The commands that complete the last task of a history, in words.
+/// The commands that complete the last task of a history, as text.
 fn answer_text<W: Workflow>(rt: &impl Abort, alloc: Global, history: &'static str) -> String {
     let run = good::<W>(rt, alloc, history);
     let answer = run.answer(alloc);
@@ -206,7 +206,7 @@ fn answer_text<W: Workflow>(rt: &impl Abort, alloc: Global, history: &'static st
     text
 }
 
-/// How many timers an answer starts, as it is said in words.
+/// How many timers an answer starts, by its text.
 fn starts_timers(rt: &impl Abort, answer: &str, wanted: usize) {
     assert!(rt; answer.starts_with("Ok(Complete([StartTimer "));
     assert!(rt; answer.split("StartTimer ").count() == wanted.saturating_add(1));

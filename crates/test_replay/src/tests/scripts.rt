@@ -1,10 +1,10 @@
-//! What one task may command, and what of it is sent.
+//! Which commands one task may give, and which of them are sent.
 
 use crate::tests::replaying::replays;
 use crate::tests::runs::begins;
 use test_support::Scripted;
 
-/// What is opened and canceled in one task, of which nothing was open before.
+/// What one task opens and cancels, with nothing open before it.
 const WITHDRAWN: &str = "\
 start:Scripted S T => 2 steps, holds 3, []
 start:Scripted signal:start_timer signal:cancel_timer S T => 4 steps, holds 5, []
@@ -25,7 +25,7 @@ start:Scripted signal:cancel_activity S T => Fault(Workflow at: 4, fault: NotOpe
 start:Scripted signal:cancel_child S T => Fault(Workflow at: 4, fault: NotOpen)
 ";
 
-/// What was open before the task.
+/// The same with things that are open before the task.
 const OPEN: &str = "\
 start:Scripted timer:t signal:cancel_timer signal:start_timer S T => 4 steps, holds 6, [CancelTimer id: t, StartTimer id: t, seconds: 1]
 start:Scripted timer:t signal:cancel_timer signal:start_timer signal:cancel_timer S T => 5 steps, holds 7, [CancelTimer id: t]

@@ -18,7 +18,7 @@ nap/3 task_failed S T ignored after 0 at 6 => Ok([6]); Some(6); true
 nap/3 task_failed S T ignored after 0 at 3 => Ok([6]); Some(6); false
 ";
 
-/// The tasks of the history of a row are what is wanted.
+/// The tasks of the history of a row are as expected.
 fn splits(rt: &impl Abort, alloc: Global, given: &'static str, wanted: &'static str) {
     let (mut given, mut wanted) = (given, wanted);
     let history = cut(&mut given, " after ");

@@ -1,4 +1,4 @@
-//! What the report looks like.
+//! The texts of the report.
 
 use crate::tests::replaying::record_with;
 use std::alloc::Global;
@@ -107,7 +107,7 @@ const JSON: &str = r#"{"file":"a\"b\\c?.json","verdict":"ok","tasks":3,"live":fa
 {"files":12,"ok":2}
 "#;
 
-/// The report of files of these names, for each of which memory was wanting.
+/// The report of files of these names, whose check ran out of memory.
 const SHOWN_NAMES: &str = "\
 nap.json: out of memory
 : out of memory
@@ -271,7 +271,7 @@ fn cuts_long_names(rt: HostRuntime) {
     cuts(&rt, rt.alloc(), "\u{e9}", "?");
 }
 
-/// The report of two good files and one that is no JSON.
+/// The report of two good files and one that is not JSON.
 const ORDERED: &str = "\
 b.json: ok, 2 tasks
 a.json: ok, 0 tasks

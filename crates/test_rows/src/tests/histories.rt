@@ -1,4 +1,4 @@
-//! Histories, by tables and by code.
+//! Histories, replayed by tables and by code.
 
 use std::alloc::Global;
 use std::test::Fail;
@@ -6,7 +6,7 @@ use test_support::{bytes_of, same, shown};
 use wh_tester::verdict;
 use wh_workflow::Workflow;
 
-/// The verdict on a history is this one, in words, by the table and by the code.
+/// The table and the code give this verdict on a history, as text.
 fn both<T: Workflow, C: Workflow>(
     alloc: Global,
     history: &'static str,
@@ -70,7 +70,7 @@ fn a_family_replays_as_its_code(rt: HostRuntime) -> Result<(), Fail> {
 }
 
 /// Histories of orders, and the verdicts on them: shipped without a version and with one, refused,
-/// called off, called off without an end of the timer, called off too early, and shipped as tracked
+/// canceled, canceled without the timer's cancellation, canceled too early, and shipped as tracked
 /// without a version.
 const ORDERS: [(&str, &str); 7] = [
     (

@@ -1,11 +1,11 @@
-//! Scenarios that a table and its code follow alike.
+//! Scenarios that a table and its code both follow.
 
 use std::alloc::Global;
 use std::test::Fail;
 use wh_scenarios::{ScenarioFault, follows};
 use wh_workflow::Workflow;
 
-/// The table follows the scenario, and so does the code.
+/// Both the table and the code follow the scenario.
 fn both<T: Workflow, C: Workflow>(
     alloc: Global,
     kind: &str,
@@ -15,7 +15,7 @@ fn both<T: Workflow, C: Workflow>(
     follows::<C>(alloc, kind, scenario)
 }
 
-/// Naps, and what comes to them from outside.
+/// Naps, and the jobs that come from outside.
 const NAP: &str = "
 start 1                       => StartTimer nap (60 s)
 signal stop; cancel           =>
@@ -68,7 +68,7 @@ fn a_family_is_one_of_code(rt: HostRuntime) -> Result<(), Fail> {
     Ok(())
 }
 
-/// Orders: shipped with a name and without, before and after the change, called off, and refused.
+/// Orders: shipped with a name and without, before and after the change, canceled, and refused.
 const ORDERS: [&str; 6] = [
     r#"
 start 1999 "order-1"                => StartActivity charge ChargeCard 1999 "order-1"
@@ -119,7 +119,7 @@ fn an_order_is_one_of_code(rt: HostRuntime) -> Result<(), Fail> {
     Ok(())
 }
 
-/// What comes of a scenario of a nap, in words.
+/// The result of a scenario of a nap, as text.
 fn fault_of(alloc: Global, kind: &str, scenario: &str) -> Result<String, Fail> {
     match follows::<row_samples::Nap>(alloc, kind, scenario) {
         Ok(()) => Ok(String::from_str(alloc, "as it says")?),
@@ -127,7 +127,7 @@ fn fault_of(alloc: Global, kind: &str, scenario: &str) -> Result<String, Fail> {
     }
 }
 
-/// Scenarios of a nap, and what comes of them.
+/// Scenarios of a nap, and their results.
 const FAULTS: [(&str, &str); 11] = [
     ("", "as it says"),
     ("\n  start=>StartTimer nap (60 s)\n\n", "as it says"),

@@ -57,7 +57,7 @@ fn a_subscription_is_charged_for(rt: HostRuntime) -> Result<(), Fail> {
     Ok(())
 }
 
-/// A scenario that goes through so many months, each as the line says, and then ends.
+/// A scenario of so many months, each as the line says, and then the end.
 fn months(alloc: Global, month: &str, count: usize, end: &str) -> Result<String, AllocError> {
     let mut scenario = String::from_str(alloc, "start => StartActivity charge ChargeCard\n")?;
     let middle = month.repeat(alloc, count)?;
@@ -90,7 +90,7 @@ fn a_plan_is_over_after_twelve_months(rt: HostRuntime) -> Result<(), Fail> {
     Ok(())
 }
 
-/// A plan that is called off: between two charges, and while one is out.
+/// A plan that is canceled: between two charges, and during one.
 const PLANS: [&str; 3] = [
     r#"
 start "gold"  => StartActivity charge ChargeCard "gold"

@@ -1,4 +1,4 @@
-//! What is found of tables, as text and as JSON, and what they give to scenarios.
+//! The findings about tables, as text and as JSON, and what tables give to scenarios.
 
 use std::alloc::Global;
 use std::test::Fail;
@@ -9,14 +9,14 @@ use wh_table_check::{NoMore, TableFile, check_command, status_of};
 use wh_table_picture::picture_command;
 use wh_table_trial::{status_of as trial_status, try_command};
 
-/// The text was written, and behind it stands the status.
+/// The output is this text, followed by the status.
 fn is_written(alloc: Global, text: Vec<u8>, status: u8, wanted: &str) -> Result<(), Fail> {
     let text = with_status(text, status).ok_or(Unlike::OutOfMemory)?;
     same(alloc, text.as_str(), wanted)?;
     Ok(())
 }
 
-/// Rows, whether the table is good, and what is written of it.
+/// Rows, whether the table is good, and the output.
 const TEXTS: [(&str, &str); 12] = [
     (
         r#"["a","start","","activity b C"],["a","done b","","complete brought"]"#,
@@ -87,7 +87,8 @@ fn all_faults_and_warnings_are_written(rt: HostRuntime) -> Result<(), Fail> {
     Ok(())
 }
 
-/// What is written of a good table with a warning, of one that breaks rules, and of no JSON.
+/// The output for a good table with a warning, for one that breaks rules, and for a text that is
+/// not JSON.
 const JSON: &str =
     r#"{"file":"t.json","verdict":"ok","rows":1,"faults":[],"warnings":[{"row":1,"text":"row 1: no row leads on from the state \"a?"}]}
 {"file":"t.json","verdict":"fault","rows":0,"faults":[{"row":1,"text":"row 1: no job is written so"},{"row":2,"text":"row 2: no job is written so"}],"warnings":[]}
@@ -111,7 +112,7 @@ fn files_are_objects(rt: HostRuntime) -> Result<(), Fail> {
 const CHARGE: &str =
     r#"["a","start","","activity b C input"],["a","done b","","complete brought"],["a","failed b","","again input"]"#;
 
-/// Scenarios, the status, and what is written.
+/// Scenarios, the status, and the output.
 const TRIALS: [(&str, &str); 8] = [
     (
         "start 1; done b \"x\"",

@@ -1,10 +1,10 @@
-//! What is no table, and what is said of it.
+//! Texts that are not tables, and their faults.
 
 use crate::tests::words::is_refused;
 use std::alloc::Global;
 use std::test::Fail;
 
-/// Each text of the list is refused, for the reason beside it.
+/// Each text of the list is refused, for the reason next to it.
 fn are_refused(alloc: Global, cases: &[(&'static str, &'static str)]) -> Result<(), Fail> {
     for (table, reason) in cases {
         is_refused(alloc, table, reason)?;
@@ -12,7 +12,7 @@ fn are_refused(alloc: Global, cases: &[(&'static str, &'static str)]) -> Result<
     Ok(())
 }
 
-/// Texts that are no table, and why.
+/// Texts that are not tables, and why.
 const SHAPES: [(&str, &str); 17] = [
     ("{", "the table is no JSON"),
     (r#"{"version":1,"rows":[]}x"#, "the table is no JSON"),

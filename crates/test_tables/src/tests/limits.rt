@@ -1,4 +1,4 @@
-//! Tables at the limits, and past them.
+//! Tables at the limits, and beyond.
 
 use crate::tests::words::{is_refused, run_follows};
 use std::alloc::{AllocError, Global};

@@ -1,20 +1,20 @@
-//! What is said of promises.
+//! Findings about promises.
 
 use crate::tests::promising::{keeps_promises, promise_breaks, promise_says, promises_say};
 use std::alloc::Global;
 use std::test::Fail;
 
-/// A table without promises; they come behind it.
+/// A table without promises; they are added to it.
 const TABLE: &str =
     r#"{"version":1,"rows":[["a","start","","activity x X"],["a","signal s","",["child k K","signal o S"]],["a","done x","","complete"],["a","failed x","","fail f"],["a","cancel","","cancel"],["a","fired t","","continue N"]],"promises":"#;
 
-/// What is said of the table with these promises.
+/// The findings about the table with these promises, as text and as JSON.
 fn table_says(alloc: Global, promises: &str, text: &str, json: &str) -> Result<(), Fail> {
     let table = format!(in alloc; "{TABLE}{promises}}}")?;
     promises_say(alloc, table.as_str(), text, json)
 }
 
-/// Promises, and what is said of each.
+/// Promises, and the finding about each.
 const SAID: [(&str, &str); 22] = [
     ("at most 1 activity X", "kept"),
     ("at most 0 activity X", "broken by: start"),
@@ -49,7 +49,7 @@ const SAID: [(&str, &str); 22] = [
     ),
 ];
 
-/// Each promise is said so of, by its line.
+/// The finding about each promise is as expected, on its line.
 fn each_is_said(alloc: Global, cases: &[(&'static str, &'static str)]) -> Result<(), Fail> {
     for (promise, said) in cases {
         let table = format!(in alloc; "{TABLE}\"{promise}\"}}")?;

@@ -12,7 +12,7 @@ use wh_scenarios::ScenarioFault;
 use wh_table_promises::{Verdict, WayStep};
 use wh_table_text::read_table;
 
-/// Both texts, which were to be the same.
+/// Both texts, which should be the same.
 fn differs(alloc: Global, given: &str, wanted: &str) -> Result<ScenarioFault, AllocError> {
     Ok(ScenarioFault::Differs {
         line: 1,
@@ -21,7 +21,7 @@ fn differs(alloc: Global, given: &str, wanted: &str) -> Result<ScenarioFault, Al
     })
 }
 
-/// The given text is the wanted one.
+/// The given text is the expected one.
 fn is_same(alloc: Global, given: &str, wanted: &str) -> Result<(), Fail> {
     if given == wanted {
         return Ok(());
@@ -30,14 +30,14 @@ fn is_same(alloc: Global, given: &str, wanted: &str) -> Result<(), Fail> {
     Err(fault)?
 }
 
-/// What is found of the promises of a table.
+/// The findings about the promises of a table.
 fn found_of(alloc: Global, table: &str) -> Result<PromiseFindings, Fail> {
     let own = read_table(alloc, table.as_bytes())?;
     let found = check_promises(alloc, table.as_bytes(), &own)?;
     Ok(found)
 }
 
-/// What is said of the promises of a table is this text, and this JSON.
+/// The findings about the promises of a table are this text, and this JSON.
 pub(super) fn promises_say(alloc: Global, table: &str, text: &str, json: &str) -> Result<(), Fail> {
     let found = found_of(alloc, table)?;
     let said = findings_text(alloc, &found)?;
@@ -46,7 +46,7 @@ pub(super) fn promises_say(alloc: Global, table: &str, text: &str, json: &str) -
     is_same(alloc, said.as_str(), json)
 }
 
-/// What is said of the promises of a table has this line.
+/// The findings about the promises of a table have this line.
 pub(super) fn promise_says(alloc: Global, table: &str, line: &str) -> Result<(), Fail> {
     let found = found_of(alloc, table)?;
     let said = findings_text(alloc, &found)?;
@@ -66,7 +66,7 @@ pub(super) fn keeps_promises(alloc: Global, table: &str) -> Result<(), Fail> {
     is_same(alloc, said.as_str(), "each is kept")
 }
 
-/// The way of a finding, if it has one.
+/// The path of a finding, if it has one.
 fn way_in(finding: &PromiseFinding) -> &[WayStep] {
     match &finding.outcome {
         Outcome::Decided(Verdict::Broken(breach)) => breach.way.as_slice(),
@@ -74,7 +74,7 @@ fn way_in(finding: &PromiseFinding) -> &[WayStep] {
     }
 }
 
-/// The way of the promise of that index, if it has one.
+/// The path of the promise at this index, if it has one.
 fn way_at(found: &PromiseFindings, index: usize) -> &[WayStep] {
     match found {
         PromiseFindings::Each(list) => match list.get().get(index) {
@@ -85,7 +85,7 @@ fn way_at(found: &PromiseFindings, index: usize) -> &[WayStep] {
     }
 }
 
-/// A way as a scenario, whose `TABLE` stands for the table.
+/// A path as a scenario, with `TABLE` for the table.
 fn scenario_of(alloc: Global, way: &[WayStep]) -> Result<String, AllocError> {
     let mut text = String::new(alloc);
     for step in way {
@@ -98,8 +98,8 @@ fn scenario_of(alloc: Global, way: &[WayStep]) -> Result<String, AllocError> {
     Ok(text)
 }
 
-/// The promise of that index is broken in a way of so many jobs, which runs follow, and this is said of
-/// it.
+/// The promise at this index is broken on a path of so many jobs, which runs follow, and the
+/// finding is this one.
 pub(super) fn promise_breaks(
     alloc: Global,
     table: &str,

@@ -50,7 +50,8 @@ failed charge     => Fail no card
     )
 }
 
-/// A table that goes on as new, with itself and with another one, and starts a child of another one.
+/// A table that continues as new, with itself and with another table, and starts a child with
+/// another table.
 const GOING_ON: &str = r#"{"version":1,"name":"payload 1 order- none","rows":[
 ["a","start","",["child @ Table:kid brought","timer @ 1"]],
 ["a","fired order-7","","again input"],

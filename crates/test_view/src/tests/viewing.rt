@@ -1,4 +1,4 @@
-//! What is viewed of histories, as text.
+//! The views of histories, as text.
 
 use std::alloc::Global;
 use std::process::Abort;
@@ -8,7 +8,7 @@ use wh_json::ReadFault;
 use wh_view::{View, view_of};
 use wh_view_report::{Selection, write_json_view, write_view};
 
-/// Histories in words, each with its text below it.
+/// Histories in words, each followed by its text.
 const HISTORIES: &str = "\
 racer
 Racer: 21 events, 4 tasks completed, 3 things
@@ -83,7 +83,7 @@ task 4: WorkflowTaskCompleted (event 20) 2024-05-01T10:00:20Z
 16 events of other tasks are left out
 ";
 
-/// The tasks of `racer` round that of its last event.
+/// The tasks of `racer` around that of its last event.
 const AROUND: &str = "\
 Racer: 21 events, 4 tasks completed, 3 things
   told TimerFired t (event 7) 2024-05-01T10:00:07Z, opened (event 6)
@@ -98,7 +98,7 @@ task 4: WorkflowTaskCompleted (event 20) 2024-05-01T10:00:20Z
 6 events of other tasks are left out
 ";
 
-/// A history with values, attempts and failures, in which much is amiss.
+/// A history with values, attempts and failures, and with several faults.
 const AMISS: &str = r#"{"events":[
 {"eventId":"1","eventTime":"2024-05-01T10:00:01Z","eventType":"EVENT_TYPE_WORKFLOW_EXECUTION_STARTED","workflowExecutionStartedEventAttributes":{"workflowType":{"name":"Pay"},"input":{"payloads":[{"metadata":{"encoding":"anNvbi9wbGFpbg=="},"data":"eyJhIjoxfQ=="},{"data":"/w=="}]}}},
 {"eventId":"4","eventType":"EVENT_TYPE_WORKFLOW_TASK_COMPLETED"},
@@ -185,7 +185,7 @@ fn views_what_is_amiss(rt: HostRuntime) {
     assert!(rt; text.as_str() == AMISS_TEXT, "{text}");
 }
 
-/// A text that is no history has no view.
+/// A text that is not a history has no view.
 #[test]
 fn views_no_other_text(rt: HostRuntime) {
     for text in ["", "{", "nap", "[1", "\"\\ud800\""] {
@@ -198,7 +198,7 @@ fn views_no_other_text(rt: HostRuntime) {
     }
 }
 
-/// The objects of the last tasks, where the last that is completed is left out.
+/// The objects of the last tasks, with the last completed one omitted.
 #[test]
 fn views_as_json(rt: HostRuntime) {
     let late = view(&rt, rt.alloc(), "late");
