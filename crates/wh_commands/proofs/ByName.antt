@@ -1,4 +1,4 @@
--- Commands that are read by several names, as functions of what stands there.
+-- Commands that are read from several fields, as functions of the fields' values.
 use Rattle.std.proofs.Common.{Option, Some, option_map, codes}
 use Rattle.std.specs.Result.{result_ok}
 use Rattle.serde_json.specs.Data.{Data}

@@ -1,4 +1,4 @@
--- What is read of a written command is the command.
+-- A written command is read back.
 use Rattle.std.proofs.Common.{◌≡◌, ◌≢◌, ◌==◌, ℕ, ◌-◌, ◌<◌, ◌≤◌, ◌^◌, ℤ, pos, negsuc, List, [], ◌∷◌, ◌++◌, length, map, codes, decimal, Bool, true, false, cond, nat_lt, Option, Some, None, option_and_then, option_map, Result, Ok, Err, IsUtf8, refl, sym, ap, subst, ◌∙◌, arith, append-nil, lt-ltb}
 use Rattle.std.proofs.lemmas.Fmt.{decimal_is_IsNumeral, IsAscii-decimal, IsAscii-signed}
 use Rattle.std.proofs.lemmas.Option.{slice_get_within}

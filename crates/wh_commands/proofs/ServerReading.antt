@@ -1,4 +1,4 @@
--- What is read of a request by the names of its fields is what was written.
+-- Reading a request by the names of its fields yields what was written.
 use Rattle.std.proofs.Common.{◌≡◌, ◌⊎◌, ◌<◌, ◌==◌, ◌^◌, ℕ, ◌+◌, List, [], ◌∷◌, ◌++◌, get_or, length, codes, decimal, Bool, true, false, cond, nat_lt, Option, Some, None, option_map, Result, Ok, Err, refl, ap, subst, ◌∙◌, arith, inl, inr}
 use Rattle.serde_json.specs.Data.{Data, Members, no_members, number, object, string, unsigned}
 use Rattle.serde_json.specs.Find.{as_bool, as_number, as_str, as_u64, get, get_member}

@@ -1,4 +1,4 @@
--- What a run hands on to the one that continues it.
+-- What a run carries over to the one that continues it.
 use Rattle.std.specs.Prelude.{List, Bool, true, false, codes, Option, Some, None, option_map, slice_get}
 use Rattle.serde_json.specs.Data.{Data}
 use Rattle.serde_json.specs.View.{view}
@@ -22,7 +22,7 @@ carried_seen carried = record {
 abbrev pub nothing_carried : Carried
 nothing_carried = record { memo = None; search_attributes = None; retry_policy = None }
 
--- what a run with these attributes of its first event hands on
+-- what a run with these attributes of its first event carries over
 abbrev pub carried_by : Data → Carried
 carried_by attributes = record {
   memo = field (codes "memo") (Some attributes);
@@ -30,7 +30,7 @@ carried_by attributes = record {
   retry_policy = field (codes "retryPolicy") (Some attributes);
 }
 
--- what a run hands on whose history begins with these members, if the first of them starts it
+-- what a run carries over, by the members of its history, if the first of them starts the run
 abbrev pub carried_in : List Data → Option Carried
 carried_in members =
     option_map carried_by (field (codes "workflowExecutionStartedEventAttributes") (slice_get members 0))

@@ -30,17 +30,17 @@ use Rattle.wh_commands.specs.Policies.{activity_asked, child_asked, continued_as
 abbrev pub named : List ℕ → Data
 named name = object_of ((codes "name", string name) ∷ [])
 
--- another workflow, whichever its run is
+-- the execution of a workflow id, without a run id
 abbrev pub execution : List ℕ → Data
 execution workflow_id = object_of ((codes "workflowId", string workflow_id) ∷ [])
 
--- why something failed, with what is told of it beside that; it is told by this program
+-- a failure with its info; its source is this program
 abbrev pub failure_with : Data → List ℕ → Data
 failure_with info message = object_of (
     (codes "message", string message) ∷ (codes "source", string (codes "wfhost"))
     ∷ (codes "applicationFailureInfo", info) ∷ [])
 
--- why something failed
+-- a failure
 abbrev pub failure : List ℕ → Data
 failure message = failure_with (object_of []) message
 
@@ -50,7 +50,7 @@ command_form kind name attributes = object_of ((codes "commandType", string kind
 
 -- ---- The commands
 
--- an activity as its workflow gives it, with what is always asked for with it
+-- an activity as its workflow requests it, with the options that are always written
 abbrev pub activity_members : WorkerNames → ActivityPolicy → List ℕ → List ℕ → List Payload → Members
 activity_members names policy id activity input = put_all (
     (codes "activityId", string id) ∷ (codes "activityType", named activity)
@@ -65,7 +65,8 @@ start_activity names policy id activity input =
 
 abbrev pub cancel_activity : ℕ → Data
 cancel_activity scheduled =
-    command_form (codes "COMMAND_TYPE_REQUEST_CANCEL_ACTIVITY_TASK") (codes "requestCancelActivityTaskCommandAttributes")
+    command_form (codes "COMMAND_TYPE_REQUEST_CANCEL_ACTIVITY_TASK")
+    (codes "requestCancelActivityTaskCommandAttributes")
     (object_of ((codes "scheduledEventId", string (decimal scheduled)) ∷ []))
 
 abbrev pub start_timer : List ℕ → ℕ → Data
@@ -78,7 +79,7 @@ cancel_timer id =
     command_form (codes "COMMAND_TYPE_CANCEL_TIMER") (codes "cancelTimerCommandAttributes")
     (object_of ((codes "timerId", string id) ∷ []))
 
--- a child as its workflow gives it, with its queue
+-- a child as its workflow requests it, with its queue
 abbrev pub child_members : WorkerNames → ChildPolicy → List ℕ → List ℕ → List Payload → Members
 child_members names policy workflow_id workflow input = put_all (
     (codes "namespace", string names.namespace) ∷ (codes "workflowId", string workflow_id)
@@ -108,7 +109,7 @@ signal_external names workflow_id signal input =
     ∷ (codes "execution", execution workflow_id)
     ∷ (codes "signalName", string signal) ∷ (codes "input", payloads_written input) ∷ []))
 
--- what a marker holds, in the form in which markers are read
+-- the details of a marker, in the form in which markers are read
 abbrev pub details : List ℕ → ℤ → Data
 details change_id version = object_of (
     (codes "change-id", json_payloads (string change_id))
@@ -134,13 +135,13 @@ cancel =
     command_form (codes "COMMAND_TYPE_CANCEL_WORKFLOW_EXECUTION") (codes "cancelWorkflowExecutionCommandAttributes")
     (object_of [])
 
--- what the run hands on
+-- what the run carries over
 abbrev pub carried_asked : Carried → List (List ℕ × Option Data)
 carried_asked carried =
     (codes "memo", carried.memo) ∷ (codes "searchAttributes", carried.search_attributes)
     ∷ (codes "retryPolicy", carried.retry_policy) ∷ []
 
--- a new run as its workflow gives it, with its queue
+-- a new run as its workflow requests it, with its queue
 abbrev pub continued_members : WorkerNames → ContinuePolicy → List ℕ → List Payload → Members
 continued_members names policy workflow input = put_all (
     (codes "workflowType", named workflow) ∷ (codes "taskQueue", named (queue_asked names policy.task_queue))
@@ -153,18 +154,18 @@ continue_as_new names policy carried workflow input =
     (object (put_given (continued_asked policy) (put_given (carried_asked carried)
     (continued_members names policy workflow input))))
 
--- a cancel of the activity of an id, by the number of the event that scheduled it, if there is one
+-- cancels the activity of an id, by the number of the event that scheduled it, if there is one
 abbrev pub cancel_scheduled : List ℕ → Option ℕ → Result Data RequestFault
 cancel_scheduled id None = Err (NotScheduled id)
 cancel_scheduled id (Some scheduled) = Ok (cancel_activity scheduled)
 
--- a timer that runs no longer than a duration may be
+-- starts a timer, if it is no longer than the longest duration
 abbrev pub start_timer_within : List ℕ → ℕ → Result Data RequestFault
 start_timer_within id seconds =
     if nat_lt longest_duration seconds then Err (TooLong id) else Ok (start_timer id seconds)
 
--- how a command is written after the events that were seen, by a run that hands this on, with the policy of its name;
--- or why it can't be
+-- how a command is written after these events of the history, with the policy of its name and what the run carries
+-- over; or why it can't be written
 abbrev pub written : WorkerNames → Policies → Carried → List Event → Command → Result Data RequestFault
 written names policies carried events (commands.StartActivity id activity input) =
     Ok (start_activity names (policy_of policies.activities activity) id activity input)
@@ -184,8 +185,9 @@ written names policies carried events commands.Cancel = Ok cancel
 written names policies carried events (commands.ContinueAsNew workflow input) =
     Ok (continue_as_new names (policy_of policies.continued workflow) carried workflow input)
 
--- these, and how the commands after them are written, one after another; or the first fault
-abbrev pub written_after : (Command → Result Data RequestFault) → List Data → List Command → Result (List Data) RequestFault
+-- the values so far, then those of the commands, in order; or the first fault
+abbrev pub written_after : (Command → Result Data RequestFault)
+    → List Data → List Command → Result (List Data) RequestFault
 written_after write before [] = Ok before
 written_after write before (command ∷ commands) =
     on_written (write command) (λ d. written_after write (before ++ d ∷ []) commands)

@@ -9,6 +9,6 @@ longest_duration = 315576000000
 abbrev pub duration_text : ℕ → List ℕ
 duration_text seconds = decimal seconds ++ codes "s"
 
--- after how long a timer of whole seconds fires; one of none fires after a millisecond
+-- the time after which a timer fires; one of 0 seconds fires after a millisecond
 abbrev pub delay_text : ℕ → List ℕ
 delay_text seconds = if seconds == 0 then codes "0.001s" else duration_text seconds

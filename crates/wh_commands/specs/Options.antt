@@ -1,7 +1,7 @@
--- What is there, or nothing.
+-- Optional values.
 use Rattle.std.specs.Prelude.{Option, Some, None}
 
--- go on with the value, if there is one
+-- continue with the value, if there is one
 infixl 10 ◌>>=◌
 abbrev pub ◌>>=◌ : {A B : Type 0} → Option A → (A → Option B) → Option B
 (Some x) >>= f = f x

@@ -13,7 +13,7 @@ use Rattle.wh_commands.specs.Objects.{object_of}
 abbrev pub base64_text : List ℕ → Data
 base64_text bytes = string (encode_of standard bytes)
 
--- the payload of a content in an encoding
+-- a payload with this encoding and content
 abbrev pub encoded : List ℕ → List ℕ → Data
 encoded encoding content = object_of (
     (codes "metadata", object_of ((codes "encoding", base64_text encoding) ∷ []))

@@ -1,4 +1,4 @@
--- How it is written what a server is asked for with a command.
+-- How the options of a command are written.
 use Rattle.std.specs.Prelude.{ℕ, Float, List, [], ◌∷◌, Bool, true, false, codes, map, Option, Some, None, option_map, unwrap_or}
 use Rattle.serde_json.specs.Data.{Data, array, boolean, no_members, null, number, object, string, unsigned}
 use Rattle.serde_json.specs.Find.{of_float}
@@ -16,7 +16,7 @@ use Rattle.wh_commands.specs.declared.names.WorkerNames.{WorkerNames}
 use Rattle.wh_commands.specs.Durations.{duration_text}
 use Rattle.wh_commands.specs.Objects.{put_all, put_given}
 
--- the Task Queue that is asked for, else the one that all workers poll
+-- the Task Queue that the policy sets, otherwise the one that all workers poll
 abbrev pub queue_asked : WorkerNames → Option (List ℕ) → List ℕ
 queue_asked names None = names.task_queue
 queue_asked names (Some queue) = queue
@@ -24,7 +24,7 @@ queue_asked names (Some queue) = queue
 abbrev pub seconds_written : ℕ → Data
 seconds_written seconds = string (duration_text seconds)
 
--- a number; null where it is not finite, which servers take for none
+-- a number; null if it is not finite, which servers read as a missing value
 abbrev pub float_written : Float → Data
 float_written x = unwrap_or (option_map number (of_float x)) null
 
@@ -33,7 +33,7 @@ abbrev pub texts_given : List (List ℕ) → Option Data
 texts_given [] = None
 texts_given (text ∷ texts) = Some (array (items_of (map string (text ∷ texts))))
 
--- what is asked for of retries beside their number
+-- the options of a retry policy except the number of attempts
 abbrev pub retry_asked : RetryPolicy → List (List ℕ × Option Data)
 retry_asked retry =
     (codes "initialInterval", option_map seconds_written retry.initial_interval)
@@ -41,12 +41,12 @@ retry_asked retry =
     ∷ (codes "backoffCoefficient", option_map float_written retry.backoff_coefficient)
     ∷ (codes "nonRetryableErrorTypes", texts_given retry.non_retryable) ∷ []
 
--- how something is tried again
+-- a retry policy
 abbrev pub retry_written : RetryPolicy → Data
 retry_written retry = object (put_given (retry_asked retry)
     (put_all ((codes "maximumAttempts", number (unsigned retry.maximum_attempts)) ∷ []) no_members))
 
--- the times of an activity beside that of one attempt
+-- the timeouts of an activity except the Start-To-Close Timeout
 abbrev pub activity_asked : ActivityPolicy → List (List ℕ × Option Data)
 activity_asked policy =
     (codes "scheduleToStartTimeout", option_map seconds_written policy.schedule_to_start)
@@ -63,7 +63,7 @@ id_reuse_name AllowDuplicate = codes "WORKFLOW_ID_REUSE_POLICY_ALLOW_DUPLICATE"
 id_reuse_name AllowDuplicateFailedOnly = codes "WORKFLOW_ID_REUSE_POLICY_ALLOW_DUPLICATE_FAILED_ONLY"
 id_reuse_name RejectDuplicate = codes "WORKFLOW_ID_REUSE_POLICY_REJECT_DUPLICATE"
 
--- what is asked for with a child workflow
+-- the options of a child workflow
 abbrev pub child_asked : ChildPolicy → List (List ℕ × Option Data)
 child_asked policy =
     (codes "workflowExecutionTimeout", option_map seconds_written policy.execution_timeout)
@@ -73,19 +73,19 @@ child_asked policy =
     ∷ (codes "workflowIdReusePolicy", option_map (λ p. string (id_reuse_name p)) policy.id_reuse)
     ∷ (codes "retryPolicy", option_map retry_written policy.retry) ∷ []
 
--- what is asked for with a run that continues another as new
+-- the options of a run that continues another as new
 abbrev pub continued_asked : ContinuePolicy → List (List ℕ × Option Data)
 continued_asked policy =
     (codes "workflowRunTimeout", option_map seconds_written policy.run_timeout)
     ∷ (codes "workflowTaskTimeout", option_map seconds_written policy.task_timeout)
     ∷ (codes "retryPolicy", option_map retry_written policy.retry) ∷ []
 
--- that nothing is tried again, where that is so
+-- the mark of a failure that is not retried, if it is not
 abbrev pub non_retryable : Bool → Option Data
 non_retryable true = None
 non_retryable false = Some (boolean true)
 
--- what is told of a failure beside its message
+-- the info of a failure
 abbrev pub failure_asked : FailurePolicy → List (List ℕ × Option Data)
 failure_asked policy =
     (codes "type", option_map string policy.failure_type) ∷ (codes "nonRetryable", non_retryable policy.retryable) ∷ []

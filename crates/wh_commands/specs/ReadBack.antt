@@ -1,4 +1,4 @@
--- What is read of a written command, and that no two are written alike.
+-- A written command is read back, and no two commands are written alike.
 use Rattle.std.specs.Prelude.{◌≡◌, ◌≢◌, ◌≤◌, ℕ, List, [], ◌∷◌, length, codes, nat_lt, Option, Some, None, option_map, Ok, bytes_eq, if◌then◌else◌, IsUtf8, ⊤}
 use Rattle.std.specs.Result.{result_ok}
 use Rattle.std.specs.Char.{digit_value}
@@ -26,12 +26,12 @@ use Rattle.wh_commands.specs.Options.{◌>>=◌}
 abbrev pub text_at : List ℕ → Data → Option (List ℕ)
 text_at name d = get name d >>= as_str
 
--- the text that a value is, empty where it is absent
+-- the value as a text, empty if it is missing
 abbrev pub text_or_empty : Option Data → Option (List ℕ)
 text_or_empty None = Some []
 text_or_empty (Some d) = as_str d
 
--- the number that a text of digits writes
+-- the number of a text of digits
 abbrev pub number_at : List ℕ → Data → Option ℕ
 number_at name d = option_map (digits_value 10) (text_at name d)
 
@@ -86,7 +86,7 @@ signal_external_in d = do
   signal ← text_at (codes "signalName") d
   option_map (commands.SignalExternal workflow_id signal) (payloads_of (codes "input") d)
 
--- as the reader of histories reads the marker that the command is recorded as
+-- the command as which the reader of histories reads a recorded marker
 abbrev pub marker_in : Data → Option Command
 marker_in d = do
   name ← text_at (codes "markerName") d
@@ -109,13 +109,15 @@ reader kind attributes read = record { kind = kind; attributes = attributes; rea
 -- the readers of all types; an activity is canceled by the number of the event that scheduled it
 abbrev pub readers : List Event → List Reader
 readers events =
-    reader (codes "COMMAND_TYPE_SCHEDULE_ACTIVITY_TASK") (codes "scheduleActivityTaskCommandAttributes") start_activity_in
+    reader (codes "COMMAND_TYPE_SCHEDULE_ACTIVITY_TASK")
+    (codes "scheduleActivityTaskCommandAttributes") start_activity_in
     ∷ reader (codes "COMMAND_TYPE_REQUEST_CANCEL_ACTIVITY_TASK") (codes "requestCancelActivityTaskCommandAttributes")
     (λ d. option_map (λ number. commands.CancelActivity (id_at events number)) (number_at (codes "scheduledEventId") d))
     ∷ reader (codes "COMMAND_TYPE_START_TIMER") (codes "startTimerCommandAttributes") start_timer_in
     ∷ reader (codes "COMMAND_TYPE_CANCEL_TIMER") (codes "cancelTimerCommandAttributes")
     (λ d. option_map commands.CancelTimer (text_at (codes "timerId") d))
-    ∷ reader (codes "COMMAND_TYPE_START_CHILD_WORKFLOW_EXECUTION") (codes "startChildWorkflowExecutionCommandAttributes")
+    ∷ reader (codes "COMMAND_TYPE_START_CHILD_WORKFLOW_EXECUTION")
+    (codes "startChildWorkflowExecutionCommandAttributes")
     start_child_in
     ∷ reader (codes "COMMAND_TYPE_REQUEST_CANCEL_EXTERNAL_WORKFLOW_EXECUTION")
     (codes "requestCancelExternalWorkflowExecutionCommandAttributes")
@@ -131,12 +133,12 @@ readers events =
     ∷ reader (codes "COMMAND_TYPE_CONTINUE_AS_NEW_WORKFLOW_EXECUTION")
     (codes "continueAsNewWorkflowExecutionCommandAttributes") continue_as_new_in ∷ []
 
--- the command of that type, by the first of the readers that is for it
+-- the command of a type, by the first reader for it
 abbrev pub read_by : List Reader → List ℕ → Data → Option Command
 read_by [] kind d = None
 read_by (r ∷ rs) kind d = if bytes_eq r.kind kind then get r.attributes d >>= r.read else read_by rs kind d
 
--- the command that a value is, after the events that were seen
+-- the command that a value is read as, after these events of the history
 abbrev pub command_in : List Event → Data → Option Command
 command_in events d = text_at (codes "commandType") d >>= (λ kind. read_by (readers events) kind d)
 
@@ -147,7 +149,7 @@ abbrev pub HaveBytes : List Payload → Type 0
 HaveBytes [] = ⊤
 HaveBytes (payload ∷ payloads) = IsBytes payload.encoding × IsBytes payload.content × HaveBytes payloads
 
--- a command that a program can hold; a marker names its change by a text that is not empty, and its version is one
+-- a command that a program can hold; a marker's change has a name, in UTF-8, and its version is a valid one
 abbrev pub IsSent : Command → Type 0
 IsSent (commands.StartActivity id activity input) = HaveBytes input
 IsSent (commands.StartChild workflow_id workflow input) = HaveBytes input
@@ -164,18 +166,21 @@ IsHistory events = InPlace events × (length events ≤ most_events)
 
 -- a command that is written after the events of a history is read back
 abbrev pub ReadsBack : Type 0
-ReadsBack = (names : WorkerNames) (policies : Policies) (carried : Carried) (events : List Event) (command : Command) (d : Data)
+ReadsBack = (names : WorkerNames) (policies : Policies) (carried : Carried) (events : List Event)
+    (command : Command) (d : Data)
     → IsHistory events → IsSent command → written names policies carried events command ≡ Ok d
     → command_in events d ≡ Some command
 
 -- two commands are never written alike
 abbrev pub CommandsDiffer : Type 0
-CommandsDiffer = (names : WorkerNames) (policies : Policies) (carried : Carried) (events : List Event) (c e : Command) (d : Data)
+CommandsDiffer = (names : WorkerNames) (policies : Policies) (carried : Carried) (events : List Event)
+    (c e : Command) (d : Data)
     → IsHistory events → IsSent c → IsSent e
     → written names policies carried events c ≡ Ok d → written names policies carried events e ≡ Ok d → c ≡ e
 
--- whichever the policies, a command is written or not, and is read back alike: what replay compares is the command
+-- the policies change neither whether a command is written nor what it reads back as; replay compares only the command
 abbrev pub PoliciesAreUnseen : Type 0
 PoliciesAreUnseen = (names : WorkerNames) (policies others : Policies) (carried : Carried) (events : List Event)
-    (command : Command) (d : Data) → IsHistory events → IsSent command → written names policies carried events command ≡ Ok d
+    (command : Command) (d : Data) → IsHistory events → IsSent command
+    → written names policies carried events command ≡ Ok d
     → (e : Data) × (written names others carried events command ≡ Ok e) × (command_in events e ≡ command_in events d)

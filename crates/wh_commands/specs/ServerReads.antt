@@ -1,4 +1,4 @@
--- What a server reads of commands, by the names of their fields.
+-- What a server reads from commands, by the names of their fields.
 use Rattle.std.specs.Prelude.{◌≡◌, ◌⊎◌, ◌<◌, ◌≤◌, ◌^◌, ℕ, List, codes, Option, Some, None, Ok, option_map, slice_get, true, ⊤, if◌then◌else◌}
 use Rattle.serde_json.specs.Data.{Data}
 use Rattle.serde_json.specs.Find.{as_bool, as_number, as_u64, get}
@@ -33,25 +33,25 @@ queue_at field d = do
   name ← text_at (codes "name") queue
   Some (record { name = name; kind = text_at (codes "kind") queue; normal_name = text_at (codes "normalName") queue })
 
--- the whole seconds of the duration at a name
+-- the whole seconds of the duration under a name
 abbrev pub seconds_at : List ℕ → Data → Option ℕ
 seconds_at field d = option_map seconds_of (text_at field d)
 
--- the seconds, if there are any, fit a duration
+-- the seconds, if there are any, fit in 64 bits
 abbrev pub Fits : Option ℕ → Type 0
 Fits timeout = (seconds : ℕ) → timeout ≡ Some seconds → seconds < 2 ^ 64
 
 -- ---- Commands
 
--- the seconds at a name are these, as long as they fit a duration; none where there are none
+-- these are the seconds under a name, if they fit in 64 bits; none if there are none
 abbrev pub HasSeconds : List ℕ → Option ℕ → Data → Type 0
 HasSeconds field seconds d = Fits seconds → seconds_at field d ≡ seconds
 
--- the Task Queue that a policy asks for, else the one that all workers poll
+-- the Task Queue that a policy sets, otherwise the one that all workers poll
 abbrev pub asked_queue : WorkerNames → Option (List ℕ) → Queue
 asked_queue names asked = record { name = queue_asked names asked; kind = None; normal_name = None }
 
--- how something is tried again
+-- a retry policy
 pub record IsRetry (retry : RetryPolicy) (d : Data) : Type 0 where
   pub attempts : (get (codes "maximumAttempts") d >>= as_number >>= as_u64) ≡ Some retry.maximum_attempts
   pub initial : HasSeconds (codes "initialInterval") retry.initial_interval d
@@ -59,12 +59,12 @@ pub record IsRetry (retry : RetryPolicy) (d : Data) : Type 0 where
   pub coefficient : get (codes "backoffCoefficient") d ≡ option_map float_written retry.backoff_coefficient
   pub final_types : get (codes "nonRetryableErrorTypes") d ≡ texts_given retry.non_retryable
 
--- the policy of retries at its name, or what stands there without one
+-- the retry policy under its name, or this value if there is no policy
 abbrev pub HasRetry : Option RetryPolicy → Option Data → Data → Type 0
 HasRetry None otherwise d = get (codes "retryPolicy") d ≡ otherwise
 HasRetry (Some retry) otherwise d = (value : Data) × (get (codes "retryPolicy") d ≡ Some value) × IsRetry retry value
 
--- what a command says beside what its workflow gave
+-- the command says this beyond what its workflow set
 pub record IsActivity (names : WorkerNames) (policy : ActivityPolicy) (attributes : Data) : Type 0 where
   pub queue : queue_at (codes "taskQueue") attributes ≡ Some (asked_queue names policy.task_queue)
   pub to_start : HasSeconds (codes "scheduleToStartTimeout") policy.schedule_to_start attributes
@@ -83,7 +83,7 @@ pub record IsChild (names : WorkerNames) (policy : ChildPolicy) (attributes : Da
   pub id_reuse : text_at (codes "workflowIdReusePolicy") attributes ≡ option_map id_reuse_name policy.id_reuse
   pub retry : HasRetry policy.retry None attributes
 
--- the type of the failure, and whether nothing is tried again after it
+-- the type of the failure, and whether it is not retried
 pub record IsFailure (policy : FailurePolicy) (attributes : Data) : Type 0 where
   pub info : Data
   pub told : (get (codes "failure") attributes >>= get (codes "applicationFailureInfo")) ≡ Some info
@@ -94,7 +94,7 @@ pub record IsCancelOfChild (names : WorkerNames) (attributes : Data) : Type 0 wh
   pub namespace : text_at (codes "namespace") attributes ≡ Some names.namespace
   pub of_child : (get (codes "childWorkflowOnly") attributes >>= as_bool) ≡ Some true
 
--- a timer fires after some time: its duration begins with a digit above 0, or is a millisecond
+-- a timer's time is positive: it begins with a digit above 0, or is a millisecond
 abbrev pub IsPositive : List ℕ → Type 0
 IsPositive text = (first : ℕ) × (slice_get text 0 ≡ Some first) × (49 ≤ first) × (first ≤ 57)
 
@@ -102,8 +102,9 @@ abbrev pub IsTimer : Data → Type 0
 IsTimer attributes = (text : List ℕ) × (text_at (codes "startToFireTimeout") attributes ≡ Some text)
     × ((text ≡ codes "0.001s") ⊎ IsPositive text)
 
--- the new run has what is asked for with it, and what the one before hands on
-pub record IsContinued (names : WorkerNames) (policy : ContinuePolicy) (carried : Carried) (attributes : Data) : Type 0 where
+-- the new run has the options of its policy and what the one before carries over
+pub record IsContinued (names : WorkerNames) (policy : ContinuePolicy) (carried : Carried)
+    (attributes : Data) : Type 0 where
   pub queue : queue_at (codes "taskQueue") attributes ≡ Some (asked_queue names policy.task_queue)
   pub run : HasSeconds (codes "workflowRunTimeout") policy.run_timeout attributes
   pub task : HasSeconds (codes "workflowTaskTimeout") policy.task_timeout attributes
@@ -111,7 +112,7 @@ pub record IsContinued (names : WorkerNames) (policy : ContinuePolicy) (carried 
   pub search_attributes : get (codes "searchAttributes") attributes ≡ carried.search_attributes
   pub retry : HasRetry policy.retry carried.retry_policy attributes
 
--- the attributes of a command hold this
+-- the attributes of a command satisfy this
 abbrev pub HasAttributes : List ℕ → (Data → Type 0) → Data → Type 0
 HasAttributes field P command = (attributes : Data) × (get field command ≡ Some attributes) × P attributes
 
@@ -119,7 +120,8 @@ abbrev pub Says : WorkerNames → Policies → Carried → Command → Data → 
 Says names policies carried (commands.StartActivity id activity input) =
     HasAttributes (codes "scheduleActivityTaskCommandAttributes")
     (IsActivity names (policy_of policies.activities activity))
-Says names policies carried (commands.StartTimer id seconds) = HasAttributes (codes "startTimerCommandAttributes") IsTimer
+Says names policies carried (commands.StartTimer id seconds) =
+    HasAttributes (codes "startTimerCommandAttributes") IsTimer
 Says names policies carried (commands.StartChild workflow_id workflow input) =
     HasAttributes (codes "startChildWorkflowExecutionCommandAttributes")
     (IsChild names (policy_of policies.children workflow))
@@ -135,7 +137,7 @@ Says names policies carried (commands.ContinueAsNew workflow input) =
     (IsContinued names (policy_of policies.continued workflow) carried)
 Says names policies carried _ = λ d. ⊤
 
--- what a server reads of a command beside what its workflow gave
+-- what a server reads from a command beyond what its workflow set
 abbrev pub CommandsAreRead : Type 0
 CommandsAreRead = (names : WorkerNames) (policies : Policies) (carried : Carried) (events : List Event)
     (command : Command) (d : Data) → written names policies carried events command ≡ Ok d

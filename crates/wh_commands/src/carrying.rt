@@ -1,4 +1,4 @@
-//! What a run hands on to the one that continues it.
+//! What a run carries over to the one that continues it.
 
 ghost use Rattle.std.specs.Prelude.{◌≡◌, IfOk, Some, map, option_map, slice_get};
 ghost use Rattle.std.specs.List.{list_any};
@@ -12,9 +12,9 @@ use wh_events::OutOfMemory;
 use wh_json::field;
 use wh_workflow::Command;
 
-/// What a run hands on to the one that continues it (Temporal documentation, "Continue-As-New"), each
-/// as it stands in the event that started the run. These are JSON values that are passed on, and
-/// nobody looks into them here.
+/// What a run carries over to the run that continues it (Temporal documentation,
+/// "Continue-As-New"), each as in the event that started the run. These are JSON values that are
+/// passed on unread.
 #[derive(Debug, Drop)]
 pub struct CarriedOver {
     /// Its memo.
@@ -26,7 +26,7 @@ pub struct CarriedOver {
 }
 
 impl CarriedOver {
-    /// Nothing is handed on.
+    /// Returns the value that carries nothing over.
     pub fn nothing() -> CarriedOver
         ensures { carried_seen result ≡ nothing_carried }
     {
@@ -38,7 +38,7 @@ impl CarriedOver {
     }
 }
 
-/// A copy of the member of that name. A member that is null counts as absent.
+/// Copies the member of a name. A member that is null counts as missing.
 fn member_copy(value: &Value, name: &str) -> Result<Option<Value>, AllocError>
     ensures { IfOk result (λ copy. option_map view copy ≡ field name.now (Some (view value.now))) }
 {
@@ -48,7 +48,7 @@ fn member_copy(value: &Value, name: &str) -> Result<Option<Value>, AllocError>
     }
 }
 
-/// What a run with these attributes of its first event hands on.
+/// Returns what a run carries over, by the attributes of its first event.
 fn carried_by(attributes: &Value) -> Result<CarriedOver, AllocError>
     ensures { IfOk result (λ carried. carried_seen carried ≡ carried_by (view attributes.now)) }
 {
@@ -62,17 +62,17 @@ fn carried_by(attributes: &Value) -> Result<CarriedOver, AllocError>
     })
 }
 
-/// The first of the members.
+/// Returns the first of the members.
 fn first_of(members: &[Value]) -> Option<&Value>
     ensures { option_map (λ v. view v.now) result ≡ slice_get (map view members.now) 0 }
 {
     members.first()
 }
 
-/// Reads what a run hands on from the first of these members of its history. `None` where there is
-/// none, or it is not the event that starts a run: it has no `workflowExecutionStartedEventAttributes`.
-/// A value that is absent or null there is not handed on. `OutOfMemory` where there was no memory for
-/// the copies.
+/// Reads what a run carries over from the first event of its history. `None` if there is none, or
+/// it is not the event that starts a run: it has no `workflowExecutionStartedEventAttributes`. A
+/// value that is missing or null there is not carried over. `OutOfMemory` if there was no memory
+/// for the copies.
 pub fn carried_over(members: &[Value]) -> Result<Option<CarriedOver>, OutOfMemory>
     ensures { IfOk result (λ carried. option_map carried_seen carried ≡ carried_in (map view members.now)) }
 {
@@ -83,7 +83,7 @@ pub fn carried_over(members: &[Value]) -> Result<Option<CarriedOver>, OutOfMemor
     }
 }
 
-/// Whether the command continues the run as a new one.
+/// Returns whether the command continues the run as a new one.
 #[tactic(auto, unfolding(crate::specs::CarryingOver::continues))]
 fn is_continue_as_new(command: &Command) -> bool
     ensures { result ≡ continues command.now }
@@ -91,7 +91,7 @@ fn is_continue_as_new(command: &Command) -> bool
     matches!(command, Command::ContinueAsNew { .. })
 }
 
-/// Whether one of the commands continues the run as a new one, so that what the run hands on is
+/// Returns whether one of the commands continues the run as a new one, so that `CarriedOver` is
 /// needed.
 pub fn continues_as_new(commands: &[Command]) -> bool
     ensures { result ≡ list_any continues commands.now }

@@ -31,7 +31,7 @@ use wh_workflow::Command;
 /// The longest duration of protobuf, in seconds.
 const LONGEST_DURATION: u64 = 315_576_000_000;
 
-/// A command of a type, with its attributes under their name.
+/// Writes a command of a type, with its attributes under their name.
 fn command_form(
     alloc: Global,
     kind: &str,
@@ -46,7 +46,7 @@ fn command_form(
     Ok(Value::Object(command))
 }
 
-/// Starts an activity.
+/// Writes the command that starts an activity.
 fn start_activity(
     alloc: Global,
     names: &WorkerNames,
@@ -80,7 +80,7 @@ fn start_activity(
     )
 }
 
-/// Whether the event schedules an activity under the id.
+/// Returns whether the event schedules an activity under the id.
 fn schedules(event: &Event, id: &str) -> bool
     ensures { result ≡ opens Thing.Activity id.now event.now }
 {
@@ -93,7 +93,7 @@ fn schedules(event: &Event, id: &str) -> bool
     }
 }
 
-/// The number of the last event that scheduled an activity under the id.
+/// Returns the number of the last event that scheduled an activity under the id.
 fn last_scheduled(events: &[Event], id: &str) -> Option<EventNo>
     ensures { result ≡ last_named events.now Thing.Activity id.now }
 {
@@ -106,7 +106,7 @@ fn last_scheduled(events: &[Event], id: &str) -> Option<EventNo>
     found
 }
 
-/// Cancels an activity by the number of the event that scheduled it.
+/// Writes the command that cancels an activity, by the number of the event that scheduled it.
 fn cancel_scheduled(alloc: Global, scheduled: EventNo) -> Result<Value, RequestFault>
     ensures { Writes result (Ok (spec.cancel_activity scheduled)) }
 {
@@ -127,7 +127,8 @@ fn cancel_scheduled(alloc: Global, scheduled: EventNo) -> Result<Value, RequestF
     )
 }
 
-/// Cancels an activity.
+/// Writes the command that cancels the activity last scheduled under the id. `NotScheduled` if
+/// there is none.
 fn cancel_activity(alloc: Global, events: &[Event], id: &Text) -> Result<Value, RequestFault>
     ensures { Writes result (cancel_scheduled id.now (last_named events.now Thing.Activity id.now)) }
 {
@@ -139,11 +140,11 @@ fn cancel_activity(alloc: Global, events: &[Event], id: &Text) -> Result<Value, 
     cancel_scheduled(alloc, scheduled)
 }
 
-/// The duration of a timer of 0 seconds, a millisecond: servers refuse a timer without a duration,
+/// What is sent for a timer of 0 seconds, a millisecond: servers refuse a timer without a duration,
 /// and some take 0 for none.
 const LEAST_DELAY: &str = "0.001s";
 
-/// Puts the time after which a timer fires.
+/// Adds the time after which a timer fires.
 fn put_delay(members: &mut Members, alloc: Global, seconds: u64) -> Result<(), AllocError>
     ensures { OnOk result (members_view members.new.entries
         ≡ put (codes "startToFireTimeout") (string (delay_text seconds)) (members_view members.old.entries)) }
@@ -154,7 +155,7 @@ fn put_delay(members: &mut Members, alloc: Global, seconds: u64) -> Result<(), A
     put_duration(members, alloc, "startToFireTimeout", seconds)
 }
 
-/// Starts a timer.
+/// Writes the command that starts a timer. `TooLong` above `LONGEST_DURATION`.
 fn start_timer(alloc: Global, id: &Text, seconds: u64) -> Result<Value, RequestFault>
     ensures { Writes result (start_timer_within id.now seconds) }
 {
@@ -174,7 +175,7 @@ fn start_timer(alloc: Global, id: &Text, seconds: u64) -> Result<Value, RequestF
     )
 }
 
-/// Cancels a timer.
+/// Writes the command that cancels a timer.
 fn cancel_timer(alloc: Global, id: &Text) -> Result<Value, RequestFault>
     ensures { Writes result (Ok (spec.cancel_timer id.now)) }
 {
@@ -188,7 +189,7 @@ fn cancel_timer(alloc: Global, id: &Text) -> Result<Value, RequestFault>
     )
 }
 
-/// Starts a child workflow.
+/// Writes the command that starts a child workflow.
 fn start_child(
     alloc: Global,
     names: &WorkerNames,
@@ -216,7 +217,7 @@ fn start_child(
     )
 }
 
-/// Cancels a child workflow.
+/// Writes the command that cancels a child workflow.
 fn cancel_child(
     alloc: Global,
     names: &WorkerNames,
@@ -241,14 +242,14 @@ fn cancel_child(
     )
 }
 
-/// Another workflow, whichever its run is.
+/// Writes the execution of a workflow id, without a run id: the workflow's current run.
 fn execution(alloc: Global, workflow_id: &str) -> Result<Value, AllocError>
     ensures { IfOk result (λ execution. view execution ≡ spec.execution workflow_id.now) }
 {
     json!(in alloc; {"workflowId": workflow_id})
 }
 
-/// Signals another workflow.
+/// Writes the command that signals an external workflow.
 fn signal_external(
     alloc: Global,
     names: &WorkerNames,
@@ -276,7 +277,7 @@ fn signal_external(
     )
 }
 
-/// What a marker holds.
+/// Writes the details of a Version marker.
 fn details(alloc: Global, change_id: &str, version: i32) -> Result<Value, AllocError>
     ensures { IfOk result (λ details. view details ≡ spec.details change_id.now version) }
 {
@@ -298,7 +299,7 @@ fn details(alloc: Global, change_id: &str, version: i32) -> Result<Value, AllocE
     Ok(Value::Object(details))
 }
 
-/// Records the version of a change.
+/// Writes the command that records the version of a change.
 fn marker(alloc: Global, change_id: &Text, version: i32) -> Result<Value, RequestFault>
     ensures { Writes result (Ok (spec.marker change_id.now version)) }
 {
@@ -318,7 +319,7 @@ fn marker(alloc: Global, change_id: &Text, version: i32) -> Result<Value, Reques
     )
 }
 
-/// Closes the run with a result.
+/// Writes the command that completes the run.
 fn complete(alloc: Global, outcome: &Items<Payload>) -> Result<Value, RequestFault>
     ensures { Writes result (Ok (spec.complete outcome.now)) }
 {
@@ -332,7 +333,7 @@ fn complete(alloc: Global, outcome: &Items<Payload>) -> Result<Value, RequestFau
     )
 }
 
-/// Closes the run with a failure.
+/// Writes the command that fails the run.
 fn fail(alloc: Global, policy: &FailurePolicy, message: &Text) -> Result<Value, RequestFault>
     ensures { Writes result (Ok (spec.fail policy.now message.now)) }
 {
@@ -348,7 +349,7 @@ fn fail(alloc: Global, policy: &FailurePolicy, message: &Text) -> Result<Value, 
     )
 }
 
-/// Closes the run as canceled.
+/// Writes the command that closes the run as canceled.
 fn cancel(alloc: Global) -> Result<Value, RequestFault>
     ensures { Writes result (Ok spec.cancel) }
 {
@@ -360,7 +361,7 @@ fn cancel(alloc: Global) -> Result<Value, RequestFault>
     )
 }
 
-/// Puts what a run hands on to the one that continues it.
+/// Adds what a run carries over to the one that continues it.
 fn put_carried(
     members: &mut Members,
     alloc: Global,
@@ -379,7 +380,7 @@ fn put_carried(
     put_copy(members, alloc, "retryPolicy", &carried.retry_policy)
 }
 
-/// Closes the run and starts a new one.
+/// Writes the command that continues the run as a new one.
 fn continue_as_new(
     alloc: Global,
     names: &WorkerNames,
@@ -406,7 +407,7 @@ fn continue_as_new(
     )
 }
 
-/// An ask, which is never sent.
+/// Returns the fault of an `Ask`, which is never sent.
 fn never_sent(change_id: &Text) -> RequestFault
     ensures { result ≢ RequestFault.OutOfMemory → result ≡ RequestFault.NeverSent change_id.now }
 {
@@ -416,7 +417,7 @@ fn never_sent(change_id: &Text) -> RequestFault
     }
 }
 
-/// How a command is written after the events that were seen.
+/// Writes a command, after these events of the history.
 fn command_value(
     alloc: Global,
     names: &WorkerNames,
@@ -467,7 +468,8 @@ fn command_value(
     }
 }
 
-/// How commands are written, one after another.
+/// Writes commands, in order, with the options that the policies set, after these events of the
+/// history. After an error, which is that of the first command with a fault, nothing is written.
 pub fn commands_value(
     alloc: Global,
     names: &WorkerNames,

@@ -3,16 +3,17 @@
 use std::alloc::{AllocError, AllocFailed};
 use wh_events::{OutOfMemory, Text};
 
-/// Why a request could not be written: the fault of its first command that has one.
+/// Why a request could not be written: the fault of the first command that has one.
 #[derive(Debug, Drop)]
 pub enum RequestFault {
-    /// The timer of this id runs longer than a duration of protobuf, 315,576,000,000 seconds.
+    /// The timer of this id is longer than the longest duration of protobuf, 315,576,000,000
+    /// seconds.
     TooLong { timer_id: Text },
-    /// The activity of this id is to be canceled, and none of the events has scheduled it.
+    /// The activity of this id is to be canceled, and no event has scheduled it.
     NotScheduled { activity_id: Text },
-    /// The version of the change of this name is asked for. Asks are never sent.
+    /// The command asks for the version of this change. Such commands are never sent.
     NeverSent { change_id: Text },
-    /// There was no memory. This can come in place of every request and every fault.
+    /// There was no memory. This can replace every request and every other fault.
     OutOfMemory,
 }
 

@@ -1,8 +1,8 @@
-//! The commands of workflows as a server takes them, as the proto3 JSON forms of their messages
-//! (<https://protobuf.dev/programming-guides/json/>): fields in camelCase, numbers of 64 bits as texts,
-//! bytes in base64 and enums by name. What a server is asked for with a command is what the policies
-//! say (`wh_policies`). Beside them stand the parts that other requests are made of: the names of a
-//! worker, payloads, failures and durations.
+//! Writes the commands of workflows for a server, as the proto3 JSON forms of their messages
+//! (<https://protobuf.dev/programming-guides/json/>): fields in camelCase, 64-bit numbers as
+//! strings, bytes in base64 and enums by name. The options of a command are those that its policy
+//! sets (`wh_policies`). The crate also has the parts of other requests: the names of a worker,
+//! payloads, failures and durations.
 #![tactic(auto)]
 
 mod carrying;

@@ -1,4 +1,4 @@
-//! What a worker calls itself.
+//! The names of a worker.
 
 ghost use Rattle.std.specs.Prelude.{◌≡◌, IfOk, string_bytes};
 ghost use Rattle.wh_commands.specs.Names.{sticky_queue_of};
@@ -10,19 +10,19 @@ use wh_events::{OutOfMemory, Text};
 /// Execution").
 #[derive(Debug, Drop)]
 pub struct WorkerNames {
-    /// The namespace that it works in.
+    /// Its namespace.
     pub namespace: Text,
     /// The Task Queue that all workers of the application poll.
     pub task_queue: Text,
-    /// The name by which the server knows it. No two processes may have the same.
+    /// Its identity, as the server shows it. No two processes may have the same.
     pub identity: Text,
     /// Its sticky queue, which no other process polls.
     pub sticky_queue: Text,
 }
 
 impl WorkerNames {
-    /// The names of a worker. Its sticky queue is named by the identity and the Task Queue, with a
-    /// colon between them. `OutOfMemory` where there was no memory for that name.
+    /// Returns the names of a worker. The sticky queue's name is the identity and the Task Queue
+    /// with a colon between them. `OutOfMemory` if there was no memory for it.
     pub fn new(
         alloc: Global,
         namespace: String,
@@ -44,7 +44,7 @@ impl WorkerNames {
         })
     }
 
-    /// Equal names. `OutOfMemory` where there was no memory for the copies.
+    /// Copies the names. `OutOfMemory` if there was no memory for the copies.
     pub fn try_copy(&self) -> Result<WorkerNames, OutOfMemory>
         ensures { IfOk result (λ copy. copy ≡ self.now) }
     {

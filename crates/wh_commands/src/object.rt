@@ -1,4 +1,4 @@
-//! Builds objects, member by member.
+//! Builds JSON objects, member by member.
 
 ghost use Rattle.std.specs.Prelude.{◌≡◌, IfOk, OnOk, codes, option_map};
 ghost use Rattle.serde_json.specs.Data.{string, put};
@@ -13,10 +13,10 @@ use serde_json::{Map, Value, json, put};
 use std::alloc::{AllocError, Global};
 use wh_events::Payload;
 
-/// The members of an object.
+/// The members of a JSON object.
 pub type Members = Map<String, Value>;
 
-/// Puts a text at a name.
+/// Adds a text under a name.
 pub fn put_text(
     members: &mut Members,
     alloc: Global,
@@ -30,7 +30,7 @@ pub fn put_text(
     put(members, alloc, name, text)
 }
 
-/// Puts a copy of a value at a name, if there is one.
+/// Adds a copy of a value under a name, if there is a value.
 pub(crate) fn put_copy(
     members: &mut Members,
     alloc: Global,
@@ -46,7 +46,7 @@ pub(crate) fn put_copy(
     put(members, alloc, name, value.clone()?)
 }
 
-/// Puts a type or a queue at a name, by its own name.
+/// Adds a type or a queue under a name, as an object with the type's or queue's own name.
 pub(crate) fn put_named(
     members: &mut Members,
     alloc: Global,
@@ -60,7 +60,7 @@ pub(crate) fn put_named(
     put(members, alloc, name, own)
 }
 
-/// Puts a duration of whole seconds at a name.
+/// Adds a duration of whole seconds under a name.
 pub fn put_duration(
     members: &mut Members,
     alloc: Global,
@@ -74,7 +74,7 @@ pub fn put_duration(
     put(members, alloc, name, Value::String(text))
 }
 
-/// Puts payloads at a name.
+/// Adds payloads under a name.
 pub fn put_payloads(
     members: &mut Members,
     alloc: Global,
@@ -88,21 +88,21 @@ pub fn put_payloads(
     put(members, alloc, name, payloads)
 }
 
-/// Why something failed, with what is told of it beside that.
+/// Writes a failure with its `applicationFailureInfo`.
 pub(crate) fn failure_with(alloc: Global, info: Value, message: &str) -> Result<Value, AllocError>
     ensures { IfOk result (λ value. view value ≡ failure_with (view info) message.now) }
 {
     json!(in alloc; {"message": message, "source": "wfhost", "applicationFailureInfo": info})
 }
 
-/// Why something failed.
+/// Writes a failure.
 fn failure(alloc: Global, message: &str) -> Result<Value, AllocError>
     ensures { IfOk result (λ value. view value ≡ failure message.now) }
 {
     json!(in alloc; {"message": message, "source": "wfhost", "applicationFailureInfo": {}})
 }
 
-/// Puts a failure at the name of failures.
+/// Adds a failure under the name `failure`.
 pub fn put_failure(members: &mut Members, alloc: Global, message: &str) -> Result<(), AllocError>
     ensures { OnOk result (members_view members.new.entries
         ≡ put (codes "failure") (failure message.now) (members_view members.old.entries)) }

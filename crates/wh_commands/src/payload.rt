@@ -1,4 +1,4 @@
-//! Writes payloads, and values in them.
+//! Writes payloads.
 
 ghost use Rattle.std.specs.Prelude.{◌≡◌, IfOk, codes, false, string_bytes};
 ghost use Rattle.serde_json.specs.View.{view};
@@ -10,7 +10,7 @@ use serde_json::{Value, json};
 use std::alloc::{AllocError, Global};
 use wh_events::Payload;
 
-/// The payload of a content in an encoding.
+/// Writes a payload with this encoding and content.
 fn encoded(alloc: Global, encoding: &[u8], content: &[u8]) -> Result<Value, AllocError>
     ensures { IfOk result (λ value. view value ≡ encoded encoding.now content.now) }
 {
@@ -19,7 +19,7 @@ fn encoded(alloc: Global, encoding: &[u8], content: &[u8]) -> Result<Value, Allo
     json!(in alloc; {"metadata": {"encoding": encoding}, "data": content})
 }
 
-/// How a list of payloads is written.
+/// Writes a list of payloads.
 pub(crate) fn payloads_value(alloc: Global, payloads: &[Payload]) -> Result<Value, AllocError>
     ensures { IfOk result (λ value. view value ≡ payloads_written payloads.now) }
 {
@@ -30,7 +30,7 @@ pub(crate) fn payloads_value(alloc: Global, payloads: &[Payload]) -> Result<Valu
     json!(in alloc; {"payloads": written})
 }
 
-/// The text of a JSON value.
+/// Returns the compact text of a JSON value.
 fn compact(alloc: Global, value: &Value) -> Result<String, AllocError>
     requires { has_float (view value.now) ≡ false }
     ensures { IfOk result (λ text. string_bytes text ≡ compact_text (view value.now)) }
@@ -38,14 +38,14 @@ fn compact(alloc: Global, value: &Value) -> Result<String, AllocError>
     value.to_string(alloc)
 }
 
-/// The payload of a JSON text.
+/// Writes a JSON text as a payload.
 fn encoded_json(alloc: Global, text: &str) -> Result<Value, AllocError>
     ensures { IfOk result (λ payload. view payload ≡ encoded (codes "json/plain") text.now) }
 {
     encoded(alloc, "json/plain".as_bytes(), text.as_bytes())
 }
 
-/// A JSON value as a payload.
+/// Writes a JSON value as a payload.
 fn json_payload(alloc: Global, value: &Value) -> Result<Value, AllocError>
     requires { has_float (view value.now) ≡ false }
     ensures { IfOk result (λ payload. view payload ≡ json_payload (view value.now)) }
@@ -54,7 +54,8 @@ fn json_payload(alloc: Global, value: &Value) -> Result<Value, AllocError>
     encoded_json(alloc, text.as_str())
 }
 
-/// A JSON value without a number that has a point or an exponent, as the only payload of a list.
+/// Writes a JSON value as the only payload of a list. The value has no number with a point or an
+/// exponent.
 pub fn json_payloads(alloc: Global, value: &Value) -> Result<Value, AllocError>
     requires { has_float (view value.now) ≡ false }
     ensures { IfOk result (λ written. view written ≡ json_payloads (view value.now)) }

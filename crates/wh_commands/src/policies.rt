@@ -1,4 +1,4 @@
-//! Writes what a server is asked for with a command.
+//! Writes the options of a command.
 
 ghost use Rattle.std.specs.Prelude.{◌≡◌, IfOk, OnOk, codes, map, option_map};
 ghost use Rattle.serde_json.specs.Data.{string};
@@ -19,7 +19,7 @@ use wh_policies::{
     RetryPolicy,
 };
 
-/// The Task Queue that is asked for, else the one that all workers poll.
+/// Returns the Task Queue that the policy sets, otherwise the one that all workers poll.
 pub(crate) fn queue_asked<'a>(names: &'a WorkerNames, asked: &'a Option<Text>) -> &'a str
     ensures { result.now ≡ queue_asked names.now asked.now }
 {
@@ -29,7 +29,7 @@ pub(crate) fn queue_asked<'a>(names: &'a WorkerNames, asked: &'a Option<Text>) -
     }
 }
 
-/// Puts a duration of whole seconds at a name, if there is one.
+/// Adds a duration of whole seconds under a name, if there is one.
 fn put_seconds(
     members: &mut Members,
     alloc: Global,
@@ -45,7 +45,7 @@ fn put_seconds(
     }
 }
 
-/// Puts by how much intervals grow, if that is given.
+/// Adds the factor by which intervals grow, if it is set.
 fn put_coefficient(
     members: &mut Members,
     alloc: Global,
@@ -66,7 +66,7 @@ fn put_coefficient(
     }
 }
 
-/// Texts as JSON values.
+/// Copies texts as JSON values.
 fn texts_written(alloc: Global, texts: &[Text]) -> Result<Vec<Value>, AllocError>
     ensures { IfOk result (λ values. map view values.items ≡ map string texts.now) }
 {
@@ -77,7 +77,7 @@ fn texts_written(alloc: Global, texts: &[Text]) -> Result<Vec<Value>, AllocError
     Ok(values)
 }
 
-/// The list of texts, if there are any.
+/// Copies texts as a JSON list, or returns `None` if there are none.
 fn texts_given(alloc: Global, texts: &[Text]) -> Result<Option<Value>, AllocError>
     ensures { IfOk result (λ list. option_map view list ≡ texts_given texts.now) }
 {
@@ -88,7 +88,7 @@ fn texts_given(alloc: Global, texts: &[Text]) -> Result<Option<Value>, AllocErro
     Ok(Some(Value::Array(texts)))
 }
 
-/// How something is tried again.
+/// Writes a retry policy.
 pub(crate) fn retry_written(alloc: Global, retry: &RetryPolicy) -> Result<Value, AllocError>
     ensures { IfOk result (λ value. view value ≡ retry_written retry.now) }
 {
@@ -113,7 +113,7 @@ pub(crate) fn retry_written(alloc: Global, retry: &RetryPolicy) -> Result<Value,
     Ok(Value::Object(members))
 }
 
-/// Puts how something is tried again, if that is given.
+/// Adds the retry policy, if it is set.
 fn put_retry(
     members: &mut Members,
     alloc: Global,
@@ -128,7 +128,7 @@ fn put_retry(
     }
 }
 
-/// Puts the times that are asked for with an activity, but for that of one attempt.
+/// Adds the timeouts of an activity, except the Start-To-Close Timeout.
 pub(crate) fn put_activity(
     members: &mut Members,
     alloc: Global,
@@ -152,7 +152,7 @@ pub(crate) fn put_activity(
     put_seconds(members, alloc, "heartbeatTimeout", policy.heartbeat)
 }
 
-/// The name of what becomes of a child whose parent closes.
+/// Returns the name of a Parent Close Policy.
 fn parent_close_name(policy: ParentClosePolicy) -> &'static str
     ensures { result.now ≡ spec.parent_close_name policy }
 {
@@ -163,7 +163,7 @@ fn parent_close_name(policy: ParentClosePolicy) -> &'static str
     }
 }
 
-/// Puts what becomes of a child whose parent closes, if that is given.
+/// Adds the Parent Close Policy, if it is set.
 fn put_parent_close(
     members: &mut Members,
     alloc: Global,
@@ -184,7 +184,7 @@ fn put_parent_close(
     }
 }
 
-/// The name of whether a child may have the id of a run that is closed.
+/// Returns the name of a Workflow Id Reuse Policy.
 fn id_reuse_name(policy: IdReusePolicy) -> &'static str
     ensures { result.now ≡ spec.id_reuse_name policy }
 {
@@ -196,7 +196,7 @@ fn id_reuse_name(policy: IdReusePolicy) -> &'static str
     }
 }
 
-/// Puts whether a child may have the id of a run that is closed, if that is given.
+/// Adds the Workflow Id Reuse Policy, if it is set.
 fn put_id_reuse(
     members: &mut Members,
     alloc: Global,
@@ -217,7 +217,7 @@ fn put_id_reuse(
     }
 }
 
-/// Puts what is asked for with a child workflow.
+/// Adds the options of a child workflow.
 pub(crate) fn put_child(
     members: &mut Members,
     alloc: Global,
@@ -239,7 +239,7 @@ pub(crate) fn put_child(
     put_retry(members, alloc, &policy.retry)
 }
 
-/// Puts what is asked for with a run that continues another as new.
+/// Adds the options of a run that continues another as new.
 pub(crate) fn put_continued(
     members: &mut Members,
     alloc: Global,
@@ -253,7 +253,7 @@ pub(crate) fn put_continued(
     put_retry(members, alloc, &policy.retry)
 }
 
-/// Puts the type of a failure, if it has one.
+/// Adds the type of a failure, if it has one.
 fn put_type(
     members: &mut Members,
     alloc: Global,
@@ -268,7 +268,7 @@ fn put_type(
     }
 }
 
-/// That nothing is tried again, where that is so.
+/// Returns the mark of a failure that is not retried, or `None` if it may be.
 fn non_retryable(retryable: bool) -> Option<Value>
     ensures { option_map view result ≡ spec.non_retryable retryable }
 {
@@ -279,7 +279,7 @@ fn non_retryable(retryable: bool) -> Option<Value>
     }
 }
 
-/// What is told of a failure beside its message.
+/// Writes the `applicationFailureInfo` of a failure.
 pub(crate) fn failure_info(alloc: Global, policy: &FailurePolicy) -> Result<Value, AllocError>
     ensures { IfOk result (λ value. view value ≡ failure_info policy.now) }
 {

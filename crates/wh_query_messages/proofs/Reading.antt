@@ -1,4 +1,4 @@
--- What is read of queries and of their answers.
+-- How queries and their answers are read.
 use Rattle.std.proofs.Common.{◌≡◌, ◌≢◌, ℕ, ◌<◌, ◌^◌, List, [], ◌∷◌, codes, Some, None, refl, sym, ap, ◌∙◌, lt-ltb}
 use Rattle.std.specs.Result.{result_ok}
 use Rattle.serde_json.specs.Data.{Data, number, unsigned}
@@ -78,7 +78,7 @@ pub query_made : (token : List ℕ) (d : Data) (run : RunKey) (what : Query) (pr
 unfolding query_in
 query_made token d run what previous page is_run is_what is_previous is_page = rw (is_run, is_what, is_previous, is_page) refl
 
--- none is read where the number of the last task is none
+-- no query is read if the number of the last task is malformed
 pub query_not_numbered : (token : List ℕ) (d : Data) (run : RunKey) (what : Query)
     → run_in (field (codes "workflowExecution") (Some d)) ≡ Some run
     → asked (field (codes "query") (Some d)) ≡ Some what

@@ -1,4 +1,4 @@
--- The answer to a query, and what a server reads of it.
+-- The answer to a query, and what a server reads from it.
 use Rattle.std.specs.Prelude.{◌≡◌, ℕ, List, [], ◌∷◌, codes, Some, ⊤}
 use Rattle.serde_json.specs.Data.{Data, string}
 use Rattle.wh_events.specs.declared.event.Payload.{Payload}
@@ -42,12 +42,14 @@ abbrev pub IsAnswer : WorkerNames → List ℕ → QueryResult → Data → Type
 IsAnswer names token (Answered payloads) d = IsQueryAnswered names token payloads d
 IsAnswer names token (Failed reason) d = IsQueryFailed names token reason d
 
--- what a server reads of an answer is the answer
+-- a server reads an answer as it was written
 abbrev pub AnswersAreRead : Type 0
 AnswersAreRead = (names : WorkerNames) (token : List ℕ) (given : QueryResult) → HasBytes given
     → IsAnswer names token given (query_completed names token given)
 
--- two answers that are written alike are one answer to one query
+-- two answers that are written alike are the same answer to the same query
 abbrev pub AnswersDiffer : Type 0
-AnswersDiffer = (names : WorkerNames) (token other_token : List ℕ) (given other : QueryResult) → HasBytes given → HasBytes other
-    → query_completed names token given ≡ query_completed names other_token other → (token ≡ other_token) × (given ≡ other)
+AnswersDiffer = (names : WorkerNames) (token other_token : List ℕ) (given other : QueryResult)
+    → HasBytes given → HasBytes other
+    → query_completed names token given ≡ query_completed names other_token other
+    → (token ≡ other_token) × (given ≡ other)

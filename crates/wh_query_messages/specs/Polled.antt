@@ -1,4 +1,4 @@
--- What is read of a query that came by itself.
+-- How a query that came alone is read.
 use Rattle.std.specs.Prelude.{◌≡◌, ◌≢◌, ◌<◌, ◌^◌, ℕ, List, [], ◌∷◌, codes, map, Option, Some, None}
 use Rattle.std.specs.Result.{result_ok}
 use Rattle.serde_json.specs.Data.{Data, number, string, unsigned}
@@ -15,7 +15,7 @@ use Rattle.wh_responses.specs.Responses.{needed, page_in, run_in, query, workflo
 use Rattle.wh_responses.specs.Served.{IsNamed, history_of, run_result}
 use Rattle.wh_query_messages.specs.declared.polled.PolledQuery.{PolledQuery}
 
--- a query, its members as what they are
+-- a query, with its events as data
 pub record Asked : Type 0 where
   pub token : List ℕ
   pub run : RunKey
@@ -34,12 +34,12 @@ query_seen polled = record {
   next_page = polled.next_page;
 }
 
--- the number that a value is, 0 where it is absent
+-- the value as a number, 0 if it is missing
 abbrev pub number_or_zero : Option Data → Option ℕ
 number_or_zero None = Some 0
 number_or_zero (Some d) = number_of d
 
--- what is asked: a type that is not empty, and arguments
+-- the query: a type that is not empty, and arguments
 unfoldable pub asked : Option Data → Option Query
 asked value = do
   query_type ← needed (field (codes "queryType") value)
@@ -76,7 +76,7 @@ query_result polled = object_of (
           ∷ (codes "queryArgs", payloads_written polled.query.input) ∷ []),
     ) ∷ [])
 
--- a query is one for the poll, and is read as it is
+-- a query is recognized as one and is read as it was written
 abbrev pub QueryIsRead : Type 0
 QueryIsRead = (polled : Asked) → polled.token ≢ [] → IsNamed polled.run → polled.query.query_type ≢ []
     → HaveBytes polled.query.input → polled.previous < 2 ^ 63

@@ -11,7 +11,7 @@ use wh_events::{OutOfMemory, Payload};
 use wh_queryable::QueryResult;
 use wh_requests::query_failed;
 
-/// The answer to a query that has a result.
+/// Writes the answer to a query that has a result.
 fn query_answered(
     alloc: Global,
     names: &WorkerNames,
@@ -33,8 +33,8 @@ fn query_answered(
     Ok(Value::Object(params))
 }
 
-/// The request of `RespondQueryTaskCompleted`, with the result of the query of a token: payloads, or
-/// why there are none. `OutOfMemory` where there was no memory for it.
+/// Writes the request of `RespondQueryTaskCompleted` with the result of the query of a token:
+/// payloads, or why there are none. `OutOfMemory` if there was no memory for it.
 pub fn query_completed(
     alloc: Global,
     names: &WorkerNames,

@@ -1,5 +1,5 @@
-//! Queries that a poll brings, and the request that answers one, as their proto3 JSON forms
-//! (<https://protobuf.dev/programming-guides/json/>).
+//! Reads the queries that polls return, and writes the requests that answer them, in their proto3
+//! JSON forms (<https://protobuf.dev/programming-guides/json/>).
 #![tactic(auto)]
 
 mod answer;

@@ -1,4 +1,4 @@
-//! Reads a query that a poll brings.
+//! Reads a query that a poll returns.
 
 ghost use Rattle.std.specs.Prelude.{◌≡◌, IfOk, option_map};
 ghost use Rattle.serde_json.specs.View.{view};
@@ -12,26 +12,26 @@ use wh_json::{ReadFault, field, number_of, payloads_at};
 use wh_queryable::Query;
 use wh_responses::{history_page, needed, run_in};
 
-/// A query that came by itself, as a poll gives it (Temporal's `PollWorkflowTaskQueueResponse` with a
+/// A query that came alone, as a poll returns it (Temporal's `PollWorkflowTaskQueueResponse` with a
 /// `query`).
 #[derive(Debug, Drop)]
 pub struct PolledQuery {
-    /// The token under which it is answered.
+    /// The Task Token with which it is answered.
     pub token: Text,
     /// The run that is queried.
     pub run: RunKey,
-    /// What is asked.
+    /// Its type and arguments.
     pub query: Query,
-    /// The number of the event that started the last completed task of the run; 0 where there is none.
+    /// The number of the event that started the last completed task of the run, 0 if there is none.
     pub previous: u64,
-    /// The events that it comes with, as the members of a history's list: those from the first, or
-    /// none where the run should be cached.
+    /// The events that it comes with, as JSON values: from the first one, or none if the run should
+    /// be cached.
     pub members: Vec<Value>,
-    /// The token of the page on which they go on, empty where they are all.
+    /// The token of the page with the events that follow, empty if there are none.
     pub next_page: Text,
 }
 
-/// What a query asks: its type, which is not empty, and its arguments.
+/// Reads the type of a query, which is not empty, and its arguments.
 #[tactic(auto, unfolding(crate::specs::Polled::asked))]
 fn asked(alloc: Global, value: Option<&Value>) -> Result<Option<Query>, OutOfMemory>
     ensures { IfOk result (λ query. query ≡ spec.asked (option_map (λ v. view v.now) value.entry)) }
@@ -49,7 +49,7 @@ fn asked(alloc: Global, value: Option<&Value>) -> Result<Option<Query>, OutOfMem
     }
 }
 
-/// The number that a value is, 0 where it is absent.
+/// Returns a value as a number, 0 if it is missing.
 fn number_or_zero(value: Option<&Value>) -> Option<u64>
     ensures { result ≡ spec.number_or_zero (option_map (λ v. view v.now) value.entry) }
 {
@@ -59,10 +59,9 @@ fn number_or_zero(value: Option<&Value>) -> Option<u64>
     }
 }
 
-/// Reads the query of a token from the result of the poll that brought it. The members of its history
-/// are those of the result, not copies. `None` where the ids of the run or the type of the query are
-/// missing, or a field has another form. `OutOfMemory` where there was no memory for its texts and
-/// payloads.
+/// Reads the query of a token from the response to a poll. The events are those of the response,
+/// not copies. `None` if an id of the run or the type of the query is missing, or a field is
+/// malformed. `OutOfMemory` if there was no memory for its texts and payloads.
 #[tactic(auto, unfolding(crate::specs::Polled::query_in))]
 pub fn polled_query(
     alloc: Global,

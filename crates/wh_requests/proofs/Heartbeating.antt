@@ -1,4 +1,4 @@
--- What is read of a heartbeat, and of an activity that was canceled.
+-- What is read from a heartbeat, and from the answer for a canceled activity.
 use Rattle.std.proofs.Common.{◌≡◌, codes, Option, Some, None, refl, sym, ap, ◌∙◌}
 use Rattle.std.specs.Result.{result_ok}
 use Rattle.serde_json.specs.Find.{get}

@@ -1,4 +1,4 @@
--- What is read of a request by the names of its fields is what was written.
+-- Reading a request by the names of its fields yields what was written.
 use Rattle.std.proofs.Common.{◌≡◌, ℕ, List, [], ◌∷◌, map, codes, Bool, true, false, Option, Some, None, Result, Ok, Err, refl, sym, ap, subst, ◌∙◌}
 use Rattle.serde_json.specs.Data.{Data, Members, no_members, put}
 use Rattle.serde_json.specs.Find.{get_member}
@@ -62,7 +62,7 @@ each P Q step (query ∷ queries) are = (step query are.0, each P Q step queries
 abbrev with_refused : List (List ℕ) → Members → Members
 with_refused queries members = put_all (map (λ query. (query, query_refused)) queries) members
 
--- a query that is refused is so still when another one is
+-- a query that is refused is still refused when another one is
 kept : (query other : List ℕ) (members : Members) → get_member query members ≡ Some query_refused
     → get_member query (put other query_refused members) ≡ Some query_refused
 kept query other members is = by (bytes_eq query other) refl

@@ -1,4 +1,4 @@
--- No two answers are written alike.
+-- No two different answers are written alike.
 use Rattle.std.specs.Prelude.{◌≡◌, ◌≢◌, ℕ, List, [], ◌∷◌, Option, Ok, ⊤}
 use Rattle.serde_json.specs.Data.{Data}
 use Rattle.wh_events.specs.declared.event.Event.{Event}
@@ -16,30 +16,31 @@ abbrev pub AreSent : List Command → Type 0
 AreSent [] = ⊤
 AreSent (command ∷ commands) = IsSent command × AreSent commands
 
--- two completions of workflow tasks are never written alike
+-- two completions that are written alike have one token and the same commands
 abbrev pub CompletionsDiffer : Type 0
 CompletionsDiffer = (names : WorkerNames) (policies : Policies) (carried : Carried) (events : List Event)
-    (token other_token : List ℕ) (cs es : List Command) (queries other_queries : List (List ℕ)) (sticky other_sticky : Option ℕ)
+    (token other_token : List ℕ) (cs es : List Command)
+    (queries other_queries : List (List ℕ)) (sticky other_sticky : Option ℕ)
     (d : Data) → IsHistory events → AreSent cs → AreSent es
     → workflow_completed names token cs events queries sticky policies carried ≡ Ok d
     → workflow_completed names other_token es events other_queries other_sticky policies carried ≡ Ok d
     → (token ≡ other_token) × (cs ≡ es)
 
--- two failures of workflow tasks are never written alike
+-- two failures of workflow tasks that are written alike are the same
 abbrev pub FailuresDiffer : Type 0
 FailuresDiffer = (names : WorkerNames) (token other_token : List ℕ) (cause other_cause : FailedCause)
     (message other_message : List ℕ)
     → workflow_failed names token cause message ≡ workflow_failed names other_token other_cause other_message
     → (token ≡ other_token) × (cause ≡ other_cause) × (message ≡ other_message)
 
--- two results of activities are never written alike
+-- two results of activities that are written alike are the same
 abbrev pub ResultsDiffer : Type 0
 ResultsDiffer = (names : WorkerNames) (token other_token : List ℕ) (outcome other_outcome : List Payload)
     → HaveBytes outcome → HaveBytes other_outcome
     → activity_completed names token outcome ≡ activity_completed names other_token other_outcome
     → (token ≡ other_token) × (outcome ≡ other_outcome)
 
--- two failures of activities are never written alike
+-- two failures of activities that are written alike are the same
 abbrev pub ActivityFailuresDiffer : Type 0
 ActivityFailuresDiffer = (names : WorkerNames) (token other_token message other_message : List ℕ)
     → activity_failed names token message ≡ activity_failed names other_token other_message

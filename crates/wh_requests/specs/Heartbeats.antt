@@ -1,4 +1,4 @@
--- What is told of an activity that runs, and that it was canceled.
+-- Heartbeats of activities, and answers for canceled activities.
 use Rattle.std.specs.Prelude.{◌≡◌, ◌≢◌, ℕ, List, [], ◌∷◌, codes, Some}
 use Rattle.serde_json.specs.Data.{Data, string, object}
 use Rattle.wh_events.specs.declared.event.Payload.{Payload}
@@ -9,7 +9,7 @@ use Rattle.wh_commands.specs.ReadBack.{HaveBytes, payloads_of}
 use Rattle.wh_requests.specs.Requests.{activity_completed, activity_failed, answer_of}
 use Rattle.wh_requests.specs.ServerReads.{IsAnswer}
 
--- the activity of a task goes on, with details for a later attempt
+-- the activity of a task is still running, with details for a later attempt
 abbrev pub activity_heartbeat : WorkerNames → List ℕ → List Payload → Data
 activity_heartbeat names token details = object (put_all (
     (codes "details", payloads_written details) ∷ []) (answer_of names token))
@@ -21,7 +21,7 @@ activity_canceled names token reason = object (put_all (
 
 -- ---- Laws
 
--- a heartbeat names the worker and the task, and has the details; an activity that was canceled names both
+-- a heartbeat names the worker and the task, and has the details; the answer for a canceled activity names both
 pub record AreHeartbeats (names : WorkerNames) (token : List ℕ) : Type 0 where
   pub heartbeat : (details : List Payload) → IsAnswer names token (activity_heartbeat names token details)
   pub details : (details : List Payload) → HaveBytes details
@@ -31,7 +31,7 @@ pub record AreHeartbeats (names : WorkerNames) (token : List ℕ) : Type 0 where
 abbrev pub HeartbeatsAreRead : Type 0
 HeartbeatsAreRead = (names : WorkerNames) (token : List ℕ) → AreHeartbeats names token
 
--- an activity that was canceled is never written as one that failed, nor as a result
+-- the answer for a canceled activity is never written like that for a failed one, nor like a result
 abbrev pub CanceledIsApart : Type 0
 CanceledIsApart = (names : WorkerNames) (token other_token reason message : List ℕ) (outcome : List Payload)
     → (activity_canceled names token reason ≢ activity_failed names other_token message)

@@ -24,7 +24,7 @@ abbrev pub normal_queue : WorkerNames → Data
 normal_queue names = object_of (
     (codes "name", string names.task_queue) ∷ (codes "kind", string (codes "TASK_QUEUE_KIND_NORMAL")) ∷ [])
 
--- the Task Queue of this process
+-- the sticky queue of this process
 abbrev pub sticky_queue : WorkerNames → Data
 sticky_queue names = object_of (
     (codes "name", string names.sticky_queue) ∷ (codes "kind", string (codes "TASK_QUEUE_KIND_STICKY"))
@@ -49,31 +49,31 @@ abbrev pub execution : List ℕ → List ℕ → Data
 execution workflow_id run_id = object_of (
     (codes "workflowId", string workflow_id) ∷ (codes "runId", string run_id) ∷ [])
 
--- with the token of a page, if there is one
+-- the members, with the token of a page, unless it is empty
 abbrev pub with_page : List ℕ → Members → Members
 with_page [] members = members
 with_page (c ∷ page) members = put (codes "nextPageToken") (string (c ∷ page)) members
 
--- the first page of a run's history, or the one of a token
+-- the request of a run's history: the page of a token, or the first one if the token is empty
 abbrev pub history : WorkerNames → List ℕ → List ℕ → List ℕ → Data
 history names workflow_id run_id page = object (with_page page (put_all (
     (codes "namespace", string names.namespace) ∷ (codes "execution", execution workflow_id run_id) ∷ []) no_members))
 
 -- ---- Answers
 
--- the members of each answer that tells who gives it
+-- the members that say who answers which task
 abbrev pub answer_of : WorkerNames → List ℕ → Members
 answer_of names token = put_all (
     (codes "namespace", string names.namespace) ∷ (codes "identity", string names.identity)
     ∷ (codes "taskToken", string token) ∷ []) no_members
 
--- where the next task of the run goes, and after how many seconds it goes to the queue of all workers
+-- where the run's next task goes first, and after how many seconds it goes to the queue of all workers
 abbrev pub sticky_attributes : WorkerNames → ℕ → Data
 sticky_attributes names timeout = object_of (
     (codes "workerTaskQueue", sticky_queue names)
     ∷ (codes "scheduleToStartTimeout", string (duration_text timeout)) ∷ [])
 
--- what is said to a query of a workflow
+-- the error message for a query of a workflow
 abbrev pub no_queries : List ℕ
 no_queries = codes "this worker answers no queries"
 
@@ -82,23 +82,24 @@ abbrev pub query_refused : Data
 query_refused = object_of (
     (codes "resultType", string (codes "QUERY_RESULT_TYPE_FAILED")) ∷ (codes "errorMessage", string no_queries) ∷ [])
 
--- none of the queries is answered
+-- the results of queries, none of which is answered
 abbrev pub queries_refused : List (List ℕ) → Data
 queries_refused queries = object (put_all (map (λ query. (query, query_refused)) queries) no_members)
 
--- with the sticky queue, if the run is kept in it
+-- the members, with the sticky queue, if the run is kept in it
 abbrev pub with_sticky : WorkerNames → Option ℕ → Members → Members
 with_sticky names None members = members
 with_sticky names (Some timeout) members = put (codes "stickyAttributes") (sticky_attributes names timeout) members
 
--- a workflow task, completed with commands as they are written
+-- a workflow task, completed with written commands
 abbrev pub completed_with : WorkerNames → List ℕ → List (List ℕ) → Option ℕ → List Data → Data
 completed_with names token queries sticky commands = object (with_sticky names sticky (put_all (
     (codes "commands", array (items_of commands)) ∷ (codes "queryResults", queries_refused queries) ∷ [])
     (answer_of names token)))
 
 -- a workflow task, completed with commands; or the fault of the first command that can't be written
-abbrev pub workflow_completed : WorkerNames → List ℕ → List Command → List Event → List (List ℕ) → Option ℕ → Policies → Carried → Result Data RequestFault
+abbrev pub workflow_completed : WorkerNames → List ℕ → List Command → List Event
+    → List (List ℕ) → Option ℕ → Policies → Carried → Result Data RequestFault
 workflow_completed names token commands events queries sticky policies carried =
     on_written (written_after (written names policies carried events) [] commands)
     (λ values. Ok (completed_with names token queries sticky values))
@@ -113,7 +114,7 @@ abbrev pub workflow_failed : WorkerNames → List ℕ → FailedCause → List �
 workflow_failed names token cause message = object (put_all (
     (codes "cause", string (cause_name cause)) ∷ (codes "failure", failure message) ∷ []) (answer_of names token))
 
--- a query that came by itself, and is not answered
+-- a query that came alone, and is not answered
 abbrev pub query_failed : WorkerNames → List ℕ → List ℕ → Data
 query_failed names token message = object_of (
     (codes "namespace", string names.namespace) ∷ (codes "taskToken", string token)
@@ -128,7 +129,7 @@ abbrev pub activity_failed : WorkerNames → List ℕ → List ℕ → Data
 activity_failed names token message = object (put_all (
     (codes "failure", failure message) ∷ []) (answer_of names token))
 
--- the sticky queue of a process that ends
+-- gives up the sticky queue of a process that ends
 abbrev pub shutdown : WorkerNames → Data
 shutdown names = object_of (
     (codes "namespace", string names.namespace) ∷ (codes "stickyTaskQueue", string names.sticky_queue)

@@ -1,4 +1,4 @@
--- What a server reads of requests, by the names of their fields.
+-- What a server reads from requests, by the names of their fields.
 use Rattle.std.specs.Prelude.{◌≡◌, ℕ, List, codes, Option, Some, None, Ok, option_map, true, false}
 use Rattle.std.specs.List.{AllByRecursion}
 use Rattle.serde_json.specs.Data.{Data}
@@ -21,7 +21,7 @@ use Rattle.wh_commands.specs.ServerReads.{Queue, queue_at, seconds_at, Fits}
 abbrev pub normal : WorkerNames → Queue
 normal names = record { name = names.task_queue; kind = Some (codes "TASK_QUEUE_KIND_NORMAL"); normal_name = None }
 
--- the Task Queue of this process
+-- the sticky queue of this process
 abbrev pub sticky : WorkerNames → Queue
 sticky names = record {
   name = names.sticky_queue;
@@ -29,7 +29,7 @@ sticky names = record {
   normal_name = Some names.task_queue;
 }
 
--- ---- Polls, and the end
+-- ---- Polls, and the shutdown
 
 -- a poll of a queue, by this worker
 pub record IsPoll (names : WorkerNames) (queue : Queue) (d : Data) : Type 0 where
@@ -43,7 +43,7 @@ PollsAreRead = (names : WorkerNames) → IsPoll names (normal names) (requests.p
     × IsPoll names (sticky names) (requests.poll_workflow names true)
     × IsPoll names (normal names) (requests.poll_activity names)
 
--- a worker that ends gives up its sticky queue
+-- a worker that shuts down gives up its sticky queue
 pub record IsEnd (names : WorkerNames) (d : Data) : Type 0 where
   pub namespace : text_at (codes "namespace") d ≡ Some names.namespace
   pub identity : text_at (codes "identity") d ≡ Some names.identity
@@ -54,7 +54,7 @@ EndIsRead = (names : WorkerNames) → IsEnd names (requests.shutdown names)
 
 -- ---- Histories
 
--- a page of the history of a run, the first where the token is empty
+-- a page of the history of a run, the first one if the token is empty
 pub record IsHistory (names : WorkerNames) (workflow_id run_id page : List ℕ) (d : Data) : Type 0 where
   pub namespace : text_at (codes "namespace") d ≡ Some names.namespace
   pub workflow : (get (codes "execution") d >>= text_at (codes "workflowId")) ≡ Some workflow_id
@@ -73,7 +73,7 @@ pub record IsAnswer (names : WorkerNames) (token : List ℕ) (d : Data) : Type 0
   pub identity : text_at (codes "identity") d ≡ Some names.identity
   pub task : text_at (codes "taskToken") d ≡ Some token
 
--- what the next task of a run goes to first, and for how long
+-- the queue that the next task of a run goes to first, and for how long
 pub record Sticky : Type 0 where
   pub queue : Queue
   pub seconds : ℕ
@@ -92,15 +92,17 @@ pub record IsRefused (query : List ℕ) (d : Data) : Type 0 where
   pub reason : (get (codes "queryResults") d >>= get query >>= text_at (codes "errorMessage"))
       ≡ Some requests.no_queries
 
--- a completion names the worker and the task, the process's own queue where the run is kept in it and only there,
--- and each query that came with the task
-pub record IsCompletion (names : WorkerNames) (token : List ℕ) (queries : List (List ℕ)) (timeout : Option ℕ) (d : Data) : Type 0 where
+-- a completion names the worker and the task, the process's own queue exactly if the run is kept in it, and each query
+-- that came with the task
+pub record IsCompletion (names : WorkerNames) (token : List ℕ) (queries : List (List ℕ))
+    (timeout : Option ℕ) (d : Data) : Type 0 where
   pub answer : IsAnswer names token d
   pub kept : sticky_in d ≡ option_map (λ seconds. record { queue = sticky names; seconds = seconds }) timeout
   pub refused : AllByRecursion (λ query. IsRefused query d) queries
 
 abbrev pub CompletionIsRead : Type 0
-CompletionIsRead = (names : WorkerNames) (token : List ℕ) (cs : List Command) (events : List Event) (queries : List (List ℕ))
+CompletionIsRead = (names : WorkerNames) (token : List ℕ) (cs : List Command) (events : List Event)
+    (queries : List (List ℕ))
     (timeout : Option ℕ) (policies : Policies) (carried : Carried) (d : Data) → Fits timeout
     → requests.workflow_completed names token cs events queries timeout policies carried ≡ Ok d
     → IsCompletion names token queries timeout d
@@ -111,7 +113,7 @@ FailuresAreRead = (names : WorkerNames) (token message : List ℕ) (cause : Fail
     × IsAnswer names token (requests.activity_failed names token message)
     × IsAnswer names token (requests.activity_completed names token outcome)
 
--- a query that came by itself is answered as failed, with the reason
+-- a query that came alone is answered as failed, with the reason
 pub record IsQueryFailed (names : WorkerNames) (token message : List ℕ) (d : Data) : Type 0 where
   pub namespace : text_at (codes "namespace") d ≡ Some names.namespace
   pub task : text_at (codes "taskToken") d ≡ Some token

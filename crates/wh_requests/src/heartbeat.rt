@@ -1,4 +1,4 @@
-//! Writes what is told of an activity that runs, and that it was canceled.
+//! Writes heartbeats of activities, and answers for canceled activities.
 
 ghost use Rattle.std.specs.Prelude.{◌≡◌, IfOk};
 ghost use Rattle.serde_json.specs.View.{view};
@@ -10,8 +10,8 @@ use std::alloc::Global;
 use wh_commands::{WorkerNames, json_payloads, put_payloads};
 use wh_events::{OutOfMemory, Payload};
 
-/// The request of `RecordActivityTaskHeartbeat`: the activity of a task goes on, with details that a
-/// later attempt may be given. `OutOfMemory` where there was no memory for it.
+/// Writes the request of `RecordActivityTaskHeartbeat`: the activity of the task is still running,
+/// with details that a later attempt may be given. `OutOfMemory` if there was no memory for it.
 pub fn activity_heartbeat(
     alloc: Global,
     names: &WorkerNames,
@@ -25,8 +25,8 @@ pub fn activity_heartbeat(
     Ok(Value::Object(members))
 }
 
-/// The request of `RespondActivityTaskCanceled`, with the reason as its details, a text in JSON.
-/// `OutOfMemory` where there was no memory for it.
+/// Writes the request of `RespondActivityTaskCanceled`, with the reason as its details, a JSON
+/// string. `OutOfMemory` if there was no memory for it.
 pub fn activity_canceled(
     alloc: Global,
     names: &WorkerNames,

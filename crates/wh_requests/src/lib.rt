@@ -1,6 +1,6 @@
-//! The requests of the calls of Temporal's workflow service that a worker makes, as their proto3 JSON
-//! forms (<https://protobuf.dev/programming-guides/json/>). Tokens go through as the texts that they
-//! come in.
+//! Writes the requests that a worker sends to Temporal's workflow service, as their proto3 JSON
+//! forms (<https://protobuf.dev/programming-guides/json/>). Tokens are passed on as the strings in
+//! which they come.
 #![tactic(auto)]
 
 mod heartbeat;

@@ -19,16 +19,16 @@ use wh_workflow::Command;
 /// Why a workflow task failed (Temporal's `WorkflowTaskFailedCause`).
 #[derive(Clone, Copy, PartialEq, Eq, Debug)]
 pub enum FailedCause {
-    /// The commands of its workflow are not those of its history.
+    /// The commands of the workflow do not match its history.
     Nondeterministic,
-    /// The server refuses the answer, since it is longer than a message may be.
+    /// The server refuses the answer because it is larger than a message may be.
     TooLarge,
     /// Any other fault of the worker.
     Unhandled,
 }
 
 impl FailedCause {
-    /// Its name.
+    /// Returns its name.
     fn name(self) -> &'static str
         ensures { result.now ≡ spec.cause_name self }
     {
@@ -41,14 +41,14 @@ impl FailedCause {
     }
 }
 
-/// The Task Queue that all workers poll.
+/// Writes the Task Queue that all workers poll.
 fn normal_queue(alloc: Global, names: &WorkerNames) -> Result<Value, AllocError>
     ensures { IfOk result (λ queue. view queue ≡ spec.normal_queue names.now) }
 {
     json!(in alloc; {"name": names.task_queue.get(), "kind": "TASK_QUEUE_KIND_NORMAL"})
 }
 
-/// The Task Queue of this process.
+/// Writes the sticky queue of this process.
 fn sticky_queue(alloc: Global, names: &WorkerNames) -> Result<Value, AllocError>
     ensures { IfOk result (λ queue. view queue ≡ spec.sticky_queue names.now) }
 {
@@ -59,7 +59,7 @@ fn sticky_queue(alloc: Global, names: &WorkerNames) -> Result<Value, AllocError>
     })
 }
 
-/// A poll of a queue.
+/// Writes a poll of a queue.
 fn poll(alloc: Global, names: &WorkerNames, queue: Value) -> Result<Value, AllocError>
     ensures { IfOk result (λ params. view params ≡ spec.poll names.now (view queue)) }
 {
@@ -70,8 +70,8 @@ fn poll(alloc: Global, names: &WorkerNames, queue: Value) -> Result<Value, Alloc
     Ok(Value::Object(params))
 }
 
-/// The request of `PollWorkflowTaskQueue`, of the sticky queue or of the one that all workers poll.
-/// `OutOfMemory` where there was no memory for it.
+/// Writes the request of `PollWorkflowTaskQueue`, for the sticky queue or for the one that all
+/// workers poll. `OutOfMemory` if there was no memory for it.
 pub fn poll_workflow(alloc: Global, names: &WorkerNames, sticky: bool) -> Result<Value, OutOfMemory>
     ensures { IfOk result (λ params. view params ≡ spec.poll_workflow names.now sticky) }
 {
@@ -83,7 +83,7 @@ pub fn poll_workflow(alloc: Global, names: &WorkerNames, sticky: bool) -> Result
     Ok(poll(alloc, names, queue?)?)
 }
 
-/// The request of `PollActivityTaskQueue`. `OutOfMemory` where there was no memory for it.
+/// Writes the request of `PollActivityTaskQueue`. `OutOfMemory` if there was no memory for it.
 pub fn poll_activity(alloc: Global, names: &WorkerNames) -> Result<Value, OutOfMemory>
     ensures { IfOk result (λ params. view params ≡ spec.poll_activity names.now) }
 {
@@ -91,14 +91,14 @@ pub fn poll_activity(alloc: Global, names: &WorkerNames) -> Result<Value, OutOfM
     Ok(poll(alloc, names, queue)?)
 }
 
-/// A run of a workflow.
+/// Writes the execution that is a run of a workflow.
 fn execution(alloc: Global, workflow_id: &str, run_id: &str) -> Result<Value, AllocError>
     ensures { IfOk result (λ run. view run ≡ spec.execution workflow_id.now run_id.now) }
 {
     json!(in alloc; {"workflowId": workflow_id, "runId": run_id})
 }
 
-/// Puts the token of a page, if there is one.
+/// Adds the token of a page, unless it is empty.
 fn put_page(members: &mut Members, alloc: Global, page: &str) -> Result<(), AllocError>
     ensures { OnOk result (members_view members.new.entries
         ≡ spec.with_page page.now (members_view members.old.entries)) }
@@ -109,8 +109,8 @@ fn put_page(members: &mut Members, alloc: Global, page: &str) -> Result<(), Allo
     put_text(members, alloc, "nextPageToken", page)
 }
 
-/// The request of `GetWorkflowExecutionHistory` for the page of a token, or for the first page where
-/// the token is empty. `OutOfMemory` where there was no memory for it.
+/// Writes the request of `GetWorkflowExecutionHistory` for the page of a token, or for the first
+/// page if the token is empty. `OutOfMemory` if there was no memory for it.
 pub fn history(
     alloc: Global,
     names: &WorkerNames,
@@ -133,7 +133,7 @@ pub fn history(
     Ok(Value::Object(params))
 }
 
-/// The members of each answer that say who gives it.
+/// Returns the members that say who answers which task.
 pub(crate) fn answer_of(
     alloc: Global,
     names: &WorkerNames,
@@ -148,8 +148,8 @@ pub(crate) fn answer_of(
     Ok(members)
 }
 
-/// Where the next task of the run goes, and after how many seconds it goes to the queue of all
-/// workers.
+/// Writes where the run's next task goes first, and after how many seconds it goes to the queue of
+/// all workers.
 fn sticky_attributes(alloc: Global, names: &WorkerNames, timeout: u32) -> Result<Value, AllocError>
     ensures { IfOk result (λ attributes. view attributes ≡ spec.sticky_attributes names.now timeout) }
 {
@@ -169,7 +169,7 @@ fn sticky_attributes(alloc: Global, names: &WorkerNames, timeout: u32) -> Result
     Ok(Value::Object(attributes))
 }
 
-/// Puts the sticky queue, if the run is kept for its next task.
+/// Adds the sticky queue, if the run is kept for its next task.
 fn put_sticky(
     members: &mut Members,
     alloc: Global,
@@ -186,17 +186,17 @@ fn put_sticky(
     put(members, alloc, "stickyAttributes", attributes)
 }
 
-/// What is said to a query of a workflow, by itself or beside a task.
+/// The error message for a query of a workflow, whether it came alone or with a task.
 pub const NO_QUERIES: &str = "this worker answers no queries";
 
-/// A query that is not answered.
+/// Writes the result of a query that is not answered.
 fn query_refused(alloc: Global) -> Result<Value, AllocError>
     ensures { IfOk result (λ refused. view refused ≡ spec.query_refused) }
 {
     json!(in alloc; {"resultType": "QUERY_RESULT_TYPE_FAILED", "errorMessage": NO_QUERIES})
 }
 
-/// None of the queries is answered.
+/// Writes the results of the queries, none of which is answered.
 fn queries_refused(alloc: Global, queries: &[Text]) -> Result<Value, AllocError>
     ensures { IfOk result (λ refused. view refused ≡ spec.queries_refused queries.now) }
 {
@@ -208,7 +208,7 @@ fn queries_refused(alloc: Global, queries: &[Text]) -> Result<Value, AllocError>
     Ok(Value::Object(results))
 }
 
-/// A workflow task, completed with commands as they are written.
+/// Writes the completion of a workflow task with written commands.
 fn completed_with(
     alloc: Global,
     names: &WorkerNames,
@@ -232,14 +232,15 @@ fn completed_with(
     Ok(Value::Object(members))
 }
 
-/// The request of `RespondWorkflowTaskCompleted`: the commands after the events that they were
-/// replayed from, and the names of the queries that came with the task, none of which is answered.
-/// With a number of seconds in `sticky` the run is kept for its next task, which waits that long in
-/// the sticky queue. What the run hands on stands in a Continue-As-New alone. What the server is asked
-/// for with a command is the policy of its name.
+/// Writes the request of `RespondWorkflowTaskCompleted`, with the commands, after these events of
+/// the history, and the names of the queries that came with the task, none of which is answered. If
+/// `sticky` is a number of seconds, the run is kept for its next task, which waits that long in the
+/// sticky queue. What the run carries over is only used in a Continue-As-New. The options of a
+/// command are those of the policy of its name.
 ///
-/// The fault is that of the first command that can't be written: `TooLong` for a timer, `NotScheduled`
-/// for the cancel of an activity, `NeverSent` for an ask. `OutOfMemory` can come in place of each.
+/// The error is that of the first command that can't be written: `TooLong` for a timer,
+/// `NotScheduled` for the cancellation of an activity, `NeverSent` for an `Ask`. `OutOfMemory` can
+/// replace each of them.
 pub fn workflow_completed(
     alloc: Global,
     names: &WorkerNames,
@@ -260,8 +261,8 @@ pub fn workflow_completed(
     Ok(params)
 }
 
-/// The request of `RespondWorkflowTaskFailed`, with what went wrong. `OutOfMemory` where there was
-/// no memory for it.
+/// Writes the request of `RespondWorkflowTaskFailed`, with a message that says what went wrong.
+/// `OutOfMemory` if there was no memory for it.
 pub fn workflow_failed(
     alloc: Global,
     names: &WorkerNames,
@@ -277,8 +278,8 @@ pub fn workflow_failed(
     Ok(Value::Object(members))
 }
 
-/// The request of `RespondQueryTaskCompleted` for a query that is not answered, with the reason.
-/// `OutOfMemory` where there was no memory for it.
+/// Writes the request of `RespondQueryTaskCompleted` for a query that is not answered, with the
+/// reason. `OutOfMemory` if there was no memory for it.
 pub fn query_failed(
     alloc: Global,
     names: &WorkerNames,
@@ -300,8 +301,8 @@ pub fn query_failed(
     Ok(Value::Object(params))
 }
 
-/// The request of `RespondActivityTaskCompleted`, with the activity's result. `OutOfMemory` where no
-/// memory was left for it.
+/// Writes the request of `RespondActivityTaskCompleted`, with the activity's result. `OutOfMemory`
+/// if there was no memory for it.
 pub fn activity_completed(
     alloc: Global,
     names: &WorkerNames,
@@ -315,8 +316,8 @@ pub fn activity_completed(
     Ok(Value::Object(members))
 }
 
-/// The request of `RespondActivityTaskFailed`, with the reason. `OutOfMemory` where there was no memory
-/// for it.
+/// Writes the request of `RespondActivityTaskFailed`, with the reason. `OutOfMemory` if there was
+/// no memory for it.
 pub fn activity_failed(
     alloc: Global,
     names: &WorkerNames,
@@ -330,8 +331,8 @@ pub fn activity_failed(
     Ok(Value::Object(members))
 }
 
-/// The request of `ShutdownWorker`, which gives up the sticky queue. `OutOfMemory` where there was
-/// no memory for it.
+/// Writes the request of `ShutdownWorker`, which gives up the sticky queue. `OutOfMemory` if there
+/// was no memory for it.
 pub fn shutdown(alloc: Global, names: &WorkerNames) -> Result<Value, OutOfMemory>
     ensures { IfOk result (λ params. view params ≡ spec.shutdown names.now) }
 {

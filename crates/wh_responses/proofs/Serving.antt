@@ -1,4 +1,4 @@
--- What a server writes is read as it is.
+-- What a server writes is read as it was written.
 use Rattle.std.proofs.Common.{◌≡◌, ◌≢◌, ℕ, ◌<◌, ◌^◌, List, [], ◌∷◌, codes, Some, refl, lt-ltb}
 use Rattle.serde_json.specs.Data.{Data, number, unsigned, Members}
 use Rattle.wh_events.specs.declared.key.RunKey.{RunKey}

@@ -1,4 +1,4 @@
--- What a server means by the text of a refusal.
+-- The error messages of a server.
 use Rattle.std.specs.Prelude.{◌≡◌, ℕ, ℤ, pos, List, codes}
 use Rattle.std.specs.Str.Iter.{HasSubslice}
 

@@ -1,4 +1,4 @@
--- What the results of calls mean.
+-- What responses mean.
 use Rattle.std.specs.Prelude.{ℕ, List, [], ◌∷◌, codes, map, Option, Some, None, option_map}
 use Rattle.std.specs.Result.{result_ok}
 use Rattle.serde_json.specs.Data.{Data, Members, no_members, member}
@@ -20,12 +20,12 @@ use Rattle.wh_responses.specs.declared.response.WorkflowPoll.TheVariants as work
 
 -- ---- Parts
 
--- the members of a list, none where it is absent
+-- the members of a list, none if it is missing
 abbrev pub list_or_empty : Option Data → Option (List Data)
 list_or_empty None = Some []
 list_or_empty (Some d) = list_in d
 
--- the number that a value is, 1 where it is absent
+-- the value as a number, 1 if it is missing
 abbrev pub number_or_one : Option Data → Option ℕ
 number_or_one None = Some 1
 number_or_one (Some d) = number_of d
@@ -34,12 +34,12 @@ abbrev pub names_of : Members → List (List ℕ)
 names_of no_members = []
 names_of (member name d ms) = name ∷ names_of ms
 
--- the names of an object's members, none where it is absent
+-- the names of an object's members, none if it is missing
 abbrev pub names_in : Option Data → Option (List (List ℕ))
 names_in None = Some []
 names_in (Some d) = option_map names_of (as_object d)
 
--- the token of a task, empty where there is none
+-- the Task Token, empty if it is missing
 abbrev pub token_in : Data → Option (List ℕ)
 token_in d = text_or_empty (field (codes "taskToken") (Some d))
 
@@ -54,7 +54,7 @@ run_in execution = do
   run_id ← needed (field (codes "runId") execution)
   Some (record { workflow_id = workflow_id; run_id = run_id })
 
--- the members of the history's list of events, none where it is absent
+-- the members of the history's list of events, none if it is missing
 abbrev pub events_in : Data → Option (List Data)
 events_in d = list_or_empty (field (codes "events") (field (codes "history") (Some d)))
 
@@ -64,7 +64,7 @@ next_page_in d = text_or_empty (field (codes "nextPageToken") (Some d))
 
 -- ---- Pages
 
--- a page, its members as what they are
+-- a page, with its events as data
 pub record Page : Type 0 where
   pub members : List Data
   pub next_page : List ℕ
@@ -72,7 +72,7 @@ pub record Page : Type 0 where
 abbrev pub page_seen : HistoryPage → Page
 page_seen page = record { members = map view page.members.items; next_page = page.next_page }
 
--- the page that a result of `GetWorkflowExecutionHistory` is
+-- the page of a response to `GetWorkflowExecutionHistory`
 unfoldable pub page_in : Data → Option Page
 page_in d = do
   next_page ← next_page_in d
@@ -81,7 +81,7 @@ page_in d = do
 
 -- ---- Workflow tasks
 
--- a task, its members as what they are
+-- a task, with its events as data
 pub record Task : Type 0 where
   pub token : List ℕ
   pub run : RunKey
@@ -100,7 +100,7 @@ task_seen task = record {
   queries = task.queries.items;
 }
 
--- what a poll gave
+-- the response to a poll
 pub data Poll : Type 0 where
   nothing : Poll
   task : Task → Poll
@@ -134,18 +134,18 @@ abbrev pub task_or_unreadable : Option Task → Poll
 task_or_unreadable None = unreadable
 task_or_unreadable (Some read) = task read
 
--- the query that came by itself, if there is one, or else the task
+-- the query that came alone, if there is one, otherwise the task
 abbrev pub query_or_task : List ℕ → Data → Option Data → Poll
 query_or_task token d (Some asked) = query token d
 query_or_task token d None = task_or_unreadable (task_in token d)
 
--- what a result with this token means; with an empty one it is an empty poll
+-- what a response with this token means; with an empty token it is an empty poll
 abbrev pub poll_of_token : Data → Option (List ℕ) → Poll
 poll_of_token d None = unreadable
 poll_of_token d (Some []) = nothing
 poll_of_token d (Some (c ∷ cs)) = query_or_task (c ∷ cs) d (field (codes "query") (Some d))
 
--- what a result of `PollWorkflowTaskQueue` means
+-- what a response to `PollWorkflowTaskQueue` means
 abbrev pub workflow_poll : Data → Poll
 workflow_poll d = poll_of_token d (token_in d)
 
@@ -169,12 +169,12 @@ abbrev pub activity_or_unreadable : Option PolledActivity → ActivityPoll
 activity_or_unreadable None = activity.Unreadable
 activity_or_unreadable (Some read) = activity.Task read
 
--- what a result with this token means; with an empty one it is an empty poll
+-- what a response with this token means; with an empty token it is an empty poll
 abbrev pub activity_of_token : Data → Option (List ℕ) → ActivityPoll
 activity_of_token d None = activity.Unreadable
 activity_of_token d (Some []) = activity.Nothing
 activity_of_token d (Some (c ∷ cs)) = activity_or_unreadable (activity_in (c ∷ cs) d)
 
--- what a result of `PollActivityTaskQueue` means
+-- what a response to `PollActivityTaskQueue` means
 abbrev pub activity_poll : Data → ActivityPoll
 activity_poll d = activity_of_token d (token_in d)

@@ -1,4 +1,4 @@
--- What a server's results are read as: the tasks and pages that it writes.
+-- The tasks and pages that a server writes, and what they are read as.
 use Rattle.std.specs.Prelude.{◌≡◌, ◌≢◌, ◌<◌, ◌^◌, List, [], ◌∷◌, codes, Some}
 use Rattle.serde_json.specs.Data.{Data, number, string, array, object, unsigned, Members}
 use Rattle.serde_json.specs.View.{items_of}
@@ -37,24 +37,25 @@ activity_result polled = object_of (
     ∷ (codes "activityId", string polled.id) ∷ (codes "activityType", named polled.activity)
     ∷ (codes "input", payloads_written polled.input) ∷ [])
 
--- both ids of a run are there
+-- both ids of a run are present
 abbrev pub IsNamed : RunKey → Type 0
 IsNamed run = (run.workflow_id ≢ []) × (run.run_id ≢ [])
 
--- a page is read as it is
+-- a page is read as it was written
 abbrev pub PageIsRead : Type 0
 PageIsRead = (page : Page) → page_in (page_result page) ≡ Some page
 
--- a workflow task is read as it is: under its own token, with its own run, events and queries
+-- a workflow task is read as it was written: under its own token, with its own run, events and queries
 abbrev pub TaskIsRead : Type 0
 TaskIsRead = (polled : Task) (queries : Members) → polled.token ≢ [] → IsNamed polled.run → polled.attempt < 2 ^ 63
     → names_of queries ≡ polled.queries → workflow_poll (task_result polled queries) ≡ task polled
 
--- an activity task is read as it is
+-- an activity task is read as it was written
 abbrev pub ActivityIsRead : Type 0
-ActivityIsRead = (polled : PolledActivity) → polled.token ≢ [] → IsNamed polled.run → polled.id ≢ [] → polled.activity ≢ []
+ActivityIsRead = (polled : PolledActivity) → polled.token ≢ [] → IsNamed polled.run
+    → polled.id ≢ [] → polled.activity ≢ []
     → HaveBytes polled.input → activity_poll (activity_result polled) ≡ activity.Task polled
 
--- a result without any field is an empty poll
+-- a response without any field is an empty poll
 abbrev pub EmptyIsNothing : Type 0
 EmptyIsNothing = (workflow_poll (object_of []) ≡ nothing) × (activity_poll (object_of []) ≡ activity.Nothing)

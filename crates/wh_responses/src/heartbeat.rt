@@ -1,4 +1,4 @@
-//! Reads what a server says to heartbeats.
+//! Reads the responses to heartbeats.
 
 ghost use Rattle.std.specs.Prelude.{◌≡◌};
 ghost use Rattle.serde_json.specs.View.{view};
@@ -7,8 +7,9 @@ ghost use Rattle.wh_responses.specs.Heartbeats as spec;
 use serde_json::Value;
 use wh_json::field;
 
-/// Whether a result of `RecordActivityTaskHeartbeat` says that the activity is to be canceled: its
-/// `cancelRequested` is true. It is false where it is absent, as in proto3 JSON, or no flag.
+/// Returns whether a response to `RecordActivityTaskHeartbeat` says that the activity is to be
+/// canceled: its `cancelRequested` is true. A missing value is false, as in proto3 JSON, and so is
+/// one that is not a boolean.
 pub fn is_cancel_requested(value: &Value) -> bool
     ensures { result ≡ spec.is_cancel_requested (view value.now) }
 {

@@ -1,6 +1,6 @@
-//! What is read of the responses of Temporal's workflow service, of their proto3 JSON forms
-//! (<https://protobuf.dev/programming-guides/json/>): the fields that a worker needs. Tokens go through
-//! as the texts that they come in.
+//! Reads the responses of Temporal's workflow service, in their proto3 JSON forms
+//! (<https://protobuf.dev/programming-guides/json/>): the fields that a worker needs. Tokens are
+//! passed on as the strings in which they come.
 #![tactic(auto)]
 
 mod heartbeat;

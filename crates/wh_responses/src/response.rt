@@ -1,4 +1,4 @@
-//! Reads results.
+//! Reads the responses to polls and history requests.
 
 ghost use Rattle.std.specs.Prelude.{◌≡◌, IfOk, IfErr, map, option_map, codes, Some, None, Option};
 ghost use Rattle.std.specs.Result.{result_ok};
@@ -18,79 +18,79 @@ use wh_json::{ReadFault, field, number_of, payloads_at, text_of};
 /// A page of a run's history.
 #[derive(Debug, Drop)]
 pub struct HistoryPage {
-    /// Its events, as the members of a history's list.
+    /// Its events, as JSON values.
     pub members: Vec<Value>,
     /// The token of the next page, empty on the last one.
     pub next_page: Text,
 }
 
-/// A workflow task, as a poll gives it.
+/// A workflow task, as a poll returns it.
 #[derive(Debug, Drop)]
 pub struct PolledTask {
-    /// The token under which it is answered.
+    /// The Task Token with which it is answered.
     pub token: Text,
-    /// The run that it belongs to.
+    /// Its run.
     pub run: RunKey,
     /// Which attempt of the task this is, counted from 1.
     pub attempt: u64,
-    /// The events that it comes with, as the members of a history's list: those from the first, or
-    /// since the last task.
+    /// The events that it comes with, as JSON values: from the first one, or those since the last
+    /// task.
     pub members: Vec<Value>,
-    /// The token of the page on which they go on, empty where they are all.
+    /// The token of the page with the events that follow, empty if there are none.
     pub next_page: Text,
     /// The names of the queries that came with it.
     pub queries: Vec<Text>,
 }
 
-/// A query that came by itself, as a poll gives it.
+/// A query that came alone, as a poll returns it.
 #[derive(Debug, Drop)]
 pub struct QueryPoll {
-    /// The token under which it is answered.
+    /// The Task Token with which it is answered.
     pub token: Text,
-    /// The whole result of the poll.
+    /// The whole response to the poll.
     pub result: Value,
 }
 
-/// What a result of `PollWorkflowTaskQueue` means.
+/// What a response to `PollWorkflowTaskQueue` means.
 #[derive(Debug, Drop)]
 pub enum WorkflowPoll {
-    /// There is no task now.
+    /// There was no task.
     Nothing,
     /// A task.
     Task(PolledTask),
-    /// A query that came by itself.
+    /// A query that came alone.
     Query(QueryPoll),
-    /// A task in another form than that of the service.
+    /// A malformed task.
     Unreadable,
 }
 
-/// An activity task, as a poll gives it.
+/// An activity task, as a poll returns it.
 #[derive(Debug, Drop)]
 pub struct PolledActivity {
-    /// The token under which it is answered.
+    /// The Task Token with which it is answered.
     pub token: Text,
-    /// The run that asked for the activity.
+    /// The run that scheduled the activity.
     pub run: RunKey,
     /// The id of the activity in its run.
     pub id: Text,
     /// The type of the activity.
     pub activity: Text,
-    /// What the activity is given.
+    /// The input of the activity.
     pub input: Items<Payload>,
 }
 
-/// What a result of `PollActivityTaskQueue` means.
+/// What a response to `PollActivityTaskQueue` means.
 #[derive(Debug, Drop)]
 pub enum ActivityPoll {
-    /// There is no task now.
+    /// There was no task.
     Nothing,
     /// A task.
     Task(PolledActivity),
-    /// A task in another form than that of the service.
+    /// A malformed task.
     Unreadable,
 }
 
-/// The text that a value is, empty where it is absent.
+/// Returns a value as a text, empty if it is missing; `None` if it is not a string.
 fn text_or_empty<'v>(value: Option<&'v Value>) -> Option<&'v str>
     ensures { option_map (λ text. text.now) result
         ≡ text_or_empty (option_map (λ v. view v.now) value.entry) }
@@ -101,8 +101,8 @@ fn text_or_empty<'v>(value: Option<&'v Value>) -> Option<&'v str>
     }
 }
 
-/// A copy of the text that a value is, if it is one and not empty. `OutOfMemory` where there was no
-/// memory for it.
+/// Copies a value as a text. `None` if it is not a string, or is empty. `OutOfMemory` if there was
+/// no memory for it.
 pub fn needed(alloc: Global, value: Option<&Value>) -> Result<Option<Text>, OutOfMemory>
     ensures { IfOk result (λ text. text ≡ spec.needed (option_map (λ v. view v.now) value.entry)) }
 {
@@ -113,8 +113,8 @@ pub fn needed(alloc: Global, value: Option<&Value>) -> Result<Option<Text>, OutO
     Ok(Some(Text::new(String::from_str(alloc, text)?)))
 }
 
-/// The run that a task belongs to, if both of its ids are there. `OutOfMemory` where there was no memory
-/// for them.
+/// Reads the run of a task. `None` if one of its ids is missing. `OutOfMemory` if there was no
+/// memory for them.
 #[tactic(auto, unfolding(crate::specs::Responses::run_in))]
 pub fn run_in(alloc: Global, value: Option<&Value>) -> Result<Option<RunKey>, OutOfMemory>
     ensures { IfOk result (λ run. run ≡ spec.run_in (option_map (λ v. view v.now) value.entry)) }
@@ -131,7 +131,7 @@ pub fn run_in(alloc: Global, value: Option<&Value>) -> Result<Option<RunKey>, Ou
     }))
 }
 
-/// The member at a name.
+/// Returns the member of a name.
 fn removed(value: Value, name: &str) -> Option<Value>
     ensures { option_map view result ≡ get name.now (view value) }
 {
@@ -141,7 +141,7 @@ fn removed(value: Value, name: &str) -> Option<Value>
     }
 }
 
-/// The value, unless it is null.
+/// Returns the value, unless it is null.
 fn unless_null(value: Option<Value>) -> Option<Value>
     ensures { option_map view result ≡ unless_null (option_map view value) }
 {
@@ -153,7 +153,7 @@ fn unless_null(value: Option<Value>) -> Option<Value>
     Some(value)
 }
 
-/// The member at a name. A member that is null counts as absent.
+/// Returns the member of a name. A member that is null counts as missing.
 #[tactic(auto, unfolding(wh_json::specs::Fields::field))]
 fn taken(value: Option<Value>, name: &str) -> Option<Value>
     ensures { option_map view result ≡ field name.now (option_map view value) }
@@ -161,7 +161,7 @@ fn taken(value: Option<Value>, name: &str) -> Option<Value>
     unless_null(removed(value?, name))
 }
 
-/// The members of a list.
+/// Returns the members of a list.
 #[tactic(auto, unfolding(wh_json::specs::Fields::list_in))]
 fn into_list(value: Value) -> Option<Vec<Value>>
     ensures { option_map (λ values. map view values.items) result ≡ list_in (view value) }
@@ -172,7 +172,7 @@ fn into_list(value: Value) -> Option<Vec<Value>>
     }
 }
 
-/// The members of a list, none where it is absent.
+/// Returns the members of a list, none if it is missing.
 fn list_or_empty(alloc: Global, value: Option<Value>) -> Option<Vec<Value>>
     ensures { option_map (λ values. map view values.items) result ≡ spec.list_or_empty (option_map view value) }
 {
@@ -182,7 +182,7 @@ fn list_or_empty(alloc: Global, value: Option<Value>) -> Option<Vec<Value>>
     }
 }
 
-/// The members of the history's list of events, none where it is absent.
+/// Returns the members of the history's list of events, none if it is missing.
 fn events_in(alloc: Global, value: Value) -> Option<Vec<Value>>
     ensures { option_map (λ events. map view events.items) result ≡ spec.events_in (view value) }
 {
@@ -190,7 +190,7 @@ fn events_in(alloc: Global, value: Value) -> Option<Vec<Value>>
     list_or_empty(alloc, taken(history, "events"))
 }
 
-/// A page of events, and the token of the next one.
+/// Reads a page of events and the token of the next one.
 #[tactic(auto, unfolding(crate::specs::Responses::page_in))]
 fn page_in(alloc: Global, value: Value) -> Result<Option<HistoryPage>, OutOfMemory>
     ensures { IfOk result (λ page. option_map page_seen page ≡ spec.page_in (view value)) }
@@ -205,16 +205,16 @@ fn page_in(alloc: Global, value: Value) -> Result<Option<HistoryPage>, OutOfMemo
     Ok(Some(HistoryPage { members, next_page }))
 }
 
-/// Reads a result of `GetWorkflowExecutionHistory`: a page of the history, which may be empty. Its
-/// members are those of the result, not copies. `None` where the list of events is no list or the
-/// token is no text. `OutOfMemory` where there was no memory for the token.
+/// Reads a response to `GetWorkflowExecutionHistory`: a page of the history, which may be empty.
+/// Its events are those of the response, not copies. `None` if the events are not a list or the
+/// token is not a string. `OutOfMemory` if there was no memory for the token.
 pub fn history_page(alloc: Global, value: Value) -> Result<Option<HistoryPage>, OutOfMemory>
     ensures { IfOk result (λ page. option_map page_seen page ≡ spec.page_in (view value)) }
 {
     page_in(alloc, value)
 }
 
-/// The number that a value is, 1 where it is absent.
+/// Returns a value as a number, 1 if it is missing.
 fn number_or_one(value: Option<&Value>) -> Option<u64>
     ensures { result ≡ spec.number_or_one (option_map (λ v. view v.now) value.entry) }
 {
@@ -224,7 +224,7 @@ fn number_or_one(value: Option<&Value>) -> Option<u64>
     }
 }
 
-/// The names of an object's members.
+/// Copies the names of an object's members.
 #[tactic(auto, using(crate::proofs::Lists::names_of_view))]
 fn names_of(alloc: Global, members: &Map<String, Value>) -> Result<Vec<Text>, OutOfMemory>
     ensures { IfOk result (λ names. names.items ≡ spec.names_of (members_view members.now.entries)) }
@@ -236,7 +236,7 @@ fn names_of(alloc: Global, members: &Map<String, Value>) -> Result<Vec<Text>, Ou
     Ok(names)
 }
 
-/// The names of an object's members, none where it is absent.
+/// Copies the names of an object's members, none if it is missing.
 fn names_in(alloc: Global, value: Option<&Value>) -> Result<Option<Vec<Text>>, OutOfMemory>
     ensures { IfOk result (λ names. option_map (λ names. names.items) names
         ≡ spec.names_in (option_map (λ v. view v.now) value.entry)) }
@@ -250,7 +250,7 @@ fn names_in(alloc: Global, value: Option<&Value>) -> Result<Option<Vec<Text>>, O
     Ok(Some(names_of(alloc, members)?))
 }
 
-/// The token of a task, empty where there is none.
+/// Copies the Task Token, empty if it is missing.
 fn token_in(alloc: Global, value: &Value) -> Result<Option<Text>, OutOfMemory>
     ensures { IfOk result (λ token. token ≡ spec.token_in (view value.now)) }
 {
@@ -260,7 +260,7 @@ fn token_in(alloc: Global, value: &Value) -> Result<Option<Text>, OutOfMemory>
     Ok(Some(Text::new(String::from_str(alloc, token)?)))
 }
 
-/// The workflow task of a token.
+/// Reads the workflow task of a token.
 #[tactic(auto, unfolding(crate::specs::Responses::task_in))]
 fn task_in(alloc: Global, token: Text, value: Value) -> Result<Option<PolledTask>, OutOfMemory>
     ensures { IfOk result (λ task. option_map task_seen task ≡ spec.task_in token (view value)) }
@@ -287,10 +287,10 @@ fn task_in(alloc: Global, token: Text, value: Value) -> Result<Option<PolledTask
     }))
 }
 
-/// Reads a result of `PollWorkflowTaskQueue`. Without a token it is an empty poll; else a query that
-/// came by itself, or a task. The members of the task's history are those of the result, not copies.
-/// A task without the ids of its run, or with a field of another form, is unreadable. `OutOfMemory`
-/// where there was no memory for its texts.
+/// Reads a response to `PollWorkflowTaskQueue`. Without a token it is an empty poll, otherwise a
+/// query that came alone, or a task. The events of the task are those of the response, not copies.
+/// A task without the ids of its run, or with a malformed field, is `Unreadable`. `OutOfMemory` if
+/// there was no memory for its texts.
 pub fn workflow_poll(alloc: Global, value: Value) -> Result<WorkflowPoll, OutOfMemory>
     ensures { IfOk result (λ poll. poll_seen poll ≡ spec.workflow_poll (view value)) }
 {
@@ -312,7 +312,7 @@ pub fn workflow_poll(alloc: Global, value: Value) -> Result<WorkflowPoll, OutOfM
     }
 }
 
-/// The payloads that an activity is given.
+/// Reads the input of an activity.
 fn input_in(alloc: Global, value: Option<&Value>) -> Result<Option<Items<Payload>>, OutOfMemory>
     ensures { IfOk result (λ input. input
         ≡ result_ok (payloads_at 0 (option_map (λ v. view v.now) value.entry))) }
@@ -324,7 +324,7 @@ fn input_in(alloc: Global, value: Option<&Value>) -> Result<Option<Items<Payload
     }
 }
 
-/// The type of an activity.
+/// Reads the type of an activity.
 #[tactic(auto, unfolding(crate::specs::Responses::activity_type))]
 fn activity_type(alloc: Global, value: &Value) -> Result<Option<Text>, OutOfMemory>
     ensures { IfOk result (λ activity. activity ≡ spec.activity_type (view value.now)) }
@@ -333,7 +333,7 @@ fn activity_type(alloc: Global, value: &Value) -> Result<Option<Text>, OutOfMemo
     needed(alloc, field(named, "name"))
 }
 
-/// The activity task of a token.
+/// Reads the activity task of a token.
 #[tactic(auto, unfolding(crate::specs::Responses::activity_in))]
 fn activity_in(
     alloc: Global,
@@ -363,9 +363,9 @@ fn activity_in(
     }))
 }
 
-/// Reads a result of `PollActivityTaskQueue`. Without a token it is an empty poll; else a task. A task
-/// without the ids of its run and of its activity, without a type, or with a field of another form, is
-/// unreadable. `OutOfMemory` where there was no memory for its texts and payloads.
+/// Reads a response to `PollActivityTaskQueue`. Without a token it is an empty poll, otherwise a
+/// task. A task without the ids of its run and of its activity, without a type, or with a malformed
+/// field, is `Unreadable`. `OutOfMemory` if there was no memory for its texts and payloads.
 pub fn activity_poll(alloc: Global, value: &Value) -> Result<ActivityPoll, OutOfMemory>
     ensures { IfOk result (λ poll. poll ≡ spec.activity_poll (view value.now)) }
 {
