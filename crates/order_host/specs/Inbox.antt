@@ -1,4 +1,4 @@
--- What an inbox gives and tells.
+-- The tasks that an inbox delivers, and the histories that it returns.
 use Rattle.std.specs.Prelude.{◌≡◌, ℕ, List, [], ◌∷◌, ◌++◌, Some, slice_get, filter, leb, if◌then◌else◌}
 use Rattle.wh_events.specs.declared.event.Event.{Event}
 use Rattle.wh_events.specs.declared.key.RunKey.{RunKey}
@@ -11,7 +11,7 @@ use Rattle.wh_tasks.specs.Source.{Delivery, Workflow, Activity}
 abbrev pub StandsIn : {T : Type 0} → List T → T → Type 0
 StandsIn tasks task = (place : ℕ) × (slice_get tasks place ≡ Some task)
 
--- the tasks that are given stand in the lists of their kinds
+-- the delivered tasks stand in the lists of their kinds
 abbrev pub Gives : List WorkflowTask → List ActivityTask → Delivery → Type 0
 Gives workflow_tasks activity_tasks (Workflow task) = StandsIn workflow_tasks task
 Gives workflow_tasks activity_tasks (Activity task) = StandsIn activity_tasks task

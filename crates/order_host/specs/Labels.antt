@@ -1,4 +1,4 @@
--- What is done for a task of labels, and what is answered.
+-- The steps of a task that prints labels, and its answer.
 use Rattle.std.specs.Prelude.{◌≡◌, ◌<◌, ◌+◌, ℕ, zero, suc, Bool, true, false, List, [], ◌∷◌, ◌++◌, codes, decimal, length}
 use Rattle.order_host.specs.declared.labels.LabelStep.{LabelStep}
 use Rattle.order_host.specs.declared.labels.LabelStep.TheVariants.{Heard, Printed}
@@ -12,30 +12,32 @@ use Rattle.wh_tasks.specs.declared.source.ActivityAnswer.{ActivityAnswer}
 use Rattle.wh_tasks.specs.declared.source.ActivityAnswer.TheVariants.{Completed, Failed}
 use Rattle.order_host.specs.Payloads.{json}
 
--- how many labels are printed, as JSON
+-- the number of printed labels, as JSON
 abbrev pub count_payload : ℕ → Payload
 count_payload printed = json (decimal printed)
 
--- nobody waits for labels more after such a beat
+-- no more labels are needed after such a response
 abbrev pub stops : HeartbeatResponse → Bool
 stops GoOn = false
 stops CancelRequested = true
 stops Gone = true
 stops Unheard = false
 
--- after this the label of a number was printed, and then a heartbeat told how many are printed, and brought this
+-- after these steps the label of a number was printed, and then a heartbeat with the number of printed labels got this
+-- response
 abbrev pub with_label : List LabelStep → ℕ → HeartbeatResponse → List LabelStep
 with_label before number response = (before ++ Printed number ∷ []) ++ Heard response ∷ []
 
--- so many labels were printed, each followed by a heartbeat after which it went on, and nothing else was done
+-- this many labels were printed, each followed by a heartbeat after which printing went on, and nothing else was done
 abbrev pub WentOn : Brings → ℕ → List LabelStep → Type 0
 WentOn brings zero steps = steps ≡ []
 WentOn brings (suc number) steps =
     (before : List LabelStep) × ((response : HeartbeatResponse)
-    × (steps ≡ with_label before number response) × (stops response ≡ false) × brings (count_payload (number + 1) ∷ []) response
+    × (steps ≡ with_label before number response) × (stops response ≡ false)
+    × brings (count_payload (number + 1) ∷ []) response
     × WentOn brings number before)
 
--- it went on until a heartbeat that stopped it, and nothing was done after that
+-- printing went on until a heartbeat that stopped it, and nothing was done after that
 pub record IsCalledOff (brings : Brings) (labels : ℕ) (steps : List LabelStep) : Type 0 where
   pub number : ℕ
   pub before : List LabelStep
@@ -46,17 +48,17 @@ pub record IsCalledOff (brings : Brings) (labels : ℕ) (steps : List LabelStep)
   pub stopped : stops response ≡ true
   pub brought : brings (count_payload (number + 1) ∷ []) response
 
--- so many labels were printed, or those up to the heartbeat that stopped it
+-- this many labels were printed, or those up to the heartbeat that stopped it
 abbrev pub ArePrinted : Brings → ℕ → LabelsEnd → List LabelStep → Type 0
 ArePrinted brings labels Done steps = WentOn brings labels steps
 ArePrinted brings labels CalledOff steps = IsCalledOff brings labels steps
 
--- how many labels were printed is the result, and where a heartbeat stopped it, that is a failure
+-- the result is the number of printed labels; if a heartbeat stopped printing, the activity fails
 abbrev pub labels_answer : ℕ → LabelsEnd → ActivityAnswer
 labels_answer labels Done = Completed (count_payload labels ∷ [])
 labels_answer labels CalledOff = Failed (codes "called off")
 
--- it is the answer to a task of so many labels, by what was done for it
+-- the answer to a task of this many labels, by the steps that were done for it
 pub record IsLabelsAnswer (brings : Brings) (labels : ℕ) (answer : ActivityAnswer) : Type 0 where
   pub end : LabelsEnd
   pub steps : List LabelStep

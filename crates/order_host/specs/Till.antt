@@ -1,4 +1,4 @@
--- What a till answers.
+-- The answers of a till.
 use Rattle.std.specs.Prelude.{◌≡◌, Bool, true, false, List, Option, Some, None, bytes_eq, codes, length}
 use Rattle.wh_activities.specs.WithHeartbeat.{Brings}
 use Rattle.wh_events.specs.declared.event.Payload.{Payload}
@@ -13,15 +13,15 @@ abbrev pub ending : Option (List Payload) → ActivityAnswer
 ending (Some result) = Completed result
 ending None = Failed (codes "no such activity")
 
--- the receipt of a charged card; there are no other activities that do not beat
+-- the receipt of a charged card; there are no other activities that send no heartbeats
 abbrev pub till_answer : ActivityTask → ActivityAnswer
 till_answer task = ending (receipt task.activity task.input)
 
--- the answer to a task that asks for labels, a payload for each, or to another one
+-- the answer to a task that asks for labels, one for each payload, or to another task
 abbrev pub Answers : (asks_for_labels : Bool) → Brings → ActivityTask → ActivityAnswer → Type 0
 Answers true brings task answer = IsLabelsAnswer brings (length task.input) answer
 Answers false brings task answer = answer ≡ till_answer task
 
--- a till may answer so
+-- a till may give this answer
 abbrev pub MayAnswer : Brings → ActivityTask → ActivityAnswer → Type 0
 MayAnswer brings task answer = Answers (bytes_eq task.activity (codes "PrintLabels")) brings task answer

@@ -10,10 +10,10 @@ use wh_poll::{
 use wh_replay::Answer;
 use wh_slots::TaskName;
 
-/// A source that gives the tasks that were put into it, in their order, and keeps what they are
-/// answered. After the last task of a kind it is closed. No call fails unless memory runs out.
+/// A source that delivers the tasks that were put into it, in their order, and keeps their answers.
+/// After the last task of a kind it is closed. No call fails unless memory runs out.
 ///
-/// A workflow task has the events of its run since the task before, as a server gives them to a
+/// A workflow task has the events of its run since the task before, as a server sends them to a
 /// worker that is expected to have cached the run.
 #[derive(Drop)]
 pub(crate) struct Inbox {
@@ -26,7 +26,7 @@ pub(crate) struct Inbox {
 }
 
 impl Inbox {
-    /// A source without tasks.
+    /// Returns a source without tasks.
     pub(crate) fn new(alloc: Global) -> Inbox {
         Inbox {
             alloc,
@@ -38,32 +38,32 @@ impl Inbox {
         }
     }
 
-    /// Puts a workflow task after the others.
+    /// Adds a workflow task after the others.
     pub(crate) fn add_workflow(&mut self, task: WorkflowTask) -> Result<(), OutOfMemory> {
         self.workflow_tasks.push(task)?;
         Ok(())
     }
 
-    /// Puts an activity task after the others.
+    /// Adds an activity task after the others.
     pub(crate) fn add_activity(&mut self, task: ActivityTask) -> Result<(), OutOfMemory> {
         self.activity_tasks.push(task)?;
         Ok(())
     }
 
-    /// As many turns as a worker needs: one for each task, and one more for each kind, by which it
-    /// learns that there are no more.
+    /// Returns how many turns a worker needs: one for each task, and one more for each kind, in
+    /// which it learns that there are no more.
     pub(crate) fn turns(&self) -> u64 {
         let tasks = self.workflow_tasks.len() as u64 + self.activity_tasks.len() as u64;
         tasks.saturating_add(2)
     }
 
-    /// How many answers it was sent.
+    /// Returns how many answers it was sent.
     pub(crate) fn count_answers(&self) -> usize {
         self.answers.len()
     }
 }
 
-/// A copy of a workflow task.
+/// Copies a workflow task.
 fn copy_workflow(task: &WorkflowTask) -> Result<WorkflowTask, OutOfMemory>
     ensures { IfOk result (λ copy. copy ≡ task.now) }
 {
@@ -74,7 +74,7 @@ fn copy_workflow(task: &WorkflowTask) -> Result<WorkflowTask, OutOfMemory>
     })
 }
 
-/// A copy of an activity task.
+/// Copies an activity task.
 fn copy_activity(task: &ActivityTask) -> Result<ActivityTask, OutOfMemory>
     ensures { IfOk result (λ copy. copy ≡ task.now) }
 {
@@ -87,7 +87,7 @@ fn copy_activity(task: &ActivityTask) -> Result<ActivityTask, OutOfMemory>
     })
 }
 
-/// Appends copies of the events up to a number.
+/// Appends copies of the events up to a number. After an error some of them may have been appended.
 fn append_up_to(history: &mut Vec<Event>, events: &[Event], up_to: u64) -> Result<(), OutOfMemory>
     ensures { OnOk result (history.new.items ≡ history.old.items ++ events_up_to up_to events.now) }
 {
@@ -99,7 +99,7 @@ fn append_up_to(history: &mut Vec<Event>, events: &[Event], up_to: u64) -> Resul
     Ok(())
 }
 
-/// The history of a run up to a number: the events of its tasks, one after the other.
+/// Returns the history of a run up to a number: the events of its tasks, one after the other.
 fn history_of(
     alloc: Global,
     tasks: &[WorkflowTask],
@@ -130,7 +130,7 @@ impl TaskSource for Inbox {
 
     ghost comes_from = { λ later first. Unit {0} };
 
-    // No history goes on otherwise than the tasks that were put in.
+    // Every history continues as in the tasks that were put in.
     ghost caches = { λ inbox name. Unit {0} };
 
     fn poll_workflow(&mut self) -> Result<Polled<WorkflowTask>, SourceFault> {

@@ -1,4 +1,4 @@
-//! Labels of parcels.
+//! Prints labels of parcels.
 
 ghost use Rattle.std.specs.Prelude.{◌≡◌, ◌++◌, ◌∷◌, [], IfOk};
 ghost use Rattle.order_host.specs.Labels.{ArePrinted, count_payload, stops};
@@ -8,36 +8,36 @@ use crate::orders::json;
 use std::alloc::Global;
 use wh_events::{OutOfMemory, Payload};
 use wh_ghost_list::GhostList;
-use wh_heartbeat::{HeartbeatResponse, Heartbeat};
+use wh_heartbeat::{Heartbeat, HeartbeatResponse};
 
-/// What is done for a task of labels.
+/// One step of a task that prints labels.
 #[derive(Clone, Copy, PartialEq, Eq, Debug)]
 pub(crate) enum LabelStep {
     /// The label of this number was printed, counted from 0.
     Printed(usize),
-    /// A heartbeat brought this.
+    /// A heartbeat got this response.
     Heard(HeartbeatResponse),
 }
 
-/// How a task of labels ends.
+/// How a task that prints labels ends.
 #[derive(Clone, Copy, PartialEq, Eq, Debug)]
 pub(crate) enum LabelsEnd {
     /// All labels are printed.
     Done,
-    /// A heartbeat brought that nobody waits for labels more.
+    /// The response to a heartbeat said that no more labels are needed.
     CalledOff,
 }
 
-/// What became of a task of labels.
+/// What became of a task that prints labels.
 #[derive(Drop)]
 pub(crate) struct Printing {
     /// How it ended.
     pub(crate) end: LabelsEnd,
-    /// What was done, one after the other.
+    /// Its steps, in order.
     pub(crate) steps: GhostList<LabelStep>,
 }
 
-/// Whether nobody waits for labels more after such a beat.
+/// Returns whether no more labels are needed after such a response.
 fn stops(response: HeartbeatResponse) -> bool
     ensures { result ≡ stops response }
 {
@@ -47,21 +47,21 @@ fn stops(response: HeartbeatResponse) -> bool
     }
 }
 
-/// How many labels are printed, as a payload.
+/// Returns the number of printed labels as a payload.
 pub(crate) fn count_payload(alloc: Global, printed: usize) -> Result<Payload, OutOfMemory>
     ensures { IfOk result (λ payload. payload ≡ count_payload printed) }
 {
     json(alloc, format!(in alloc; "{printed}")?)
 }
 
-/// Prints the label of a number. What a label printer does stands here.
+/// Prints the label of a number. A real label printer would be called here.
 fn print_label(number: usize, steps: &mut GhostList<LabelStep>)
     ensures { steps.new.items ≡ steps.old.items ++ Printed number ∷ [] }
 {
     *steps = steps.with(&LabelStep::Printed(number));
 }
 
-/// Tells by a heartbeat that so many labels are printed, and says what it brought.
+/// Sends a heartbeat with the number of printed labels and returns the response.
 fn tell<H: Heartbeat>(
     alloc: Global,
     printed: usize,
@@ -77,10 +77,9 @@ fn tell<H: Heartbeat>(
     Ok(response)
 }
 
-/// Prints so many labels. Each is followed by a heartbeat, which tells how many are printed, and
-/// after one that brought that the activity is to be canceled, or that its task is gone, none is
-/// printed more. `OutOfMemory` where there was no memory for a heartbeat: the labels before it are
-/// printed.
+/// Prints this many labels. Each is followed by a heartbeat with the number of printed labels.
+/// After a response that the activity is to be canceled, or that its task is gone, no more are
+/// printed. `OutOfMemory` if there was no memory for a heartbeat: the labels before it are printed.
 pub(crate) fn print_labels<H: Heartbeat>(
     alloc: Global,
     labels: usize,

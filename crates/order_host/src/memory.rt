@@ -1,4 +1,4 @@
-//! Orders in memory: two workers share a host, each with a source of their tasks.
+//! Serves orders in memory: two workers share a host, each with a source of their tasks.
 
 use crate::inbox::Inbox;
 use crate::orders::add_order;
@@ -22,13 +22,13 @@ const WORKERS: usize = 2;
 /// How many orders there are.
 const ORDERS: u64 = 6;
 
-/// What a worker of orders begins with.
+/// The setup of a worker of orders.
 type OrderSetup = WorkerSetup<Inbox, WithHeartbeat<Till, NoHeartbeat>, NoObserver>;
 
 /// What a host of orders leaves.
 type OrderEnd = HostEnd<Inbox, WithHeartbeat<Till, NoHeartbeat>, NoObserver>;
 
-/// What the worker of a place begins with: every second order is for it.
+/// Returns the setup of the worker at a place, with every second order.
 fn setup_at(alloc: Global, place: usize) -> Result<OrderSetup, OutOfMemory> {
     let mut source = Inbox::new(alloc);
     for order in 1..=ORDERS {
@@ -48,7 +48,7 @@ fn setup_at(alloc: Global, place: usize) -> Result<OrderSetup, OutOfMemory> {
     })
 }
 
-/// What each worker begins with.
+/// Returns the setups of all workers.
 fn setups(alloc: Global) -> Result<Vec<OrderSetup>, OutOfMemory> {
     let mut setups = Vec::new(alloc);
     for place in 0..WORKERS {
@@ -72,7 +72,7 @@ fn serve<R: Threads + Wait + Sync>(rt: &R, alloc: Global) -> Result<OrderEnd, Op
     )
 }
 
-/// Prints what each worker and what the host has done.
+/// Prints what each worker and the host have done.
 fn print<R: Print>(rt: &R, end: &OrderEnd) -> io::Result<()> {
     for (place, worker) in end.workers.iter().enumerate() {
         let tasks = worker.counted.taken;
@@ -84,7 +84,8 @@ fn print<R: Print>(rt: &R, end: &OrderEnd) -> io::Result<()> {
     println!(rt; "taken {taken}, completed {completed}, failed {failed}, in hand {in_hand}")
 }
 
-/// Serves six orders in memory, and prints how that ended. The status is 0 where it could be printed.
+/// Serves six orders in memory, and prints how that ended. The exit status is 0 if that could be
+/// printed.
 pub fn serve_from_memory<R: Threads + Wait + Print + Eprint + AllocGlobal + Sync>(
     rt: &R,
 ) -> ExitCode {

@@ -1,4 +1,4 @@
-//! Orders, as a server has them.
+//! The tasks of orders, as a server would send them.
 
 ghost use Rattle.std.specs.Prelude.{◌≡◌, IfOk, string_bytes};
 ghost use Rattle.order_host.specs.Payloads.{json};
@@ -10,10 +10,10 @@ use wh_poll::{ActivityTask, WorkflowTask};
 use wh_slots::TaskName;
 use wh_workflow::{no_payloads, text_of};
 
-/// When it all happens: 2024-05-01T10:00:00Z, in nanoseconds since 1970.
+/// The time of all events: 2024-05-01T10:00:00Z, in nanoseconds since 1970.
 const TIME: i128 = 1_714_557_600_000_000_000;
 
-/// The run of an order.
+/// Returns the run of an order.
 fn run_of(alloc: Global, order: u64) -> Result<RunKey, OutOfMemory> {
     Ok(RunKey {
         workflow_id: Text::new(format!(in alloc; "order-{order}")?),
@@ -21,7 +21,7 @@ fn run_of(alloc: Global, order: u64) -> Result<RunKey, OutOfMemory> {
     })
 }
 
-/// The payload of a JSON text.
+/// Returns a JSON text as a payload.
 pub(crate) fn json(alloc: Global, text: String) -> Result<Payload, OutOfMemory>
     ensures { IfOk result (λ payload. payload ≡ json (string_bytes text)) }
 {
@@ -32,20 +32,20 @@ pub(crate) fn json(alloc: Global, text: String) -> Result<Payload, OutOfMemory>
     })
 }
 
-/// What an order is started with, and charged with: a price in cents, and the name that the id of its
-/// child has.
+/// Returns the input of an order and of its charge: a price in cents, and the name that its child's
+/// id has.
 fn input_of(alloc: Global, order: u64) -> Result<Items<Payload>, OutOfMemory> {
     let price = json(alloc, String::from_str(alloc, "{\"cents\":1999}")?)?;
     let name = json(alloc, format!(in alloc; "\"order-{order}\"")?)?;
     Ok(Items::new(vec![in alloc; price, name]?))
 }
 
-/// The name of a task of an order, by the number of an event.
+/// Returns the name of a task of an order, by the number of an event.
 fn name_of(order: u64, number: u64) -> TaskName {
     TaskName(u128::from(order) * 0x1_0000_0000_0000_0000 + u128::from(number))
 }
 
-/// Appends the event of a number, where it is one.
+/// Appends an event of this number, if it is a valid one.
 fn add(events: &mut Vec<Event>, number: u64, body: EventKind) -> Result<(), OutOfMemory> {
     if let Some(number) = EventNo::new(number) {
         events.push(Event {
@@ -57,7 +57,7 @@ fn add(events: &mut Vec<Event>, number: u64, body: EventKind) -> Result<(), OutO
     Ok(())
 }
 
-/// The order comes in.
+/// Returns the events with which the order comes in.
 fn begun(alloc: Global, order: u64) -> Result<Vec<Event>, OutOfMemory> {
     let mut events = Vec::new(alloc);
     let start = EventKind::WorkflowExecutionStarted {
@@ -70,7 +70,7 @@ fn begun(alloc: Global, order: u64) -> Result<Vec<Event>, OutOfMemory> {
     Ok(events)
 }
 
-/// The card was charged, and the receipt is what it was charged with.
+/// Returns the events with which the card is charged; the receipt is the input of the charge.
 fn charged(alloc: Global, order: u64) -> Result<Vec<Event>, OutOfMemory> {
     let mut events = Vec::new(alloc);
     add(&mut events, 4, EventKind::WorkflowTaskCompleted)?;
@@ -100,7 +100,7 @@ fn charged(alloc: Global, order: u64) -> Result<Vec<Event>, OutOfMemory> {
     Ok(events)
 }
 
-/// The order is held, until the hold ends.
+/// Returns the events with which the order is held, until the hold ends.
 fn held(alloc: Global, order: u64) -> Result<Vec<Event>, OutOfMemory> {
     let mut events = Vec::new(alloc);
     add(&mut events, 10, EventKind::WorkflowTaskCompleted)?;
@@ -117,8 +117,8 @@ fn held(alloc: Global, order: u64) -> Result<Vec<Event>, OutOfMemory> {
     Ok(events)
 }
 
-/// What ends the hold of an order: its timer, but for every third order, which the customer calls
-/// off.
+/// Returns the event that ends the hold of an order: its timer, but for every third order, which
+/// the customer calls off.
 fn hold_end(alloc: Global, order: u64) -> Result<EventKind, OutOfMemory> {
     if order % 3 != 0 {
         return Ok(EventKind::TimerFired { started: 11 });
@@ -129,7 +129,7 @@ fn hold_end(alloc: Global, order: u64) -> Result<EventKind, OutOfMemory> {
     })
 }
 
-/// The workflow task whose events begin with a number.
+/// Returns the workflow task whose events begin with a number.
 fn workflow_task(
     alloc: Global,
     order: u64,
@@ -143,7 +143,7 @@ fn workflow_task(
     })
 }
 
-/// The task to charge for the order.
+/// Returns the activity task that charges for the order.
 fn charge_task(alloc: Global, order: u64) -> Result<ActivityTask, OutOfMemory> {
     Ok(ActivityTask {
         name: name_of(order, 5),

@@ -13,14 +13,15 @@ use wh_heartbeat::Heartbeat;
 use wh_poll::{ActivityAnswer, ActivityTask};
 use wh_workflow::text_of;
 
-/// Charges cards, and gives their receipts; and prints labels of parcels, and gives how many.
+/// Charges cards, with their receipts as results, and prints labels of parcels, with their number
+/// as the result.
 #[derive(Drop)]
 pub struct Till {
-    /// Where reasons are made.
+    /// The allocator for results and failure messages.
     pub alloc: Global,
 }
 
-/// Prints a label for each payload, and beats after each.
+/// Prints a label for each payload, and sends a heartbeat after each.
 fn run_labels<H: Heartbeat>(
     alloc: Global,
     input: &Items<Payload>,
@@ -40,7 +41,7 @@ fn run_labels<H: Heartbeat>(
     }
 }
 
-/// Runs an activity that does not beat.
+/// Runs an activity that sends no heartbeats.
 fn run_charge(alloc: Global, task: &ActivityTask) -> Result<ActivityAnswer, OutOfMemory>
     ensures { IfOk result (λ answer. answer ≡ till_answer task.now) }
 {

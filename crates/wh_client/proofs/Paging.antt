@@ -11,7 +11,7 @@ use Rattle.wh_responses.specs.Responses.{Page, page_in}
 use Rattle.wh_client.specs.Calls.{Gives}
 use Rattle.wh_client.specs.Pages.{IsPaged, Leads, ReadsOn, all_members}
 
--- a page that was read from what was given for the request
+-- a page that was read from the result of its request
 pub paged_by : (gives : Gives) (names : WorkerNames) (run : RunKey) (token : List ℕ) (params result : Data) (page : Page)
     → params ≡ history names run.workflow_id run.run_id token
     → gives (codes "GetWorkflowExecutionHistory") params result → Some page ≡ page_in result

@@ -13,7 +13,7 @@ no_run_by_code status.PermissionDenied = refl
 no_run_by_code status.Unauthenticated = refl
 no_run_by_code status.Other = refl
 
--- code 1 keeps no worker out
+-- code 1 is none of those with which a worker is not let in
 one_lets_in : (code : ℤ) → code ≡ pos 1 → KeepsOut code → ⊥
 one_lets_in code one (inl three) = cc
 one_lets_in code one (inr (inl five)) = cc

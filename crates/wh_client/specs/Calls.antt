@@ -1,4 +1,4 @@
--- What calls give.
+-- The results of calls.
 use Rattle.std.specs.Prelude.{ℕ, List}
 use Rattle.serde_json.specs.Data.{Data}
 use Rattle.serde_json.specs.View.{view}
@@ -9,7 +9,7 @@ use Rattle.wh_rpc.specs.declared.response.Outcome.TheVariants.{Given, Refused}
 abbrev pub Gives : Type 1
 Gives = List ℕ → Data → Data → Type 0
 
--- it holds of the result, where there is one
+-- this holds for the result, if there is one
 abbrev pub OnGiven : (Data → Type 0) → Outcome → Type 0
 OnGiven p (Given value) = p (view value)
 OnGiven p (Refused code message) = Unit {0}

@@ -1,4 +1,4 @@
--- What the codes of refused calls mean.
+-- What the status codes of refused calls mean.
 use Rattle.std.specs.Prelude.{◌≡◌, ◌≢◌, ◌↔◌, ◌⊎◌, ℤ, pos, Bool, true, false}
 use Rattle.wh_client.specs.declared.codes.Status.{Status}
 use Rattle.wh_client.specs.declared.codes.Status.TheVariants as status
@@ -7,7 +7,7 @@ use Rattle.wh_client.specs.declared.codes.PollEnd.TheVariants as poll
 use Rattle.wh_client.specs.declared.codes.Receipt.{Receipt}
 use Rattle.wh_client.specs.declared.codes.Receipt.TheVariants as receipt
 
--- the code that a status stands for
+-- the code is one of this status
 abbrev pub HasCode : Status → ℤ → Type 0
 HasCode status.Cancelled code = code ≡ pos 1
 HasCode status.InvalidArgument code = code ≡ pos 3
@@ -17,8 +17,8 @@ HasCode status.Unauthenticated code = code ≡ pos 16
 HasCode status.Other code =
     (code ≢ pos 1) × (code ≢ pos 3) × (code ≢ pos 5) × (code ≢ pos 7) × (code ≢ pos 16)
 
--- a canceled poll says that there are no more tasks; where what is polled is not there, or the worker may not poll
--- it, no later poll does better; else one may
+-- a canceled poll means that there are no more tasks; if what is polled does not exist, or the worker may not poll it,
+-- no later poll can succeed; otherwise one may
 abbrev pub poll_end : Status → PollEnd
 poll_end status.Cancelled = poll.Closed
 poll_end status.InvalidArgument = poll.Never
@@ -27,7 +27,7 @@ poll_end status.PermissionDenied = poll.Never
 poll_end status.Unauthenticated = poll.Never
 poll_end status.Other = poll.Later
 
--- an answer is refused where its task is over, or where the server has failed the task; else it is lost
+-- what became of a refused answer: its task is over, or the server has failed the task; otherwise it is lost
 abbrev pub refused_answer : Status → Receipt
 refused_answer status.Cancelled = receipt.Lost
 refused_answer status.InvalidArgument = receipt.Invalid
@@ -36,7 +36,7 @@ refused_answer status.PermissionDenied = receipt.Lost
 refused_answer status.Unauthenticated = receipt.Lost
 refused_answer status.Other = receipt.Lost
 
--- the server has the answer, or wants none for the task, or the answer is kept back on purpose
+-- the server has the answer, or needs none for the task, or the answer is withheld on purpose
 abbrev pub is_taken : Receipt → Bool
 is_taken receipt.Acknowledged = true
 is_taken receipt.NotFound = true
@@ -60,28 +60,28 @@ keeps_run receipt.NoMemory = false
 
 -- ---- Laws
 
--- after no refusal the run of a task is cached
+-- the run of a task is never cached after a refusal
 abbrev pub NoRunByCode : Type 0
 NoRunByCode = (of : Status) → keeps_run (refused_answer of) ≡ false
 
--- no worker gets in: the request is none that the server takes, or its namespace is not there, or the worker may not
--- poll there, or is not known
+-- the worker is not let in: the request is invalid, or its namespace does not exist, or the worker may not poll there,
+-- or is not authenticated
 abbrev pub KeepsOut : ℤ → Type 0
 KeepsOut code = (code ≡ pos 3) ⊎ ((code ≡ pos 5) ⊎ ((code ≡ pos 7) ⊎ (code ≡ pos 16)))
 
--- a poll that is refused ends the polls exactly where it was canceled, and none is tried again exactly where no
--- worker gets in
+-- a refused poll ends polling exactly if it was canceled, and polling fails for good exactly if the worker is not let
+-- in
 abbrev pub PollsByCode : Type 0
 PollsByCode = (of : Status) (code : ℤ) → HasCode of code
     → ((poll_end of ≡ poll.Closed) ↔ (code ≡ pos 1)) × ((poll_end of ≡ poll.Never) ↔ KeepsOut code)
 
--- an answer that is refused counts as taken exactly where the server needs it no more: the task is over, or the server
--- has failed it
+-- a refused answer counts as taken exactly if the server no longer needs it: the task is over, or the server has failed
+-- it
 abbrev pub AnswersByCode : Type 0
 AnswersByCode = (of : Status) (code : ℤ) → HasCode of code
     → (is_taken (refused_answer of) ≡ true) ↔ ((code ≡ pos 5) ⊎ (code ≡ pos 3))
 
--- the run of a task is cached exactly where its answer was acknowledged, and each such answer is taken
+-- the run of a task is cached exactly if its answer was acknowledged, and each such answer counts as taken
 abbrev pub RunsByReceipt : Type 0
 RunsByReceipt = (of : Receipt)
     → ((keeps_run of ≡ true) ↔ (of ≡ receipt.Acknowledged)) × (keeps_run of ≡ true → is_taken of ≡ true)

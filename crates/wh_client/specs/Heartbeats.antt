@@ -1,4 +1,4 @@
--- Heartbeats of activities, and what the server says to them.
+-- Heartbeats of activities, and the responses to them.
 use Rattle.std.specs.Prelude.{◌≡◌, ℕ, List, Bool, true, false, Some, codes}
 use Rattle.serde_json.specs.Data.{Data}
 use Rattle.wh_events.specs.declared.event.Payload.{Payload}
@@ -11,13 +11,15 @@ use Rattle.wh_requests.specs.Heartbeats.{activity_canceled, activity_heartbeat}
 use Rattle.wh_requests.specs.Requests.{activity_failed}
 use Rattle.wh_responses.specs.Heartbeats.{is_cancel_requested}
 
--- the server gave a result for a heartbeat of the task of a token, which says whether the activity is to be canceled
-pub record IsHeartbeat (gives : Gives) (names : WorkerNames) (token : List ℕ) (details : List Payload) (canceled : Bool) : Type 0 where
+-- the server returned a result for a heartbeat of the task of a token, which says whether the activity is to be
+-- canceled
+pub record IsHeartbeat (gives : Gives) (names : WorkerNames) (token : List ℕ)
+    (details : List Payload) (canceled : Bool) : Type 0 where
   pub result : Data
   pub given : gives (codes "RecordActivityTaskHeartbeat") (activity_heartbeat names token details) result
   pub read : canceled ≡ is_cancel_requested result
 
--- the server said to a heartbeat of the task of a token that its activity is to be canceled
+-- the response to a heartbeat of the task of a token said that its activity is to be canceled
 pub record WasCanceled (gives : Gives) (token : List ℕ) : Type 0 where
   pub params : Data
   pub of_task : text_at (codes "taskToken") params ≡ Some token
@@ -25,7 +27,7 @@ pub record WasCanceled (gives : Gives) (token : List ℕ) : Type 0 where
   pub given : gives (codes "RecordActivityTaskHeartbeat") params result
   pub requested : is_cancel_requested result ≡ true
 
--- an activity that failed is answered for as canceled where that was heard of, and else as failed
+-- the answer for a failed activity: as canceled if that was heard in a heartbeat, otherwise as failed
 abbrev pub IsFailedActivity : WorkerNames → List ℕ → List ℕ → Bool → Request → Type 0
 IsFailedActivity names token reason true request =
     IsRequest request (codes "RespondActivityTaskCanceled") (activity_canceled names token reason)

@@ -1,4 +1,4 @@
--- The histories that a server gives, page by page.
+-- The histories that a server returns, page by page.
 use Rattle.std.specs.Prelude.{◌≡◌, ◌⊎◌, ℕ, List, [], Some, None, Ok}
 use Rattle.serde_json.specs.Data.{Data}
 use Rattle.wh_events.specs.declared.event.Event.{Event}
@@ -15,7 +15,7 @@ use Rattle.wh_responses.specs.Responses.{Page}
 abbrev pub ReadsEvents : List Data → List Event → Type 0
 ReadsEvents members events = all_of (members_from 1 None members) ≡ Ok events
 
--- all members are those before, and those of the pages after the token, if there is one
+-- all members are those given and those of the pages from the token on, if there is a token
 abbrev pub HasAllMembers : Gives → WorkerNames → RunKey → List ℕ → List Data → List Data → Type 0
 HasAllMembers gives names run token members all =
     ((token ≡ []) × (all ≡ members)) ⊎ ReadsOn gives names run token members all
@@ -24,7 +24,7 @@ HasAllMembers gives names run token members all =
 abbrev pub IsWhole : Gives → WorkerNames → RunKey → List Data → Type 0
 IsWhole gives names run members = ReadsOn gives names run [] [] members
 
--- a run hands this on: it stands in the first event of its history
+-- a run carries this over: it is what the first event of its history says
 pub record HandsOn (gives : Gives) (names : WorkerNames) (run : RunKey) (carried : Carried) : Type 0 where
   pub page : Page
   pub begins : BeginsWith gives names run page

@@ -7,14 +7,14 @@ use Rattle.wh_requests.specs.Requests.{history}
 use Rattle.wh_responses.specs.Responses.{Page, page_in}
 use Rattle.wh_client.specs.Calls.{Gives}
 
--- the server gives this page of the run's history for the token
+-- the server returns this page of the run's history for the token
 pub record IsPaged (gives : Gives) (names : WorkerNames) (run : RunKey) (token : List ℕ) (page : Page) : Type 0 where
   pub result : Data
   pub given :
       gives (codes "GetWorkflowExecutionHistory") (history names run.workflow_id run.run_id token) result
   pub read : page_in result ≡ Some page
 
--- pages lead from one token to another one: each was given for the token of the page before, and none is the last
+-- the pages lead from one token to another: each was returned for the token of the page before, and none is the last
 abbrev pub Leads : Gives → WorkerNames → RunKey → List ℕ → List Page → List ℕ → Type 0
 Leads gives names run token [] next = next ≡ token
 Leads gives names run token (page ∷ pages) next =
@@ -33,7 +33,7 @@ pub record BeginsWith (gives : Gives) (names : WorkerNames) (run : RunKey) (page
   pub empty : all_members before ≡ []
   pub given : IsPaged gives names run reached page
 
--- all pages after a token: those that lead to the last one, and that one
+-- all pages from a token on: those that lead to the last one, and that one
 pub record AreAllPages (gives : Gives) (names : WorkerNames) (run : RunKey) (token : List ℕ)
     (pages : List Page) : Type 0 where
   pub before : List Page
@@ -44,7 +44,7 @@ pub record AreAllPages (gives : Gives) (names : WorkerNames) (run : RunKey) (tok
   pub given : IsPaged gives names run reached last
   pub ends : last.next_page ≡ []
 
--- the members of all pages after the token were appended
+-- the members of all pages from the token on were appended
 pub record ReadsOn (gives : Gives) (names : WorkerNames) (run : RunKey) (token : List ℕ)
     (old new : List Data) : Type 0 where
   pub pages : List Page

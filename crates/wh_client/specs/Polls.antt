@@ -1,4 +1,4 @@
--- What polls give.
+-- The results of polls.
 use Rattle.std.specs.Prelude.{◌≡◌, Bool, codes}
 use Rattle.serde_json.specs.Data.{Data}
 use Rattle.serde_json.specs.View.{view}
@@ -9,19 +9,19 @@ use Rattle.wh_requests.specs.Requests.{poll_workflow, poll_activity}
 use Rattle.wh_responses.specs.Responses.{Poll, query, workflow_poll, activity_poll}
 use Rattle.wh_client.specs.Calls.{Gives}
 
--- the server gives a result of this meaning for a poll of a queue
+-- the server returns a result of this meaning for a poll of a queue
 pub record IsWorkflowPoll (gives : Gives) (names : WorkerNames) (sticky : Bool) (poll : Poll) : Type 0 where
   pub result : Data
   pub given : gives (codes "PollWorkflowTaskQueue") (poll_workflow names sticky) result
   pub read : poll ≡ workflow_poll result
 
--- the server gives a result of this meaning for a poll of activities
+-- the server returns a result of this meaning for a poll for activity tasks
 pub record IsActivityPoll (gives : Gives) (names : WorkerNames) (poll : ActivityPoll) : Type 0 where
   pub result : Data
   pub given : gives (codes "PollActivityTaskQueue") (poll_activity names) result
   pub read : poll ≡ activity_poll result
 
--- the server gives this query for a poll of a queue
+-- the server returns this query for a poll of a queue
 abbrev pub GivesQuery : Gives → QueryPoll → Type 0
 GivesQuery gives asked =
     (names : WorkerNames) × (sticky : Bool) × IsWorkflowPoll gives names sticky (query asked.token (view asked.result))

@@ -1,11 +1,11 @@
--- What a refusal says.
+-- What refused calls mean.
 use Rattle.std.specs.Prelude.{◌≡◌, string_bytes, ⊤}
 use Rattle.wh_client.specs.declared.asking.AskFault.{AskFault}
 use Rattle.wh_client.specs.declared.asking.AskFault.TheVariants as asked
 use Rattle.wh_client.specs.declared.codes.Status.TheVariants.{Other}
 use Rattle.wh_responses.specs.Refusals as server
 
--- the call was refused since its request is larger than the server takes
+-- the call was refused because its request is larger than the server accepts
 abbrev pub IsTooLarge : AskFault → Type 0
 IsTooLarge asked.Closed = ⊥
 IsTooLarge asked.Output = ⊥
@@ -15,7 +15,7 @@ IsTooLarge asked.TooManyPages = ⊥
 IsTooLarge (asked.History fault) = ⊥
 IsTooLarge asked.OutOfMemory = ⊥
 
--- a call that failed says nothing of later polls nor of a task: where it was refused, its status is none of those that a
+-- a failed call says nothing about later polls nor about a task: if it was refused, its status is none of those that a
 -- worker distinguishes
 abbrev pub HasNoMeaning : AskFault → Type 0
 HasNoMeaning asked.Closed = ⊤

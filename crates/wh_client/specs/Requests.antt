@@ -12,12 +12,12 @@ pub record IsRequest (request : Request) (method : List ℕ) (params : Data) : T
   pub calls : request.method.now ≡ method
   pub says : view request.params ≡ params
 
--- a call of this method with what is to be written, or the fault, unless memory ran out
+-- a call of this method with the written parameters, or the fault, unless memory ran out
 abbrev pub WritesRequest : Result Request RequestFault → List ℕ → Result Data RequestFault → Type 0
 WritesRequest (Ok request) method written = (request.method.now ≡ method) × (written ≡ Ok (view request.params))
 WritesRequest (Err fault) method written = fault ≢ OutOfMemory → written ≡ Err fault
 
--- the server gave a result for the request
+-- the server returned a result for the request
 pub record IsAcknowledged (gives : Gives) (request : Request) : Type 0 where
   pub result : Data
   pub given : gives request.method.now (view request.params) result

@@ -1,9 +1,9 @@
--- What the workers of a role poll.
+-- What the workers of a role poll for.
 use Rattle.std.specs.Prelude.{Bool, true, false, Option, Some, None}
 use Rattle.wh_client.specs.declared.options.Role.{Role}
 use Rattle.wh_client.specs.declared.options.Role.TheVariants.{Normal, Sticky, Activities}
 
--- whether the workflow tasks are those of the sticky queue, if workflow tasks are polled
+-- whether the sticky queue is polled, if workflow tasks are polled for
 abbrev pub polls_sticky : Role → Option Bool
 polls_sticky Normal = Some false
 polls_sticky Sticky = Some true

@@ -1,4 +1,4 @@
-//! Calls whose result is asked for.
+//! Makes calls and returns their results.
 
 ghost use Rattle.std.specs.Prelude.{◌≡◌, ◌↔◌, true, IfOk, Ok};
 ghost use Rattle.serde_json.specs.View.{view};
@@ -15,27 +15,27 @@ use wh_json::ReadFault;
 use wh_responses::is_too_large;
 use wh_rpc::{CallFault, Outcome};
 
-/// Why a call gave no result that can be used.
+/// Why a call has no usable result.
 #[derive(Debug, Drop)]
 pub enum AskFault {
     /// No response will come.
     Closed,
     /// The request could not be written.
     Output,
-    /// The server refused it.
+    /// The server refused it, with an error.
     Refused {
-        /// What its code means.
+        /// The status of its code.
         status: Status,
         /// Its code (gRPC, "Status codes").
         code: i64,
-        /// Its text.
+        /// Its message.
         message: String,
     },
-    /// The result can't be read.
+    /// The result is malformed.
     Unreadable,
-    /// A history has more pages than are read.
+    /// A history has more than 1,000,000 pages.
     TooManyPages,
-    /// The events of a history can't be read.
+    /// The events of a history are malformed.
     History(ReadFault),
     /// There was no memory.
     OutOfMemory,
@@ -58,7 +58,7 @@ impl From<OutOfMemory> for AskFault {
 }
 
 impl AskFault {
-    /// Whether the call was refused since its request is larger than the server takes.
+    /// Returns whether the call was refused because its request is larger than the server accepts.
     pub fn is_too_large(&self) -> bool
         ensures { (result ≡ true) ↔ IsTooLarge self.now }
     {
@@ -74,7 +74,7 @@ impl AskFault {
     }
 }
 
-/// Why a call has no outcome, as it is asked here.
+/// Returns the fault of a call that got no response.
 fn unanswered(why: CallFault) -> AskFault {
     match why {
         CallFault::Closed => AskFault::Closed,
@@ -83,7 +83,7 @@ fn unanswered(why: CallFault) -> AskFault {
     }
 }
 
-/// The id and the result of a call.
+/// Returns the id and the result of a call, or the fault for its error.
 fn result_of(response: Result<(u64, Outcome), CallFault>) -> Result<(u64, Value), AskFault>
     ensures { IfOk result (λ given. response ≡ Ok (given.0, Given given.1)) }
 {
@@ -98,7 +98,7 @@ fn result_of(response: Result<(u64, Outcome), CallFault>) -> Result<(u64, Value)
     }
 }
 
-/// Calls, and gives the id of the call and its result.
+/// Makes a call and returns its id and result.
 pub(crate) fn ask<L: Connection>(
     connection: &L,
     method: &str,
@@ -109,7 +109,7 @@ pub(crate) fn ask<L: Connection>(
     result_of(connection.call(method, params))
 }
 
-/// Polls, and gives the id of the poll and its result.
+/// Makes a poll and returns its id and result.
 pub(crate) fn ask_poll<L: Connection>(
     connection: &L,
     method: &str,

@@ -1,4 +1,4 @@
-//! The client of a server's calls, and what it reads from there.
+//! The client of a server: its polls, and the histories that it fetches.
 
 ghost use Rattle.std.specs.Prelude.{◌≡◌, IfErr, IfOk, Some, map};
 ghost use Rattle.serde_json.specs.View.{view};
@@ -22,19 +22,19 @@ use wh_json::{ReadFault, read_members};
 use wh_requests::{poll_activity, poll_workflow};
 use wh_responses::{ActivityPoll, HistoryPage, WorkflowPoll, activity_poll, workflow_poll};
 
-/// The client of a server's calls for a worker, with what all workers of a process share.
+/// The client of a server for one worker, with what all workers of a process share.
 #[derive(Drop)]
 pub struct Client<'a, L> {
-    /// What its calls go through.
+    /// The connection over which it makes calls.
     pub connection: &'a L,
-    /// What it says of the worker.
+    /// The worker's options.
     pub options: &'a LiveOptions,
-    /// What is known of the activity task that the worker runs, where its handler may beat.
+    /// What is known of the activity task that the worker runs, if its handler may send heartbeats.
     pub cell: Option<&'a ActivityCell>,
 }
 
-/// Why a poll failed whose page could not be had. What the page was refused with says nothing of
-/// later polls.
+/// Returns the fault of a poll whose history page could not be fetched. A refused page says nothing
+/// about later polls.
 fn of_page(fault: AskFault) -> AskFault
     ensures { HasNoMeaning result }
 {
@@ -48,7 +48,7 @@ fn of_page(fault: AskFault) -> AskFault
     }
 }
 
-/// What a run hands on whose history begins with a page.
+/// Reads what a run carries over from the page with which its history begins.
 fn carried_in_page(page: &HistoryPage) -> Result<CarriedOver, AskFault>
     ensures carried { IfOk result (λ carried.
         carried_in (map view page.now.members.items) ≡ Some (carried_seen carried)) }
@@ -60,8 +60,8 @@ fn carried_in_page(page: &HistoryPage) -> Result<CarriedOver, AskFault>
     }
 }
 
-/// The events that the members of a history are. `History` says why they can't be read,
-/// `OutOfMemory` that there was no memory for them.
+/// Reads the events of a history. `History` says why they are malformed, `OutOfMemory` that there
+/// was no memory for them.
 pub fn read_history(alloc: Global, members: &[Value]) -> Result<Vec<Event>, AskFault>
     ensures { IfOk result (λ events. ReadsEvents (map view members.now) events.items) }
 {
@@ -73,13 +73,13 @@ pub fn read_history(alloc: Global, members: &[Value]) -> Result<Vec<Event>, AskF
 }
 
 impl<L: Connection> Client<'_, L> {
-    /// Where it takes memory.
+    /// Returns the allocator that it uses.
     pub fn allocator(&self) -> Global {
         self.connection.allocator()
     }
 
-    /// Polls a queue of workflow tasks, and gives the id of the poll and what its result means. The
-    /// fault says why there is no result.
+    /// Polls the sticky queue, or the one that all workers poll, for workflow tasks, and returns
+    /// the id of the poll and what the response means. The error says why there is no result.
     pub fn ask_workflow(&self, sticky: bool) -> Result<(u64, WorkflowPoll), AskFault>
         ensures { IfOk result (λ polled.
             IsWorkflowPoll L.gives self.now.options.now.names sticky (poll_seen polled.1)) }
@@ -90,8 +90,8 @@ impl<L: Connection> Client<'_, L> {
         Ok((id, poll))
     }
 
-    /// Polls activity tasks, and gives the id of the poll and what its result means. The fault says
-    /// why there is no result.
+    /// Polls for activity tasks, and returns the id of the poll and what the response means. The
+    /// error says why there is no result.
     pub fn ask_activity(&self) -> Result<(u64, ActivityPoll), AskFault>
         ensures { IfOk result (λ polled.
             IsActivityPoll L.gives self.now.options.now.names polled.1) }
@@ -102,9 +102,9 @@ impl<L: Connection> Client<'_, L> {
         Ok((id, poll))
     }
 
-    /// All members of a task's history: those that it came with, and those of the pages after
-    /// them. The fault says why a page could not be had; where one was refused its status is
-    /// `Other`, since that says nothing of later polls.
+    /// Returns all events of a task's history, as JSON values: those that it came with, and those
+    /// of the pages after them. The error says why a page could not be fetched. If the server
+    /// refused it, the status is `Other`, since that says nothing about later polls.
     pub fn with_pages(
         &self,
         run: &RunKey,
@@ -131,11 +131,11 @@ impl<L: Connection> Client<'_, L> {
         }
     }
 
-    /// What a run hands on to the one that continues it, read from the first page of its history that
-    /// has an event. The fault says why it could not be had: `Unreadable` also where that event is not
-    /// the one that starts the run, or no page has an event, and `TooManyPages` where 1,000,000 pages
-    /// have none and more are to come. Where a page was refused its status is `Other`, since that says
-    /// nothing of the task.
+    /// Fetches what a run carries over to the one that continues it, from the first page of its
+    /// history that has an event. The error says why it could not be fetched: `Unreadable` also if
+    /// that event is not the one that starts the run, or no page has an event, and `TooManyPages`
+    /// if 1,000,000 pages have none and more are to come. If the server refused a page, the status
+    /// is `Other`, since that says nothing about the task.
     pub fn fetch_carried(&self, run: &RunKey) -> Result<CarriedOver, AskFault>
         ensures carried { IfOk result (λ carried.
             HandsOn L.gives self.now.options.now.names run.now (carried_seen carried)) }
@@ -147,8 +147,8 @@ impl<L: Connection> Client<'_, L> {
         }
     }
 
-    /// The members of the history of a run, from its first event. The fault says why they could not
-    /// be had.
+    /// Fetches the history of a run from its first event, as JSON values. The error says why it
+    /// could not be fetched.
     pub fn fetch_history(&self, run: &RunKey) -> Result<Vec<Value>, AskFault>
         ensures { IfOk result (λ members.
             IsWhole L.gives self.now.options.now.names run.now (map view members.items)) }

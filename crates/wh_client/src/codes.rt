@@ -1,26 +1,26 @@
-//! What the codes of refused calls mean for a poll and for an answer.
+//! What the status codes of refused calls mean for a poll and for an answer.
 
 ghost use Rattle.std.specs.Prelude.{◌≡◌, ◌≢◌};
 ghost use Rattle.wh_client.specs.Codes.{HasCode, poll_end, refused_answer, is_taken, keeps_run};
 
-/// The status of a refused call, of those that a worker distinguishes (gRPC, "Status codes").
+/// The status of a refused call, among those that a worker distinguishes (gRPC, "Status codes").
 #[derive(Clone, Copy, PartialEq, Eq, Debug)]
 pub enum Status {
-    /// 1: the call was given up, as a bridge does when it shuts down.
+    /// 1: the call was canceled, as a bridge does when it shuts down.
     Cancelled,
-    /// 3: the server can't do what it is asked for.
+    /// 3: the request is invalid for the server.
     InvalidArgument,
-    /// 5: what the call is about is not there, or no longer.
+    /// 5: what the call refers to does not exist, or no longer.
     NotFound,
-    /// 7: the caller may not do this.
+    /// 7: the caller may not make this call.
     PermissionDenied,
-    /// 16: the server does not know who calls.
+    /// 16: the caller is not authenticated.
     Unauthenticated,
     /// Any other code.
     Other,
 }
 
-/// The status that a code names.
+/// Returns the status of a code.
 pub fn status_of(code: i64) -> Status
     ensures { HasCode result code }
 {
@@ -34,18 +34,19 @@ pub fn status_of(code: i64) -> Status
     }
 }
 
-/// What follows where a poll was refused.
+/// What follows after a refused poll.
 #[derive(Clone, Copy, PartialEq, Eq, Debug)]
 pub enum PollEnd {
     /// There are no more tasks.
     Closed,
-    /// No poll will do better: there is no such namespace, or no leave to poll there.
+    /// No later poll can succeed: the namespace does not exist, or the worker is not permitted to
+    /// poll it.
     Never,
-    /// A later poll may do better.
+    /// A later poll may succeed.
     Later,
 }
 
-/// What follows where a poll was refused with a status.
+/// Returns what follows after a poll that was refused with a status.
 pub fn poll_end(status: Status) -> PollEnd
     ensures { result ≡ poll_end status }
 {
@@ -62,27 +63,28 @@ pub fn poll_end(status: Status) -> PollEnd
 /// What became of the answer to a task.
 #[derive(Clone, Copy, PartialEq, Eq, Debug)]
 pub enum Receipt {
-    /// The server took it.
+    /// The server accepted it.
     Acknowledged,
-    /// The task is over: it timed out, or its answer had been taken and only the response was lost.
+    /// The task is over: it timed out, or its answer had been accepted and only the response was
+    /// lost.
     NotFound,
-    /// The server has failed the task itself, as where a signal came in while the answer closed the
+    /// The server has failed the task itself, as when a signal came in while the answer closed the
     /// run. A new task follows.
     Invalid,
     /// It is a failure of a later attempt, which is not sent: the attempt times out.
     Withheld,
-    /// It can't be written as a request, or is larger than the server takes. The task was failed in
-    /// its place.
+    /// It can't be written as a request, or is larger than the server accepts. The task was failed
+    /// instead.
     Replaced,
-    /// No response came before the bridge closed.
+    /// The bridge closed before a response came.
     Cut,
-    /// The server or the bridge gave up, or it could not be written to the bridge.
+    /// The server or the bridge returned another error, or the request could not be written.
     Lost,
     /// There was no memory.
     NoMemory,
 }
 
-/// What becomes of an answer that was refused with a status.
+/// Returns what became of an answer that was refused with a status.
 pub fn refused_answer(status: Status) -> Receipt
     ensures is { result ≡ refused_answer status }
     ensures unacknowledged { result ≢ Receipt.Acknowledged }
@@ -97,7 +99,8 @@ pub fn refused_answer(status: Status) -> Receipt
 }
 
 impl Receipt {
-    /// Whether the answer was taken for the server.
+    /// Returns whether the answer counts as taken: the server has it, needs none for this task, or
+    /// it was withheld on purpose.
     pub fn is_taken(self) -> bool
         ensures { result ≡ is_taken self }
     {
@@ -108,9 +111,9 @@ impl Receipt {
         }
     }
 
-    /// Whether the run of the task may be cached. Attempts of a task that was not completed can end
-    /// in one event number with other times, so the run of an attempt that did not count may differ
-    /// from the history that goes on.
+    /// Returns whether the run of the task may be cached. Attempts of a task that was not completed
+    /// can end with the same event number and other times, so the run of such an attempt may differ
+    /// from the history that follows.
     pub fn keeps_run(self) -> bool
         ensures { result ≡ keeps_run self }
     {

@@ -1,4 +1,4 @@
-//! What a live source works through.
+//! The connection of a live source to its server.
 
 use serde_json::Value;
 use std::alloc::Global;
@@ -8,11 +8,11 @@ use wh_heartbeat::ActivityCell;
 use wh_responses::QueryPoll;
 use wh_rpc::{CallFault, Outcome};
 
-/// What a live source works through: calls of the server, and reports. Many workers share it. Its
-/// calls wait for the server.
+/// The connection of a live source: it makes calls to the server and reports. Many workers share
+/// it. Its calls wait for the server.
 ///
-/// Which results a request may get is what an implementation says of its server: where a bridge lies
-/// between, it can say nothing.
+/// An implementation says what results its server may return for a request; with a bridge in
+/// between it can say nothing.
 pub trait Connection {
     ghost use Rattle.std.specs.Prelude.{◌≡◌, ◌++◌, ◌∷◌, [], ℕ, List, IfOk, true};
     ghost use Rattle.serde_json.specs.Data.{Data};
@@ -24,39 +24,39 @@ pub trait Connection {
     /// Which results a request may get, by its method and its parameters.
     ghost gives: { List ℕ → Data → Data → Type 0 };
 
-    /// Where calls take memory.
+    /// Returns the allocator that calls use.
     fn allocator(&self) -> Global;
 
-    /// Sends a request, waits for its response, and gives its id and what the response says.
-    /// `Closed` where no response will come, `Output` where the request could not be written,
-    /// `OutOfMemory` where there was no memory for it.
+    /// Sends a request, waits for its response and returns its id and outcome. `Closed` if no
+    /// response will come, `Output` if the request could not be written, `OutOfMemory` if there was
+    /// no memory for it.
     fn call(&self, method: &str, params: Value) -> Result<(u64, Outcome), CallFault>
         ensures { IfOk result (λ response. OnGiven (gives method.now (view params)) response.1) };
 
-    /// As `call`, but `Closed` also once the bridge shuts down.
+    /// As `call`, but also `Closed` once the bridge shuts down.
     fn poll(&self, method: &str, params: Value) -> Result<(u64, Outcome), CallFault>
         ensures { IfOk result (λ response. OnGiven (gives method.now (view params)) response.1) };
 
-    /// Hands a query that a poll gave on to what answers queries beside the workers. It comes back where
-    /// nothing does.
+    /// Passes a query that a poll returned to what answers queries beside the workers. Returns the
+    /// query if nothing does.
     fn hand_on(&self, query: QueryPoll) -> Result<(), QueryPoll>
         requires { GivesQuery gives query };
 
-    /// Writes a line on what went wrong.
+    /// Writes a line that says what went wrong.
     fn report(&self, what: &str);
 
-    /// Writes a line on a task, with the time.
+    /// Writes a line about a task, with the time.
     fn log(&self, what: &str);
 
-    /// Notes in a worker's cell that the activity task of the token runs now.
+    /// Notes in a worker's cell that the activity task of the token now runs.
     fn begin_activity(&self, cell: &ActivityCell, token: &Text);
 
-    /// Whether a heartbeat for the activity task of the token, as the worker's cell knows, was told that
-    /// the activity is to be canceled.
+    /// Returns whether, by the worker's cell, the response to a heartbeat of the activity task of
+    /// the token said that the activity is to be canceled.
     fn was_canceled(&self, cell: &ActivityCell, token: &Text) -> bool
         ensures { result ≡ true → WasCanceled gives token.now };
 
-    /// Waits so many milliseconds, and notes that in the list of pauses that were made.
+    /// Waits this many milliseconds, and appends them to the list of pauses.
     fn pause(&self, milliseconds: u64, pauses: &mut GhostList<u64>)
         ensures { pauses.new.items ≡ pauses.old.items ++ milliseconds ∷ [] };
 }

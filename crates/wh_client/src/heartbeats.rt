@@ -1,4 +1,4 @@
-//! Heartbeats of activities, and answers for activities that failed or were canceled.
+//! Sends heartbeats of activities, and writes answers for activities that failed or were canceled.
 
 ghost use Rattle.std.specs.Prelude.{◌≡◌, true, IfOk};
 ghost use Rattle.wh_client.specs.Heartbeats.{IsFailedActivity, IsHeartbeat, WasCanceled};
@@ -12,9 +12,9 @@ use wh_events::{OutOfMemory, Payload, Text};
 use wh_requests::{activity_canceled, activity_failed, activity_heartbeat};
 use wh_responses::is_cancel_requested;
 
-/// Tells the server that the activity of a task goes on, with details, and says whether it is to be
-/// canceled (Temporal documentation, "Activity Heartbeat"). The fault says why that is not known:
-/// where it is `Refused` as `NotFound` the server has no such task more.
+/// Sends a heartbeat with details for the activity of a task, and returns whether the activity is
+/// to be canceled (Temporal documentation, "Activity Heartbeat"). The error says why that is not
+/// known: `Refused` with `NotFound` means that the server no longer has such a task.
 pub fn record_heartbeat<L: Connection>(
     connection: &L,
     names: &WorkerNames,
@@ -30,15 +30,16 @@ pub fn record_heartbeat<L: Connection>(
 }
 
 impl<L: Connection> Client<'_, L> {
-    /// Notes that the activity task of the token runs now, where the worker's handler may beat.
+    /// Notes that the activity task of the token now runs, if the worker's handler may send
+    /// heartbeats.
     pub fn begin_activity(&self, token: &Text) {
         if let Some(cell) = self.cell {
             self.connection.begin_activity(cell, token);
         }
     }
 
-    /// Whether a heartbeat for the activity task of the token was told that the activity is to be
-    /// canceled.
+    /// Returns whether the response to a heartbeat of the activity task of the token said that the
+    /// activity is to be canceled.
     pub fn was_canceled(&self, token: &Text) -> bool
         ensures { result ≡ true → WasCanceled L.gives token.now }
     {
@@ -48,9 +49,8 @@ impl<L: Connection> Client<'_, L> {
         }
     }
 
-    /// Answers for the activity task of a token whose activity failed, with the reason: as canceled
-    /// where the handler had heard that it is to be, and has given up; else as failed. `OutOfMemory`
-    /// where there was no memory for the request.
+    /// Writes the answer to an activity task whose activity failed, with the reason: as canceled if
+    /// `was_canceled`, otherwise as failed. `OutOfMemory` if there was no memory for the request.
     pub fn activity_failed(
         &self,
         token: &Text,

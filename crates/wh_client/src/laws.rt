@@ -1,10 +1,11 @@
-//! What the codes of refused calls mean, each law as the contract of a function that does nothing.
+//! What the status codes of refused calls mean, each law as the contract of a function that does
+//! nothing.
 ghost use Rattle.wh_client.specs.Codes.{AnswersByCode, NoRunByCode, PollsByCode, RunsByReceipt};
 
-/// Polls end for good where one is canceled, and where no worker gets in; after any other code one
-/// is tried again. An answer that is refused counts as taken where its task is over or was failed by
-/// the server, and its run is never cached: a run is cached exactly where the server acknowledged
-/// the answer.
+/// Polling ends when a poll is canceled, and fails for good when the worker is not let in; after
+/// any other code a poll is tried again. A refused answer counts as taken exactly if its task is
+/// over or the server has failed the task, and its run is never cached: a run is cached exactly if
+/// the server acknowledged the answer.
 pub fn codes_are_said()
     ensures no_run { NoRunByCode }
     ensures polls { PollsByCode }

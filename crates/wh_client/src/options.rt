@@ -1,4 +1,4 @@
-//! What a worker polls, and what it says of itself.
+//! The options and the role of a worker.
 
 ghost use Rattle.std.specs.Prelude.{◌≡◌};
 ghost use Rattle.wh_client.specs.Roles.{polls_sticky};
@@ -6,33 +6,34 @@ ghost use Rattle.wh_client.specs.Roles.{polls_sticky};
 use wh_commands::WorkerNames;
 use wh_policies::Policies;
 
-/// What all workers of a process share.
+/// The options that all workers of a process share.
 #[derive(Debug, Drop)]
 pub struct LiveOptions {
-    /// What they call themselves.
+    /// Their names.
     pub names: WorkerNames,
-    /// What a server is asked for with the commands of workflows, by the names in them.
+    /// The options of the commands of workflows, by the names in the commands.
     pub policies: Policies,
-    /// How many seconds a task waits in the sticky queue; `None` without a cache, and where one
-    /// worker alone serves workflows, since others poll that queue.
+    /// How many seconds a task waits in the sticky queue; `None` without a cache, and if only one
+    /// worker serves workflows, since that queue is polled by others.
     pub sticky: Option<u32>,
-    /// Whether each task is reported once it is answered.
+    /// Whether a line is logged for each answered task.
     pub verbose: bool,
 }
 
-/// Which tasks a worker polls.
+/// Which tasks a worker polls for.
 #[derive(Clone, Copy, PartialEq, Eq, Debug)]
 pub enum Role {
     /// Workflow tasks of the queue that all workers of the application poll.
     Normal,
-    /// Workflow tasks of the queue of this process, whose runs it has cached.
+    /// Workflow tasks of the sticky queue, whose runs this process has cached.
     Sticky,
     /// Activity tasks.
     Activities,
 }
 
 impl Role {
-    /// Whether the workflow tasks that it polls are those of the sticky queue, if it polls any.
+    /// Returns whether it polls the sticky queue for workflow tasks, or `None` if it polls for
+    /// none.
     pub fn polls_sticky(self) -> Option<bool>
         ensures { result ≡ polls_sticky self }
     {

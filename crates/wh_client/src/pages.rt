@@ -1,4 +1,4 @@
-//! The pages of a history.
+//! Fetches the pages of a history.
 
 ghost use Rattle.std.specs.Prelude.{◌≡◌, [], IfOk, OnOk, map};
 ghost use Rattle.serde_json.specs.View.{view};
@@ -13,10 +13,10 @@ use wh_events::{RunKey, Text};
 use wh_requests::history;
 use wh_responses::{HistoryPage, history_page};
 
-/// The most pages of a history.
+/// The maximum number of pages of a history.
 const MOST_PAGES: u64 = 1_000_000;
 
-/// The page of a run's history after a token, or the first one where the token is empty.
+/// Fetches the page of a run's history for a token, or the first one if the token is empty.
 #[tactic(auto, using(crate::proofs::Paging::paged_by))]
 pub(crate) fn ask_page<L: Connection>(
     connection: &L,
@@ -41,7 +41,7 @@ pub(crate) fn ask_page<L: Connection>(
     }
 }
 
-/// The first page of a run's history that has an event, or the last one where none has.
+/// Fetches the first page of a run's history that has an event, or the last one if none has.
 pub(crate) fn ask_first_page<L: Connection>(
     connection: &L,
     names: &WorkerNames,
@@ -61,8 +61,8 @@ pub(crate) fn ask_first_page<L: Connection>(
     Err(AskFault::TooManyPages)
 }
 
-/// Appends the members of all pages of a run's history after a token, or of the whole history
-/// where the token is empty. After an error some of them may have been appended.
+/// Appends the events of all pages of a run's history from a token on, or of the whole history if
+/// the token is empty. After an error some of them may have been appended.
 pub(crate) fn append_pages<L: Connection>(
     connection: &L,
     names: &WorkerNames,

@@ -1,4 +1,4 @@
-//! The requests that answer tasks, and their sending.
+//! Writes and sends the requests that answer tasks.
 
 ghost use Rattle.std.specs.Prelude.{IfOk, OnOk, [], codes};
 ghost use Rattle.wh_commands.specs.CarryingOver.{carried_seen};
@@ -18,7 +18,7 @@ use wh_requests::{
 };
 use wh_workflow::Command;
 
-/// A call that is to be made.
+/// A call to be made.
 #[derive(Debug, Drop)]
 pub struct Request {
     /// Its method, as `RespondWorkflowTaskCompleted`.
@@ -28,10 +28,10 @@ pub struct Request {
 }
 
 impl<L: Connection> Client<'_, L> {
-    /// Completes the workflow task of a token with commands, after the events that they were
-    /// replayed from. What is carried over goes with a Continue-As-New alone. Queries that came with
-    /// the task get no result, so they come again by themselves. The fault is that of the first
-    /// command that can't be written; `OutOfMemory` can come in place of each.
+    /// Writes the completion of the workflow task of a token with commands, after the events that
+    /// they were replayed from. What is carried over is only used in a Continue-As-New. Queries
+    /// that came with the task get no result, so they come again on their own. The error is that of
+    /// the first command that can't be written; `OutOfMemory` can replace each of them.
     pub fn completed(
         &self,
         token: &Text,
@@ -61,8 +61,8 @@ impl<L: Connection> Client<'_, L> {
         })
     }
 
-    /// Fails the workflow task of a token under a cause, with what went wrong. `OutOfMemory` where
-    /// there was no memory for the request.
+    /// Writes the failure of the workflow task of a token, with a cause and a message.
+    /// `OutOfMemory` if there was no memory for the request.
     pub fn failed(
         &self,
         token: &Text,
@@ -79,8 +79,8 @@ impl<L: Connection> Client<'_, L> {
         })
     }
 
-    /// Completes the activity task of a token with the activity's result. `OutOfMemory` where there
-    /// was no memory for the request.
+    /// Writes the completion of the activity task of a token, with the activity's result.
+    /// `OutOfMemory` if there was no memory for the request.
     pub fn activity_completed(
         &self,
         token: &Text,
@@ -96,7 +96,7 @@ impl<L: Connection> Client<'_, L> {
         })
     }
 
-    /// Sends a request, and waits until the server acknowledges it. The fault says why it did not,
+    /// Sends a request and waits until the server acknowledges it. The error says why it did not,
     /// as far as that is known.
     pub fn send(&self, request: Request) -> Result<(), AskFault>
         ensures { OnOk result (IsAcknowledged L.gives request) }
@@ -108,8 +108,8 @@ impl<L: Connection> Client<'_, L> {
         }
     }
 
-    /// Says of the query of a token that it is not answered. What becomes of that is not asked: a
-    /// query that gets no answer times out.
+    /// Answers the query of a token with the message that it is not answered. Errors are ignored: a
+    /// query without an answer times out.
     pub fn refuse_query(&self, token: &Text) {
         let names = &self.options.names;
         if let Ok(params) = query_failed(self.allocator(), names, token.get(), NO_QUERIES) {
@@ -117,8 +117,8 @@ impl<L: Connection> Client<'_, L> {
         }
     }
 
-    /// Gives up the sticky queue, if there is one, which spares the next process that it waits for
-    /// this one. What becomes of that is not asked.
+    /// Gives up the sticky queue, if there is one, so that tasks don't wait there for a process
+    /// that has ended. Errors are ignored.
     pub fn give_up_queue(&self) {
         if self.options.sticky.is_some() {
             if let Ok(params) = shutdown(self.allocator(), &self.options.names) {

@@ -42,7 +42,7 @@ module _ {P A O : Type 0} (program : Program P) (fetches : LiveView → MayFetch
   origins (s ∷ setups) (e ∷ ends) all =
       (all.0.keeps.origin s.source (comes_from_itself s.source), origins setups ends all.1)
 
-  -- together they were sent no more answers more than tasks were taken
+  -- together they were sent no more further answers than tasks were taken
   sent : (setups : List (WorkerSetup LiveView A O)) (ends : List (WorkerEnd LiveView A O))
       → AllZip (IsEndOf program fetches delivers (λ s. s.answers) failures ComesFrom may hears no_shares) setups ends
       → sum_by (λ s. length s.answers) (map (λ e. e.source) ends)

@@ -6,7 +6,7 @@ use Rattle.wh_crew.specs.Crews.{role_at, roles_of, sources_of}
 use Rattle.wh_live.specs.Deliveries.{fresh}
 use Rattle.wh_commands.specs.declared.names.WorkerNames.{WorkerNames}
 
--- what is shown of the setups, with one setup more
+-- what contracts see of the setups, with one setup more
 pub shown_more : {X Y : Type 0} (show : X → Y) (setups new : List X) (setup : X) (before : List Y) → new ≡ setups ++ setup ∷ [] → map show setups ≡ before → map show new ≡ before ++ show setup ∷ []
 shown_more show setups new setup before grown known =
     ap (map show) grown ∙ map-append show setups (setup ∷ []) ∙ ap (λ l. l ++ show setup ∷ []) known
@@ -15,7 +15,7 @@ shown_more show setups new setup before grown known =
 pub count_more : {X : Type 0} (old new : ℕ) (yielded : List X) (member : X) → new ≡ old + 1 → old ≡ length yielded → new ≡ length (yielded ++ member ∷ [])
 count_more old new yielded member more count = omega (arith, more, count, length-append yielded (member ∷ []))
 
--- what they poll, with one worker more
+-- their roles, with one worker more
 pub roles_more : {X : Type 0} (normal workers : ℕ) (yielded : List X) (member : X) → roles_of normal workers (length (yielded ++ member ∷ [])) ≡ roles_of normal workers (length yielded) ++ role_at normal workers (length yielded) ∷ []
 roles_more normal workers yielded member =
     let long : length (yielded ++ member ∷ []) ≡ suc (length yielded) = omega (arith, length-append yielded (member ∷ [])) in

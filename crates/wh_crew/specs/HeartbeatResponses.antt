@@ -1,4 +1,4 @@
--- What the outcome of a heartbeat's call means for the activity.
+-- What the result of a heartbeat's call means for the activity.
 use Rattle.std.specs.Prelude.{◌≡◌, Bool, true, false, Result, Ok, Err}
 use Rattle.wh_client.specs.declared.asking.AskFault.{AskFault}
 use Rattle.wh_client.specs.declared.asking.AskFault.TheVariants as asked
@@ -7,8 +7,8 @@ use Rattle.wh_events.specs.declared.memory.OutOfMemory.{OutOfMemory}
 use Rattle.wh_heartbeat.specs.declared.heartbeat.HeartbeatResponse.{HeartbeatResponse}
 use Rattle.wh_heartbeat.specs.declared.heartbeat.HeartbeatResponse.TheVariants.{GoOn, CancelRequested, Gone, Unheard}
 
--- the server says whether it is to be canceled; where it has no such task, or the connection has closed, no answer will be
--- taken; after any other fault nothing was heard
+-- the server says whether it is to be canceled; if it has no such task, or the connection has closed, no answer will be
+-- accepted; after any other fault nothing is known
 abbrev pub means : Result Bool AskFault → Result HeartbeatResponse AskFault
 means (Ok true) = Ok CancelRequested
 means (Ok false) = Ok GoOn
@@ -17,7 +17,7 @@ means (Err asked.Closed) = Ok Gone
 means (Err asked.OutOfMemory) = Err asked.OutOfMemory
 means (Err _) = Ok Unheard
 
--- the call brought this to the handler
+-- this is the response that the handler gets for the call
 abbrev pub Means : Result Bool AskFault → Result HeartbeatResponse OutOfMemory → Type 0
 Means heard (Ok response) = means heard ≡ Ok response
 Means heard (Err refused) = means heard ≡ Err asked.OutOfMemory

@@ -1,4 +1,4 @@
--- What is left of a host whose tasks a server gave.
+-- What a host of a server's tasks leaves.
 use Rattle.std.specs.Prelude.{◌≡◌, ◌≤◌, ◌-◌, ◌^◌, ℕ, List, length, map, replicate, is_some, sum_by, Vec}
 use Rattle.std.specs.List.{AllZip}
 use Rattle.std.specs.declared.alloc.Global.{Global}
@@ -16,7 +16,7 @@ use Rattle.wh_crew.specs.Counts.{tallies_of}
 use Rattle.wh_crew.specs.Crews.{normal_workers, sources_of}
 use Rattle.wh_crew.specs.declared.serving.LiveEnd.{LiveEnd}
 
--- a request may get each result, since a bridge lies between
+-- a request may get any result, since there is a bridge in between
 abbrev pub gives_any : List ℕ → Data → Data → Type 0
 gives_any method params value = Unit {0}
 
@@ -36,9 +36,9 @@ pub record HasServed {P A O : Type 0} (program : Program P) (may : A → Answera
   pub totals : end.totals ≡ left.totals
   pub tally : end.tally ≡ tallies_of (map (λ worker. worker.source.tally) left.workers.items)
 
--- what became of the sources of a host of these sizes: each comes from one that had polled nothing, for what its place
--- polls, with the names of the options; together they were sent no more answers than tasks were taken; the tally is what
--- they counted together
+-- what became of the sources of a host of these sizes: each comes from one that had not polled yet, with the role of
+-- its place and the names of the options; together they were sent no more answers than tasks were taken; the tally is
+-- what they counted together
 pub record AreServed (config : Config) (options : LiveOptions) (workers : ℕ) (end : LiveEnd) : Type 0 where
   pub sources : List LiveView
   pub from : AllZip (λ first later. ComesFrom later first)

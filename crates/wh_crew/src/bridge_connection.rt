@@ -15,18 +15,18 @@ use wh_rpc::{CallFault, Caller, Outcome};
 use wh_tester::Shown;
 
 /// A connection over the calls of a bridge, which reports and logs on standard error. It holds the
-/// handle, since a poll is passed none.
+/// runtime handle, since a poll is not passed one.
 #[derive(Drop)]
 pub(crate) struct BridgeConnection<'a, R, C> {
     pub(crate) rt: &'a R,
     pub(crate) calls: &'a C,
-    /// What the program is called, which stands before each report.
+    /// The program's name, which begins each report.
     pub(crate) name: &'a str,
-    /// Where queries are handed on.
+    /// The queue to which queries are passed.
     pub(crate) queries: QueryQueue,
 }
 
-/// The time in whole seconds since 1970, 0 where there is no clock.
+/// Returns the time in whole seconds since 1970, 0 if there is no clock.
 fn seconds<R: Clock>(rt: &R) -> u64 {
     match rt.since_1970() {
         Ok(time) => time.as_secs(),

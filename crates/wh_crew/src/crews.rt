@@ -12,9 +12,9 @@ use wh_heartbeat::ActivityCell;
 use wh_live::{LiveSource, Tally};
 use wh_poll::{WorkerEnd, WorkerSetup};
 
-/// How many of the workflow workers poll the queue that all workers poll: one in five and at least
-/// one, or all of them where runs are not cached. Where runs are cached, two workers or more poll
-/// both queues.
+/// Returns how many of the workflow workers poll the queue that all workers poll: one in five and
+/// at least one, or all of them if runs are not cached. If runs are cached, two workers or more
+/// poll both queues.
 pub(crate) fn normal_workers(workers: usize, has_cache: bool) -> usize
     ensures is { result ≡ normal_workers workers has_cache }
     ensures normal { 1 ≤ workers → (1 ≤ result) × (result ≤ workers) }
@@ -27,8 +27,8 @@ pub(crate) fn normal_workers(workers: usize, has_cache: bool) -> usize
     }
 }
 
-/// What the worker at a place polls: first come those of the queue that all poll, then those of the
-/// sticky queue, and then those of activities.
+/// Returns the role of the worker at a place: first come those of the queue that all poll, then
+/// those of the sticky queue, and then those of activities.
 fn role_at(normal: usize, workers: usize, place: usize) -> Role
     ensures { result ≡ role_at normal workers place }
 {
@@ -41,7 +41,7 @@ fn role_at(normal: usize, workers: usize, place: usize) -> Role
     }
 }
 
-/// The cell of a place, if it has one.
+/// Returns the cell of a place, if it has one.
 fn cell_at(cells: &[Arc<ActivityCell>], place: usize) -> Option<&ActivityCell> {
     match cells.get(place) {
         Some(cell) => Some(&**cell),
@@ -49,8 +49,8 @@ fn cell_at(cells: &[Arc<ActivityCell>], place: usize) -> Option<&ActivityCell> {
     }
 }
 
-/// A setup for each worker, with turns without end. Each polls what is for its place, and has the cell
-/// of its place. `OutOfMemory` where there was no memory.
+/// Returns a setup for each worker, with the role and the cell of its place and 2^64 - 1 turns.
+/// `OutOfMemory` if there was no memory.
 pub(crate) fn setups_of<'a, L: Connection, A: Drop, O: Drop>(
     alloc: Global,
     connection: &'a L,
@@ -82,7 +82,7 @@ pub(crate) fn setups_of<'a, L: Connection, A: Drop, O: Drop>(
     Ok(setups)
 }
 
-/// What all sources have counted.
+/// Returns what all sources have counted together.
 pub(crate) fn gathered<L: Connection, A, O>(left: &[WorkerEnd<LiveSource<'_, L>, A, O>]) -> Tally
     ensures { result ≡ tallies_of (map (λ worker. worker.source.tally) left.now) }
 {

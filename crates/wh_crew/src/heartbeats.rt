@@ -1,4 +1,4 @@
-//! Heartbeats over the calls of a bridge.
+//! Sends heartbeats over the calls of a bridge.
 
 ghost use Rattle.std.specs.Prelude.{◌≡◌, IfOk};
 ghost use Rattle.wh_crew.specs.HeartbeatResponses.{Means};
@@ -9,11 +9,11 @@ use std::time::Clock;
 use wh_client::{AskFault, Status, record_heartbeat};
 use wh_commands::WorkerNames;
 use wh_events::{OutOfMemory, Payload};
-use wh_heartbeat::{ActivityCell, HeartbeatResponse, Heartbeat};
+use wh_heartbeat::{ActivityCell, Heartbeat, HeartbeatResponse};
 use wh_query_desk::QueryQueue;
 use wh_rpc::Caller;
 
-/// What the outcome of a heartbeat's call means for the activity.
+/// Returns what the result of a heartbeat's call means for the activity.
 fn response_of(heard: Result<bool, AskFault>) -> Result<HeartbeatResponse, OutOfMemory>
     ensures { Means heard result }
 {
@@ -32,9 +32,9 @@ fn response_of(heard: Result<bool, AskFault>) -> Result<HeartbeatResponse, OutOf
     }
 }
 
-/// By what the handler of a live worker beats: each beat is a call of `RecordActivityTaskHeartbeat` for
-/// the activity task that the worker runs, over the calls of its host. Where no such task is known, as
-/// there was no memory to note it, nothing is told, and the beat is `Unheard`.
+/// Sends the heartbeats of a live worker's handler: each is a call of `RecordActivityTaskHeartbeat`
+/// for the activity task that the worker runs, over the calls of its host. If no such task is
+/// known, because there was no memory to note it, nothing is sent, and the response is `Unheard`.
 #[derive(Drop)]
 pub struct LiveHeartbeat<'a, R, C> {
     rt: &'a R,
@@ -44,7 +44,7 @@ pub struct LiveHeartbeat<'a, R, C> {
 }
 
 impl<'a, R, C> LiveHeartbeat<'a, R, C> {
-    /// One for the worker of a cell, over these calls and under these names.
+    /// Returns the heartbeats of the worker of a cell, over these calls and with these names.
     pub fn new(
         rt: &'a R,
         calls: &'a C,

@@ -1,4 +1,4 @@
-//! A host beside whose workers a desk answers queries.
+//! Runs a host with a desk that answers queries beside its workers.
 
 ghost use Rattle.std.specs.Prelude.{◌≡◌, ◌≤◌, ◌+◌, ◌↔◌, IfOk, Err, map, vec_capacity, vec_len};
 ghost use denote.Param.Send.{IsSend};
@@ -24,11 +24,11 @@ use wh_poll::{
 use wh_query_desk::{QueryQueue, answer_queries};
 use wh_queryable::Queryable;
 
-/// The seats of workers that have ended, and what each of them leaves.
+/// The seats of workers that have ended, and what each worker leaves.
 type Ended<T, C, F, S, A, O> = (Vec<Seat<T, C, F>>, Vec<WorkerEnd<S, A, O>>);
 
-/// The same as `run_host_beside` of `wh_poll`, with a desk in one thread more, which answers the
-/// queries of a queue over the calls of a client. It changes nothing of the host.
+/// The same as `run_host_beside` of `wh_poll`, with a desk in one more thread, which answers the
+/// queries of a queue over the calls of a client. It does not change the host.
 pub(crate) fn run_host_answering<
     W: Queryable + Send,
     R: Threads + Wait + Clock + Sync,
@@ -70,8 +70,8 @@ pub(crate) fn run_host_answering<
     Ok(HostEnd { config, ..end })
 }
 
-/// Opens a host of these sizes over these ledgers, runs its workers, with the desk and the companion
-/// beside them, and closes it. There may be a seat beside those of the workers.
+/// Opens a host of these sizes over these ledgers, runs its workers, with the desk and the
+/// companion beside them, and closes it. There may be one seat more than workers.
 fn run_with<
     W: Queryable + Send,
     R: Threads + Wait + Clock + Sync,
@@ -119,9 +119,8 @@ fn run_with<
     })
 }
 
-/// Runs the workers of an open host, with the companion beside them, if there is one, and a desk that
-/// answers their queries until they have ended. The seat that is there for the companion comes back as
-/// it was.
+/// Runs the workers of an open host, with the companion beside them, if there is one, and a desk
+/// that answers their queries until they have ended. The companion's seat is returned unchanged.
 fn run_answering<
     R: Threads + Wait + Clock + Sync,
     W: Queryable + Send,

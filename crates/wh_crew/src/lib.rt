@@ -1,4 +1,4 @@
-//! The workers of a host whose tasks a Temporal server gives, each over a source of its own.
+//! The workers of a host of a Temporal server's tasks, each with a source of its own.
 #![tactic(auto)]
 
 mod bridge_connection;

@@ -1,4 +1,4 @@
-//! A host whose tasks a server gives.
+//! Runs a host of a server's tasks.
 
 ghost use Rattle.std.specs.Prelude.{◌≡◌, ◌+◌, ◌↔◌, Err, IfOk, vec_len};
 ghost use Rattle.wh_crew.specs.Serving.{HasServed};
@@ -23,7 +23,7 @@ use wh_queryable::Queryable;
 use wh_rpc::{Caller, read_lines};
 use wh_tester::Shown;
 
-/// What is left of a host whose tasks a server gave.
+/// What a host of a server's tasks has counted when it has ended.
 #[derive(Clone, Copy, Debug)]
 pub struct LiveEnd {
     /// What its workers counted.
@@ -32,12 +32,12 @@ pub struct LiveEnd {
     pub tally: Tally,
 }
 
-/// Reads what the bridge writes, until it ends, and gives each response to the call that waits
-/// for it. Once the input has ended, or where it can't be read, all calls are closed. Lines that are
-/// passed over are reported on standard error, each after the program's name.
+/// Reads what the bridge writes, until it ends, and delivers each response to the call that waits
+/// for it. Once the input has ended, or if it can't be read, all calls are closed. Skipped lines
+/// are reported on standard error, each after the program's name.
 ///
-/// It stands in a thread beside `serve_live`, which needs the responses to its last calls too. A
-/// program that is to end while its input is open lets that thread go: it does not join it.
+/// It runs in a thread beside `serve_live`, which needs the responses to its last calls too. A
+/// program that ends while its input is still open does not join that thread.
 pub fn read_input<R: Wait + Input + Eprint, C: Caller>(
     rt: &R,
     alloc: Global,
@@ -50,7 +50,7 @@ pub fn read_input<R: Wait + Input + Eprint, C: Caller>(
     }
 }
 
-/// The client of a process, which runs no activity itself.
+/// Returns the client of a process, which runs no activity itself.
 fn client_of<'x, L>(connection: &'x L, options: &'x LiveOptions) -> Client<'x, L> {
     Client {
         connection,
@@ -59,27 +59,29 @@ fn client_of<'x, L>(connection: &'x L, options: &'x LiveOptions) -> Client<'x, L
     }
 }
 
-/// Opens a host of these sizes, runs a worker in a thread of its own for each member of the crew
-/// over the calls of a server, and closes the host once all have ended: where the calls are closed,
-/// and where no poll will do better.
+/// Opens a host of these sizes, runs a worker in a thread of its own for each member of the crew,
+/// over the calls of a server, and closes the host once all have ended: when the calls are closed,
+/// or when no later poll can succeed.
 ///
-/// The first members poll workflow tasks, as many as there are workers of workflows; the others
-/// poll activities. With a cache one worker of workflows in five, and at least one, polls the queue
-/// that all workers poll, and the others poll that of this process, which is given up at the end;
-/// without a cache all poll the first. So one worker of workflows alone polls no queue of its
-/// process: with it `options.sticky` is to be `None`, or the tasks of its runs wait there in vain.
+/// The first members poll for workflow tasks, as many as there are workflow workers; the others
+/// poll for activity tasks. With a cache, one workflow worker in five, and at least one, polls the
+/// queue that all workers poll, and the others poll the sticky queue of this process, which is
+/// given up at the end; without a cache all poll the first. So a single workflow worker does not
+/// poll the sticky queue: with it `options.sticky` must be `None`, or the tasks of its runs wait
+/// there in vain.
 ///
-/// The cells are those of the crew's members, in their order: by them a handler's `LiveHeartbeat` knows
-/// which task it runs. A member without one hears of no cancel.
+/// The cells are those of the crew's members, in their order: by its cell a handler's
+/// `LiveHeartbeat` knows which task it runs. A member without one never learns that its activity is
+/// to be canceled.
 ///
-/// Queries of runs are answered in one thread more, from a cached run or by replay of the run's history:
-/// they take no slot, and change no count. (Temporal documentation, "Queries".)
+/// Queries of runs are answered in one more thread, from a cached run or by replay of the run's
+/// history: they take no slot, and change no count (Temporal documentation, "Queries").
 ///
-/// The companion, if there is one, looks on beside the workers in one thread more, as `run_host_beside`
-/// of `wh_poll` says. What went wrong is reported on standard error, after the program's name.
+/// The companion, if there is one, runs beside the workers in one more thread, as `run_host_beside`
+/// of `wh_poll` says. Faults are reported on standard error, after the program's name.
 ///
-/// `BadConfig` where a size is not within its range, or there are not as many seats as members of
-/// the crew; `OutOfMemory` where there was no memory. Then the crew is given up. (Temporal
+/// `BadConfig` if a size is out of its range, or there are not as many seats as members of the
+/// crew; `OutOfMemory` if there was no memory. After an error the crew is dropped. (Temporal
 /// documentation, "Workers": a Worker Process.)
 pub fn serve_live<
     'x,

@@ -25,7 +25,7 @@ module _ (gives : Gives) (names : WorkerNames) (queue : Option Bool) where
   kept_by opened task true is run kept = inl kept
   kept_by opened task false is run kept = inr (task, is, sym run, sym kept)
 
-  -- what is kept of a task that the queue gave
+  -- what is kept of a task that the queue returned
   pub kept_later : (opened : OpenTask) (task : WorkflowTask) → FromQueue gives names queue task → opened.run ≡ task.run
       → opened.later.items ≡ later_events task.events → AreLater gives names queue opened.run opened.later.items
   kept_later opened task is run kept = kept_by opened task (follows 0 task.events) is run kept
@@ -56,7 +56,7 @@ module _ (gives : Gives) (names : WorkerNames) (queue : Option Bool) where
   opened_later (Ok polled.Closed) old result new is later had = subst (HasLater gives names queue) (sym is.1) had
   opened_later (Err fault) old result new is later had = subst (HasLater gives names queue) (sym is.1) had
 
--- what holds of the task that a poll brought holds of the one that is given
+-- what holds for the task that a poll returned holds for the one that is delivered
 pub is_of_brought : {A : Type 0} (p : A → Type 0) (taken : Result (Brought A) AskFault) (given : Result (Polled A) SourceFault)
     → IfOk taken (OnTask p) → IfOk given (IfTask (λ task. taken ≡ Ok (brought.Task task))) → IfOk given (IfTask p)
 is_of_brought p taken (Ok (polled.Task task)) held is = subst (λ r. IfOk r (OnTask p)) is held

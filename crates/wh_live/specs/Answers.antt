@@ -1,4 +1,4 @@
--- Under which cause a task is failed, and what becomes of an answer whose call failed.
+-- The cause with which a task is failed, and what becomes of an answer whose call failed.
 use Rattle.std.specs.Prelude.{◌≡◌, ◌≢◌, ◌↔◌}
 use Rattle.wh_client.specs.Codes.{refused_answer}
 use Rattle.wh_client.specs.declared.asking.AskFault.{AskFault}
@@ -10,14 +10,14 @@ use Rattle.wh_requests.specs.declared.request.FailedCause.TheVariants.{Nondeterm
 use Rattle.wh_replay.specs.declared.fault.Fault.{Fault}
 use Rattle.wh_replay.specs.declared.fault.Fault.TheVariants.{NotATask, Place, Workflow, Mismatch}
 
--- commands that differ from their record are a fault of their own, and every other fault is one of the worker
+-- a mismatch of commands has its own cause; every other fault is one of the worker
 abbrev pub cause_of : Fault → FailedCause
 cause_of NotATask = Unhandled
 cause_of (Place at fault) = Unhandled
 cause_of (Workflow at fault) = Unhandled
 cause_of (Mismatch at mismatch) = Nondeterministic
 
--- an answer is cut off where the bridge has closed; where it is refused the status decides
+-- an answer is cut off if the bridge has closed; if it is refused the status decides
 abbrev pub receipt_of : AskFault → Receipt
 receipt_of asked.Closed = Cut
 receipt_of asked.Output = Lost
@@ -36,10 +36,11 @@ IsMismatch (Place at fault) = ⊥
 IsMismatch (Workflow at fault) = ⊥
 IsMismatch (Mismatch at mismatch) = Unit {0}
 
--- a task is failed as not deterministic exactly where its commands differ from their record
+-- a task is failed with a non-determinism error exactly if its commands differ from their record
 abbrev pub CausesByFault : Type 0
 CausesByFault = (fault : Fault) → (cause_of fault ≡ Nondeterministic) ↔ IsMismatch fault
 
--- an answer whose call failed is never acknowledged, and it is cut off exactly where the bridge has closed
+-- an answer whose call failed is never acknowledged, and it is cut off exactly if the bridge has closed
 abbrev pub ReceiptsByFault : Type 0
-ReceiptsByFault = (fault : AskFault) → (receipt_of fault ≢ Acknowledged) × ((receipt_of fault ≡ Cut) ↔ (fault ≡ asked.Closed))
+ReceiptsByFault = (fault : AskFault) →
+    (receipt_of fault ≢ Acknowledged) × ((receipt_of fault ≡ Cut) ↔ (fault ≡ asked.Closed))

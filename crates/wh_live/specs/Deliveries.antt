@@ -24,7 +24,7 @@ use Rattle.wh_tasks.specs.Source.{Answers, Delivery, Workflow, Activity}
 
 -- ---- Workflow tasks
 
--- the task is what a poll gave, with the events of all its pages
+-- the task is the one that a poll returned, with the events of all its pages
 pub record IsTaskOf (gives : Gives) (names : WorkerNames) (polled : read.Task) (task : WorkflowTask) : Type 0 where
   pub run : task.run ≡ polled.run
   pub members : List Data
@@ -39,7 +39,7 @@ pub record IsWorkflowTask (gives : Gives) (names : WorkerNames) (sticky : Bool) 
 
 -- ---- Activity tasks
 
--- the task is what a poll gave
+-- the task is the one that a poll returned
 pub record IsActivityOf (polled : PolledActivity) (task : ActivityTask) : Type 0 where
   pub run : task.run ≡ polled.run
   pub id : task.id ≡ polled.id
@@ -72,16 +72,16 @@ Delivers gives names role (Activity task) = FromActivities gives names role task
 
 -- ---- Histories
 
--- the events from a place on, if there is one
+-- the events from an index on, if there is one
 abbrev pub from_place : Option ℕ → List Event → List Event
 from_place None events = []
 from_place (Some place) events = drop place events
 
--- of the later events of a run those that go on where its history ends: from the one with the next number on
+-- the later events of a run that continue its history: from the one with the next number on
 abbrev pub going_on : List Event → List Event → List Event
 going_on history later = from_place (position (λ event. event.number == last_number history + 1) later) later
 
--- a history with those of the later events that go on where it ends
+-- a history continued by the later events that follow its end
 abbrev pub continued : List Event → List Event → List Event
 continued history later = history ++ going_on history later
 
@@ -94,8 +94,8 @@ pub record IsFetched (gives : Gives) (names : WorkerNames) (run : RunKey) (later
   pub are : ReadsEvents members events
   pub cut : history ≡ take up_to (continued events later)
 
--- later events of a run: none, or those of a task of it that a queue gives. A task that the server has not written
--- into the history yet (an update makes one) has events that no page has
+-- later events of a run: none, or those of a task of the run that a queue returned. A task that the server has not
+-- written into the history yet (an update makes one) has events that are on no page
 abbrev pub AreLater : Gives → WorkerNames → Option Bool → RunKey → List Event → Type 0
 AreLater gives names queue run later =
     (later ≡ []) ⊎ ((task : WorkflowTask) × FromQueue gives names queue task × (task.run ≡ run) × (task.events ≡ later))
@@ -103,23 +103,23 @@ AreLater gives names queue run later =
 -- the source of a role fetches the history of a run, continued by the events of its own task
 abbrev pub Fetches : Gives → WorkerNames → Role → RunKey → ℕ → List Event → Type 0
 Fetches gives names role run up_to history =
-    (later : List Event) × AreLater gives names (polls_sticky role) run later × IsFetched gives names run later up_to history
+    (later : List Event) × AreLater gives names (polls_sticky role) run later
+    × IsFetched gives names run later up_to history
 
--- the later events that a source keeps of the task that is to be answered, if that is one of this run
+-- the later events that a source keeps of the open task, if that is one of this run
 abbrev pub later_in : Option (RunKey × List Event) → RunKey → List Event
 later_in None run = []
 later_in (Some kept) run = if same_key kept.0 run then kept.1 else []
 
--- what is kept of a task that a queue gave are later events of its run
+-- what is kept are later events of a task that a queue returned
 abbrev pub HasKept : Gives → WorkerNames → Option Bool → Option (RunKey × List Event) → Type 0
 HasKept gives names queue None = Unit {0}
 HasKept gives names queue (Some kept) = AreLater gives names queue kept.0 kept.1
 
 -- ---- What a source is
 
--- a source as its callers see it: what it polls and for which names, which of its answers were taken, what it has
--- counted, the task whose answer the server acknowledged since the last poll, and the later events of the task that
--- is to be answered, with its run
+-- a source as its callers see it: its role and names, its answers that count as taken, what it has counted, the task
+-- whose answer the server acknowledged since the last poll, and the later events of the open task, with its run
 pub record LiveView : Type 0 where
   pub role : Role
   pub names : WorkerNames
@@ -128,7 +128,7 @@ pub record LiveView : Type 0 where
   pub acknowledged : Option TaskName
   pub later : Option (RunKey × List Event)
 
--- a source that has polled nothing
+-- a source that has not polled yet
 abbrev pub fresh : Role → WorkerNames → LiveView
 fresh role names = record {
   role = role;
@@ -139,8 +139,8 @@ fresh role names = record {
   later = None;
 }
 
--- a source comes from another one: it polls the same for the same names, it has first the answers that the other one
--- had, and at least as many failures
+-- a source comes from an earlier one: it has the same role and names, its answers begin with those of the earlier one,
+-- and it has at least as many failures
 pub record ComesFrom (later first : LiveView) : Type 0 where
   pub role : later.role ≡ first.role
   pub names : later.names ≡ first.names

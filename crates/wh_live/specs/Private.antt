@@ -1,4 +1,5 @@
--- What no contract of a public item cites: only those of private functions, and what types keep over private fields.
+-- Definitions for the contracts of private functions and for the invariants of private fields; no public contract cites
+-- them.
 pub mod Answering
 pub mod Counting
 pub mod Opening

@@ -6,7 +6,7 @@ use Rattle.wh_live.specs.declared.tallies.Tally.{Tally}
 abbrev pub no_counts : Tally
 no_counts = record { polls = 0; empty = 0; not_found = 0; refused = 0; failures = 0; faults = 0 }
 
--- two counts together, as far as a count goes
+-- the sum of two counts, at most 2^64 - 1
 abbrev pub together : ℕ → ℕ → ℕ
 together m n = min (m + n) (2 ^ 64 - 1)
 

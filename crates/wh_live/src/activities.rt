@@ -1,4 +1,4 @@
-//! Answers to activity tasks.
+//! Answers activity tasks.
 
 ghost use Rattle.std.specs.Prelude.{◌≡◌, ◌++◌, ◌∷◌, [], IfOk, OnOk, OnErr};
 ghost use Rattle.wh_client.specs.declared.codes.Receipt.TheVariants.{Acknowledged};
@@ -16,8 +16,8 @@ use wh_ghost_list::GhostList;
 use wh_slots::TaskName;
 use wh_tasks::{ActivityAnswer, Sent, SourceFault};
 
-/// The request that answers an activity task, of which the handler had heard that it is to be
-/// canceled, or not. One that was to be canceled and failed has given up.
+/// Writes the answer to an activity task. A failed activity is answered as canceled if a
+/// heartbeat's response said that it is to be canceled (`was_canceled`).
 fn activity_request<L: Connection>(
     client: &Client<'_, L>,
     task: &OpenTask,
@@ -35,7 +35,7 @@ fn activity_request<L: Connection>(
     }
 }
 
-/// Answers an activity task, and logs how it ended.
+/// Answers an activity task and logs how it ended.
 fn respond<L: Connection>(
     client: &Client<'_, L>,
     task: &OpenTask,
@@ -64,7 +64,7 @@ fn answer_open<L: Connection>(
     }
 }
 
-/// Answers the activity task of a name, and notes the answer where it was taken.
+/// Answers the activity task of a name, and records the answer if it counts as taken.
 pub(crate) fn answer_activity<L: Connection>(
     client: &Client<'_, L>,
     journal: &mut Journal,

@@ -1,4 +1,4 @@
-//! Answers to tasks.
+//! Answers workflow tasks, and sends and counts answers.
 
 ghost use Rattle.std.specs.Prelude.{◌≡◌, ◌≢◌, ◌≤◌, ◌<◌, ◌↔◌, ◌++◌, ◌∷◌, [], true, None, IsTrue, IsOk};
 ghost use Rattle.std.specs.Prelude.{IfOk, IsOkAnd, OnOk, OnErr};
@@ -31,14 +31,15 @@ use wh_slots::TaskName;
 use wh_tasks::{Acceptance, RunUse, Sent, SourceFault};
 use wh_workflow::Command;
 
-/// Whether a failure is sent in this attempt of a task. A server gives a failed task again at once.
+/// Returns whether a failure is sent in this attempt of a task. A server hands out a failed task
+/// again at once.
 fn sends_failure(attempt: u64) -> bool
     ensures { (result ≡ true) ↔ attempt ≤ 1 }
 {
     attempt <= 1
 }
 
-/// The cause under which a fault is sent.
+/// Returns the cause with which a fault is sent.
 fn cause_of(fault: &Fault) -> FailedCause
     ensures { result ≡ cause_of fault.now }
 {
@@ -48,7 +49,7 @@ fn cause_of(fault: &Fault) -> FailedCause
     }
 }
 
-/// What becomes of an answer whose call failed.
+/// Returns what became of an answer whose call failed.
 fn receipt_of(fault: &AskFault) -> Receipt
     ensures is { result ≡ receipt_of fault.now }
     ensures unacknowledged { result ≢ Acknowledged }
@@ -63,9 +64,9 @@ fn receipt_of(fault: &AskFault) -> Receipt
     }
 }
 
-/// Whether it is reported that an answer was refused with a status and a text. It is not where the
-/// task is over, nor where the run had news while its answer closed it (`UnhandledCommand`): both
-/// are normal.
+/// Returns whether a refused answer is reported, by its status and message. It is not if the task
+/// is over, nor if the run had new events while its answer closed it (`UnhandledCommand`): both are
+/// normal.
 fn reports_refusal(status: Status, message: &str) -> bool
     ensures { result ≡ reports_refusal status message.now }
 {
@@ -77,7 +78,7 @@ fn reports_refusal(status: Status, message: &str) -> bool
     }
 }
 
-/// Whether it is reported that the call of an answer failed.
+/// Returns whether the failed call of an answer is reported.
 fn is_reported(fault: &AskFault) -> bool
     ensures { result ≡ is_reported fault.now }
 {
@@ -93,7 +94,7 @@ fn is_reported(fault: &AskFault) -> bool
     }
 }
 
-/// What becomes of the run of a task whose answer had this receipt.
+/// Returns what becomes of the run of a task, by what became of the answer.
 fn run_use(receipt: Receipt) -> RunUse
     ensures { result ≡ run_use receipt }
 {
@@ -104,7 +105,7 @@ fn run_use(receipt: Receipt) -> RunUse
     }
 }
 
-/// Reports something of a task.
+/// Reports something about a task.
 fn report_of<L: Connection>(client: &Client<'_, L>, task: &OpenTask, what: &str) {
     if let Ok(text) = task.said(client.allocator(), what) {
         client.connection.report(text.as_str());
@@ -118,8 +119,8 @@ fn report_fault<L: Connection>(client: &Client<'_, L>, task: &OpenTask, fault: &
     }
 }
 
-/// What became of an answer that was sent. Where it was refused or lost that is reported, if it is
-/// not normal.
+/// Returns what became of an answer that was sent, and reports it if it was refused or lost and
+/// that is not normal.
 fn receive<L: Connection>(
     client: &Client<'_, L>,
     task: &OpenTask,
@@ -158,7 +159,7 @@ pub(crate) fn send_written<L: Connection>(
     }
 }
 
-/// Fails a workflow task, unless that was done in an earlier attempt. Either is reported.
+/// Fails a workflow task, unless this is a later attempt of it. Reports the failure in any case.
 fn fail<L: Connection>(
     client: &Client<'_, L>,
     task: &OpenTask,
@@ -177,7 +178,7 @@ fn fail<L: Connection>(
     send_written(client, task, request)
 }
 
-/// Fails a workflow task for a fault of replay.
+/// Fails a workflow task because of a fault of replay.
 fn fail_replay<L: Connection>(client: &Client<'_, L>, task: &OpenTask, fault: &Fault) -> Receipt
     ensures later { result ≡ Withheld → 1 < task.now.attempt }
     ensures sent { result ≡ Acknowledged →
@@ -189,7 +190,7 @@ fn fail_replay<L: Connection>(client: &Client<'_, L>, task: &OpenTask, fault: &F
     }
 }
 
-/// Fails a workflow task whose history can't be read.
+/// Fails a workflow task whose history is malformed.
 pub(crate) fn fail_unreadable<L: Connection>(
     client: &Client<'_, L>,
     task: &OpenTask,
@@ -218,8 +219,8 @@ fn replace<L: Connection>(
     }
 }
 
-/// Sends the completion of a workflow task. Where it is larger than the server takes the task is
-/// failed in its place.
+/// Sends the completion of a workflow task. If it is larger than the server accepts, the task is
+/// failed instead.
 fn send_completed<L: Connection>(
     client: &Client<'_, L>,
     task: &OpenTask,
@@ -238,7 +239,7 @@ fn send_completed<L: Connection>(
 }
 
 /// Completes a workflow task with commands, after the events that they were replayed from, and with
-/// what its run hands on.
+/// what its run carries over.
 fn complete_with<L: Connection>(
     client: &Client<'_, L>,
     task: &OpenTask,
@@ -260,8 +261,8 @@ fn complete_with<L: Connection>(
     }
 }
 
-/// Completes a workflow task with commands, after the events that they were replayed from. Where
-/// they continue the run as a new one, what it hands on is fetched first.
+/// Completes a workflow task with commands, after the events that they were replayed from. If they
+/// continue the run as a new one, what it carries over is fetched first.
 fn complete<L: Connection>(
     client: &Client<'_, L>,
     task: &OpenTask,
@@ -298,9 +299,8 @@ fn respond<L: Connection>(
     }
 }
 
-/// Fails the open task where its history has events that can't be read, and reports any other
-/// fault. Whether it is a fault of the source: the bridge was open, and no result came that can be
-/// used.
+/// Fails the open task if its history is malformed, and reports any other fault. Returns whether it
+/// is a fault of the source: the bridge was open, and no usable result came.
 pub(crate) fn settle_unread<L: Connection>(
     client: &Client<'_, L>,
     current: &mut Option<OpenTask>,
@@ -351,8 +351,8 @@ fn answer_open<L: Connection>(
     }
 }
 
-/// Answers the workflow task of a name, and notes the answer where it was taken. Its run may be
-/// cached where the server acknowledged the answer.
+/// Answers the workflow task of a name, and records the answer if it counts as taken. The run may
+/// be cached if the server acknowledged the answer.
 pub(crate) fn answer_workflow<L: Connection>(
     client: &Client<'_, L>,
     journal: &mut Journal,
@@ -383,7 +383,7 @@ pub(crate) fn answer_workflow<L: Connection>(
     }
 }
 
-/// Counts what became of an answer, and notes it where it was taken.
+/// Counts what became of an answer, and records the answer if it counts as taken.
 pub(crate) fn settle(
     journal: &mut Journal,
     taken: &mut GhostList<(TaskName, Sent)>,

@@ -1,4 +1,4 @@
-//! Histories that are fetched from their first event.
+//! Fetches histories from their first event.
 
 ghost use Rattle.std.specs.Prelude.{◌≡◌, ◌++◌, ◌+◌, ◌==◌, None, Err, IfOk, OnOk, position};
 ghost use Rattle.wh_tasks.specs.Numbers.{last_number};
@@ -15,7 +15,7 @@ use wh_client::{AskFault, Client, Connection, read_history};
 use wh_events::{Event, OutOfMemory, RunKey};
 use wh_tasks::SourceFault;
 
-/// The number after that of the last event, 1 where there is none.
+/// Returns the number after that of the last event, 1 if there is none.
 fn next_number(events: &[Event]) -> u64
     ensures { result ≡ last_number events.now + 1 }
 {
@@ -25,14 +25,15 @@ fn next_number(events: &[Event]) -> u64
     }
 }
 
-/// The place of the event of a number, if it is among these.
+/// Returns the index of the event of a number, if it is among these.
 fn place_of(number: u64, events: &[Event]) -> Option<usize>
     ensures { result ≡ position (λ event. event.number == number) events.now }
 {
     events.iter().position(|event| event.number.get() == number)
 }
 
-/// Those of the later events that go on where a history ends.
+/// Returns those of the later events that continue the history: from the one with the next number
+/// on.
 fn going_on<'a>(history: &[Event], later: &'a [Event]) -> &'a [Event]
     ensures { result.now ≡ going_on history.now later.entry.now }
 {
@@ -42,7 +43,7 @@ fn going_on<'a>(history: &[Event], later: &'a [Event]) -> &'a [Event]
     }
 }
 
-/// Adds copies of events at the end. After an error some of them may have been added.
+/// Appends copies of events. After an error some of them may have been appended.
 pub(crate) fn append_copies(events: &mut Vec<Event>, more: &[Event]) -> Result<(), OutOfMemory>
     ensures { OnOk result (events.new.items ≡ events.old.items ++ more.now) }
 {
@@ -52,8 +53,8 @@ pub(crate) fn append_copies(events: &mut Vec<Event>, more: &[Event]) -> Result<(
     Ok(())
 }
 
-/// The history of a run from its first event, with those of the later events that go on where it
-/// ends, cut after so many.
+/// Fetches the history of a run from its first event, continued by the later events that follow its
+/// end, and cut after `up_to` events.
 fn fetch<L: Connection>(
     client: &Client<'_, L>,
     later: &[Event],
@@ -71,7 +72,7 @@ fn fetch<L: Connection>(
     Ok(history)
 }
 
-/// The later events of the open task, if it is one of this run.
+/// Returns the later events of the open task, if it is one of this run.
 fn later_of<'a>(current: &'a Option<OpenTask>, run: &RunKey) -> &'a [Event]
     ensures { result.now ≡ later_of current.entry.now run.now }
 {
@@ -81,7 +82,7 @@ fn later_of<'a>(current: &'a Option<OpenTask>, run: &RunKey) -> &'a [Event]
     }
 }
 
-/// Notes the history that the open task is replayed from.
+/// Notes the history from which the open task is replayed.
 fn note_history(current: &mut Option<OpenTask>, history: &[Event])
     ensures { KeepsLater current.old current.new }
 {
@@ -90,7 +91,8 @@ fn note_history(current: &mut Option<OpenTask>, history: &[Event])
     }
 }
 
-/// What a source says of a history that could not be had.
+/// Counts and reports that a history could not be fetched, and closes the open task. Returns the
+/// error of the source.
 fn unfetched<L: Connection>(
     client: &Client<'_, L>,
     journal: &mut Journal,
@@ -105,8 +107,8 @@ fn unfetched<L: Connection>(
     journal.tally.failed(is_fault)
 }
 
-/// What a source says of a history that it was asked for. Where it can't be read the open task is
-/// failed.
+/// Fetches the history of a run, as a source does when asked for it. If the history is malformed
+/// the open task is failed.
 pub(crate) fn whole<L: Connection>(
     client: &Client<'_, L>,
     journal: &mut Journal,

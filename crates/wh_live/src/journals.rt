@@ -1,4 +1,4 @@
-//! What a source keeps of its polls.
+//! What a source keeps about its polls.
 
 ghost use Rattle.std.specs.Prelude.{◌≡◌, Ok, IfOk};
 ghost use Rattle.wh_live.specs.Private.Counting.{with_brought, with_end};
@@ -14,7 +14,7 @@ use crate::troubles::Trouble;
 use wh_client::{AskFault, Connection, PollEnd, poll_end};
 use wh_tasks::{Polled, SourceFault};
 
-/// What a source has counted, the polls that failed last, and whether no poll will do better.
+/// What a source has counted, its latest failed polls, and whether polling has failed for good.
 #[derive(Drop)]
 pub(crate) struct Journal {
     pub(crate) tally: Tally,
@@ -22,7 +22,7 @@ pub(crate) struct Journal {
     pub(crate) ended: bool,
 }
 
-/// What follows where a poll failed.
+/// Returns what follows after a failed poll.
 fn end_of(fault: &AskFault) -> PollEnd
     ensures { result ≡ end_of fault.now }
 {
@@ -37,7 +37,7 @@ fn end_of(fault: &AskFault) -> PollEnd
     }
 }
 
-/// What a source says of what a poll brought.
+/// Returns what a source reports to its worker for the result of a poll.
 fn polled_of<T>(brought: Brought<T>) -> Polled<T>
     ensures { result ≡ polled_of brought }
 {
@@ -48,7 +48,7 @@ fn polled_of<T>(brought: Brought<T>) -> Polled<T>
 }
 
 impl Journal {
-    /// Nothing has happened.
+    /// Returns an empty journal.
     pub(crate) fn new() -> Journal
         ensures { result.tally ≡ no_counts }
     {
@@ -59,7 +59,7 @@ impl Journal {
         }
     }
 
-    /// What the source says of a poll that failed.
+    /// Counts a failed poll, reports it and waits. Returns what the source reports to its worker.
     fn failed<L: Connection, T>(
         &mut self,
         connection: &L,
@@ -84,7 +84,7 @@ impl Journal {
         Err(self.tally.failed(true))
     }
 
-    /// What the source says of a poll.
+    /// Counts a poll. Returns what the source reports to its worker.
     pub(crate) fn polled<L: Connection, T: Drop>(
         &mut self,
         connection: &L,

@@ -1,4 +1,5 @@
-//! A source of tasks that a Temporal server gives: its polls and answers are calls of the server.
+//! A source of tasks from a Temporal server: it polls for tasks and answers them by calls to the
+//! server.
 #![tactic(auto)]
 
 mod activities;

@@ -1,4 +1,4 @@
-//! A source whose tasks a server gives.
+//! A source of tasks from a server.
 
 ghost use Rattle.std.specs.Prelude.{◌≡◌, None, Some};
 ghost use Rattle.wh_live.specs.Deliveries.{ComesFrom, Delivers, Fetches, fresh};
@@ -23,7 +23,7 @@ use wh_tasks::{
     WorkflowTask,
 };
 
-/// The task whose run may be cached after its answer.
+/// Returns the task whose run may be cached after its answer.
 fn acknowledged(run: RunUse, name: TaskName) -> Option<TaskName>
     ensures cached { run ≡ RunUse.Cache → result ≡ Some name }
     ensures discarded { run ≡ RunUse.Discard → result ≡ None }
@@ -34,18 +34,18 @@ fn acknowledged(run: RunUse, name: TaskName) -> Option<TaskName>
     }
 }
 
-/// A source whose polls and answers are calls of a Temporal server, for one worker. It delivers
-/// what was read from the results of its polls, and fetches what was read from the pages of a run's
-/// history (Temporal documentation, "Workers" and "Sticky Execution").
+/// A source of tasks from a Temporal server, for one worker. It delivers what it reads from the
+/// results of its polls, and fetches the histories of runs page by page (Temporal documentation,
+/// "Workers" and "Sticky Execution").
 ///
-/// An answer counts as taken where the server acknowledged it, where the server wants it no more
-/// (the task is over, or the server has failed it itself), and where it is kept back on purpose: a
-/// failure is sent in the first attempt of a task alone. The run of a task may be cached only where
-/// the server acknowledged the answer.
+/// An answer counts as taken if the server acknowledged it, if the server no longer needs it (the
+/// task is over, or the server has failed it itself), and if it was withheld on purpose: a failure
+/// is only sent in the first attempt of a task. The run of a task may be cached only if the server
+/// acknowledged the answer.
 ///
 /// It has one task at a time: a task that is not answered before the next poll is left to time out.
-/// A query that comes by itself is handed on within the poll, to what answers queries beside the workers;
-/// one that comes with a task gets no result, so it comes by itself later.
+/// A query that comes alone is passed, during the poll, to what answers queries beside the workers;
+/// one that comes with a task gets no result, so it comes again alone.
 #[derive(Drop)]
 pub struct LiveSource<'a, L: Connection> {
     client: Client<'a, L>,
@@ -77,8 +77,8 @@ impl<'a, L: Connection> Model for LiveSource<'a, L> {
 }
 
 impl<'a, L: Connection> LiveSource<'a, L> {
-    /// A source of a role that has polled nothing. In the cell it notes which activity task runs, for
-    /// a handler that beats.
+    /// Returns a source of a role that has not polled yet. It notes in the cell which activity task
+    /// runs, for a handler that sends heartbeats.
     pub fn new(
         connection: &'a L,
         options: &'a LiveOptions,
@@ -101,7 +101,7 @@ impl<'a, L: Connection> LiveSource<'a, L> {
         }
     }
 
-    /// What it has counted.
+    /// Returns what it has counted.
     pub fn tally(&self) -> Tally
         ensures { result ≡ self.now.tally }
     {

@@ -1,4 +1,4 @@
-//! Polls of tasks.
+//! Polls for tasks.
 
 ghost use Rattle.std.specs.Prelude.{◌≡◌, [], IfOk, Some, map};
 ghost use Rattle.serde_json.specs.View.{view};
@@ -25,7 +25,7 @@ use wh_events::{Event, Items, OutOfMemory, RunKey};
 use wh_responses::{ActivityPoll, PolledActivity, PolledTask, WorkflowPoll};
 use wh_tasks::{ActivityTask, Polled, SourceFault, WorkflowTask};
 
-/// Notes the task that is given as the one to be answered.
+/// Opens the task that a poll returned, so that it is the one to be answered.
 fn opened<T>(
     current: &mut Option<OpenTask>,
     polled: Result<Polled<(OpenTask, T)>, SourceFault>,
@@ -43,7 +43,7 @@ fn opened<T>(
     }
 }
 
-/// Whether events begin with the first of a history.
+/// Returns whether events begin with the first one of a history.
 fn begins_with_first(events: &[Event]) -> bool
     ensures { result ≡ follows 0 events.now }
 {
@@ -53,7 +53,7 @@ fn begins_with_first(events: &[Event]) -> bool
     }
 }
 
-/// Copies of the events of a task that does not come with the first event of its run.
+/// Copies the events of a task, unless they begin with the first one of its run.
 fn later_events(alloc: Global, events: &[Event]) -> Result<Vec<Event>, OutOfMemory>
     ensures { IfOk result (λ later. later.items ≡ later_events events.now) }
 {
@@ -64,7 +64,7 @@ fn later_events(alloc: Global, events: &[Event]) -> Result<Vec<Event>, OutOfMemo
     Ok(later)
 }
 
-/// The task to be answered, and the one to be given.
+/// Returns the open task, to be answered later, and the task to be delivered.
 fn given(
     alloc: Global,
     task: OpenTask,
@@ -87,8 +87,8 @@ fn given(
     Ok((task, delivered))
 }
 
-/// The task of an id with these members, to be answered and to be given. Where they can't be read
-/// the task is failed.
+/// Reads the events of a task and returns the open task and the one to be delivered. If the events
+/// are malformed the task is failed.
 fn read_task<L: Connection>(
     client: &Client<'_, L>,
     task: OpenTask,
@@ -110,7 +110,7 @@ fn read_task<L: Connection>(
     }
 }
 
-/// The task that a poll of an id gave.
+/// Opens the workflow task that the poll of an id returned, with all pages of its history.
 fn open_task<L: Connection>(
     client: &Client<'_, L>,
     id: u64,
@@ -136,7 +136,7 @@ fn open_task<L: Connection>(
     read_task(client, opened, run, members.as_slice())
 }
 
-/// What the result of a poll of workflow tasks brought.
+/// Polls for workflow tasks and reads the result.
 fn take_workflow<L: Connection>(
     client: &Client<'_, L>,
     sticky: bool,
@@ -160,7 +160,7 @@ fn take_workflow<L: Connection>(
     }
 }
 
-/// The activity task that a poll of an id gave.
+/// Opens the activity task that the poll of an id returned.
 fn open_activity<L: Connection>(
     client: &Client<'_, L>,
     id: u64,
@@ -192,7 +192,7 @@ fn open_activity<L: Connection>(
     Ok(Brought::Task((opened, task)))
 }
 
-/// What the result of a poll of activity tasks brought.
+/// Polls for activity tasks and reads the result.
 fn take_activity<L: Connection>(
     client: &Client<'_, L>,
 ) -> Result<Brought<(OpenTask, ActivityTask)>, AskFault>
@@ -210,7 +210,7 @@ fn take_activity<L: Connection>(
     }
 }
 
-/// What a source of a role says of a poll of workflow tasks. A worker of activities polls none.
+/// Polls for workflow tasks, as the source of a role. A worker of activities polls for none.
 pub(crate) fn poll_workflow<L: Connection>(
     client: &Client<'_, L>,
     role: Role,
@@ -236,8 +236,7 @@ pub(crate) fn poll_workflow<L: Connection>(
     opened(current, polled)
 }
 
-/// What a source of a role says of a poll of activity tasks. Only a worker of activities polls
-/// them.
+/// Polls for activity tasks, as the source of a role. Only a worker of activities polls for them.
 pub(crate) fn poll_activity<L: Connection>(
     client: &Client<'_, L>,
     role: Role,

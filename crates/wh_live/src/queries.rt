@@ -1,11 +1,11 @@
-//! Queries that polls bring.
+//! Queries that polls return.
 
 ghost use Rattle.wh_client.specs.Polls.{GivesQuery};
 
 use wh_client::{Client, Connection};
 use wh_responses::QueryPoll;
 
-/// Hands a query that a poll gave on to what answers queries beside the workers, or refuses it where
+/// Passes a query that a poll returned to what answers queries beside the workers, or refuses it if
 /// nothing does.
 pub(crate) fn hand_query_on<L: Connection>(client: &Client<'_, L>, query: QueryPoll)
     requires { GivesQuery L.gives query }

@@ -8,25 +8,25 @@ ghost use Rattle.wh_live.specs.Tallies.{no_counts, sum_of};
 use wh_client::Receipt;
 use wh_tasks::SourceFault;
 
-/// What a source has counted. A count that is full stays so.
+/// What a source has counted. A count stops at 2^64 - 1.
 #[derive(Clone, Copy, PartialEq, Eq, Debug)]
 pub struct Tally {
     /// Polls that got a result or an error.
     pub polls: u64,
-    /// Polls that gave no task.
+    /// Polls that returned no task.
     pub empty: u64,
     /// Answers whose task was over.
     pub not_found: u64,
-    /// Answers of which the server had failed the task itself.
+    /// Answers to tasks that the server had failed itself.
     pub refused: u64,
-    /// Calls of the source that failed, also where the bridge had closed.
+    /// Calls of the source that failed, including those after the bridge had closed.
     pub failures: u64,
     /// Calls of the source that failed while the bridge was open.
     pub faults: u64,
 }
 
 impl Tally {
-    /// Nothing is counted.
+    /// Returns a tally of zeros.
     pub fn new() -> Tally
         ensures { result ≡ no_counts }
     {
@@ -78,7 +78,7 @@ impl Tally {
         }
     }
 
-    /// Counts a call that failed, and says what the source says of it.
+    /// Counts a failed call, and returns the error of the source.
     pub(crate) fn failed(&mut self, is_fault: bool) -> SourceFault
         ensures counted { self.new ≡ with_failure is_fault self.old }
         ensures failures { FailsOnly {A = Unit {0}} (Err result) self.old.failures self.new.failures }

@@ -1,4 +1,4 @@
-//! A line for each task that was answered.
+//! Logs a line for each answered task.
 
 use crate::tasks::{OpenTask, workflow_type};
 use wh_client::{Client, Connection, Receipt};
@@ -7,7 +7,7 @@ use wh_replay::Answer;
 use wh_tasks::ActivityAnswer;
 use wh_tester::Shown;
 
-/// How a task ended that has this answer, in words.
+/// Returns in words how a task ended.
 fn outcome_words(answered: &'static str, receipt: Receipt) -> &'static str {
     match receipt {
         Receipt::Acknowledged => answered,
@@ -20,7 +20,7 @@ fn outcome_words(answered: &'static str, receipt: Receipt) -> &'static str {
     }
 }
 
-/// How many commands an answer has.
+/// Returns how many commands an answer has.
 fn count_commands(answer: &Answer) -> usize {
     match answer {
         Answer::Complete(commands) => commands.get().len(),
@@ -28,8 +28,8 @@ fn count_commands(answer: &Answer) -> usize {
     }
 }
 
-/// The type of a task's workflow: that of the events that it was replayed from, or else the one
-/// that was noted.
+/// Returns the type of a task's workflow: that of the events from which it was replayed, or else
+/// the one that was noted.
 fn type_of<'a>(open: &'a OpenTask, held: &'a [Event]) -> &'a str {
     match workflow_type(held) {
         Some(name) => name.get(),
@@ -37,9 +37,8 @@ fn type_of<'a>(open: &'a OpenTask, held: &'a [Event]) -> &'a str {
     }
 }
 
-/// Logs how a workflow task ended that was replayed from these events, where tasks are logged: its
-/// run and type, how many events it came with, whether it was a hit of the cache, and how many
-/// steps replay took.
+/// Logs how a workflow task ended, if tasks are logged: its run and type, how many events it came
+/// with, whether it was a hit of the cache, and how many steps replay took.
 pub(crate) fn log_workflow<L: Connection>(
     client: &Client<'_, L>,
     open: &OpenTask,
@@ -66,8 +65,8 @@ pub(crate) fn log_workflow<L: Connection>(
     }
 }
 
-/// Logs how an activity task ended that was to be canceled or not, where tasks are logged: its run
-/// and type.
+/// Logs how an activity task ended, if tasks are logged: its run and type, and whether it was
+/// canceled.
 pub(crate) fn log_activity<L: Connection>(
     client: &Client<'_, L>,
     open: &OpenTask,
@@ -90,7 +89,7 @@ pub(crate) fn log_activity<L: Connection>(
     }
 }
 
-/// Logs something of a task with its run.
+/// Logs something about a task, with its run.
 fn log_of<L: Connection>(client: &Client<'_, L>, open: &OpenTask, what: &str) {
     if let Ok(text) = open.said(client.allocator(), what) {
         client.connection.log(text.as_str());

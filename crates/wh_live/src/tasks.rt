@@ -1,4 +1,4 @@
-//! Tasks that a poll brought.
+//! Tasks that polls return.
 
 ghost use Rattle.std.specs.Prelude.{◌≡◌, []};
 
@@ -10,25 +10,25 @@ use wh_tester::Shown;
 /// A task that is not answered yet.
 #[derive(Debug, Drop)]
 pub(crate) struct OpenTask {
-    /// The source's name of it.
+    /// The source's name for it.
     pub(crate) name: TaskName,
-    /// The server's name of it.
+    /// Its Task Token.
     pub(crate) token: Text,
-    /// The run that it belongs to.
+    /// Its run.
     pub(crate) run: RunKey,
     /// Which attempt of the task this is.
     pub(crate) attempt: u64,
-    /// The type of its workflow or activity; empty where it is not known.
+    /// The type of its workflow or activity; empty if it is not known.
     pub(crate) what: Text,
     /// How many events it came with.
     pub(crate) events: usize,
     /// Whether it is replayed from the first event of its run.
     pub(crate) from_first: bool,
-    /// The events that it came with, where the first of its run is not among them.
+    /// The events that it came with, unless they begin with the first one of its run.
     pub(crate) later: Vec<Event>,
 }
 
-/// The type of the workflow of a history that begins with its first event.
+/// Returns the type of the workflow of a history that begins with its first event.
 pub(crate) fn workflow_type(events: &[Event]) -> Option<&Text> {
     match &events.first()?.body {
         EventKind::WorkflowExecutionStarted { workflow, .. } => Some(workflow),
@@ -37,7 +37,7 @@ pub(crate) fn workflow_type(events: &[Event]) -> Option<&Text> {
 }
 
 impl OpenTask {
-    /// A task of an id that a poll gave, in its first attempt.
+    /// Returns the task that the poll of an id returned, in its first attempt.
     pub(crate) fn new(alloc: Global, id: u64, token: Text, run: RunKey) -> OpenTask
         ensures name { result.name.0 ≡ id }
         ensures token { result.token ≡ token }
@@ -56,15 +56,15 @@ impl OpenTask {
         }
     }
 
-    /// Something of the task, with its run.
+    /// Returns a text about the task, with its run.
     pub(crate) fn said(&self, alloc: Global, what: &str) -> Result<String, AllocError> {
         let workflow = Shown(self.run.workflow_id.get());
         let run = Shown(self.run.run_id.get());
         format!(in alloc; "{workflow} {run}: {what}")
     }
 
-    /// Notes events that it is replayed from: the type of the workflow, where they begin with the
-    /// first of its run.
+    /// Notes the events from which it is replayed: the type of the workflow, if they begin with the
+    /// first one of its run.
     pub(crate) fn note_events(&mut self, events: &[Event])
         ensures { self.new ≡ record self.old { what = self.new.what; from_first = self.new.from_first } }
     {
@@ -78,13 +78,13 @@ impl OpenTask {
     }
 }
 
-/// What a poll brought.
+/// The result of a poll.
 #[derive(Debug, Drop)]
 pub(crate) enum Brought<T> {
     /// A task.
     Task(T),
     /// No task.
     Empty,
-    /// What is no task of the host, and is answered.
+    /// Something other than a task to be delivered, which has been dealt with.
     Settled,
 }

@@ -1,4 +1,4 @@
-//! What went wrong, in words.
+//! Describes faults in words.
 
 use std::alloc::{AllocError, Global};
 use wh_client::AskFault;
@@ -7,7 +7,7 @@ use wh_json::ReadFault;
 use wh_replay::Fault;
 use wh_tester::{FaultText, ReplayFaultText, Shown};
 
-/// Why a call gave no result, in words.
+/// Describes why a call has no usable result.
 pub(crate) fn fault_text(alloc: Global, fault: &AskFault) -> Result<String, AllocError> {
     match fault {
         AskFault::Closed => String::from_str(alloc, "the bridge has closed"),
@@ -20,25 +20,25 @@ pub(crate) fn fault_text(alloc: Global, fault: &AskFault) -> Result<String, Allo
     }
 }
 
-/// What a call was refused with, in words.
+/// Describes the error of a refused call.
 fn refusal_text(alloc: Global, code: i64, message: &str) -> Result<String, AllocError> {
     let message = Shown(message);
     format!(in alloc; "{message} (code {code})")
 }
 
-/// Why the events of a history can't be read, in words.
+/// Describes why the events of a history are malformed.
 pub(crate) fn history_text(alloc: Global, fault: &ReadFault) -> Result<String, AllocError> {
     let fault = FaultText(fault);
     format!(in alloc; "{fault}")
 }
 
-/// A fault of replay, in words.
+/// Describes a fault of replay.
 pub(crate) fn replay_text(alloc: Global, fault: &Fault) -> Result<String, AllocError> {
     let fault = ReplayFaultText(*fault);
     format!(in alloc; "{fault}")
 }
 
-/// Why an answer can't be written, in words.
+/// Describes why an answer can't be written.
 pub(crate) fn request_text(alloc: Global, fault: &RequestFault) -> Result<String, AllocError> {
     match fault {
         RequestFault::TooLong { timer_id } => {

@@ -1,4 +1,4 @@
-//! Polls that fail one after the other.
+//! Polls that fail in a row.
 
 ghost use Rattle.std.specs.Prelude.{◌≡◌, ℕ, ◌≤◌, ◌*◌, ◌+◌, min};
 ghost use Rattle.wh_live.specs.Private.Troubles.{HasFailed};
@@ -7,13 +7,13 @@ use std::alloc::AllocError;
 use wh_client::Connection;
 use wh_ghost_list::GhostList;
 
-/// How long a worker waits after the first poll that failed, in milliseconds.
+/// How long a worker waits after the first failed poll, in milliseconds.
 const FIRST_WAIT: u64 = 100;
 
-/// How long it waits at most.
+/// How long it waits at most, in milliseconds.
 const LONGEST_WAIT: u64 = 10_000;
 
-/// How long it waits the next time: twice as long, and at most ten seconds.
+/// Returns how long it waits the next time: twice as long, and at most ten seconds.
 fn next_wait(wait: u64) -> u64
     ensures { result ≡ min (2 * wait) 10000 }
 {
@@ -24,8 +24,8 @@ fn next_wait(wait: u64) -> u64
     }
 }
 
-/// The polls that failed since one that did not. The first of a row of equal ones is reported, and
-/// then how many more there were. After each the worker waits, longer each time.
+/// The polls that have failed in a row. Of equal failures the first is reported, and then how many
+/// more there were. After each the worker waits, longer each time.
 #[derive(Drop)]
 pub(crate) struct Trouble {
     last: Option<String>,
@@ -35,7 +35,7 @@ pub(crate) struct Trouble {
 }
 
 impl Trouble {
-    /// No poll has failed.
+    /// Returns the state in which no poll has failed.
     pub(crate) fn new() -> Trouble
         ensures { HasFailed 0 result }
     {
@@ -47,7 +47,7 @@ impl Trouble {
         }
     }
 
-    /// A poll has failed: reports it, unless it is as the one before or there was no memory for its
+    /// Reports a failed poll, unless it failed as the one before or there was no memory for its
     /// text, and waits.
     pub(crate) fn meet<L: Connection>(&mut self, connection: &L, what: Result<String, AllocError>)
         ensures { (count : ℕ) → HasFailed count self.old → HasFailed (count + 1) self.new }
@@ -59,7 +59,7 @@ impl Trouble {
         self.wait = next_wait(self.wait);
     }
 
-    /// A poll has not failed.
+    /// Ends the row of failed polls.
     pub(crate) fn end<L: Connection>(&mut self, connection: &L)
         ensures { HasFailed 0 self.new }
     {
@@ -69,7 +69,7 @@ impl Trouble {
         self.pauses = GhostList::new();
     }
 
-    /// Reports why a poll failed, unless that is as the one before.
+    /// Reports why a poll failed, unless it failed as the one before.
     fn report<L: Connection>(&mut self, connection: &L, what: String)
         ensures wait { self.new.wait ≡ self.old.wait }
         ensures pauses { self.new.pauses ≡ self.old.pauses }
@@ -83,7 +83,7 @@ impl Trouble {
         }
     }
 
-    /// Whether the poll before failed in the same way.
+    /// Returns whether the poll before failed in the same way.
     fn is_last(&self, what: &str) -> bool {
         match &self.last {
             Some(last) => last.as_str() == what,
@@ -91,7 +91,7 @@ impl Trouble {
         }
     }
 
-    /// Reports how many polls have failed as the one that was reported.
+    /// Reports how many more polls have failed in the way last reported.
     fn report_rest<L: Connection>(&mut self, connection: &L)
         ensures wait { self.new.wait ≡ self.old.wait }
         ensures pauses { self.new.pauses ≡ self.old.pauses }

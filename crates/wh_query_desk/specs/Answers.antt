@@ -1,4 +1,4 @@
--- What queries of live runs are answered.
+-- The answers to queries of live runs.
 use Rattle.std.specs.Prelude.{◌≡◌, ◌⊎◌, ℕ, List, codes, Option, Some, None, Result, Ok, Err, length}
 use Rattle.std.specs.Map.{lookup}
 use Rattle.serde_json.specs.Data.{Data}
@@ -32,7 +32,7 @@ pub record IsOwn (gives : Gives) (names : WorkerNames) (run : RunKey) (next_page
   pub are_all : HasAllMembers gives names run next_page members all
   pub read : ReadsEvents all events
 
--- the events of a run, as the server gives them from the first one
+-- the events of a run, as the server returns them from the first one
 pub record IsFetched (gives : Gives) (names : WorkerNames) (run : RunKey) (events : List Event) : Type 0 where
   pub all : List Data
   pub whole : IsWhole gives names run all
@@ -45,42 +45,43 @@ AreRunEvents gives names run next_page members events =
 
 -- ---- Results
 
--- what is sent for what a query gave: that, or the fault of replay in words
+-- the answer to send for a query's result, with a fault of replay in words
 abbrev pub settled : Result QueryResult Fault → QueryResult
 settled (Ok given) = given
 settled (Err fault) = Failed (replay_fault_text fault)
 
 module _ {S : Type 0} (program : Program S) (queries : Queries S) where
-  -- what the query gives at the run that the host has cached under its key, where that ends in the last completed task
+  -- the result of the query from the run that the host has cached under its key, if that ends in the last completed
+  -- task
   pub record IsResultIn (host : HostView) (asked : Asked) (given : QueryResult) : Type 0 where
     pub history : HistoryView
     pub cached : lookup (same_key asked.run) host.cache.runs ≡ Some history
     pub up_to : length history.events ≡ asked.previous
     pub is : query_at program queries history.events asked.query.query_type asked.query.input ≡ Ok given
 
-  -- what the query gives at the cached run of a host
+  -- the result of the query from a cached run of a host
   pub record IsCachedResult (asked : Asked) (given : QueryResult) : Type 0 where
     pub host : HostView
     pub is_host : IsHost program host
     pub is : IsResultIn host asked given
 
 module _ {S : Type 0} (gives : Gives) (names : WorkerNames) (program : Program S) (queries : Queries S) where
-  -- what the query gives at what the completed tasks of a told history say, or the fault of replay in words
+  -- the result of the query after the completed tasks of its run's history, or the fault of replay in words
   pub record AreRunEventsOf (asked : Asked) (given : QueryResult) : Type 0 where
     pub events : List Event
     pub told : AreRunEvents gives names asked.run asked.next_page asked.members events
     pub is : given ≡ settled (query_at program queries (completed_part events) asked.query.query_type asked.query.input)
 
-  -- what the query gives: at a cached run, or at a told history
+  -- the result of the query: from a cached run, or from its run's history
   abbrev pub IsQueryResult : Asked → QueryResult → Type 0
   IsQueryResult asked given = IsCachedResult program queries asked given ⊎ AreRunEventsOf asked given
 
-  -- the query could be read, and this is what it gives
+  -- the query could be read, and this is its result
   abbrev pub IsSettled : Option Asked → QueryResult → Type 0
   IsSettled None given = ⊥
   IsSettled (Some asked) given = IsQueryResult asked given
 
-  -- the request answers the query of the token: with what it gives, or with a reason why it gives nothing
+  -- the request answers the query of the token: with its result, or with a reason why it has none
   pub record AnswersPoll (token : List ℕ) (result : Data) (request : Request) : Type 0 where
     pub given : QueryResult
     pub is : IsSettled (query_in token result) given ⊎ ((reason : List ℕ) × (given ≡ Failed reason))

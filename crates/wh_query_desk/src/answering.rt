@@ -1,4 +1,4 @@
-//! The answer to a query.
+//! Answers queries.
 ghost use Rattle.std.specs.Prelude.{◌≡◌, Result, IfOk};
 ghost use Rattle.serde_json.specs.View.{view};
 ghost use Rattle.wh_queryable.specs.declared.queryable.QueryResult.{QueryResult};
@@ -8,8 +8,8 @@ ghost use Rattle.wh_query_messages.specs.Polled.{query_in, query_seen};
 ghost use Rattle.wh_query_desk.specs.Answers.{AnswersPoll, IsQueryResult, IsSettled, settled};
 
 use crate::cached::query_cached;
-use crate::reasons::reason_of;
 use crate::events::run_events;
+use crate::reasons::reason_of;
 use std::alloc::Global;
 use std::sync::Wait;
 use std::sync::ledger::Ledger;
@@ -23,7 +23,7 @@ use wh_replay::RunFault;
 use wh_responses::QueryPoll;
 use wh_tester::ReplayFaultText;
 
-/// What is sent for what a query gave: that, or the fault of replay in words.
+/// Returns the answer to send for a query's result, with a fault of replay in words.
 fn settled(alloc: Global, given: Result<QueryResult, RunFault>) -> Result<QueryResult, OutOfMemory>
     ensures { (defined : Result QueryResult Fault) → Answers given defined (λ given. given) →
         IfOk result (λ sent. sent ≡ settled defined) }
@@ -39,7 +39,7 @@ fn settled(alloc: Global, given: Result<QueryResult, RunFault>) -> Result<QueryR
     }
 }
 
-/// What a query gives by replay of its run's history, or the fault of that replay in words.
+/// Returns the answer to a query by replay of its run's history.
 fn query_by_replay<W: Queryable, L: Connection>(
     client: &Client<'_, L>,
     polled: PolledQuery,
@@ -59,7 +59,7 @@ fn query_by_replay<W: Queryable, L: Connection>(
     Ok(settled(alloc, given)?)
 }
 
-/// What a query gives: at the run that the host has cached for it, or else by replay.
+/// Returns the answer to a query from the run that the host has cached for it, or else by replay.
 fn query_polled<R: Wait, W: Queryable, T: Ledger, C: Ledger, F: Ledger, L: Connection>(
     rt: &R,
     host: &Host<W, T, C, F>,
@@ -74,7 +74,7 @@ fn query_polled<R: Wait, W: Queryable, T: Ledger, C: Ledger, F: Ledger, L: Conne
     query_by_replay::<W, L>(client, polled)
 }
 
-/// Reads a query, and gives what it gives.
+/// Reads a query and returns the answer to it.
 fn query_read<R: Wait, W: Queryable, T: Ledger, C: Ledger, F: Ledger, L: Connection>(
     rt: &R,
     host: &Host<W, T, C, F>,
@@ -91,10 +91,10 @@ fn query_read<R: Wait, W: Queryable, T: Ledger, C: Ledger, F: Ledger, L: Connect
     }
 }
 
-/// The request that answers a query, under its token: with what the query gives in the state after the
+/// Writes the request that answers a query, with its token: with its result in the state after the
 /// last completed task of its run, from the cached run or by replay of its history (Temporal
-/// documentation, "Queries"); or with the reason why it gives nothing. Nothing of the host changes.
-/// `OutOfMemory` where there was no memory for the request.
+/// documentation, "Queries"); or with the reason why it has no result. The host does not change.
+/// `OutOfMemory` if there was no memory for the request.
 pub fn query_answer<R: Wait, W: Queryable, T: Ledger, C: Ledger, F: Ledger, L: Connection>(
     rt: &R,
     host: &Host<W, T, C, F>,

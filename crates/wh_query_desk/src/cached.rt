@@ -1,4 +1,4 @@
-//! What queries give at the cached run of a host.
+//! Answers queries from a host's cached runs.
 ghost use Rattle.std.specs.Prelude.{IfOk, IfSome};
 ghost use Rattle.wh_query_messages.specs.Polled.{query_seen};
 ghost use Rattle.wh_query_desk.specs.Answers.{IsCachedResult, IsResultIn};
@@ -12,9 +12,9 @@ use wh_query::query_replayed;
 use wh_query_messages::PolledQuery;
 use wh_queryable::{QueryResult, Queryable};
 
-/// What a query gives at the run that the host has cached under its key, if one is there that ends in
-/// the last completed task of the query's run. The state of the host stays as it is. `OutOfMemory`
-/// where there was no memory for the result.
+/// Returns the result of a query from the run that the host has cached under its key, if there is
+/// one that ends in the last completed task of the query's run. The state of the host does not
+/// change. `OutOfMemory` if there was no memory for the result.
 fn query_in<W: Queryable, T: Ledger, C: Ledger, F: Ledger>(
     alloc: Global,
     state: &HostState<W, T, C, F>,
@@ -33,10 +33,10 @@ fn query_in<W: Queryable, T: Ledger, C: Ledger, F: Ledger>(
     Ok(Some(given))
 }
 
-/// What a query gives at the run that a host has cached under its key, if one is there that ends in the
-/// last completed task of the query's run: a cached run may have gone on meanwhile. No slot is used,
-/// nothing is counted, and the cache stays as it is (Temporal documentation, "Sticky Execution").
-/// `OutOfMemory` where there was no memory for the result.
+/// Returns the result of a query from the run that a host has cached under its key, if there is one
+/// that ends in the last completed task of the query's run: a cached run may have advanced
+/// meanwhile. No slot is used, nothing is counted, and the cache does not change (Temporal
+/// documentation, "Sticky Execution"). `OutOfMemory` if there was no memory for the result.
 pub fn query_cached<R: Wait, W: Queryable, T: Ledger, C: Ledger, F: Ledger>(
     rt: &R,
     alloc: Global,

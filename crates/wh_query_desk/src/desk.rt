@@ -1,4 +1,4 @@
-//! The desk beside the workers.
+//! Answers queries in a thread beside the workers.
 
 use crate::answering::query_answer;
 use crate::queue::QueryQueue;
@@ -9,8 +9,8 @@ use wh_client::{Client, Connection};
 use wh_host::Host;
 use wh_queryable::Queryable;
 
-/// Answers the queries of a queue one after another, until the workers have ended and none is left. A
-/// query that gets no answer times out, so what becomes of an answer is not asked.
+/// Answers the queries of a queue one after another, until the workers have ended and none is left.
+/// Errors are ignored: a query without an answer times out.
 pub fn answer_queries<
     R: Wait + Clock,
     W: Queryable,

@@ -1,4 +1,4 @@
-//! The history that a query is answered from, where its run is not cached.
+//! The history from which a query is answered if its run is not cached.
 ghost use Rattle.std.specs.Prelude.{◌≡◌, IfOk, map};
 ghost use Rattle.serde_json.specs.View.{view};
 ghost use Rattle.wh_query_desk.specs.Answers.{IsFetched, IsOwn, AreRunEvents};
@@ -8,7 +8,7 @@ use serde_json::Value;
 use wh_client::{AskFault, Client, Connection, read_history};
 use wh_events::{Event, RunKey, Text};
 
-/// Whether events begin with the first of a history.
+/// Returns whether events begin with the first one of a history.
 fn begins_with_first(events: &[Event]) -> bool
     ensures { result ≡ follows 0 events.now }
 {
@@ -18,7 +18,7 @@ fn begins_with_first(events: &[Event]) -> bool
     }
 }
 
-/// The events that a query comes with: its members, and those of the pages after them.
+/// Reads the events that a query comes with, and those of the pages after them.
 fn own_events<L: Connection>(
     client: &Client<'_, L>,
     run: &RunKey,
@@ -32,7 +32,7 @@ fn own_events<L: Connection>(
     read_history(client.allocator(), all.as_slice())
 }
 
-/// The events of a run, fetched from the first one.
+/// Fetches the events of a run from the first one.
 fn fetched_events<L: Connection>(
     client: &Client<'_, L>,
     run: &RunKey,
@@ -43,8 +43,8 @@ fn fetched_events<L: Connection>(
     read_history(client.allocator(), all.as_slice())
 }
 
-/// The history of a query's run: the events that the query comes with, where the first is among them,
-/// and else those that are fetched. The fault says why they can't be had.
+/// Returns the history of a query's run: the events that the query comes with if they begin with
+/// the first one, and otherwise those that are fetched. The error says why it could not be read.
 pub(crate) fn run_events<L: Connection>(
     client: &Client<'_, L>,
     run: &RunKey,

@@ -6,32 +6,32 @@ use std::sync::{Condvar, Mutex, Wait};
 use std::time::{Clock, Duration};
 use wh_responses::QueryPoll;
 
-/// How many queries wait at most. Each further one is given back.
+/// The maximum number of waiting queries. Any further one is returned.
 const MOST_WAITING: usize = 1_000;
 
-/// How many seconds the desk waits at most for the workers to begin.
+/// The maximum number of seconds that the desk waits for the workers to begin.
 const FIRST_WAIT: u64 = 10;
 
-/// How far the workers have come.
+/// The stage of the workers.
 #[derive(Clone, Copy)]
 enum Stage {
     /// They have not begun.
     Waiting,
-    /// They work.
+    /// They are working.
     Working,
     /// They have ended, or nothing answers their queries.
     Ended,
 }
 
-/// The queries that wait, and how far the workers have come.
+/// The queries that wait, and the stage of the workers.
 #[derive(Drop)]
 struct Waiting {
     queries: VecDeque<QueryPoll>,
     stage: Stage,
 }
 
-/// Queries that workers hand on to a desk in a thread beside them. It takes them one after another,
-/// until the workers have ended and none is left.
+/// Queries that workers pass to a desk in a thread beside them. The desk takes them one after
+/// another, until the workers have ended and none is left.
 #[derive(Drop)]
 pub struct QueryQueue {
     waiting: Mutex<Waiting>,
@@ -39,7 +39,7 @@ pub struct QueryQueue {
 }
 
 impl QueryQueue {
-    /// A queue in which no query waits. The workers have not begun.
+    /// Returns an empty queue. The workers have not begun.
     pub fn new(alloc: Global) -> QueryQueue {
         QueryQueue {
             waiting: Mutex::new(Waiting {
@@ -50,7 +50,7 @@ impl QueryQueue {
         }
     }
 
-    /// The workers begin, unless the desk has given up before.
+    /// Notes that the workers begin, unless the desk has given up before.
     pub fn begin<R: Wait>(&self, rt: &R) {
         let mut waiting = self.waiting.lock(rt);
         if matches!(waiting.stage, Stage::Waiting) {
@@ -60,14 +60,14 @@ impl QueryQueue {
         self.changed.notify_all();
     }
 
-    /// The workers have ended: no query is handed on any more.
+    /// Notes that the workers have ended: no query is accepted from now on.
     pub fn end<R: Wait>(&self, rt: &R) {
         self.waiting.lock(rt).stage = Stage::Ended;
         self.changed.notify_all();
     }
 
-    /// Hands a query on to the desk. It comes back where 1,000 queries wait already, where there is no
-    /// memory for it, and where nothing answers queries any more.
+    /// Passes a query to the desk. Returns the query if 1,000 queries wait already, if there is no
+    /// memory for it, and if nothing answers queries any more.
     pub fn hand_on<R: Wait>(&self, rt: &R, query: QueryPoll) -> Result<(), QueryPoll> {
         let mut waiting = self.waiting.lock(rt);
         let handed = waiting.take(query);
@@ -76,9 +76,9 @@ impl QueryQueue {
         handed
     }
 
-    /// The query that waits longest. The desk waits for one; `None` where the workers have ended and
-    /// none is left, and where they have not begun within ten seconds, as where there is no thread for
-    /// the desk beside them: then nothing answers queries any more.
+    /// Returns the query that has waited longest. The desk waits for one. `None` if the workers
+    /// have ended and no query is left, and if they have not begun within ten seconds, as when
+    /// there is no thread for them beside the desk: from then on nothing answers queries.
     pub fn next<R: Wait + Clock>(&self, rt: &R) -> Option<QueryPoll> {
         let waiting = self.waiting.lock(rt);
         let most = Duration::from_secs(FIRST_WAIT);
@@ -98,7 +98,7 @@ impl QueryQueue {
 }
 
 impl Waiting {
-    /// Takes a query, or gives it back.
+    /// Adds a query, or returns it.
     fn take(&mut self, query: QueryPoll) -> Result<(), QueryPoll> {
         if matches!(self.stage, Stage::Ended) || self.queries.len() >= MOST_WAITING {
             return Err(query);

@@ -1,10 +1,10 @@
-//! Why a query has no result, in words.
+//! Describes why a query has no result.
 
 use std::alloc::{AllocError, Global};
 use wh_client::AskFault;
 use wh_tester::FaultText;
 
-/// Why a query has no result whose history can't be had, or which can't be read.
+/// Describes why a query has no result that is malformed or whose history could not be read.
 pub(crate) fn reason_of(alloc: Global, fault: &AskFault) -> Result<String, AllocError> {
     match fault {
         AskFault::History(fault) => {

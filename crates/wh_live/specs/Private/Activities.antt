@@ -9,17 +9,18 @@ use Rattle.wh_requests.specs.Requests.{activity_completed}
 use Rattle.wh_tasks.specs.declared.source.ActivityAnswer.{ActivityAnswer}
 use Rattle.wh_tasks.specs.declared.source.ActivityAnswer.TheVariants.{Completed, Failed}
 
--- an activity's result is sent as such, whatever was heard of a cancel; why it failed is sent as a cancel, where it was to
--- be canceled, and else as a failure
+-- an activity's result is sent as such, even if the activity was to be canceled; its failure is sent as canceled if it
+-- was to be canceled, otherwise as failed
 abbrev pub IsActivityRequest : WorkerNames → List ℕ → ActivityAnswer → Bool → Request → Type 0
 IsActivityRequest names token (Completed outcome) was_canceled request =
     IsRequest request (codes "RespondActivityTaskCompleted") (activity_completed names token outcome)
 IsActivityRequest names token (Failed reason) was_canceled request =
     IsFailedActivity names token reason was_canceled request
 
--- the server gave a result for such an answer to the task of a token; as canceled only where the server had said to a
--- heartbeat of that task that it is to be
-pub record AnswersActivity (gives : Gives) (names : WorkerNames) (token : List ℕ) (answer : ActivityAnswer) : Type 0 where
+-- the server returned a result for such an answer to the task of a token; it is sent as canceled only if the response
+-- to a heartbeat of that task said that it is to be
+pub record AnswersActivity (gives : Gives) (names : WorkerNames) (token : List ℕ)
+    (answer : ActivityAnswer) : Type 0 where
   pub was_canceled : Bool
   pub heard : was_canceled ≡ true → WasCanceled gives token
   pub request : Request

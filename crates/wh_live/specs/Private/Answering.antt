@@ -30,7 +30,7 @@ use Rattle.wh_live.specs.declared.tasks.OpenTask.{OpenTask}
 
 -- ---- What is sent
 
--- the server gave a result for the completion of the task with these commands, and with what its run hands on
+-- the server returned a result for the completion of the task with these commands, and with what its run carries over
 pub record CompletesWith (gives : Gives) (options : LiveOptions) (task : OpenTask) (commands : List Command)
     (events : List Event) (carried : Carried) : Type 0 where
   pub params : Data
@@ -40,34 +40,34 @@ pub record CompletesWith (gives : Gives) (options : LiveOptions) (task : OpenTas
   pub result : Data
   pub given : gives (codes "RespondWorkflowTaskCompleted") params result
 
--- what a run hands on, where it is continued as a new one: what its first event says
+-- what a run carries over if it is continued as a new one: what its first event says
 abbrev pub IsCarried : Gives → WorkerNames → RunKey → Bool → Carried → Type 0
 IsCarried gives names run false carried = carried ≡ nothing_carried
 IsCarried gives names run true carried = HandsOn gives names run carried
 
--- the server gave a result for the completion of the task with these commands
+-- the server returned a result for the completion of the task with these commands
 abbrev pub CompletesTask : Gives → LiveOptions → OpenTask → List Command → List Event → Type 0
 CompletesTask gives options task commands events =
     (carried : Carried) × IsCarried gives options.names task.run (list_any continues commands) carried
     × CompletesWith gives options task commands events carried
 
--- the server gave a result for the failure of the task of a token under a cause
+-- the server returned a result for the failure of the task of a token with a cause
 pub record FailsTask (gives : Gives) (names : WorkerNames) (token : List ℕ) (cause : FailedCause) : Type 0 where
   pub message : List ℕ
   pub result : Data
   pub given : gives (codes "RespondWorkflowTaskFailed") (workflow_failed names token cause message) result
 
--- the server gave a result for this answer to the task
+-- the server returned a result for this answer to the task
 abbrev pub HasAnswer : Gives → LiveOptions → OpenTask → Answer → List Event → Type 0
 HasAnswer gives options task (Complete commands) events = CompletesTask gives options task commands events
 HasAnswer gives options task (Fail fault) events = FailsTask gives options.names task.token (cause_of fault)
 
--- only a failure is kept back, and not that of the first attempt
+-- only a failure is withheld, and not that of the first attempt
 abbrev pub IsKeptBack : OpenTask → Answer → Type 0
 IsKeptBack task (Complete commands) = ⊥
 IsKeptBack task (Fail fault) = 1 < task.attempt
 
--- the open task has this name, and the server gave a result for this answer to it
+-- the open task has this name, and the server returned a result for this answer to it
 pub record AnswersOpen (gives : Gives) (options : LiveOptions) (open_task : Option OpenTask) (name : TaskName)
     (answer : Answer) (events : List Event) : Type 0 where
   pub task : OpenTask
@@ -82,15 +82,15 @@ abbrev pub receipt_of_sent : {A : Type 0} → Result A AskFault → Receipt
 receipt_of_sent (Ok x) = Acknowledged
 receipt_of_sent (Err fault) = receipt_of fault
 
--- the task was failed in place of its answer, unless there was no memory
+-- the task was failed instead of answered, unless there was no memory
 abbrev pub IsReplaced : Receipt → Type 0
 IsReplaced receipt = (receipt ≡ Replaced) ⊎ (receipt ≡ NoMemory)
 
--- the text says that the run had news while its answer closed it
+-- the message says that the run had new events while its answer closed it
 abbrev pub is_unhandled_command : List ℕ → Bool
 is_unhandled_command message = bytes_eq message (codes "UnhandledCommand")
 
--- each refusal is reported, but that the task is over, or that its run had news
+-- each refusal is reported, unless the task is over or its run had new events
 abbrev pub reports_refusal : Status → List ℕ → Bool
 reports_refusal status.Canceled message = true
 reports_refusal status.InvalidArgument message = not (is_unhandled_command message)
@@ -99,7 +99,7 @@ reports_refusal status.PermissionDenied message = true
 reports_refusal status.Unauthenticated message = true
 reports_refusal status.Other message = true
 
--- what was lost is reported, but where the bridge has closed or there is no memory
+-- a failed call is reported, unless the bridge has closed or there is no memory
 abbrev pub is_reported : AskFault → Bool
 is_reported asked.Closed = false
 is_reported asked.Output = true
@@ -109,8 +109,8 @@ is_reported asked.TooManyPages = true
 is_reported (asked.History fault) = true
 is_reported asked.OutOfMemory = false
 
--- it counts as a fault of the source that a history could not be had, unless the bridge has closed, or the open task
--- was failed for events that can't be read
+-- a history that could not be fetched is a fault of the source, unless the bridge has closed, or the open task was
+-- failed for malformed events
 abbrev pub counts_fault : Option OpenTask → AskFault → Bool
 counts_fault None fault = true
 counts_fault (Some task) asked.Closed = false
@@ -121,6 +121,6 @@ counts_fault (Some task) asked.TooManyPages = true
 counts_fault (Some task) (asked.History fault) = false
 counts_fault (Some task) asked.OutOfMemory = true
 
--- the run is cached where the server has the answer
+-- the run is cached if the server acknowledged the answer
 abbrev pub run_use : Receipt → RunUse
 run_use receipt = if keeps_run receipt then Cache else Discard

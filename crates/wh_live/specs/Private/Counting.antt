@@ -10,19 +10,27 @@ use Rattle.wh_live.specs.declared.tasks.Brought.{Brought}
 use Rattle.wh_live.specs.declared.tasks.Brought.TheVariants.{Task, Empty, Settled}
 use Rattle.wh_live.specs.Private.Polls.{end_of}
 
--- one more, as far as a count goes
+-- one more, at most 2^64 - 1
 abbrev pub one_more : ℕ → ℕ
 one_more n = min (n + 1) (2 ^ 64 - 1)
 
--- with a poll that got a result or an error, and whether it was empty
+-- the tally after a poll that got a result or an error, and whether it was empty
 abbrev pub with_poll : Bool → Tally → Tally
-with_poll is_empty tally = record tally { polls = one_more tally.polls; empty = if is_empty then one_more tally.empty else tally.empty }
+with_poll is_empty tally =
+    record tally {
+      polls = one_more tally.polls;
+      empty = if is_empty then one_more tally.empty else tally.empty;
+    }
 
--- with a call that failed, and whether that was while the bridge was open
+-- the tally after a failed call, and whether it failed while the bridge was open
 abbrev pub with_failure : Bool → Tally → Tally
-with_failure is_fault tally = record tally { failures = one_more tally.failures; faults = if is_fault then one_more tally.faults else tally.faults }
+with_failure is_fault tally =
+    record tally {
+      failures = one_more tally.failures;
+      faults = if is_fault then one_more tally.faults else tally.faults;
+    }
 
--- with an answer: those are counted whose task was over, or failed by the server
+-- the tally after an answer: those are counted whose task was over, or failed by the server
 abbrev pub with_answer : Receipt → Tally → Tally
 with_answer receipt.Acknowledged tally = tally
 with_answer receipt.NotFound tally = record tally { not_found = one_more tally.not_found }
@@ -33,8 +41,8 @@ with_answer receipt.Cut tally = tally
 with_answer receipt.Lost tally = tally
 with_answer receipt.NoMemory tally = tally
 
--- with an answer and what follows of it: one that was not taken is a failure, unless there was no memory, and one that
--- was lost is a fault
+-- the tally after an answer and its result: an answer that does not count as taken is a failure, unless there was no
+-- memory, and a lost one is a fault
 abbrev pub settled : Receipt → Tally → Tally
 settled receipt.Acknowledged tally = tally
 settled receipt.NotFound tally = record tally { not_found = one_more tally.not_found }
@@ -45,13 +53,14 @@ settled receipt.Cut tally = with_failure false tally
 settled receipt.Lost tally = with_failure true tally
 settled receipt.NoMemory tally = tally
 
--- with a poll that failed, by what follows: one that was closed got nothing, and one that will never do better is a fault
+-- the tally after a failed poll, by what follows: a closed one is not counted, and one after which polling fails for
+-- good is a fault
 abbrev pub with_end : PollEnd → Tally → Tally
 with_end Closed tally = tally
 with_end Later tally = with_poll false tally
 with_end Never tally = with_failure true (with_poll false tally)
 
--- with a poll, by what it brought or why it failed
+-- the tally after a poll, by its result or the fault
 abbrev pub with_brought : {A : Type 0} → Result (Brought A) AskFault → Tally → Tally
 with_brought (Ok (Task task)) tally = with_poll false tally
 with_brought (Ok Empty) tally = with_poll true tally

@@ -22,14 +22,14 @@ use Rattle.wh_tasks.specs.declared.source.ActivityTask.{ActivityTask}
 use Rattle.wh_tasks.specs.declared.source.WorkflowTask.{WorkflowTask}
 use Rattle.wh_tasks.specs.Source.{IfTask}
 
--- it holds of the task, where the poll brought one
+-- this holds for the task, if the poll returned one
 abbrev pub OnTask : {A : Type 0} → (A → Type 0) → Brought A → Type 0
 OnTask p (brought.Task task) = p task
 OnTask p brought.Empty = Unit {0}
 OnTask p brought.Settled = Unit {0}
 
--- a task of a poll is answered under the token that it came under, in its attempt, and under the name that it is given
--- under, which is the id of the poll
+-- a task is answered with its token, in its attempt, and under the name under which it is delivered, which is the id of
+-- the poll
 pub record Opens (id : ℕ) (polled : Task) (opened : OpenTask) (given : TaskName) : Type 0 where
   pub numbered : given.0 ≡ id
   pub name : opened.name ≡ given
@@ -37,14 +37,14 @@ pub record Opens (id : ℕ) (polled : Task) (opened : OpenTask) (given : TaskNam
   pub run : opened.run ≡ polled.run
   pub attempt : opened.attempt ≡ polled.attempt
 
--- an activity task likewise
+-- the same for an activity task
 pub record OpensActivity (id : ℕ) (polled : PolledActivity) (opened : OpenTask) (given : TaskName) : Type 0 where
   pub numbered : given.0 ≡ id
   pub name : opened.name ≡ given
   pub token : opened.token ≡ polled.token
   pub run : opened.run ≡ polled.run
 
--- what a poll of a queue gave is given, and answered as it came
+-- the task that a poll of a queue returned is delivered, and is the open one
 pub record OpensPolled (gives : Gives) (names : WorkerNames) (sticky : Bool) (opened : OpenTask)
     (task : WorkflowTask) : Type 0 where
   pub id : ℕ
@@ -53,12 +53,12 @@ pub record OpensPolled (gives : Gives) (names : WorkerNames) (sticky : Bool) (op
   pub is : IsTaskOf gives names polled task
   pub opens : Opens id polled opened task.name
 
--- what the queue of a source gave, if it has one
+-- the same for the queue of a source, if it has one
 abbrev pub OpensQueued : Gives → WorkerNames → Option Bool → OpenTask → WorkflowTask → Type 0
 OpensQueued gives names None opened task = ⊥
 OpensQueued gives names (Some sticky) opened task = OpensPolled gives names sticky opened task
 
--- what a poll of activities gave is given, and answered as it came
+-- the activity task that a poll returned is delivered, and is the open one
 pub record OpensPolledActivity (gives : Gives) (names : WorkerNames) (opened : OpenTask)
     (task : ActivityTask) : Type 0 where
   pub id : ℕ
@@ -67,15 +67,16 @@ pub record OpensPolledActivity (gives : Gives) (names : WorkerNames) (opened : O
   pub is : IsActivityOf polled task
   pub opens : OpensActivity id polled opened task.name
 
--- a task that is given is the one that is to be answered, and both are of one poll
-abbrev pub GivesOpened : {A : Type 0} → (OpenTask → A → Type 0) → Result (Polled A) SourceFault → Option OpenTask → Type 0
+-- a task that is delivered is the one that is open, and both are from one poll
+abbrev pub GivesOpened : {A : Type 0} → (OpenTask → A → Type 0)
+    → Result (Polled A) SourceFault → Option OpenTask → Type 0
 GivesOpened p result open_task = IfOk result (IfTask (λ task. IsSomeAnd open_task (λ opened. p opened task)))
 
 -- the events of a task that does not come with the first event of its run
 abbrev pub later_events : List Event → List Event
 later_events events = if follows 0 events then [] else events
 
--- it is answered as before, under the name that it is given under, which it had
+-- the open task keeps its token, run, attempt and name, under which it is delivered
 pub record StaysOpen (old new : OpenTask) (given : TaskName) : Type 0 where
   pub kept : old.name ≡ given
   pub name : new.name ≡ given
@@ -83,8 +84,9 @@ pub record StaysOpen (old new : OpenTask) (given : TaskName) : Type 0 where
   pub run : new.run ≡ old.run
   pub attempt : new.attempt ≡ old.attempt
 
--- where a task was brought it is given, and what it is to be answered by is open; else what was open stays so
-abbrev pub IsOpened : {A : Type 0} → Result (Polled (OpenTask × A)) SourceFault → Option OpenTask → Result (Polled A) SourceFault → Option OpenTask → Type 0
+-- if the poll returned a task it is delivered and opened; otherwise the open task stays
+abbrev pub IsOpened : {A : Type 0} → Result (Polled (OpenTask × A)) SourceFault → Option OpenTask
+    → Result (Polled A) SourceFault → Option OpenTask → Type 0
 IsOpened (Ok (polled.Task pair)) old result new = (result ≡ Ok (polled.Task pair.1)) × (new ≡ Some pair.0)
 IsOpened (Ok polled.Nothing) old result new = (result ≡ Ok polled.Nothing) × (new ≡ old)
 IsOpened (Ok polled.Closed) old result new = (result ≡ Ok polled.Closed) × (new ≡ old)
@@ -100,7 +102,7 @@ later_kept task = (task.run, task.later.items)
 abbrev pub later_of : Option OpenTask → RunKey → List Event
 later_of open_task run = later_in (option_map later_kept open_task) run
 
--- the later events of an open task are those of a task that the queue gave
+-- the later events of an open task are those of a task that the queue returned
 abbrev pub HasLater : Gives → WorkerNames → Option Bool → Option OpenTask → Type 0
 HasLater gives names queue open_task = HasKept gives names queue (option_map later_kept open_task)
 

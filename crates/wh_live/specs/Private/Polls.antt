@@ -1,4 +1,4 @@
--- What a source says of a poll.
+-- What a source reports for a poll.
 use Rattle.std.specs.Prelude.{◌≡◌, ℕ, ◌+◌, Result, Ok, Err, IsErr}
 use Rattle.wh_client.specs.Codes.{poll_end}
 use Rattle.wh_client.specs.declared.asking.AskFault.{AskFault}
@@ -13,8 +13,8 @@ use Rattle.wh_tasks.specs.declared.source.Polled.{Polled}
 use Rattle.wh_tasks.specs.declared.source.Polled.TheVariants as polled
 use Rattle.wh_tasks.specs.declared.source.SourceFault.{SourceFault}
 
--- what follows where a poll failed: by the status that it was refused with, and else a later poll may do better, unless
--- the bridge is gone
+-- what follows after a failed poll: if it was refused the status decides; otherwise a later poll may succeed, unless
+-- the connection is gone
 abbrev pub end_of : AskFault → PollEnd
 end_of asked.Closed = Closed
 end_of asked.Output = Never
@@ -30,22 +30,22 @@ EndsPoll Closed result = result ≡ Ok polled.Closed
 EndsPoll Later result = result ≡ Ok polled.Nothing
 EndsPoll Never result = IsErr result
 
--- one poll more has failed in a row
+-- one more poll has failed in a row
 abbrev pub FailsOnceMore : Trouble → Trouble → Type 0
 FailsOnceMore old new = (count : ℕ) → HasFailed count old → HasFailed (count + 1) new
 
--- where the poll was closed nothing is waited for; else it is one more that failed
+-- after a closed poll there is no wait; otherwise one more poll has failed
 abbrev pub WaitsAfter : PollEnd → Trouble → Trouble → Type 0
 WaitsAfter Closed old new = new ≡ old
 WaitsAfter Later old new = FailsOnceMore old new
 WaitsAfter Never old new = FailsOnceMore old new
 
--- a poll with a result ends the row of those that failed
+-- a poll with a result ends the row of failed polls
 abbrev pub WaitsFor : {A : Type 0} → Result (Brought A) AskFault → Trouble → Trouble → Type 0
 WaitsFor (Ok brought) old new = HasFailed 0 new
 WaitsFor (Err fault) old new = WaitsAfter (end_of fault) old new
 
--- a task is given; where there was none, or it was settled, there is none now
+-- a task is delivered; an empty or settled poll has none
 abbrev pub polled_of : {A : Type 0} → Brought A → Polled A
 polled_of (Task task) = polled.Task task
 polled_of Empty = polled.Nothing

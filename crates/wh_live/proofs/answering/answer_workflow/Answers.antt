@@ -2,7 +2,7 @@ use Rattle.std.proofs.Common.{◌∙◌, sym}
 use Rattle.wh_live.proofs.Faults.{cached_acknowledged}
 use Rattle.wh_live.proofs.answering.answer_workflow.Goals as goal
 
--- where the run may be cached the answer was acknowledged
+-- if the run may be cached the answer was acknowledged
 pub returns-clause-run : goal.returns-clause-run
 returns-clause-run g c =
     λ cached. c.answer_open-receipt.ensures (cached_acknowledged c.answer_open-receipt.result (sym c.run_use.ensures ∙ cached))

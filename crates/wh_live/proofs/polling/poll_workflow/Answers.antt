@@ -6,7 +6,7 @@ use Rattle.wh_live.specs.Private.Opening.{OnTask}
 use Rattle.wh_live.proofs.Later.{is_of_brought, opened_later}
 use Rattle.wh_live.proofs.polling.poll_workflow.Goals as goal
 
--- the later events that are kept are those of the task that the queue gave
+-- the later events that are kept are those of the task that the queue returned
 pub returns-clause-later : goal.returns-clause-later
 returns-clause-later g c =
     let gives = g.L.Connection.gives in

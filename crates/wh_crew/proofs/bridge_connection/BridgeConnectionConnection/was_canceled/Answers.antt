@@ -4,7 +4,7 @@ use Rattle.wh_commands.specs.Objects.{object_of}
 use Rattle.wh_json.specs.Fields.{field}
 use Rattle.wh_crew.proofs.bridge_connection.BridgeConnectionConnection.was_canceled.Goals as goal
 
--- a bridge may give each result, so also this one
+-- a bridge may return any result, so also this one
 pub returns : goal.returns
 unfolding field
 returns g c = λ said. record {
