@@ -31,10 +31,10 @@ from collections import deque
 from functools import lru_cache
 
 signal.signal(signal.SIGINT, signal.SIG_DFL)  # Until the command runs there is nothing to shut down.
-os.environ.setdefault("GRPC_VERBOSITY", "NONE")  # What goes wrong is said once, by this program.
+os.environ.setdefault("GRPC_VERBOSITY", "NONE")  # This program reports each error itself, once.
 
 SERVICE = "/temporal.api.workflowservice.v1.WorkflowService/"
-# A poll without a task is answered by the server within a minute.
+# The server answers a poll without a task within a minute.
 POLL_SECONDS = 70
 CALL_SECONDS = 10
 FIRST_WAIT, LONGEST_WAIT = 0.1, 2.0
@@ -43,15 +43,15 @@ MOST_CALLS = 80
 # The longest line that the host reads, in bytes, and how deep its values may nest.
 MOST_BYTES, MOST_LEVELS = 128 << 20, 127
 CANCELLED, INVALID, DEADLINE, EXHAUSTED, UNIMPLEMENTED, INTERNAL, UNAVAILABLE = 1, 3, 4, 8, 12, 13, 14
-# The codes after which a call is tried again: those after which Temporal's own workers do so, and that of a call which was
-# cancelled by a proxy, or by a server that shuts down.
+# The codes after which a call is retried: those after which Temporal's own workers retry, and that of a call which was
+# canceled by a proxy, or by a server that shuts down.
 PASSING = (CANCELLED, 2, EXHAUSTED, 10, 11, INTERNAL, UNAVAILABLE, 15)
-# How gRPC says, in C and Go or in Java, that a message is too large: trying again would not help.
+# How gRPC says, in C and Go or in Java, that a message is too large: a retry would not help.
 TOO_LARGE = ("larger than max", "exceeds maximum size")
 CHANNEL = {
     "grpc.max_receive_message_length": MOST_BYTES,
     "grpc.max_send_message_length": MOST_BYTES,
-    # A connection without a sign of life is found dead within 45 seconds, and tried again at least each five.
+    # A dead connection is noticed within 45 seconds, and opened again at least every five seconds.
     "grpc.keepalive_time_ms": 30_000,
     "grpc.keepalive_timeout_ms": 15_000,
     "grpc.keepalive_permit_without_calls": 1,
@@ -62,11 +62,11 @@ SHUTDOWN = b'{"jsonrpc":"2.0","method":"shutdown"}\n'
 
 
 class Unusable(Exception):
-    """Why the options, or this Python, can't be used."""
+    """The options, or this Python, can't be used; says why."""
 
 
 def import_packages():
-    """Imports the two packages, without which --help is shown too."""
+    """Imports the two packages; without them --help works too."""
     global grpc, json_format, messages
     try:
         import grpc
@@ -80,11 +80,11 @@ def say(text):
     try:
         print(f"temporal_bridge: {text}", file=sys.stderr, flush=True)
     except OSError:
-        pass  # Nobody reads it.
+        pass  # Standard error is closed.
 
 
 def seconds(text):
-    """A number of seconds, from 0."""
+    """Returns a number of seconds, from 0."""
     number = float(text)
     if not 0 <= number < math.inf:
         raise ValueError
@@ -92,7 +92,7 @@ def seconds(text):
 
 
 def options():
-    """The command line, where what is not said is taken from the environment, as by Temporal's own command."""
+    """Parses the command line; options that it omits are taken from the environment, as by Temporal's own command."""
     shape = argparse.RawDescriptionHelpFormatter
     parser = argparse.ArgumentParser(description=__doc__, formatter_class=shape, usage="%(prog)s [OPTIONS] -- COMMAND ..")
 
@@ -117,7 +117,7 @@ def options():
 
 
 def content(path):
-    """What a file holds; none where none is named."""
+    """Returns the content of a file, or None without a path."""
     if path is None:
         return None
     try:
@@ -128,7 +128,7 @@ def content(path):
 
 
 def check_files(cert, key, authority):
-    """Looks at the files for TLS, since of bad ones gRPC says nothing that helps."""
+    """Checks the files for TLS, since gRPC's messages about bad ones are of no help."""
     if (cert is None) != (key is None):
         lacking = "--tls-cert" if cert is None else "--tls-key"
         raise Unusable(f"{lacking} is missing: a certificate and its private key go together")
@@ -148,7 +148,7 @@ def check_files(cert, key, authority):
 
 
 def connect(found):
-    """A channel to the server."""
+    """Returns a channel to the server."""
     given = list(CHANNEL.items())
     if found.tls_server_name:
         given.append(("grpc.ssl_target_name_override", found.tls_server_name))
@@ -161,12 +161,12 @@ def connect(found):
 
 
 def is_plain(text):
-    """Whether gRPC takes a text beside a call."""
+    """Returns whether gRPC accepts a text as metadata."""
     return text.isascii() and text.isprintable()
 
 
 def api_key(text):
-    """The key of an account, which a file ends with a line break."""
+    """Returns the API key without the line break that ends its file."""
     key = text and text.rstrip("\r\n")
     if key is not None and not (key and is_plain(key)):
         raise Unusable("the API key is empty, or has a character that is not printable ASCII")
@@ -174,7 +174,7 @@ def api_key(text):
 
 
 def request_in(line):
-    """The request of a line; none where it is none."""
+    """Returns the request of a line, or None if it is not one."""
     try:
         request = json.loads(line)
     except (ValueError, RecursionError):
@@ -184,26 +184,28 @@ def request_in(line):
 
 
 def line_of(number, result, error):
-    """The line of the response to a request: of its result where there is no error, which is a code and a text."""
+    """Returns the line of the response to a request: with the result, unless there is an error, a code and a
+    message."""
     outcome = {"result": result} if error is None else {"error": {"code": error[0], "message": error[1]}}
     return json.dumps({"jsonrpc": "2.0", "id": number, **outcome}, separators=(",", ":")).encode() + b"\n"
 
 
 def levels(value):
-    """How many objects and lists of a JSON value are in one another."""
+    """Returns how deep the objects and lists of a JSON value nest."""
     if not isinstance(value, (dict, list)):
         return 0
     return 1 + max(map(levels, value.values() if isinstance(value, dict) else value), default=0)
 
 
 def is_too_deep(line, result):
-    """Whether the line of a result nests deeper than the host reads. Each level has a bracket: most lines have too few."""
+    """Returns whether the line of a result nests deeper than the host reads. Each level has a bracket, and most lines
+    have too few of them."""
     return line.count(b"{") + line.count(b"[") > MOST_LEVELS and 1 + levels(result) > MOST_LEVELS
 
 
 @lru_cache(maxsize=MOST_CALLS)
 def poll_message(made, params):
-    """The message of a poll, by the JSON text of its params, which are those of an earlier one mostly."""
+    """Returns the message of a poll, by the JSON text of its params, which are mostly those of an earlier one."""
     return json_format.ParseDict(json.loads(params), made(), ignore_unknown_fields=True)
 
 
@@ -212,13 +214,13 @@ class Bridge:
 
     def __init__(self, found):
         self.address, self.namespace, self.key = found.address, found.namespace, api_key(found.api_key)
-        # Polls have a channel of their own, whose end cancels them.
+        # Polls have a channel of their own; closing it cancels them.
         self.for_polls, self.for_others, self.stubs = connect(found), connect(found), {}
         self.reading, self.writing, self.lines = threading.Lock(), threading.Lock(), deque()
         self.is_stopped, self.stops, self.child = threading.Event(), 0, None
 
     def greet(self, longest):
-        """Whether the server answers within so many seconds, or at once; says why where it does not."""
+        """Returns whether the server answers within this many seconds, or at once; reports why if it does not."""
         until = time.monotonic() + longest
         while True:
             _, error = self.ask("GetSystemInfo", messages.GetSystemInfoRequest(), CALL_SECONDS)
@@ -230,7 +232,7 @@ class Bridge:
             time.sleep(FIRST_WAIT)
 
     def stub(self, method, request):
-        """What makes the calls of a method."""
+        """Returns the callable that makes the calls of a method."""
         if method not in self.stubs:
             channel = self.for_polls if method.startswith("Poll") else self.for_others
             response = getattr(messages, method + "Response")
@@ -238,13 +240,13 @@ class Bridge:
         return self.stubs[method]
 
     def metadata(self, request):
-        """What goes beside a call: the namespace that it is for, and the key of an account."""
+        """Returns the metadata of a call: its namespace, and the API key."""
         namespace = getattr(request, "namespace", "") or self.namespace
         beside = [("temporal-namespace", namespace)] if is_plain(namespace) else []
         return beside + ([("authorization", f"Bearer {self.key}")] if self.key else [])
 
     def ask(self, method, request, longest):
-        """Makes one call: its result, or a code and a text."""
+        """Makes one call. Returns its result, or a code and a message."""
         call, beside = self.stub(method, request), self.metadata(request)
         try:
             return json_format.MessageToDict(call(request, timeout=longest, metadata=beside)), None
@@ -252,8 +254,8 @@ class Bridge:
             return None, (why.code().value[0], why.details() or why.code().name)
 
     def poll(self, method, request):
-        """A poll that gets no task in time is an empty one. One that is cancelled, but not by a shutdown, was cancelled by a
-        proxy, or by a server that shuts down: a later one may get a task."""
+        """Makes a poll. One that gets no task in time is an empty one. One that is canceled, but not by a shutdown, was
+        canceled by a proxy, or by a server that shuts down: a later one may get a task."""
         try:
             result, error = self.ask(method, request, POLL_SECONDS)
         except ValueError:
@@ -266,7 +268,7 @@ class Bridge:
         return ({}, None) if code == DEADLINE else (result, error)
 
     def insist(self, method, request):
-        """Any other call is tried again for a while, after each code that may pass."""
+        """Makes any other call, and retries it for a while after each code that may pass."""
         until, wait = time.monotonic() + CALL_SECONDS, FIRST_WAIT
         while True:
             result, error = self.ask(method, request, CALL_SECONDS)
@@ -277,7 +279,7 @@ class Bridge:
             wait = min(2 * wait, LONGEST_WAIT)
 
     def outcome(self, method, params):
-        """Makes the call of a request: its result, or a code and a text."""
+        """Makes the call of a request. Returns its result, or a code and a message."""
         made = getattr(messages, method + "Request", None)
         if made is None:
             return None, (UNIMPLEMENTED, f"no call {method}")
@@ -288,7 +290,8 @@ class Bridge:
         return self.insist(method, json_format.ParseDict(params, made(), ignore_unknown_fields=True))
 
     def answer(self, request):
-        """Makes the call of a request, and writes its response. There is one that the host can read, whatever goes wrong."""
+        """Makes the call of a request and writes its response. Whatever goes wrong, there is a response that the host
+        can read."""
         number = request["id"]
         try:
             result, error = self.outcome(request["method"], request.get("params", {}))
@@ -303,20 +306,20 @@ class Bridge:
         self.write()
 
     def write(self):
-        """Writes the lines that are there, unless another thread is doing so: it writes these too. So where the command does
-        not read, one thread alone waits for it."""
+        """Writes the lines that are there, unless another thread is writing: that one writes these too. So if the
+        command does not read, only one thread waits for it."""
         while self.lines and self.writing.acquire(blocking=False):
             try:
                 while self.lines:
                     self.child.stdin.write(self.lines.popleft())
                     self.child.stdin.flush()
             except OSError:
-                pass  # The command reads no more.
+                pass  # The command has closed its input.
             finally:
                 self.writing.release()
 
     def serve(self):
-        """Takes a request and answers it, again and again, as many threads do at once."""
+        """Reads requests and answers them, one after another; many threads do so at once."""
         while True:
             with self.reading:
                 line = self.child.stdout.readline()
@@ -329,21 +332,21 @@ class Bridge:
                 self.answer(request)
 
     def stop(self, *_):
-        """Has the command told to shut down; at the second time ends it."""
+        """Lets the command be sent the shutdown notice; the second time kills the command."""
         self.stops += 1
         if self.stops > 1:
             return self.child.kill()
         self.is_stopped.set()
 
     def shut_down(self):
-        """When it is time, tells the command to shut down, and cancels the polls."""
+        """Waits for a signal, then sends the command the shutdown notice and cancels the polls."""
         self.is_stopped.wait()
         self.lines.append(SHUTDOWN)
         self.for_polls.close()
         self.write()
 
     def run(self, command):
-        """Starts the command, serves it to its end, and answers its status."""
+        """Starts the command, serves it until it ends, and returns its exit status."""
         try:
             # In a session of its own, so that the keys that interrupt this program do not reach it.
             pipe = subprocess.PIPE
@@ -355,7 +358,7 @@ class Bridge:
         signal.signal(signal.SIGINT, self.stop)
         for work in [self.shut_down] + [self.serve] * MOST_CALLS:
             threading.Thread(target=work, daemon=True).start()
-        # Again and again, since a signal that comes just before it waits is noted after that.
+        # In a loop, since a signal that comes just before it waits is only handled after the wait.
         while self.child.returncode is None:
             try:
                 self.child.wait(timeout=1)
@@ -383,4 +386,4 @@ def main():
 if __name__ == "__main__":
     status = main()
     sys.stderr.flush()
-    os._exit(status)  # Calls that are still open wait for nobody.
+    os._exit(status)  # Calls that are still open are not waited for.

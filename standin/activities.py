@@ -15,7 +15,7 @@ class Activities:
     """What the server does with activities."""
 
     def __init__(self, server):
-        # Of each token: the run, the activity and who has it; and those that were answered.
+        # By token: the run, the activity and the worker that has it; and those that were answered.
         self.server, self.troubles, self.by_token, self.over = server, server.troubles, {}, set()
 
     def schedule(self, run, activity):
@@ -33,7 +33,7 @@ class Activities:
             self.server.clock.at(duration, lambda: self.end(run, activity, *end_of(activity, end)))
 
     def start(self, run, activity):
-        """An activity starts. The event of its start is written at once, or else with its end."""
+        """Starts an activity. The event of its start is written at once, or else with its end."""
         activity.started_at = self.server.clock.now
         if self.troubles.happens("late"):
             self.write_start(run, activity)
@@ -47,7 +47,7 @@ class Activities:
         run.come_in("ActivityTaskStarted", made, note)
 
     def give(self, poll, run, activity):
-        """A poll gets an activity task."""
+        """Returns an activity task to a poll."""
         token = activity.token = self.server.tokens.new("activity")
         self.by_token[token] = (run, activity, poll.peer)
         self.start(run, activity)
@@ -65,7 +65,7 @@ class Activities:
         return True
 
     def task_of(self, run, activity):
-        """An activity task, as a poll's result."""
+        """Returns an activity task, as a poll's result."""
         result = {
             "taskToken": activity.token,
             "workflowExecution": run.execution,
@@ -89,7 +89,7 @@ class Activities:
                 self.end(run, activity, "ActivityTaskTimedOut", {"failure": failure})
 
     def try_again(self, run, activity):
-        """Whether a failed activity is tried again."""
+        """Retries a failed activity if it may be retried, and returns whether it is."""
         if activity.cancelled or (activity.most and activity.attempt >= activity.most):
             return False
         activity.attempt += 1
@@ -98,7 +98,7 @@ class Activities:
         return True
 
     def end(self, run, activity, kind, attributes):
-        """An activity ends."""
+        """Ends an activity."""
         if not is_open(run, activity):
             return
         if activity.started is None:
@@ -132,7 +132,7 @@ class Activities:
         return self.taken()
 
     def answered(self, peer, params):
-        """The run and the activity of an answer that is still waited for."""
+        """Returns the run and the activity of an answer that is still expected."""
         token = params["taskToken"]
         peer.counts["activity answers"] += 1
         self.check_token(peer, token, "an answer to")
@@ -149,16 +149,16 @@ class Activities:
             self.server.findings.blame(peer, f"{what} the activity {readable(token)}, which it has answered")
 
     def waited_for(self, token):
-        """The run and the activity of a token, as long as it is waited for."""
+        """Returns the run and the activity of a token, as long as its answer is expected."""
         run, activity, _ = self.by_token[token]
         if not is_open(run, activity) or activity.token != token:
             raise Refused(NOT_FOUND, "activity not found")
         return run, activity
 
-    # Beats.
+    # Heartbeats.
 
     def beat(self, peer, params):
-        """An activity goes on, and hears whether its cancellation is asked for."""
+        """Records a heartbeat of an activity, and returns whether its cancellation is requested."""
         token = params["taskToken"]
         self.check_token(peer, token, "a beat of")
         peer.counts["beats"] += 1
@@ -174,7 +174,7 @@ class Activities:
         return {"cancelRequested": True}
 
     def wait_for_beat(self, run, activity, token):
-        """An activity that does not beat in time times out, where it has to beat at all."""
+        """Lets an activity time out if no heartbeat comes in time, if it has a heartbeat timeout."""
         if activity.heartbeat is None:
             return
         beaten_at = activity.beaten_at
@@ -186,7 +186,7 @@ class Activities:
         self.server.clock.at(milliseconds_of(activity.heartbeat), look)
 
     def taken(self):
-        """What an answer that was taken gets, unless its response is lost."""
+        """Returns the response to an accepted answer, unless it is lost."""
         if self.troubles.happens("lost"):
             self.server.findings.counts["lost answers"] += 1
             raise Refused(NOT_FOUND, "activity not found")

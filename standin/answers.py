@@ -16,7 +16,7 @@ class Answers:
         self.server, self.findings, self.counts = server, server.findings, server.findings.counts
 
     def completed(self, peer, params):
-        """A task was completed."""
+        """Completes a task."""
         given = self.given_to(peer, params)
         self.check(given, params)
         peer.counts["completed"] += 1
@@ -37,7 +37,7 @@ class Answers:
         return self.taken(given, {"resetHistoryEventId": str(run.before)} if is_dropped and run.before else {})
 
     def failed(self, peer, params):
-        """A task was failed."""
+        """Fails a task."""
         given = self.given_to(peer, params)
         peer.counts["failed"] += 1
         if given.task.attempt > 1:
@@ -51,7 +51,7 @@ class Answers:
         return {}
 
     def given_to(self, peer, params):
-        """What was given under the token of an answer. An answer too many is a fault of the worker."""
+        """Returns what was given under the token of an answer. A second answer is a fault of the worker."""
         token = params["taskToken"]
         given = self.server.tasks.given.get((token, peer))
         if given is None:
@@ -69,7 +69,7 @@ class Answers:
         return given
 
     def still(self, given):
-        """The run of an answer whose task is still in hand."""
+        """Returns the run of an answer whose task is still being processed."""
         if given.run.task is not given.task:
             raise Refused(NOT_FOUND, "workflow task not found")
         return given.run
@@ -90,7 +90,7 @@ class Answers:
         raise Refused(INVALID, message)
 
     def taken(self, given, result):
-        """What an answer that was taken gets, unless its response is lost."""
+        """Returns the response to an accepted answer, unless it is lost."""
         self.counts["taken"] += 1
         if self.server.troubles.happens("lost"):
             self.counts["lost answers"] += 1
@@ -98,7 +98,7 @@ class Answers:
         given.peer.cached[given.run] = given.task.started
         return result
 
-    # What is wrong with an answer beside its commands.
+    # What is wrong with an answer apart from its commands.
 
     def check(self, given, params):
         self.check_sticky(given.peer, given.run, params.get("stickyAttributes"))
@@ -115,7 +115,7 @@ class Answers:
             self.findings.blame(peer, f"an answer has the sticky queue {sticky['workerTaskQueue']}")
 
     def check_cached(self, given):
-        """A part of a history can be answered from a run that ends where the part begins, and from none else."""
+        """Checks that a part of a history is answered from a run that ends where the part begins."""
         peer, workflow_id = given.peer, given.run.workflow_id
         if given.is_partial and given.has_fetched:
             peer.counts["misses"] += 1
@@ -130,5 +130,5 @@ class Answers:
 
 
 def sticky_of(attributes):
-    """The sticky queue that an answer names and its timeout in milliseconds, or none."""
+    """Returns the sticky queue that an answer names and its timeout in milliseconds, or None."""
     return attributes and (attributes["workerTaskQueue"]["name"], milliseconds_of(attributes["scheduleToStartTimeout"]))

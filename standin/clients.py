@@ -1,4 +1,4 @@
-"""What a client asks of the server: runs to start, signals, cancels and ends, and what became of a run."""
+"""The calls of clients: runs to start, signals, cancellations and terminations, and what became of a run."""
 
 from findings import text_of, token_of
 from history import carried_over, left_out
@@ -17,7 +17,7 @@ STATUSES = {
 
 
 class Clients:
-    """The calls of clients. Each gives a result, or raises `Refused`."""
+    """The calls of clients. Each returns a result, or raises `Refused`."""
 
     def __init__(self, server):
         self.server = server
@@ -29,7 +29,7 @@ class Clients:
             "DescribeWorkflowExecution": self.describe,
             "GetWorkflowExecutionHistory": self.history,
         }
-        # Those whose response comes later, by a call of what is handed in with the request.
+        # Calls whose response comes later, through the callback that is passed with the request.
         self.later = {"QueryWorkflow": self.query}
 
     def call(self, method, params):
@@ -43,7 +43,7 @@ class Clients:
         self.later[method](params, reply)
 
     def query(self, params, reply):
-        """Asks a run, open or closed. A query that fails is refused with its text."""
+        """Queries a run, open or closed. A query that fails is refused with its text."""
         run, query = self.run_of(params["execution"], is_open=False), params["query"]
 
         def then(is_answered, given):
@@ -62,7 +62,7 @@ class Clients:
         return {"runId": run.run_id}
 
     def run_of(self, execution, is_open=True):
-        """The run of an execution, which has to be open where that is asked for."""
+        """Returns the run of an execution, which has to be open if that is required."""
         run = self.server.runs.find(execution)
         if run is None or is_open and run.closed is not None:
             raise Refused(NOT_FOUND, "no such run, or it is closed")
@@ -91,7 +91,7 @@ class Clients:
         return {"workflowExecutionInfo": info}
 
     def history(self, params):
-        """The history in pages of the size that is asked for. A token is the number of events before the page."""
+        """Returns the history in pages of the requested size. A token is the number of events before the page."""
         run = self.run_of(params["execution"], is_open=False)
         token = params.get("nextPageToken", "")
         first = int(text_of(token)) if token else 0

@@ -1,4 +1,4 @@
-"""Commands of a completed workflow task: what a server refuses of them, and what it does for them."""
+"""Commands of a completed workflow task: which of them a server refuses, and what it does for the others."""
 
 import base64
 import json
@@ -15,7 +15,7 @@ CLOSINGS = {
 
 
 class Check:
-    """What is open as the commands of one answer are looked at in their order."""
+    """What is open while the commands of one answer are checked in their order."""
 
     def __init__(self, run, settings):
         self.run, self.settings = run, settings
@@ -24,7 +24,7 @@ class Check:
         self.closed = False
 
     def fault(self, value):
-        """What is wrong with the next command, or nothing."""
+        """Returns what is wrong with the next command, or an empty text."""
         kind, attributes, fault = command_in(value)
         if fault:
             return fault
@@ -43,7 +43,7 @@ class Check:
         return fault or self.queue(attributes)
 
     def unasked(self, attributes):
-        """What a worker without policies does not ask for."""
+        """Returns which option differs from what a worker without policies sets, or an empty text."""
         if attributes.get("startToCloseTimeout") != self.settings.activity_timeout:
             return f"startToCloseTimeout is {attributes.get('startToCloseTimeout')}"
         most = self.settings.activity_attempts
@@ -103,20 +103,21 @@ class Check:
         return "" if good else f"a marker has {change!r} and {version!r}"
 
     def continue_as_new_workflow_execution(self, attributes):
-        """The next run gets what this one began with."""
+        """Returns what is wrong with a Continue-As-New, or an empty text: the next run gets what this one carries
+        over."""
         first = self.run.events[0]["workflowExecutionStartedEventAttributes"]
         changed = [name for name in CARRIED_OVER if attributes.get(name) != first.get(name)]
         return self.queue(attributes) or (f"{changed[0]} is not that of the run" if changed else "")
 
 
 def lone(payloads):
-    """The JSON value of the only payload."""
+    """Returns the JSON value of the only payload."""
     (payload,) = payloads.get("payloads", [])
     return json.loads(base64.b64decode(payload.get("data", "")))
 
 
 def has_held_end(run, scheduled):
-    """Whether the end of an activity was held back."""
+    """Returns whether the end of an activity was held back."""
     ends = [attributes for kind, attributes, _, _ in run.held if kind in LAST_OF_ALL]
     return any(attributes_of(one).get("scheduledEventId") == str(scheduled) for one in ends)
 
@@ -126,24 +127,24 @@ def attributes_of(attributes):
 
 
 def has_held_timer(run, name):
-    """Whether the firing of a timer was held back."""
+    """Returns whether the firing of a timer was held back."""
     return any(kind == "TimerFired" and attributes["timerId"] == name for kind, attributes, _, _ in run.held)
 
 
 def fault_of(run, commands, settings):
-    """What is wrong with the first command that has a fault, or nothing."""
+    """Returns what is wrong with the first command that has a fault, or an empty text."""
     check = Check(run, settings)
     faults = (check.fault(command) for command in commands)
     return next((fault for fault in faults if fault), "")
 
 
 def closes(commands):
-    """Whether one of the commands closes the run."""
+    """Returns whether one of the commands closes the run."""
     return any(command_in(command)[0] in CLOSINGS for command in commands)
 
 
 def left_held(run, commands):
-    """What is held back and not taken back by the cancel of a timer."""
+    """Returns what is held back and not removed by the cancellation of a timer."""
     kinds = [command_in(command)[:2] for command in commands]
     cancelled = {attributes["timerId"] for kind, attributes in kinds if kind == "CANCEL_TIMER"} - set(run.timers)
     return [one for one in run.held if one[0] != "TimerFired" or one[1]["timerId"] not in cancelled]

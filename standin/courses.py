@@ -2,15 +2,16 @@
 fails, and in which state it leaves the run.
 
 docs/DEFINITIONS.md says what the jobs of a task are, which commands are faults and which are sent. This is written from
-that page alone. What a workflow gives to a job is that of a program:
+that page alone. What a workflow does for a job is computed by a program:
 
-    program.step(job)   the commands that a job is given, as `commands_in` below has them; it goes on to the state after it
-    program.copy()      one that is in the same state
-    program.query(type, values)   what a query gives: `(True, JSON value)`, or `(False, text)`
+    program.step(job)   returns the commands for a job, as `commands_in` below has them, and enters the state after it
+    program.copy()      returns a program in the same state
+    program.query(type, values)   returns the result of a query: `(True, JSON value)`, or `(False, text)`
 
 A job is a tuple: ("start", payloads), ("signal", name, payloads), ("cancel",), ("activity", id, end, payloads),
-("fired", id), ("child-started", id), ("child", id, end, payloads), ("version", change, number), ("sent",), ("unsent",), which
-say what became of a signal. An end is `completed`, `failed`, `timed-out`, `canceled`, `terminated` or `not-started`.
+("fired", id), ("child-started", id), ("child", id, end, payloads), ("version", change, number), ("sent",) and
+("unsent",), which say what became of a signal. An end is `completed`, `failed`, `timed-out`, `canceled`, `terminated` or
+`not-started`.
 """
 
 import base64
@@ -22,7 +23,7 @@ MOST_COMMANDS = 4_096
 CLOSING = ("Complete", "Fail", "Cancel", "ContinueAsNew")
 OPENING = {"StartActivity": "activity", "StartTimer": "timer", "StartChild": "child"}
 CANCELLING = {"CancelActivity": "activity", "CancelTimer": "timer", "CancelChild": "child"}
-# What a worker says of the query types that SDKs keep for themselves.
+# What a worker answers for the query types that SDKs reserve.
 BUILT_IN = "built-in query types are not supported: "
 
 
@@ -41,7 +42,7 @@ class Payload(bytes):
 
 
 def payloads_in(attributes, name):
-    """The payloads of a member."""
+    """Returns the payloads of a member."""
     found = []
     for one in (attributes.get(name) or {}).get("payloads", []):
         payload = Payload(base64.b64decode(one.get("data", "")))
@@ -51,14 +52,14 @@ def payloads_in(attributes, name):
 
 
 def value_in(payloads):
-    """The JSON value of a marker's only payload."""
+    """Returns the JSON value of a marker's only payload."""
     (payload,) = payloads
     return json.loads(payload)
 
 
 def commands_in(values):
-    """The commands of an answer, as programs give them, but for a cancel of an activity, which has the number of the event
-    that scheduled it."""
+    """Returns the commands of an answer, as programs give them, except that the cancellation of an activity has the
+    number of the event that scheduled it."""
     return [READERS[kind](attributes) for kind, attributes, _ in map(command_in, values)]
 
 
@@ -104,7 +105,7 @@ class Thing:
 
 
 class Activation:
-    """One task: it is given its jobs, and keeps the commands that come of them."""
+    """One task: it is given its jobs, and keeps the commands that result."""
 
     def __init__(self, course):
         self.program, self.versions = course.program, course.versions
@@ -113,14 +114,14 @@ class Activation:
         self.issued, self.opened, self.cancelled, self.is_closed = [], {}, set(), False
 
     def run(self, jobs):
-        """The commands that are sent. A Fault where one of them can't be."""
+        """Returns the commands that are sent. Raises a Fault if one of them is invalid."""
         for job in jobs:
             while job is not None:
                 job = self.take(self.program.step(job))
         return [command for command in self.issued if command is not None]
 
     def take(self, commands):
-        """Takes the commands of a step. Where the last one asks, this is the job that answers it."""
+        """Adds the commands of a step. If the last one asks for a version, returns the job that answers it."""
         for command in commands:
             if self.is_closed:
                 raise Fault("AfterClosing")
@@ -188,7 +189,7 @@ class Course:
         self.begin, self.program, self.kind = begin, None, None
         self.count, self.things, self.versions, self.requests = 0, {}, {}, {}
         # The jobs since the last task that was completed, and what ended since then. The last task that was started is
-        # given so many of both.
+        # given this many of both.
         self.jobs, self.ended, self.jobs_before, self.ends_before = [], [], 0, 0
         self.started, self.is_live = 0, False
 
@@ -201,7 +202,7 @@ class Course:
         return other
 
     def read(self, events):
-        """Goes on by the events behind those that were read. The list is the whole history."""
+        """Continues with the events after those that were read. The list is the whole history."""
         for event in events[self.count :]:
             name = "".join(word.capitalize() for word in event["eventType"].split("_")[2:])
             attributes = event.get(name[0].lower() + name[1:] + "EventAttributes", {})
@@ -209,8 +210,8 @@ class Course:
             self.count += 1
 
     def answered(self, events):
-        """The commands that a task has to give whose events these are, from the first one of the run on. A Fault where it
-        has to fail."""
+        """Returns the commands that a task has to give, by the events of its run from the first one. Raises a Fault if
+        the task has to fail."""
         other = self.copy()
         other.read(events)
         return other.activated()
@@ -219,11 +220,11 @@ class Course:
         return Activation(self).run(self.jobs[: self.jobs_before])
 
     def queried(self, kind, values):
-        """What a query of this type gives after the last completed task: `(True, JSON value)` or `(False, text)`."""
+        """Returns the result of a query after the last completed task: `(True, JSON value)` or `(False, text)`."""
         return (False, BUILT_IN + kind) if kind.startswith("__") else self.program.query(kind, values)
 
     def queried_beside(self, kind, values):
-        """So too, after the task that is in hand. Nothing more can be read then."""
+        """Does the same after the task that is being processed. Nothing more can be read then."""
         try:
             self.activated()
         except Fault as fault:
@@ -237,7 +238,7 @@ class Course:
         self.jobs_before, self.ends_before = len(self.jobs), len(self.ended)
 
     def on_WorkflowTaskCompleted(self, *_):
-        """The task was completed: the workflow has gone on by its jobs."""
+        """The task was completed: the workflow has advanced by its jobs."""
         self.is_live = False
         self.activated()
         del self.jobs[: self.jobs_before], self.ended[: self.ends_before]
@@ -255,7 +256,7 @@ class Course:
         self.jobs.append(("start", input))
 
     def on_WorkflowExecutionSignaled(self, _, attributes):
-        """Signals come before all else but the start."""
+        """Adds a signal: signals come before everything else but the start."""
         place = next((at for at, job in enumerate(self.jobs) if job[0] not in ("start", "signal")), len(self.jobs))
         self.jobs.insert(place, ("signal", attributes["signalName"], payloads_in(attributes, "input")))
 
@@ -273,7 +274,7 @@ class Course:
         return thing
 
     def over(self, number, *job):
-        """A thing has ended from outside."""
+        """Notes that a thing has ended from outside."""
         thing = self.ends(number)
         self.ended.append((thing.kind, thing.name))
         self.jobs.append((job[0], thing.name, *job[1:]))
@@ -347,7 +348,7 @@ class Course:
 
 
 def fault_of(course, events, started, commands):
-    """What is wrong with the commands of a task that was started by the event of this number, or nothing."""
+    """Returns what is wrong with the commands of the task that the event of this number started, or an empty text."""
     try:
         wanted = course.answered(events)
     except Fault as fault:

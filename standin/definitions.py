@@ -223,7 +223,7 @@ DescribeWorkflowExecutionRequest namespace 1 string, execution 2 WorkflowExecuti
 DescribeWorkflowExecutionResponse workflow_execution_info 2 WorkflowExecutionInfo
 """
 
-# The members of an event that hold its attributes, in the order of their numbers, of which the first is 6.
+# The members of an event that hold its attributes, in the order of their numbers, which begin with 6.
 ATTRIBUTES = """
 WorkflowExecutionStarted WorkflowExecutionCompleted WorkflowExecutionFailed WorkflowExecutionTimedOut
 WorkflowTaskScheduled WorkflowTaskStarted WorkflowTaskCompleted WorkflowTaskTimedOut WorkflowTaskFailed
@@ -248,12 +248,12 @@ def snake(name):
 
 
 def lines_of(text):
-    """The lines of a table."""
+    """Returns the lines of a table."""
     return [line for line in text.replace("\n    ", " ").splitlines() if line]
 
 
 def event_line():
-    """The line of the message of an event."""
+    """Returns the line of the message of an event."""
     fields = ["event_id 1 int64", "event_time 2 Timestamp", "event_type 3 EventType", "worker_may_ignore 300 bool"]
     names = [name + "EventAttributes" for name in ATTRIBUTES.split()]
     fields += [f"{snake(name)} {number} {name}" for number, name in enumerate(names, 6)]
@@ -274,7 +274,7 @@ def add_enum(file, line):
 
 
 def set_type(field, word, enums):
-    """Gives a field the type of a word."""
+    """Sets the type of a field from a word."""
     if word in PLAIN:
         field.type = PLAIN[word]
     else:
@@ -302,7 +302,7 @@ def add_message(file, line, enums):
 
 
 def build():
-    """The classes of all messages, by their names."""
+    """Returns the classes of all messages, by their names."""
     file = descriptor_pb2.FileDescriptorProto(name="standin.proto", package=PACKAGE, syntax="proto3")
     file.dependency.extend([duration_pb2.DESCRIPTOR.name, timestamp_pb2.DESCRIPTOR.name])
     enums = {add_enum(file, line) for line in lines_of(ENUMS)}

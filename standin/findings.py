@@ -12,7 +12,7 @@ class Findings:
         self.wrong, self.counts = [], Counter()
 
     def blame(self, peer, what):
-        """Notes a fault of a worker, or of the stand-in where there is no worker."""
+        """Notes a fault of a worker, or of the stand-in if there is no worker."""
         self.wrong.append(f"{peer.name if peer else 'server'}: {what}")
 
 
@@ -27,15 +27,15 @@ class Tokens:
 
 
 def token_of(text):
-    """A text as a token."""
+    """Returns the token of a text."""
     return base64.b64encode(text.encode()).decode()
 
 
 def text_of(token):
-    """The text of a token."""
+    """Returns the text of a token."""
     return base64.b64decode(token).decode()
 
 
 def readable(token):
-    """A token as a message shows it, whatever it is."""
+    """Returns a token as a message shows it, whatever it is."""
     return repr(base64.b64decode(token))

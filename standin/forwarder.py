@@ -1,4 +1,4 @@
-"""A way to the stand-in's port that can go dead, or away for a while."""
+"""Connections to the stand-in's port that can go dead, or be away for a while."""
 
 import socket
 import threading
@@ -11,7 +11,7 @@ class Link:
         self.ends, self.is_dead = (near, far), False
 
     def pump(self, source, target):
-        """Forwards bytes one way until either end closes. Those of a dead connection go nowhere."""
+        """Forwards bytes in one direction until either end closes. Those of a dead connection are dropped."""
         try:
             while True:
                 some = source.recv(65536)
@@ -48,7 +48,7 @@ class Forwarder:
         threading.Thread(target=self.accept, args=(self.listener,), daemon=True).start()
 
     def accept(self, listener):
-        """Takes connections until the port is closed."""
+        """Accepts connections until the port is closed."""
         while True:
             try:
                 near, _ = listener.accept()
@@ -62,13 +62,13 @@ class Forwarder:
                 threading.Thread(target=link.pump, args=ends, daemon=True).start()
 
     def die(self):
-        """All connections go dead; a new one is as before."""
+        """Lets all connections go dead; new ones work as before."""
         with self.lock:
             for link in self.links:
                 link.is_dead = True
 
     def leave(self, seconds):
-        """All connections are closed, and for so many seconds there is no port."""
+        """Closes all connections and, for this many seconds, the port."""
         self.listener.shutdown(socket.SHUT_RDWR)
         self.listener.close()
         with self.lock:

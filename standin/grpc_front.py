@@ -23,12 +23,12 @@ from peers import CANCELLED, DEADLINE, EXHAUSTED, UNAVAILABLE, Peer, Refused
 
 TOP = Path(__file__).resolve().parent
 CODES = {code.value[0]: code for code in grpc.StatusCode}
-# What a call of a worker is refused with for good: the bridge tries again after the codes of an outage.
+# The codes with which a worker's calls are refused for good: the bridge retries after the codes of an outage.
 FINAL_CODES = (9,)
 MOST_THREADS = 400
-# After how many seconds the query of a client is given up.
+# After how many seconds a client's query is given up.
 QUERY_SECONDS = 8
-# After how many seconds a bridge has found out that its connection is dead.
+# After how many seconds a bridge notices that its connection is dead.
 DEAD_SECONDS = 60
 
 
@@ -53,19 +53,19 @@ class Calls(grpc.GenericRpcHandler):
         self.clients, self.by_identity, self.by_connection = Clients(server), {}, {}
 
     def listen(self, port=0):
-        """Begins to take calls, on a port of its own where none is named."""
+        """Begins to accept calls, on a port of its own choice if none is given."""
         self.listener = grpc.server(ThreadPoolExecutor(MOST_THREADS))
         self.listener.add_generic_rpc_handlers([self])
         self.port = self.listener.add_insecure_port(f"127.0.0.1:{port}")
         self.listener.start()
 
     def add(self, peer):
-        """A worker of which calls will come."""
+        """Adds a worker, whose calls will come."""
         self.by_identity[peer.name] = peer
         self.server.peers.append(peer)
 
     def service(self, details):
-        """What serves a call."""
+        """Returns the handler of a call."""
         method = details.method.rpartition("/")[2]
         request, response = CLASSES.get(method + "Request"), CLASSES.get(method + "Response")
         if request is None:
@@ -77,7 +77,7 @@ class Calls(grpc.GenericRpcHandler):
         )
 
     def take(self, method, message, context):
-        """Takes a call, and gives its response."""
+        """Handles a call and returns its response."""
         response = CLASSES[method + "Response"]
         if method == "GetSystemInfo":
             return response(server_version="stand-in")
@@ -98,7 +98,7 @@ class Calls(grpc.GenericRpcHandler):
         return method in (self.clients.calls | self.clients.later) and method not in self.server.calls
 
     def peer_of(self, params, context):
-        """The worker that a call comes from."""
+        """Returns the worker that a call comes from."""
         identity = params.get("identity")
         if identity and identity not in self.by_identity and self.is_open:
             self.add(Peer(identity, 0))
@@ -134,14 +134,14 @@ class Calls(grpc.GenericRpcHandler):
             if not method.startswith("Poll") and self.troubles.happens("busy"):
                 return None, (EXHAUSTED, "the namespace is over its rate limit")
             self.server.call(peer, method, params, waiting)
-        # Where the caller goes away, its poll goes too.
+        # If the caller goes away, its poll ends too.
         if not context.add_callback(lambda: self.forsake(peer, waiting)):
             self.forsake(peer, waiting)
         waiting.done.wait()
         return waiting.result, waiting.error
 
     def forsake(self, peer, waiting):
-        """The caller of a call is gone."""
+        """Drops the call of a caller that is gone."""
         with self.lock:
             if not waiting.done.is_set():
                 self.server.polls.drop(peer, waiting)
@@ -160,20 +160,21 @@ class Bridged:
         )
 
     def report(self):
-        """What it has said on standard error."""
+        """Returns what it has written to standard error."""
         self.said.seek(0)
         return self.said.read().decode(errors="replace")
 
 
 class Weather:
-    """What happens to the way between the bridges and the server: it goes dead, or away for so many seconds."""
+    """What happens to the connections between the bridges and the server: they go dead, or are away for this many
+    seconds."""
 
     def __init__(self, calls, away):
         self.calls, self.forwarder, self.away = calls, Forwarder(calls.port), away
         self.last, self.until = time.monotonic(), 0
 
     def pass_by(self):
-        """Looks once a second whether something happens, unless it is not over yet."""
+        """Decides once a second whether something happens, unless the last trouble is not over yet."""
         now = time.monotonic()
         if now - self.last < 1 or now < self.until:
             return
@@ -193,7 +194,7 @@ class Weather:
 
 
 class Front:
-    """All bridges, and the server after its port, which is away for so many seconds where that is among the troubles."""
+    """All bridges, and the server after its port, which is away for this many seconds if that is among the troubles."""
 
     def __init__(self, server, bridge, away):
         self.server, self.bridge = server, bridge
@@ -214,7 +215,7 @@ class Front:
         return process
 
     def turn(self):
-        """Starts runs, and lets time go on where all wait."""
+        """Starts runs, and lets time go on when all wait."""
         with self.calls.lock:
             if not self.is_ending:
                 self.server.world.begin()
@@ -239,7 +240,7 @@ class Front:
     cut = kill
 
     def stop_all(self, seconds):
-        """Tells all bridges to end, and waits for it."""
+        """Sends all bridges a signal to end, and waits for them."""
         left, until, self.is_ending = list(self.processes), time.monotonic() + seconds, True
         while any(process.peer.identity is None for process in self.processes) and time.monotonic() < until:
             self.turn()

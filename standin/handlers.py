@@ -1,4 +1,4 @@
-"""What handlers of activities do, written by itself: the beats and the answer that each task has to get."""
+"""What handlers of activities do, written independently: the heartbeats and the answer that each task has to get."""
 
 import json
 
@@ -11,17 +11,18 @@ CALLED_OFF = "called off"
 
 
 class Heard:
-    """What a handler has heard by the beats of one task: how many there were, and whether one of them said that it should give
-    up, as `cancel` or `gone`."""
+    """The responses to the heartbeats of one task: how many there were, and whether one of them said that the handler
+    should give up, as `cancel` or `gone`."""
 
     def __init__(self):
         self.beats, self.end = 0, None
 
 
 class Till:
-    """The activities of `order_worker`: `ChargeCard` gives its input; `PrintLabels` prints a label for each payload of its input,
-    beats after each, with how many it has printed, and gives their number; one of another type fails. Where a beat says that the cancellation of the
-    activity is requested, or that nobody waits for it any more, it gives up."""
+    """The activities of `order_worker`: `ChargeCard` returns its input; `PrintLabels` prints a label for each payload
+    of its input, sends a heartbeat after each, with the number of printed labels, and returns their number; one of
+    another type fails. If a heartbeat's response says that the cancellation of the activity is requested, or that its
+    answer is no longer expected, it gives up."""
 
     kinds = ("ChargeCard", "PrintLabels", "PrintLabels", "Mail")
 
@@ -29,7 +30,7 @@ class Till:
         self.server, self.tasks = server, {}
 
     def replied(self, peer, method, params, result, error):
-        """A worker has made a call and gets this response."""
+        """Notes the response to a worker's call."""
         token = params.get("taskToken")
         if peer.is_disturbed or token not in self.server.activities.by_token:
             return
@@ -44,7 +45,7 @@ class Till:
             self.server.findings.blame(peer, f"{activity.kind} {readable(token)}: {fault}")
 
     def beaten(self, heard, params, result, error):
-        """What is wrong with a beat, or nothing."""
+        """Returns what is wrong with a heartbeat, or an empty text."""
         wanted, given = [f"{heard.beats + 1}".encode()], payloads_in(params, "details")
         fault = f"it beats after {heard.end}" if heard.end else "" if [bytes(one) for one in given] == wanted else f"it beats with {given}"
         heard.beats += 1
@@ -55,7 +56,7 @@ class Till:
         return fault
 
     def answered(self, activity, heard, kind, params):
-        """What is wrong with an answer, or nothing."""
+        """Returns what is wrong with an answer, or an empty text."""
         what = params["failure"].get("message", "") if kind == "Failed" else self.values(params, "result" if kind == "Completed" else "details")
         given, input = (kind, what), self.values({"input": activity.input}, "input")
         if activity.kind == "ChargeCard":

@@ -7,20 +7,20 @@ from peers import INVALID, NOT_FOUND, Refused
 
 
 class Pages:
-    """What is still to come of the histories that were given in part."""
+    """The pages that are still to come of the histories that were given in part."""
 
     def __init__(self, troubles):
         self.troubles = troubles
         self.rest = {}
 
     def first(self, execution, events):
-        """The first page of a list of events, and the token of the next one, or an empty text."""
+        """Returns the first page of a list of events, and the token of the next one, or an empty text."""
         if self.troubles.happens("pages"):
             return self.cut(execution, events)
         return events, ""
 
     def next(self, execution, token):
-        """The page of a token, as `first` gives it; none where there is no such token for this run."""
+        """Returns the page of a token, as `first` does, or None if there is no such token for this run."""
         found = self.rest.get(token)
         if found is None or found[0] != execution:
             return None
@@ -37,7 +37,7 @@ class Pages:
 
 
 def page_of(page):
-    """A page and the token of the next one, as members of a response."""
+    """Returns a page and the token of the next one, as members of a response."""
     events, token = page
     return left_out({"history": left_out({"events": events}), "nextPageToken": token})
 
@@ -49,7 +49,7 @@ class Histories:
         self.server, self.pages = server, Pages(server.troubles)
 
     def fetch(self, peer, params):
-        """The first page of a run's history, or the one of a token."""
+        """Returns the first page of a run's history, or the one of a token."""
         execution, token = params["execution"], params.get("nextPageToken")
         run = self.server.runs.find(execution)
         if run is None:
@@ -62,7 +62,8 @@ class Histories:
         return page_of(page)
 
     def first(self, peer, run):
-        """The first page. The events of a task that follows a failed one are shown, those of a speculative one are not."""
+        """Returns the first page. The events of a task that follows a failed one are included, those of a speculative
+        one are not."""
         is_shown = run.task is not None and not run.task.is_speculative
         events = run.events + (run.unwritten() if is_shown else [])
         for given in peer.has.get(run, []):

@@ -1,8 +1,8 @@
 """Runs: their histories, what is open in them, and their workflow tasks.
 
-A run writes its events as a Temporal server does. What comes in from outside while a workflow task is in hand is held
-back, and stands after the events of the task's commands, with its own earlier time. A task that follows a failed one
-directly is written only once it is completed: until then its two events are shown to the worker alone. So is a
+A run writes its events as a Temporal server does. What comes in from outside while a workflow task is being processed
+is held back, and is written after the events of the task's commands, with its own earlier time. A task that directly
+follows a failed one is written only once it is completed: until then only the worker is shown its two events. So is a
 speculative task, which an update gives to a run that has no task: it is written once it is completed with commands, or
 something else is written; completed without commands, it leaves no event.
 """
@@ -13,34 +13,34 @@ FIRST = datetime(2024, 5, 1, 10, 0, 0, tzinfo=timezone.utc)
 # Ends of activities and children are written after all else that was held back.
 LAST_OF_ALL = ("ActivityTaskCompleted", "ActivityTaskFailed", "ActivityTaskTimedOut", "ActivityTaskCanceled")
 LAST_OF_ALL += tuple(f"ChildWorkflowExecution{end}" for end in ("Completed", "Failed", "Canceled", "TimedOut", "Terminated"))
-# What a run hands on to the one that continues it.
+# What a run carries over to the one that continues it.
 CARRIED_OVER = ("memo", "retryPolicy", "searchAttributes")
 
 
 def time_text(now):
-    """A time in milliseconds from the beginning, as RFC 3339 writes it."""
+    """Returns a time in milliseconds from the beginning, in the form of RFC 3339."""
     moment = FIRST + timedelta(milliseconds=now)
     return f"{moment:%Y-%m-%dT%H:%M:%S}.{now % 1000:03}Z"
 
 
 def type_name(kind):
-    """The name of an event's type, as proto3 JSON has it."""
+    """Returns the name of an event's type, as in proto3 JSON."""
     return "EVENT_TYPE" + "".join("_" + letter.upper() if letter.isupper() else letter.upper() for letter in kind)
 
 
 def event_of(number, time, kind, attributes):
-    """An event in proto3 JSON."""
+    """Returns an event in proto3 JSON."""
     name = kind[0].lower() + kind[1:] + "EventAttributes"
     return {"eventId": str(number), "eventTime": time_text(time), "eventType": type_name(kind), name: attributes}
 
 
 def left_out(members):
-    """The members without those that have no value, as proto3 JSON leaves them out."""
+    """Returns the members without those that have no value, which proto3 JSON omits."""
     return {name: value for name, value in members.items() if value not in (None, "", [], 0)}
 
 
 def carried_over(members):
-    """Of the members that a run begins with, those that the run which continues it begins with too."""
+    """Returns those of a run's first members with which the run that continues it begins too."""
     return {name: members[name] for name in CARRIED_OVER if name in members}
 
 
@@ -60,13 +60,13 @@ class Activity:
         self.started_at = None
         self.started = None
         self.cancelled = False
-        # The number of the event that asks for its cancellation, what its last beat said, and when that was.
+        # The number of the event that requests its cancellation, the details of its last heartbeat, and when that came.
         self.cancel_requested = 0
         self.details = self.beaten_at = None
 
 
 class Child:
-    """A child that has not ended, started or not."""
+    """A child workflow that has not ended, started or not."""
 
     def __init__(self, initiated, workflow_id):
         self.initiated = initiated
@@ -76,7 +76,7 @@ class Child:
 
 
 class Task:
-    """A workflow task that is scheduled or in hand."""
+    """A workflow task that is scheduled or being processed."""
 
     def __init__(self, scheduled, attempt, time, queue, is_speculative):
         self.scheduled = scheduled
@@ -138,14 +138,14 @@ class Run:
     # Events.
 
     def append(self, kind, attributes, time=None):
-        """Writes an event, and answers its number."""
+        """Writes an event and returns its number."""
         number = self.next_number
         self.events.append(event_of(number, self.server.clock.now if time is None else time, kind, attributes))
         return number
 
     def come_in(self, kind, attributes, note=None):
-        """An event from outside: written, or held back while a task is in hand. The attributes may be a function, which
-        is called when the event is written, and `note` is called with its number then."""
+        """Adds an event from outside: it is written, or held back while a task is being processed. The attributes may
+        be a function, which is called when the event is written; then `note` is called with its number."""
         self.write_speculative()
         if self.is_in_hand:
             self.held.append((kind, attributes, note, self.server.clock.now))
@@ -159,7 +159,7 @@ class Run:
             note(number)
 
     def flush(self):
-        """Writes what was held back, and answers whether there was something."""
+        """Writes what was held back, and returns whether there was something."""
         held, self.held = self.held, []
         for last in (False, True):
             for kind, attributes, note, time in held:
@@ -170,7 +170,7 @@ class Run:
     # Workflow tasks.
 
     def need_task(self):
-        """Schedules a workflow task where there is none."""
+        """Schedules a workflow task if there is none."""
         if self.task is None and self.closed is None:
             self.schedule_task()
 
@@ -182,7 +182,8 @@ class Run:
         self.server.tasks.offer(self)
 
     def write_speculative(self):
-        """Something else is written: a speculative task becomes one like the others, with its events before that."""
+        """Turns a speculative task into an ordinary one, since something else is written; its events come before
+        that."""
         task = self.task
         if task is None or not task.is_speculative:
             return
@@ -197,10 +198,10 @@ class Run:
         return {"taskQueue": {"name": queue}, "startToCloseTimeout": "10s", "attempt": attempt}
 
     def start_task(self, token, identity):
-        """A worker takes the task: the events that it is shown beyond the written ones."""
+        """Starts the task for a worker. Returns the events that the worker is shown beyond the written ones."""
         task = self.task
         if not task.is_written and task.scheduled != self.next_number:
-            # Something came in since it was scheduled, so it is a task like a first one.
+            # Something came in since it was scheduled, so it is like a first attempt.
             self.attempt = task.attempt = 1
             task.scheduled = self.append("WorkflowTaskScheduled", self.scheduled_attributes(task.queue, 1), task.time)
         started = {"scheduledEventId": str(task.scheduled), "identity": identity}
@@ -212,7 +213,7 @@ class Run:
         return self.unwritten()
 
     def unwritten(self):
-        """The events of a task in hand that are not written yet."""
+        """Returns the events of the task being processed that are not written yet."""
         task = self.task
         if not self.is_in_hand or task.is_written:
             return []
@@ -223,7 +224,7 @@ class Run:
         ]
 
     def complete_task(self):
-        """The task in hand is completed: its events stand, and no task is there."""
+        """Completes the task: its events are written, and there is no task."""
         task = self.task
         self.events += self.unwritten()
         completed = {"scheduledEventId": str(task.scheduled), "startedEventId": str(task.started)}
@@ -233,12 +234,12 @@ class Run:
         self.server.queries.ask_again(task)
 
     def drop_task(self):
-        """The speculative task in hand was completed and did nothing: no trace of it is left."""
+        """Completes a speculative task that did nothing: no trace of it is left."""
         task, self.task, self.attempt = self.task, None, 1
         self.server.queries.ask_again(task)
 
     def end_task(self, kind, attributes):
-        """The task in hand failed or timed out: what was held back is written. The run is not sticky any more."""
+        """Ends a task that failed or timed out: what was held back is written, and the run is no longer sticky."""
         self.write_speculative()
         task = self.task
         self.task, self.sticky = None, None
@@ -249,8 +250,8 @@ class Run:
         self.server.queries.ask_again(task)
 
     def leave_sticky(self, is_recorded):
-        """The task waits in a sticky queue that nobody takes it from: it goes to the normal queue, with an event of a
-        timeout or without."""
+        """Moves the task from a sticky queue, from which nobody takes it, to the normal queue, with a timeout's event
+        or without."""
         task = self.task
         self.sticky = None
         if is_recorded:
@@ -263,7 +264,7 @@ class Run:
             task.queue = self.queue
             self.server.tasks.offer(self)
 
-    # The end.
+    # The end of a run.
 
     def close(self, kind, attributes):
         """Closes the run, by a command or from outside."""

@@ -180,13 +180,13 @@ COMMANDS = {
 
 
 def attributes_name(kind):
-    """The member of a command that holds its attributes."""
+    """Returns the member of a command that holds its attributes."""
     words = [word.capitalize() for word in kind.split("_")]
     return words[0].lower() + "".join(words[1:]) + "CommandAttributes"
 
 
 def fault_in(value, form, where):
-    """What is wrong with a value of a form, or nothing."""
+    """Returns what is wrong with a value of a form, or an empty text."""
     if callable(form):
         return "" if form(value) else f"{where} is {value!r}"
     if isinstance(form, list):
@@ -218,7 +218,7 @@ def fault_of_members(value, form, where):
 
 
 def command_in(value):
-    """The kind of a command and its attributes, or what is wrong with it."""
+    """Returns the kind of a command, its attributes, and what is wrong with it."""
     if not isinstance(value, dict) or not isinstance(value.get("commandType"), str):
         return None, None, "a command has no type"
     prefix, _, kind = value["commandType"].partition("COMMAND_TYPE_")
@@ -231,5 +231,5 @@ def command_in(value):
 
 
 def milliseconds_of(duration):
-    """A duration in milliseconds."""
+    """Returns a duration in milliseconds."""
     return round(float(duration[:-1]) * 1000)

@@ -8,7 +8,7 @@ OUTAGE_CODES = (2, DEADLINE, EXHAUSTED, 10, 13, UNAVAILABLE)
 
 
 class Refused(Exception):
-    """A call that is answered by a code."""
+    """A call is refused with a code."""
 
     def __init__(self, code, message):
         super().__init__(message)
@@ -16,8 +16,8 @@ class Refused(Exception):
 
 
 class Settings:
-    """How the workers were started, as far as their requests show it. Where they have policies of their own, what these
-    ask for is not looked at, but for its form and the Task Queues."""
+    """How the workers were started, as far as their requests show it. If they have policies of their own, the options
+    of commands are not checked, except for their form and the Task Queues."""
 
     def __init__(self, namespace="default", queues=("q",), activity_timeout=60, activity_attempts=1, is_sticky=True, has_policies=False):
         self.namespace, self.queues, self.has_policies = namespace, queues, has_policies
@@ -34,15 +34,16 @@ class Peer:
         self.is_gone = self.is_cut = self.is_disturbed = False
         self.identity = self.sticky = None
         self.polls = 0
-        # Of each run of which an answer was acknowledged to it: the number of the last event that the run then held, for
-        # the last such answer. Only such a run may it have cached, and only where no other answer was taken since.
+        # By run: the number of the last event that the run had when the server last acknowledged one of this worker's
+        # answers for it. The worker may only have cached such a run, and only if no other answer was accepted since.
         self.cached = {}
-        # Of each run: what was given of it.
+        # By run: the tasks of it that were given.
         self.has = {}
         self.counts = Counter()
 
     def lose_connection(self):
-        """Its connection is lost: of each answer that it has sent it may have missed the response, and send it again."""
+        """Notes that its connection is lost: it may have missed the response to each answer that it sent, and send it
+        again."""
         self.is_disturbed = True
         for given in (given for all_given in self.has.values() for given in all_given):
             given.repeats += 1
@@ -62,7 +63,7 @@ class Given:
 
 
 class InHand:
-    """The tasks that workers have in hand. While there are some, the clock is not moved."""
+    """The tasks that workers are processing. While there are some, the clock is not moved."""
 
     def __init__(self):
         self.held = set()
@@ -77,11 +78,11 @@ class InHand:
         self.held.discard((token, peer))
 
     def forget(self, token):
-        """Nobody is waited for any more on account of a task."""
+        """Forgets a task: no worker is waited for because of it."""
         self.held = {one for one in self.held if one[0] != token}
 
     def leave(self, peer):
-        """A worker is gone."""
+        """Forgets the tasks of a worker that is gone."""
         self.held = {one for one in self.held if one[1] is not peer}
 
     def clear(self):

@@ -29,7 +29,7 @@ HOSTILE = [
     b'[{"jsonrpc":"2.0","id":%d,"result":{"taskToken":"\xff\xfe"}}]',
     b"[" * 1000,
 ]
-# Within how many seconds a worker knows that it was told to end.
+# Within how many seconds a worker has read a shutdown notice.
 KNOWS_SECONDS = 3
 
 
@@ -46,11 +46,11 @@ class Process:
         os.set_blocking(self.child.stdout.fileno(), False)
         self.read, self.ready, self.unsent = b"", [], b""
         self.ids, self.is_over, self.is_cut, self.is_killed = set(), False, False, False
-        # Whether it was told to shut down, and what then ends its open polls, and until when.
+        # Whether it was sent the shutdown notice, what then ends its open polls, and until when.
         self.is_stopped, self.ending, self.ends_until = False, None, 0
 
     def report(self):
-        """What it has said on standard error."""
+        """Returns what it has written to standard error."""
         self.said.seek(0)
         return self.said.read().decode(errors="replace")
 
@@ -73,7 +73,7 @@ class Pipes:
         return process
 
     def turn(self):
-        """Starts runs, reads what has come, answers it, and lets time go on where all wait."""
+        """Starts runs, reads what has come, answers it, and lets time go on when all wait."""
         if not self.is_ending:
             self.server.world.begin()
         for process in self.processes:
@@ -84,20 +84,20 @@ class Pipes:
         self.server.go_on(time.monotonic() - self.last)
 
     def take(self, process):
-        """Takes what a worker has written."""
+        """Reads what a worker has written."""
         some = os.read(process.child.stdout.fileno(), 1 << 20)
         self.last = time.monotonic()
         if not some:
             return self.close(process)
         if process.is_cut:
-            return  # Nobody reads what it still writes.
+            return  # What it still writes is not read.
         lines = (process.read + some).split(b"\n")
         process.read = lines.pop()
         for line in lines:
             self.request(process, line)
 
     def request(self, process, line):
-        """A request, of the exact bytes that the host owes."""
+        """Handles a request, which must have the exact bytes that the host has to write."""
         try:
             request = json.loads(line)
             exact = json.dumps(request, sort_keys=True, separators=(",", ":"), ensure_ascii=False).encode() == line
@@ -114,15 +114,15 @@ class Pipes:
         )
 
     def reply(self, process, number, result, error):
-        """A response, and perhaps a line that is none. Code 1 says that the worker has to end, so before its shutdown a
-        bridge passes it on as unavailable."""
+        """Writes a response, and perhaps a line that is none. Code 1 says that the worker has to end, so before its
+        shutdown it becomes unavailable, as with a bridge."""
         if error is not None and error[0] == CANCELLED and not process.is_stopped:
             error = (UNAVAILABLE, error[1])
         outcome = {"result": result} if error is None else {"error": {"code": error[0], "message": error[1]}}
         process.ready.append(json.dumps({"jsonrpc": "2.0", "id": number, **outcome}).encode())
         if self.troubles.happens("hostile"):
             line = self.troubles.dice.choice(HOSTILE)
-            # Behind its response, so that it answers a call that waits no more.
+            # After its response, so that it is for a call that no longer waits.
             process.ready[-1] += b"\n" + (line.replace(b"%d", b"%d" % number))
 
     def write(self, process):
@@ -141,7 +141,7 @@ class Pipes:
             process.unsent = b""
 
     def close(self, process):
-        """A worker has closed its output."""
+        """Closes a worker that has closed its output."""
         if not (process.is_stopped or process.is_cut or process.is_killed):
             self.server.findings.blame(process.peer, f"it has ended: {process.report()[-500:]}")
         if process.read:
@@ -163,7 +163,7 @@ class Pipes:
             self.close(process)
 
     def cut(self, process):
-        """Ends the input of a worker, as where its bridge has died: it has to end by itself."""
+        """Closes the input of a worker, as when its bridge has died: it has to end on its own."""
         process.child.stdin.close()
         process.is_cut = process.peer.is_cut = True
         process.read, process.ids = b"", set()
@@ -171,8 +171,9 @@ class Pipes:
         self.ending.append(process)
 
     def shut_down(self, process):
-        """Tells a worker to end. Its polls then end by code 1, as from a bridge. Or they are empty, as long as it may have
-        asked for them before it knew, and later ones are never answered. Or none is answered."""
+        """Sends a worker the shutdown notice. Its polls then end with code 1, as with a bridge. Or they are empty, as
+        long as it may have made them before it read the notice, and later ones are never answered. Or none is
+        answered."""
         process.is_stopped, process.ends_until = True, time.monotonic() + KNOWS_SECONDS
         if self.troubles.happens("open"):
             process.ending = None
@@ -182,7 +183,7 @@ class Pipes:
         self.write(process)
 
     def end_polls(self, process):
-        """Ends the polls of a worker that was told to end."""
+        """Ends the polls of a worker that was sent the shutdown notice."""
         if process.ending == "closed":
             self.server.polls.close(process.peer, "shutdown")
         elif process.ending == "empty" and time.monotonic() < process.ends_until:
@@ -191,7 +192,7 @@ class Pipes:
                 poll.answer({})
 
     def stop_all(self, seconds):
-        """Tells all workers to end, and waits for it. Those that don't are killed, and answered."""
+        """Sends all workers the shutdown notice, and waits for them. Those that don't end are killed, and blamed."""
         until, self.is_ending = time.monotonic() + seconds, True
         left = list(self.processes)
         for process in left:

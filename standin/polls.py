@@ -1,10 +1,11 @@
-"""Polls: those that wait, and what comes of a new one. A queue is a pair: whether it is one of activities, and its name."""
+"""Polls: those that wait, and what becomes of a new one. A queue is a pair: whether it is one of activities, and its
+name."""
 
 from collections import deque
 
 from peers import CANCELLED, DEADLINE, INVALID, OUTAGE_CODES
 
-# Within how many milliseconds the open polls of a process are ended by code 1.
+# Within how many milliseconds the open polls of a process are ended with code 1.
 CANCEL_WITHIN = 5_000
 
 
@@ -30,7 +31,7 @@ class Polls:
         self.waiting.setdefault(queue, deque()).append(poll)
 
     def take(self, queue):
-        """A poll that waits for tasks of a queue, taken from it; none where there is none."""
+        """Removes and returns a poll that waits for tasks of a queue, or returns None if there is none."""
         polls = self.waiting.get(queue)
         if not polls:
             return None
@@ -38,7 +39,7 @@ class Polls:
         return polls.popleft()
 
     def take_all(self, peer):
-        """The polls of a process, which wait no more."""
+        """Removes and returns the polls of a process."""
         taken = []
         for polls in self.waiting.values():
             for poll in [poll for poll in polls if poll.peer is peer]:
@@ -47,12 +48,12 @@ class Polls:
         return taken
 
     def close(self, peer, message):
-        """Ends the polls of a process by code 1."""
+        """Ends the polls of a process with code 1."""
         for poll in self.take_all(peer):
             poll.answer(None, (CANCELLED, message))
 
     def drop(self, peer, reply):
-        """A poll is given up by the one who asked."""
+        """Drops a poll that its caller has given up."""
         for polls in self.waiting.values():
             for poll in [poll for poll in polls if poll.peer is peer and poll.reply is reply]:
                 polls.remove(poll)
@@ -60,7 +61,7 @@ class Polls:
 
 
 class Polling:
-    """What comes of a new poll: it waits, unless it is refused, empty or not as it should be."""
+    """What becomes of a new poll: it waits, unless it is refused, empty or invalid."""
 
     def __init__(self, server):
         self.server, self.troubles, self.polls = server, server.troubles, server.polls
@@ -86,7 +87,7 @@ class Polling:
         self.server.queues.dispatch(queue)
 
     def fault(self, peer, is_activity, queue):
-        """What is wrong with the queue of a poll, or nothing."""
+        """Returns what is wrong with the queue of a poll, or an empty text."""
         normal = self.server.settings.queues
         if queue["kind"] == "TASK_QUEUE_KIND_NORMAL":
             good = queue["name"] in normal and "normalName" not in queue

@@ -1,10 +1,11 @@
-"""What workflows compute, written by itself, for `courses.Course`: from the tables in docs and comments, not from their code."""
+"""What workflows compute, written independently, for `courses.Course`: from the tables in docs and comments, not from
+their code."""
 
 import copy
 
 
 def plain_text(payload):
-    """The text of a payload that is its plain JSON, without an escape; or none."""
+    """Returns the text of a payload that is its plain JSON, without an escape, or None."""
     content = payload.decode("utf-8", "replace")
     inner = content[1:-1]
     is_quoted = len(content) > 2 and content[0] == content[-1] == '"'
@@ -13,7 +14,7 @@ def plain_text(payload):
 
 
 class Program:
-    """A workflow that gives nothing and knows no query."""
+    """A workflow that issues no commands and knows no query."""
 
     known = "none"
 
@@ -35,7 +36,7 @@ class Nap(Program):
 
 
 class Ending(Program):
-    """The run ends as the thing of this kind and id does."""
+    """The run ends as the thing of this kind and id ends."""
 
     thing, message, passes_on_cancels, has_ended = None, None, True, False
 

@@ -1,9 +1,11 @@
-"""Queries: how they are asked, on their own or beside a task, and which answers are right.
+"""Queries: how they are sent, on their own or with a task, and which answers are right.
 
-A query on its own waits in the sticky queue of its run, and after a while in the normal one, and gets the history as it is
-when a poll takes it. Its answer is of the state after the last completed task: at the history that was given, at one that
-the run has had since, or at one that the worker fetched meanwhile. A query beside a task is answered with that task, at the
-state that the task leaves. One that the answer leaves out, or whose task nobody completes, is asked again on its own."""
+A query on its own waits in the sticky queue of its run, and after a while in the normal one, and gets the history as it
+is when a poll takes it. Its answer is from the state after the last completed task: of the history that was given, of
+one that the run has had since, or of one that the worker fetched meanwhile. A query with a task is answered with that
+task, from the state after the task. One that the answer omits, or whose task nobody completes, is sent again on its
+own.
+"""
 
 import base64
 import json
@@ -16,10 +18,10 @@ from peers import NOT_FOUND, UNAVAILABLE, Refused
 from queues import Offer
 
 ANSWERED, FAILED = "QUERY_RESULT_TYPE_ANSWERED", "QUERY_RESULT_TYPE_FAILED"
-# After how many milliseconds a query that no poll takes leaves the sticky queue, and after how many it is given up where it
-# was taken and not answered: then it is asked again. A worker that has it gets so many real seconds at least.
+# After how many milliseconds a query that no poll takes leaves the sticky queue, and after how many a query that was
+# taken and not answered is given up and sent again. A worker that has it gets at least this many real seconds.
 STICKY_TIMEOUT, TIMEOUT, PATIENCE = 5_000, 10_000, 30.0
-# How many are asked beside one task at most.
+# How many are sent with one task at most.
 MOST_BESIDE = 3
 
 
@@ -49,14 +51,14 @@ class Queries:
 
     def __init__(self, server):
         self.server, self.counts = server, server.findings.counts
-        # Those that a poll has taken, by their tokens, how many are asked and not answered, and whether what is answered is
-        # judged, or only its form.
+        # Those that a poll has taken, by their tokens; how many are sent and not answered; and whether answers are
+        # judged, or only their form.
         self.taken, self.open, self.is_judged = {}, 0, False
 
-    # How they are asked.
+    # How they are sent.
 
     def plan(self, run):
-        """A client asks a run now."""
+        """Lets a client query a run now."""
         workflows = self.server.world.workflows
         asked = Asked(run, *workflows.asks(run))
         self.open += 1
@@ -64,19 +66,19 @@ class Queries:
         self.offer(asked)
 
     def ask_for(self, run, kind, values, then):
-        """A client of its own asks a run."""
+        """Sends a query of a real client."""
         self.open += 1
         self.counts["asked"] += 1
         self.offer(Asked(run, kind, values, then))
 
     def ask(self, poll, run, is_sticky):
-        """A poll gets a query now."""
+        """Gives a query to a poll now."""
         self.open += 1
         self.counts["asked"] += 1
         self.give(poll, Asked(run, *self.server.world.workflows.asks(run)), is_sticky)
 
     def offer(self, asked):
-        """A query waits to be taken."""
+        """Lets a query wait to be taken."""
         if asked.run.sticky:
             self.offer_in(asked, asked.run.sticky[0])
         else:
@@ -99,7 +101,7 @@ class Queries:
         self.server.queues.add((False, name), Offer(lambda: is_waiting[0] and not asked.is_answered, give, leave))
 
     def give(self, poll, asked, is_sticky):
-        """A poll gets a query. One of a sticky queue has no events, or those since the last task alone."""
+        """Gives a query to a poll. One of a sticky queue has no events, or only those since the last task."""
         token, peer, run = self.server.tokens.new("query"), poll.peer, asked.run
         self.taken[token] = taken = Taken(asked, peer)
         peer.counts["queries"] += 1
@@ -122,7 +124,7 @@ class Queries:
         return True
 
     def time_out(self, token):
-        """Nobody has answered a query: it is asked again. A worker that lives is given some real seconds for it."""
+        """Sends a query again that nobody has answered. A worker that is alive gets some real seconds for it."""
         taken = self.taken.get(token)
         if taken is None:
             return
@@ -137,7 +139,7 @@ class Queries:
         self.offer(taken.asked)
 
     def saw(self, peer, run, events):
-        """A worker has fetched a history, at which it may answer the queries of this run that it has."""
+        """Notes that a worker has fetched a history, from which it may answer the queries of this run that it has."""
         for taken in self.taken.values():
             if taken.peer is peer and taken.asked.run is run:
                 taken.fetched.append(events)
@@ -163,14 +165,14 @@ class Queries:
         return {}
 
     def give_up(self, peer, params):
-        """A call for a query has failed, so that its worker may say so, or not answer it."""
+        """Excuses a worker for which a call about a query has failed: it may say so, or not answer it."""
         for token, taken in self.taken.items():
             if taken.peer is peer and (token == params.get("taskToken") or taken.asked.run.execution == params.get("execution")):
                 taken.is_excused = True
                 self.server.in_hand.discard(token, peer)
 
     def judge(self, peer, taken, given):
-        """Blames a worker for an answer that is none of those that are right."""
+        """Blames a worker for an answer that is not one of the right ones."""
         right = self.right(taken)
         is_excused = taken.is_excused and given[0] is False
         if right is not None and given not in right and not is_excused:
@@ -179,7 +181,7 @@ class Queries:
             self.server.findings.blame(peer, what)
 
     def right(self, taken):
-        """The right answers, or none where any will do."""
+        """Returns the right answers, or None if any will do."""
         if not self.is_judged:
             return None
         run, found, queried = taken.asked.run, [], self.server.world.workflows.queried
@@ -188,10 +190,10 @@ class Queries:
         found += [queried(run, events, taken.asked.kind, taken.asked.values) for events in taken.fetched]
         return None if None in found else [one for at, one in enumerate(found) if one not in found[:at]]
 
-    # Queries beside a task.
+    # Queries with a task.
 
     def beside(self, run):
-        """Queries that a task brings, by their names."""
+        """Returns queries that come with a task, by their names."""
         dice, workflows = self.server.troubles.dice, self.server.world.workflows
         found = {f"query {at}": Asked(run, *workflows.asks(run)) for at in range(dice.randrange(1, MOST_BESIDE + 1))}
         self.open += len(found)
@@ -199,7 +201,7 @@ class Queries:
         return found
 
     def answered_beside(self, peer, run, results):
-        """The results of an answer to the task in hand."""
+        """Checks the query results of the answer to the task being processed."""
         task = run.task
         for name in results.keys() - task.queries.keys():
             self.server.findings.blame(peer, f"the query {name} is answered, which the task did not bring")
@@ -218,7 +220,7 @@ class Queries:
             self.open -= 1
 
     def ask_again(self, task):
-        """A task is over: those queries of it that nobody has answered are asked on their own."""
+        """Sends the queries of a task that is over again on their own, if nobody has answered them."""
         queries, task.queries = task.queries, {}
         for asked in queries.values():
             if not asked.is_answered:
@@ -226,12 +228,12 @@ class Queries:
 
 
 def text_begins(token):
-    """Whether a token is one of queries."""
+    """Returns whether a token is that of a query."""
     return base64.b64decode(token).startswith(b"query ")
 
 
 def answer_in(params, kind, payloads):
-    """What an answer says: `(True, JSON value)`, or `(False, text)`; what is no such answer as it is."""
+    """Returns what an answer says: `(True, JSON value)`, or `(False, text)`; an invalid answer is returned as it is."""
     if params[kind] == FAILED:
         return False, params.get("errorMessage", "")
     found = params.get(payloads, {}).get("payloads", [])

@@ -8,8 +8,8 @@ class Offer:
     """A task that waits in a queue."""
 
     def __init__(self, is_waiting, give, leave=None):
-        """`is_waiting()` says whether it still waits, `give(poll)` gives it to a poll, and says whether that one took it,
-        and `leave()` is for a task of a queue that is given up."""
+        """`is_waiting()` returns whether it still waits, `give(poll)` gives it to a poll and returns whether the poll
+        took it, and `leave()` is called for a task of a queue that is given up."""
         self.is_waiting, self.give, self.leave = is_waiting, give, leave
 
 
@@ -25,11 +25,11 @@ class Queues:
         self.dispatch(queue)
 
     def take_all(self, queue):
-        """The tasks of a queue, which wait there no more."""
+        """Removes and returns the tasks of a queue."""
         return self.offers.pop(queue, deque())
 
     def dispatch(self, queue):
-        """Gives tasks of a queue to polls of it, as long as there are both; within `held`, after it."""
+        """Gives tasks of a queue to polls of it, as long as there are both; within `hold`, after it."""
         if self.is_held:
             return self.held.append(queue)
         offers = self.offers.get(queue)
@@ -46,7 +46,7 @@ class Queues:
 
     @contextmanager
     def hold(self):
-        """Gives no task until what is done within it is over: a response comes before the task that it makes way for."""
+        """Gives no task until what is done within it is over: a response comes before the task that it allows."""
         self.is_held = True
         try:
             yield

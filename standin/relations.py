@@ -1,4 +1,4 @@
-"""What runs do to one another: children, their cancels, and signals to others."""
+"""What runs do to one another: children, their cancellation, and signals to external workflows."""
 
 CAUSES = {
     "child": "START_CHILD_WORKFLOW_EXECUTION_FAILED_CAUSE_WORKFLOW_ALREADY_EXISTS",
@@ -14,7 +14,7 @@ class Relations:
         self.server = server
 
     def soon(self, run, action):
-        """Does something a little later, unless the run that asked for it is closed by then."""
+        """Runs an action a little later, unless the run that asked for it is closed by then."""
         self.server.clock.at(self.server.world.short(), lambda: run.closed is None and action())
 
     def start_child(self, run, child, attributes):
@@ -58,7 +58,7 @@ class Relations:
         run.come_in("ExternalWorkflowExecutionSignaled", made)
 
     def child_closed(self, run, attributes):
-        """A run has closed for good: where it is a child, its parent gets the event of its end."""
+        """Sends the parent of a closed run, if it has one, the event of its end."""
         parent, number = run.parent or (None, 0)
         if parent is None or parent.closed is not None or number not in parent.children:
             return

@@ -1,4 +1,4 @@
-"""Runs from outside: how they start, what comes to them, and what follows where one closes."""
+"""Runs from outside: how they start, what comes to them, and what follows when one closes."""
 
 from history import Run, carried_over, left_out
 
@@ -11,7 +11,7 @@ class Runs:
         self.all, self.by_id, self.open = [], {}, set()
 
     def start(self, kind, workflow_id, input=None, parent=None, queue=None, continued=None, carried=None):
-        """Starts a run; none where one of this id is open."""
+        """Starts a run, or returns None if one of this id is open."""
         if self.open_one(workflow_id) is not None:
             return None
         run_id = f"{len(self.all) + 1:08x}-0000-4000-8000-{self.server.troubles.dice.getrandbits(48):012x}"
@@ -24,12 +24,12 @@ class Runs:
         return run
 
     def open_one(self, workflow_id):
-        """The open run of an id, or none."""
+        """Returns the open run of an id, or None."""
         runs = self.by_id.get(workflow_id)
         return runs[-1] if runs and runs[-1].closed is None else None
 
     def find(self, execution):
-        """The run of an execution; the last one of its id where it names none; none where there is no such run."""
+        """Returns the run of an execution, the last one of its id if it names none, or None if there is no such run."""
         runs, run_id = self.by_id.get(execution["workflowId"], []), execution.get("runId")
         return next((run for run in reversed(runs) if run_id in (None, run.run_id)), None)
 
@@ -45,7 +45,7 @@ class Runs:
             run.come_in("WorkflowExecutionCancelRequested", {"cause": "asked"})
 
     def update(self, run):
-        """An update comes. Where the run has no task it gets a speculative one, whose events are not written."""
+        """Sends an update. If the run has no task it gets a speculative one, whose events are not written."""
         if run.closed is None and run.task is None and self.server.troubles.happens("speculative"):
             run.schedule_task(is_speculative=True)
 
@@ -60,7 +60,8 @@ class Runs:
     # Timers.
 
     def start_timer(self, run, name, number, delay):
-        """A timer of so many milliseconds starts. The world says after what time it fires, or that it never does."""
+        """Starts a timer of this many milliseconds. The world decides after what time it fires, or that it never
+        does."""
         delay = self.server.world.timer(name, delay)
         if delay is not None:
             run.due[name] = self.server.clock.now + delay
@@ -74,7 +75,8 @@ class Runs:
     # The end.
 
     def closed(self, run, attributes):
-        """A run has closed: its children are terminated, the next run of its id starts, and its parent hears of it."""
+        """Handles the end of a run: its children are terminated, the next run of its id starts, and its parent is sent
+        the event."""
         self.open.discard(run)
         for child in list(run.children.values()):
             if child.run is not None:
@@ -92,7 +94,7 @@ class Runs:
         new = self.start(kind, run.workflow_id, attributes.get("input"), continued=run.run_id, **same)
         shown = run.events[-1]["workflowExecutionContinuedAsNewEventAttributes"]
         shown["newExecutionRunId"] = new.run_id
-        shown.pop("retryPolicy", None)  # It stands in the next run's first event alone.
+        shown.pop("retryPolicy", None)  # It is only in the next run's first event.
         parent, number = run.parent or (None, 0)
         if parent and number in parent.children:
             parent.children[number].run = new

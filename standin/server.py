@@ -1,7 +1,7 @@
-"""The stand-in's server: what it is made of, how it takes a request, and when its clock goes on.
+"""The stand-in's server: its parts, how it handles a request, and when its clock goes on.
 
-It knows nothing of pipes or of gRPC: a request is a call of `Server.call`, and its response a call of what was handed in
-with it. Each part has one duty, and finds the others here.
+It knows nothing of pipes or of gRPC: a request is a call of `Server.call`, and its response is a call of the callback
+passed with it. Each part has one duty, and finds the others here.
 """
 
 from activities import Activities
@@ -18,12 +18,12 @@ from relations import Relations
 from runs import Runs
 from tasks import WorkflowTasks
 
-# How many seconds a worker that has something in hand is waited for before the clock goes on, and how many where only a
+# How many seconds a worker that is processing something is waited for before the clock goes on, and how many if only a
 # poll is missing.
 PATIENCE, SHORT_PATIENCE = 1.0, 0.02
-# The codes by which an answer fails for good, where nobody tries it again.
+# The codes with which an answer fails for good, since nobody retries it.
 FINAL_CODES = (2, 8, 10, 13)
-# The calls that are no answers to tasks, so that no worker counts where they are refused.
+# The calls that are not answers to tasks; no worker counts their refusals.
 UNCOUNTED = ("RespondQueryTaskCompleted", "RecordActivityTaskHeartbeat")
 
 
@@ -56,12 +56,12 @@ class Server:
     # Time.
 
     def all_wait(self):
-        """Whether no task is in hand, and each poller of each process polls."""
+        """Returns whether no task is being processed, and each poller of each process polls."""
         return not self.in_hand and all(peer.polls >= peer.pollers for peer in self.peers if not peer.is_gone)
 
     def go_on(self, idle):
-        """Lets time go on where all wait, or where nothing came for so many seconds; whether all wait. What is in hand
-        for longer is waited for no more: the worker keeps it back, or is stuck."""
+        """Lets time go on if all wait, or if nothing came for this many seconds; returns whether all wait. What is
+        being processed for longer is no longer waited for: the worker withholds its answer, or is stuck."""
         if idle > PATIENCE:
             self.in_hand.clear()
         all_wait = self.all_wait()
@@ -72,7 +72,7 @@ class Server:
     # Calls.
 
     def call(self, peer, method, params, reply):
-        """Takes a request. `reply` is called once, now or later, with a result or with a code and a message."""
+        """Handles a request. `reply` is called once, now or later, with a result or with a code and a message."""
         self.clock.now += 1
         form = REQUESTS.get(method)
         fault = f"no call {method}" if form is None else fault_in(params, form, method) or self.strange(peer, method, params)
@@ -93,21 +93,22 @@ class Server:
             reply(result, error)
 
     def response(self, peer, method, params):
-        """The response to an answer or to the call for a page, which may fail for good, before or after what it does."""
+        """Returns the response to an answer or to a call for a page, which may fail for good, before or after it takes
+        effect."""
         take = self.calls[method]
         if not self.troubles.happens("calls"):
             return take(peer, params), None
         known = dict(peer.cached)
         if self.troubles.dice.random() < 0.5:
             take(peer, params)
-        # Whether or not its answer was taken, the worker does not learn it, and keeps no run for it. What it learned
-        # before, as where the same task was given twice and its other answer acknowledged, still holds.
+        # Whether or not its answer was accepted, the worker does not learn it, and keeps no run for it. What it learned
+        # before still holds, as when the same task was given twice and its other answer was acknowledged.
         peer.cached = known
         self.tasks.give_up(peer, params)
         return None, (self.troubles.dice.choice(self.final_codes), "the server can't answer now")
 
     def strange(self, peer, method, params):
-        """What is wrong with the namespace or the identity of a request, or nothing."""
+        """Returns what is wrong with the namespace or the identity of a request, or an empty text."""
         if params["namespace"] != self.settings.namespace:
             return f"{method} has the namespace {params['namespace']}"
         identity = params.get("identity", peer.identity)
@@ -119,7 +120,7 @@ class Server:
         return ""
 
     def leave(self, peer):
-        """A process is gone, with all that it had in hand."""
+        """Forgets a process that is gone, with all that it was processing."""
         peer.is_gone = True
         self.polls.take_all(peer)
         self.in_hand.leave(peer)

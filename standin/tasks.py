@@ -9,7 +9,7 @@ TASK_TIMEOUT = 10_000
 
 
 def is_waiting(run, task, name):
-    """Whether a task still waits in the queue of this name."""
+    """Returns whether a task still waits in the queue of this name."""
     return run.task is task and task.started is None and task.queue == name
 
 
@@ -23,7 +23,7 @@ class WorkflowTasks:
     # Queues.
 
     def offer(self, run):
-        """The workflow task of a run waits to be taken."""
+        """Lets the workflow task of a run wait to be taken."""
         task, world = run.task, self.server.world
         if world.is_outside(run.kind):
             return self.clock.at(world.outside_time(), lambda: self.serve_outside(run, task))
@@ -37,13 +37,13 @@ class WorkflowTasks:
         self.server.queues.add((False, name), Offer(waits, lambda poll: self.give(poll, run), leaves))
 
     def leave_sticky(self, run, task, is_recorded):
-        """A task that still waits in its sticky queue goes to the normal one."""
+        """Moves a task that still waits in its sticky queue to the normal one."""
         if run.sticky and is_waiting(run, task, run.sticky[0]):
             self.counts["sticky timeouts" if is_recorded else "sticky drops"] += 1
             run.leave_sticky(is_recorded)
 
     def give_up_queue(self, peer, params):
-        """A worker gives up its sticky queue."""
+        """Gives up the sticky queue of a worker."""
         name = params["stickyTaskQueue"]
         peer.sticky = peer.sticky or name
         if name != peer.sticky or name in [other.sticky for other in self.server.peers if other is not peer]:
@@ -54,7 +54,7 @@ class WorkflowTasks:
         return {}
 
     def serve_outside(self, run, task):
-        """The stand-in answers a task of a run that another worker would serve: it completes the run."""
+        """Answers a task of a run that another worker would serve: completes the run."""
         if run.task is task and run.closed is None:
             run.start_task(self.server.tokens.new("outside"), "another")
             run.complete_task()
@@ -63,7 +63,7 @@ class WorkflowTasks:
     # Polls.
 
     def give(self, poll, run):
-        """A poll gets the workflow task of a run; whether it got it, and not a query before it."""
+        """Gives the workflow task of a run to a poll; returns whether the poll got it, and not a query before it."""
         task = run.task
         if self.troubles.happens("queries"):
             self.server.queries.ask(poll, run, task.queue != run.queue)
@@ -85,7 +85,8 @@ class WorkflowTasks:
         return True
 
     def hand_out(self, poll, run, events, is_partial):
-        """A poll gets these events of a run's task, and perhaps another one too. Then something may come to the run."""
+        """Gives these events of a run's task to a poll, and perhaps to another one too. Then something may come to the
+        run."""
         task = run.task
         self.hand_to(poll, run, events, is_partial)
         if self.troubles.happens("twice"):
@@ -111,7 +112,7 @@ class WorkflowTasks:
         poll.answer(self.task_of(run, events, is_partial))
 
     def task_of(self, run, events, is_partial):
-        """A workflow task, as a poll's result. The last events of a speculative one stand in the poll itself."""
+        """Returns a workflow task, as a poll's result. The last events of a speculative one are in the poll itself."""
         task, is_whole = run.task, is_partial and run.task.is_speculative
         page = (events, "") if is_whole else self.server.histories.pages.first(run.execution, events)
         result = {
@@ -135,7 +136,7 @@ class WorkflowTasks:
             run.need_task()
 
     def give_up(self, peer, params):
-        """A call for a task has failed: the worker answers the task no more."""
+        """Notes that a call for a task has failed: the worker no longer answers the task."""
         self.server.queries.give_up(peer, params)
         execution = params.get("execution", {})
         for token in self.server.in_hand.tokens_of(peer):

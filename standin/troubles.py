@@ -2,7 +2,7 @@
 
 import random
 
-# Of each name, how often it comes where it may come, and what it is.
+# By name: how often it happens where it may happen, and what it is.
 KINDS = {
     "twice": (0.06, "a workflow task is given to two polls"),
     "timeouts": (0.05, "a workflow task times out while it is in hand"),
@@ -41,7 +41,7 @@ class Troubles:
         self.met = dict.fromkeys(sorted(self.names), 0)
 
     def happens(self, name):
-        """Whether a kind of trouble comes now."""
+        """Returns whether a kind of trouble happens now."""
         if name not in self.names or self.dice.random() >= KINDS[name][0]:
             return False
         self.met[name] += 1
@@ -49,8 +49,8 @@ class Troubles:
 
 
 def names_of(text):
-    """The kinds that a text names: `none`, or words with commas between, each a name, `all`, or `-` and a name that is left
-    out of those before. A ValueError where there is no such kind."""
+    """Returns the kinds that a text names: `none`, or words with commas between, each a name, `all`, or `-` and a name
+    that is removed from those before. Raises a ValueError if there is no such kind."""
     names = []
     for word in text.split(",") if text != "none" else []:
         name = word.lstrip("-")

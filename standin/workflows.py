@@ -13,10 +13,10 @@ from courses import BUILT_IN, Course, Fault, fault_of
 from programs import PROGRAMS
 
 SECOND, DAY = 1_000, 86_400_000
-# What nobody serves, and what a worker has to say of it.
+# A type that nobody serves, and what a worker has to say of it.
 STRANGE, SAID_OF_STRANGE = "Nobody", "task at 1: UnknownWorkflow"
 OPENINGS = ("activityTaskScheduledEventAttributes", "startChildWorkflowExecutionInitiatedEventAttributes")
-# What a run begins with that the one which continues it begins with too. None is tried again where it fails.
+# What a run begins with that the one which continues it begins with too. None is retried after a failure.
 CARRIED = {
     "memo": {"fields": {"team": {"metadata": {"encoding": "anNvbi9wbGFpbg=="}, "data": "InNob3Ai"}}},
     "retryPolicy": {"initialInterval": "1s", "backoffCoefficient": 2.0, "maximumAttempts": 1},
@@ -34,67 +34,68 @@ def base64_of(text):
 
 
 def payloads(*values):
-    """JSON values as payloads."""
+    """Returns JSON values as payloads."""
     metadata = {"encoding": base64_of("json/plain")}
     return {"payloads": [{"metadata": metadata, "data": base64_of(json.dumps(value))} for value in values]}
 
 
 class Workflows:
-    """Some workflow types. What is the same for all of them stands here."""
+    """Some workflow types, with what is the same for all of them."""
 
-    # Types to start, the time in which runs start, and the one in which something comes to a run from outside.
+    # Types to start, the time in which runs start, and the time in which something comes to a run from outside.
     kinds, spread, lifetime = (), 60 * SECOND, 60 * SECOND
     # Types of children that another worker would serve.
     outside = ()
     # Whether a run that waits for nothing is a fault.
     must_close = False
-    # After how many milliseconds a run that is still open is terminated, or none.
+    # After how many milliseconds a run that is still open is terminated, or None.
     ends_after = None
 
     def __init__(self, dice):
         self.dice = dice
 
     def next_kind(self, open_runs):
-        """The type of the next run."""
+        """Returns the type of the next run."""
         return self.dice.choice(self.kinds)
 
     def companion(self, kind):
-        """The type and the id of a run that is started before one of this type, or none."""
+        """Returns the type and the id of a run that is started before one of this type, or None."""
         return None
 
     def input(self, kind, number, workflow_id):
-        """The input of a run, or none."""
+        """Returns the input of a run, or None."""
         return payloads(f"person {number}") if self.dice.random() < 0.8 else None
 
     def carried(self):
-        """What a run begins with beside that, and hands on where it continues as new: each of it often, and often not."""
+        """Returns what a run begins with besides its input, and carries over when it continues as new: each of it
+        often, and often not."""
         return {name: value for name, value in CARRIED.items() if self.dice.random() < 0.3}
 
     def signals(self, run):
-        """Signals that may come to a run, each with how often, its name, and its values."""
+        """Returns signals that may come to a run, each with how often, its name, and its values."""
         return [(0.2, *NOISE)]
 
     def cancels(self, run):
-        """How often a run is asked to be cancelled."""
+        """Returns how often a run is requested to cancel."""
         return 0
 
     def next_signal(self, run, count):
-        """The milliseconds until a further signal of a run that has had so many, and its name; or none."""
+        """Returns the milliseconds until a further signal of a run that has had this many, and its name, or None."""
         return None
 
     def timer(self, name, delay):
-        """After how many milliseconds a timer fires, or none where it never does."""
+        """Returns after how many milliseconds a timer fires, or None if it never does."""
         return delay
 
     def is_outside(self, kind):
         return kind in self.outside
 
     def fault(self, run, commands):
-        """What is wrong with the commands of a run, or nothing."""
+        """Returns what is wrong with the commands of a run, or an empty text."""
         return ""
 
     def cannot_close(self, run):
-        """Whether a run waits for nothing."""
+        """Returns whether a run waits for nothing."""
         return False
 
     # Queries.
@@ -103,14 +104,14 @@ class Workflows:
     knows = {}
 
     def asks(self, run):
-        """The type of a query that is asked of a run, and its arguments."""
+        """Returns the type and the arguments of a query for a run."""
         known = self.knows.get(run.kind, ())
         kind = self.dice.choice(known) if known and self.dice.random() < 0.75 else self.dice.choice(("weather", "__stack_trace"))
         return kind, self.dice.choice((None, payloads(), payloads({"from": 1}, "x")))
 
     def queried(self, run, events, kind, values, is_beside=False):
-        """What a query gives at a history of a run, after its last completed task, or after the one in hand where it comes
-        beside that: `(True, JSON value)` or `(False, text)`; none where that is not known."""
+        """Returns the result of a query at a history of a run, after its last completed task, or after the one being
+        processed if the query comes with that: `(True, JSON value)` or `(False, text)`; None if that is not known."""
         known = self.knows.get(run.kind, ())
         if run.kind == STRANGE:
             return False, SAID_OF_STRANGE
@@ -119,26 +120,26 @@ class Workflows:
         return None if kind in known else (False, f"unknown query type {kind}; known: {', '.join(known) or 'none'}")
 
     def goes_on(self, run):
-        """Whether a run that is watched may go on; else it is terminated."""
+        """Returns whether a run that is watched may go on; otherwise it is terminated."""
         return True
 
     def failure(self, run, events):
-        """With which message the task has to be failed in which a history of a run ends, or none."""
+        """Returns the message with which the task has to fail that ends a history of a run, or None."""
         return None
 
     def fails(self, run):
-        """Whether the task in hand of a run has to fail."""
+        """Returns whether the task of a run that is being processed has to fail."""
         return False
 
     def is_long(self, run):
-        """Whether a run has to be terminated after a task that it has completed."""
+        """Returns whether a run has to be terminated after a task that it has completed."""
         return False
 
     def failed(self, run):
-        """A task of a run was failed, as it has to be."""
+        """Notes that a task of a run was failed, as it has to be."""
 
     def closed(self, run):
-        """A run has closed."""
+        """Notes that a run has closed."""
 
 
 class Followed(Workflows):
@@ -152,7 +153,7 @@ class Followed(Workflows):
         return PROGRAMS[kind]()
 
     def course(self, run):
-        """The course of a run, up to its last event."""
+        """Returns the course of a run, up to its last event."""
         course = self.courses.get(run)
         if course is None:
             course = self.courses[run] = Course(self.begin)
@@ -197,7 +198,8 @@ class Samples(Followed):
     knows = {"Racer": ("phase",)}
 
     def next_kind(self, open_runs):
-        """The child of a Family has the same id in each, so most wait for the one before."""
+        """Returns the type of the next run. The child of a Family has the same id in each, so most wait for the one
+        before."""
         kind, is_family = self.dice.choice(self.kinds), any(run.kind == "Family" for run in open_runs)
         if kind == "Family" and is_family and self.dice.random() < 0.9:
             return self.next_kind(open_runs)
@@ -207,7 +209,7 @@ class Samples(Followed):
         return ("Nap", "other") if kind == "Caller" and self.dice.random() < 0.7 else None
 
     def input(self, kind, number, workflow_id):
-        """A Relay gets up to four values, each for a run."""
+        """Returns the input of a run. A Relay gets up to four values, each for a run."""
         if kind == "Relay":
             return payloads(*(f"leg {leg} of {number}" for leg in range(self.dice.randrange(5))))
         return super().input(kind, number, workflow_id)
@@ -219,21 +221,21 @@ class Samples(Followed):
         return 0.4 if run.kind == "Greet" else 0
 
     def cannot_close(self, run):
-        """Whether its opening was called off in the very task of its start, which drops both, so that its table has no
-        way to close."""
+        """Returns whether the opening of a run was called off in the very task of its start, which drops both, so that
+        its table has no way to close."""
         opened = any(name in event for event in run.events for name in OPENINGS)
         return run.kind in ("Greet", "Family") and run.before > 0 and run.task is None and not opened
 
 
 class Orders(Followed):
-    """Orders. Their children are runs that the worker of orders has no code for."""
+    """Orders. Their children are runs of a type that is not registered with the worker of orders."""
 
     kinds, spread, lifetime = ("Order",), DAY, 2 * DAY
     outside, knows = ("Ship", "ShipTracked"), {"Order": ("status",)}
 
     def input(self, kind, number, workflow_id):
-        """Most orders have a name, after which their child has an id of its own: the children of the others have one id,
-        so that of two at a time the second is refused."""
+        """Returns the input of a run. Most orders have a name, from which their child has an id of its own: the
+        children of the others have one id, so that of two at a time the second is refused."""
         price = {"cents": number}
         if self.dice.random() < 0.7:
             return payloads(price, workflow_id)
@@ -251,8 +253,8 @@ class Own(Workflows):
     must_close = True
 
     def __init__(self, dice, kinds, fires, names, values=None):
-        """`fires` gives for the name of a timer, or for `all`, after how many milliseconds it fires, or none where that is
-        its own time. `names` are those of signals, and `values` the input of each run."""
+        """`fires` returns, for the name of a timer or for `all`, after how many milliseconds it fires, or None for its
+        own time. `names` are those of signals, and `values` the input of each run."""
         super().__init__(dice)
         self.kinds, self.fires, self.names, self.values = kinds, fires, names, values
 

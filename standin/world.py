@@ -23,13 +23,13 @@ class World:
         self.runs, self.most_open, self.has_activity_workers = runs, most_open, has_activity_workers
         self.server, self.started, self.coming, self.stuck, self.open = None, 0, 0, 0, set()
         self.planned, self.failures, self.handlers = {}, [], None
-        # How many queries each run is asked at most, and how many of them are still to come.
+        # How many queries each run gets at most, and how many of them are still to come.
         self.most_queries, self.asking = 0, 0
 
     # Runs.
 
     def begin(self):
-        """Has runs started soon, as long as not too many are open and not all are started."""
+        """Plans the start of runs, as long as not too many are open and not all are started."""
         while self.started < self.runs and len(self.open) + self.coming < self.most_open:
             self.started += 1
             self.coming += 1
@@ -66,7 +66,7 @@ class World:
         self.signal_again(run, 0)
 
     def plan_queries(self, run):
-        """Plans what a run is asked, soon or late, open or closed."""
+        """Plans the queries of a run, soon or late, open or closed."""
         for _ in range(self.dice.randrange(self.most_queries + 1) if self.most_queries else 0):
             self.asking += 1
             self.server.clock.at(self.dice.randrange(self.dice.choice((100, 30 * SECOND, self.workflows.lifetime))), lambda: self.ask(run))
@@ -76,7 +76,7 @@ class World:
         self.server.queries.plan(run)
 
     def from_outside(self, run):
-        """What may come to a run, and how often."""
+        """Returns what may come to a run, and how often."""
         runs = self.server.runs
         for chance, name, values in self.workflows.signals(run):
             yield chance, lambda name=name, values=values: runs.signal(run, name, payloads(*values) if values else None)
@@ -101,11 +101,11 @@ class World:
         self.server.clock.at(delay, signal)
 
     def continued(self, run):
-        """A run has begun in place of one that continued as new."""
+        """Watches a run that has begun in place of one that continued as new."""
         self.watch(run)
 
     def closed(self, run):
-        """A run has closed."""
+        """Notes that a run has closed."""
         self.open.discard(run)
         self.planned.pop(run, None)
         self.workflows.closed(run)
@@ -119,15 +119,16 @@ class World:
             self.server.runs.terminate(run)
 
     def is_over(self):
-        """Whether all runs were started and are closed."""
+        """Returns whether all runs were started and are closed."""
         are_answered = self.asking == 0 and self.server.queries.open == 0
         return self.started == self.runs and self.coming == 0 and not self.server.runs.open and are_answered
 
     # Answers.
 
     def failed(self, given, message):
-        """A worker has failed a task. It may where nobody knows the run's type, where it has to be failed, and where the
-        task was over by the time that it asked for the history: that may end in a later task, or in none."""
+        """Judges a worker's failure of a task. It may fail one if the run's type is not registered, if the task has to
+        be failed, and if the task was over by the time that the worker asked for the history: that may end in a later
+        task, or in none."""
         run = given.run
         right = SAID_OF_STRANGE if run.kind == STRANGE else self.workflows.failure(run, run.events[: given.task.started])
         is_later = given.is_stale and message in ("not a task", *(self.workflows.failure(run, one) for one in given.fetched))
@@ -137,11 +138,11 @@ class World:
         self.failures.append(f"{what} of {run.kind} {run.workflow_id} was failed: {message}" + (f", not {right}" if right else ""))
 
     def completed(self, run, commands):
-        """A worker has completed a task of a run: what is wrong with that, or nothing."""
+        """Returns what is wrong with a worker's completion of a task, or an empty text."""
         return "it is of a type that there is no code for" if run.kind == STRANGE else self.workflows.fault(run, commands)
 
     def is_answered(self, run, attempt):
-        """Whether a worker answers a task of a run at an attempt: it fails a task at the first one alone."""
+        """Returns whether a worker answers a task of a run at an attempt: it only fails a task at the first one."""
         return attempt == 1 or (run.kind != STRANGE and not self.workflows.fails(run))
 
     # Timers, and runs that another worker would serve.
@@ -156,7 +157,7 @@ class World:
         return self.dice.randrange(DAY // 48)
 
     def outside_end(self, run):
-        """How such a run closes."""
+        """Returns how such a run closes."""
         if self.dice.random() < 0.15:
             return "WorkflowExecutionFailed", {"failure": {"message": "lost on its way"}}
         return "WorkflowExecutionCompleted", {"result": payloads({"parcel": run.run_id})}
@@ -164,17 +165,17 @@ class World:
     # Activities.
 
     def serves(self, activity):
-        """Whether an activity is served here, and not by the workers."""
+        """Returns whether an activity is served here, and not by the workers."""
         return not self.has_activity_workers
 
     def activity(self, activity):
-        """After what time an activity starts, how long it takes, and how it ends."""
+        """Returns after what time an activity starts, how long it takes, and how it ends."""
         end = self.dice.choices(["Completed", "Failed", "TimedOut"], [8, 1, 1])[0]
         start = self.dice.randrange(40 * SECOND if self.dice.random() < 0.2 else 3 * SECOND)
         return start, self.dice.randrange(60 * SECOND if activity.kind == "race" else 20 * SECOND), end
 
     def activity_end(self, activity, end):
-        """The event of the end of an activity."""
+        """Returns the event of the end of an activity."""
         if activity.cancelled and self.dice.random() < 0.7:
             return "ActivityTaskCanceled", {}
         if end == "Completed":
@@ -183,19 +184,19 @@ class World:
         return "ActivityTask" + end, {"failure": {"message": "as it was planned"}}
 
     def short(self):
-        """The time that a server takes to pass something on from one run to another."""
+        """Returns the time that a server takes to pass something on from one run to another."""
         return self.dice.randrange(50)
 
-    # What comes while a task is in hand.
+    # What comes while a task is being processed.
 
     def bring_forward(self, run):
-        """A signal or a cancel comes now that would have come later, where there is one."""
+        """Lets a signal or a cancel come now that would have come later, if there is one."""
         left = [once for once in self.planned.get(run, []) if not once.is_done]
         if left:
             self.dice.choice(left)()
 
     def disturb(self, run):
-        """Something comes to a run now that would have come later."""
+        """Lets something come to a run now that would have come later."""
         what = self.dice.randrange(4)
         soon = self.server.clock.now + 60 * SECOND
         timers = sorted((name, number) for name, number in run.timers.items() if name in run.due and run.due[name] <= soon)
