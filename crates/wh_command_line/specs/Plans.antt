@@ -92,7 +92,7 @@ HasFewSlots words = (name : Text) × (rows : List Row) × Names words name rows 
 abbrev pub LacksService : List Row → Type 0
 LacksService rows = LacksText (codes "DIR") rows ⊎ ¬ (GivesAllWithin rows)
 
--- the subcommand of a name is none of the program's
+-- the program has no subcommand of the name
 abbrev pub IsNoCommand : Text → Type 0
 IsNoCommand name = (name ≢ codes "replay") × (name ≢ codes "explain") × (name ≢ codes "query")
     × (name ≢ codes "check") × (name ≢ codes "try") × (name ≢ codes "serve") × (name ≢ codes "work")

@@ -15,7 +15,7 @@ use clap::{Arg, ArgAction, ArgMatches, Command};
 use std::alloc::{AllocError, Global};
 use wh_events::Text;
 
-/// Returns the argument for the arguments of a query, of which there may be any number.
+/// Returns the positional argument for the arguments of a query, of which there may be any number.
 fn input_argument<'a>(alloc: Global) -> Arg<'a>
     ensures rule { rule_of result ≡ input }
     ensures local { result.global ≡ false }

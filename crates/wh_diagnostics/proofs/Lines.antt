@@ -8,7 +8,7 @@ use Rattle.wh_diagnostics.specs.Diagnostics.{fault_line, fault_lines}
 use Rattle.wh_file_faults.specs.Faults.{reported_of}
 use Rattle.wh_file_faults.specs.declared.file_faults.FileFault.{FileFault}
 
--- what is told after a line, and where nothing is
+-- what is written after a line, or that nothing is
 pub nothing_more : (a b : Option (List ℕ)) (xs ys : List ℕ) → Appends a b xs → ys ≡ [] → Appends a b (xs ++ ys)
 nothing_more a b xs ys p none = subst (λ l. Appends a b l) (sym (ap (λ l. xs ++ l) none ∙ append-nil xs)) p
 
@@ -16,7 +16,7 @@ pub something_more : {X E : Type 0} (answer : Result X E) (a b c : Option (List 
 something_more (Ok x) a b c xs ys zs p q same = subst (λ l. Appends a c (xs ++ l)) same (Appends-trans a b c xs ys p q)
 something_more (Err e) a b c xs ys zs p q same = tt
 
--- the line of what is told of a file, and that there is none where nothing is
+-- the line that is reported of a file, or that there is none
 pub fault_reported : {X E : Type 0} (answer : Result X E) (a b : Option (List ℕ)) (told : Option FileFault) (faults : List FileFault) (fault : FileFault) (name : List ℕ) → reported_of told ≡ faults → told ≡ Some fault → OnOk answer (Appends a b (fault_line fault name)) → OnOk answer (Appends a b (fault_lines faults name))
 fault_reported (Ok x) a b told faults fault name are is h =
     subst (λ l. Appends a b (fault_lines l name)) (sym (ap reported_of is) ∙ are) (subst (Appends a b) (sym (append-nil (fault_line fault name))) h)

@@ -43,7 +43,7 @@ pub steps_shown : (steps : List Step) (i : ℕ) (left done whole : List ℕ) →
 unfolding steps_objects
 steps_shown steps i left done whole past all = sym (append-nil done) ∙ (ap (λ rest. done ++ steps_objects left rest) (sym (drop_of_length-le steps past)) ∙ all)
 
--- ---- tasks that are about the things of a fault
+-- ---- tasks that share things with the task that has a fault
 
 sharing_at : (fault : ExplainedTask) (tasks : List ExplainedTask) (i : ℕ) (task : ExplainedTask) → i < length tasks → task ≡ get_or tasks i task
     → sharing fault (drop i tasks) ≡ cond (shares fault task) (task ∷ sharing fault (drop (i + 1) tasks)) (sharing fault (drop (i + 1) tasks))

@@ -39,9 +39,11 @@ abbrev pub alike_phrases : Phrase → Phrase → Bool
 alike_phrases one other =
     bytes_eq one.kind other.kind && (alike_words one.id other.id && alike_words one.name other.name)
 
+-- two commands are alike
 abbrev pub alike_command : Command → Command → Bool
 alike_command one other = alike_phrases (command_phrase one) (command_phrase other)
 
+-- two recorded events are alike
 abbrev pub alike_event : RecordedEvent → RecordedEvent → Bool
 alike_event one other = alike_phrases (event_phrase one) (event_phrase other)
 

@@ -30,9 +30,11 @@ selected_or_all (Some selection) tasks = selected selection tasks
 abbrev pub sharing : ExplainedTask → List ExplainedTask → List ExplainedTask
 sharing fault before = filter (shares fault) before
 
+-- how many of these are not shown
 abbrev pub skipped : ExplainedTask → List ExplainedTask → ℕ
 skipped fault before = length (sharing fault before) - 4
 
+-- those of them that are shown
 abbrev pub shown_before : ExplainedTask → List ExplainedTask → List ExplainedTask
 shown_before fault before = drop (skipped fault before) (sharing fault before)
 

@@ -39,6 +39,7 @@ pairing_has id (Different _ event) = is_id id (event_phrase event).id
 pairing_has id (CommandMissing event) = is_id id (event_phrase event).id
 pairing_has id _ = false
 
+-- the recorded event of a difference in which a task ends is about the thing of an id
 abbrev pub ending_has : List ℕ → Ending → Bool
 ending_has id (Recorded pairings) = list_any (pairing_has id) pairings
 ending_has id _ = false

@@ -33,6 +33,7 @@ abbrev pub faulty_by : List ExplainedTask → Option ExplainedTask → List ℕ
 faulty_by tasks None = []
 faulty_by tasks (Some fault) = before_text fault (take (length tasks - 1) tasks) ++ task_text fault
 
+-- the last task, after those that share its things
 abbrev pub faulty_text : List ExplainedTask → List ℕ
 faulty_text tasks = faulty_by tasks (last_of tasks)
 
@@ -63,7 +64,8 @@ abbrev pub folded_text : List ExplainedTask → List ℕ
 folded_text [] = []
 folded_text (task ∷ rest) = task_text task ++ folded_from task 0 rest
 
--- the tasks that are selected, or else those of a history that has no fault, or that has one
+-- the tasks that are selected; if nothing is selected, all tasks of a history without a fault, or else the task with
+-- the fault, after those that share its things
 abbrev pub chosen_text : Option Selection → (good : Bool) → List ExplainedTask → List ℕ
 chosen_text (Some selection) good tasks = selected_text selection tasks
 chosen_text None true tasks = folded_text tasks

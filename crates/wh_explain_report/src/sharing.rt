@@ -8,7 +8,7 @@ use crate::phrase::event_phrase;
 use wh_explain::{Ending, ExplainedTask, Pairing, Step};
 use wh_workflow::{Command, Job};
 
-/// Returns whether the other id, if there is one, is the id.
+/// Returns whether the second id is there, and the same as the first.
 fn is_id(id: &str, other: Option<&str>) -> bool
     ensures { result ≡ sharing.is_id id.now (option_map (λ s. s.now) other.entry) }
 {

@@ -1,4 +1,4 @@
--- Bytes are made text from their front, run by run.
+-- Bytes are turned into text from their front, run by run.
 use Rattle.std.proofs.Common.{◌≡◌, ◌∙◌, ℕ, List, [], ◌∷◌, ◌++◌, length, drop, replicate, refl, sym, ap, subst, arith}
 use Rattle.std.proofs.lemmas.List.{append-nil, append_assoc}
 use Rattle.std.specs.Prelude.{String, string_bytes}

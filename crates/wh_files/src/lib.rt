@@ -235,8 +235,7 @@ fn room_for(size: u64) -> usize {
     size.min(READ_LIMIT) as usize + 1
 }
 
-/// Reads up to `READ_LIMIT` bytes from what stands at a path. `size` is its size as the system
-/// reports it.
+/// Reads up to `READ_LIMIT` bytes at a path. `size` is the size that the system reports.
 fn read_path<R: Files + AllocGlobal>(
     rt: &R,
     path: &str,

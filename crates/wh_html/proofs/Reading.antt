@@ -1,4 +1,4 @@
--- Who reads HTML reads a text back.
+-- A reader of HTML reads a text back.
 use Rattle.std.proofs.Common.{◌≡◌, ◌∙◌, ◌<◌, ◌&&◌, not, ℕ, Bool, true, false, cond, Option, Some, None, List, [], ◌∷◌, ◌++◌, take, map, sym, refl, ap, arith}
 use Rattle.std.proofs.Math.Utf8.{encode, encodes}
 use Rattle.std.proofs.lemmas.Bool.{leb-true, ltb-true, eqb-true, and_from, not_from_false}

@@ -35,6 +35,7 @@ abbrev pub read_from : Option (List ℕ) → List ℕ → List ℕ
 read_from name [] = []
 read_from name (b ∷ bs) = read_byte name b ++ read_from (name_after name b) bs
 
+-- how a reader of HTML reads text without tags, from its beginning
 abbrev pub read : List ℕ → List ℕ
 read bs = read_from None bs
 

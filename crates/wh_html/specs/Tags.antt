@@ -10,5 +10,6 @@ abbrev pub tags_from : Bool → List ℕ → List ℕ
 tags_from within [] = []
 tags_from within (b ∷ bs) = (if within || b == 60 then b ∷ [] else []) ++ tags_from (within_after within b) bs
 
+-- the bytes of the tags of a text that begins outside of tags
 abbrev pub tags : List ℕ → List ℕ
 tags bs = tags_from false bs

@@ -27,7 +27,7 @@ day_of_year day = day + years_before day / 100 - (365 * years_before day + years
 abbrev pub months_before : ℕ → ℕ
 months_before day = (5 * day_of_year day + 2) / 153
 
--- the date of a day, counted from 1970-01-01
+-- the day of the month, the month and the year of a day, counted from 1970-01-01
 abbrev pub day_of : ℕ → ℕ
 day_of day =
     let in_era = since_march day % 146_097 in day_of_year in_era + 1 - (153 * months_before in_era + 2) / 5

@@ -44,5 +44,6 @@ pub record HasParts (page : Page) (html : List ℕ) : Type 0 where
   pub things : All (λ lane. StandsIn html (bytes (row_html page.fault lane))) (shown_lanes page)
   pub tasks : All (λ task. StandsIn html (bytes (task_html task))) (shown_tasks page)
 
+-- every page contains its parts
 abbrev pub ShowsItsParts : Type 0
 ShowsItsParts = (stops : List Stop) (page : Page) (more : Html) → HasParts page (bytes (page_html stops page more))

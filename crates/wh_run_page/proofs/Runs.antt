@@ -1,4 +1,4 @@
--- Groups of events are the longest rows of one number, and have all events.
+-- Groups of events are the longest runs of one number, and have all events.
 use Rattle.std.proofs.Common.{◌≡◌, ℕ, ◌+◌, ◌<◌, ◌≤◌, Bool, true, false, cond, List, [], ◌∷◌, ◌++◌, length, map, take, drop, refl, sym, ap, subst, ◌∙◌, Option, append_assoc, append-nil, replicate, arith}
 use Rattle.std.specs.Prelude.{◌≢◌, ◌==◌}
 use Rattle.std.specs.List.{flat_map}

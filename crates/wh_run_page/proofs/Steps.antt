@@ -1,4 +1,4 @@
--- Lists are gone over item by item.
+-- Lists are processed item by item.
 use Rattle.std.proofs.Common.{◌≡◌, ℕ, ◌+◌, ◌<◌, ◌≤◌, true, false, cond, List, [], ◌∷◌, ◌++◌, length, get_or, drop, add-one, refl, sym, ap, ◌∙◌, Option, Some, None, append_assoc, append-nil, drop_of_length-le}
 use Rattle.std.specs.Prelude.{ℤ}
 use Rattle.std.proofs.Math.Seq.{drop-cons}

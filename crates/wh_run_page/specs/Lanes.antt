@@ -67,10 +67,12 @@ abbrev pub outcome_of_kind : Option EventKind → Outcome
 outcome_of_kind None = outcomes.Done
 outcome_of_kind (Some kind) = outcome_by kind
 
+-- the outcome of a thing, by the event that ended it, if there is one
 abbrev pub outcome_at : Option ViewedEvent → Outcome
 outcome_at None = outcomes.Open
 outcome_at (Some event) = outcome_of_kind event.read.kind
 
+-- that outcome in a word, by the kind of the event, if it is known
 abbrev pub word_of_kind : Option EventKind → List ℕ
 word_of_kind None = codes "ended"
 word_of_kind (Some kind) = outcome_word kind

@@ -32,10 +32,11 @@ pub record AreRuns (numbers : List ℕ) (groups : List Group) : Type 0 where
   pub follow : FollowOn 0 groups
   pub apart : AreApart groups
 
+-- the groups of the tasks of events are the longest runs of equal numbers
 abbrev pub GroupsAreRuns : Type 0
 GroupsAreRuns = (numbers : List ℕ) → AreRuns numbers (groups_of numbers)
 
--- the lines of all tasks are those of all events
+-- if the view has a task for each event, the lines of all tasks are those of all events
 abbrev pub LinesAreAllEvents : Type 0
 LinesAreAllEvents =
     (view : View) (said : Said) → length view.tasks ≡ length view.events

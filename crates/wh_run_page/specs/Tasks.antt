@@ -42,6 +42,7 @@ line_of view fault event =
 abbrev pub has_line : Option ℕ → ViewedEvent → Bool
 has_line fault event = if is_at fault event.place then true else not (is_quiet event)
 
+-- the line of an event, if it has one
 abbrev pub line_if : View → Option ℕ → ViewedEvent → List Line
 line_if view fault event = if has_line fault event then line_of view fault event ∷ [] else []
 
@@ -78,11 +79,12 @@ next_group group number =
 unfoldable pub closed_by : Group → ℕ → List Group
 closed_by group number = if number == group.number then [] else group ∷ []
 
--- adjacent events with the same number in one group, by the numbers of their tasks; `group` is the current one
+-- the groups of events by the numbers of their tasks, with adjacent equal numbers together; `group` is the current one
 unfoldable pub groups_from : Group → List ℕ → List Group
 groups_from group [] = group ∷ []
 groups_from group (number ∷ numbers) = closed_by group number ++ groups_from (next_group group number) numbers
 
+-- the numbers of the tasks to which events belong, with adjacent equal ones in one group
 unfoldable pub groups_of : List ℕ → List Group
 groups_of [] = []
 groups_of (number ∷ numbers) = groups_from (record { number = number; first = 0; count = 1 }) numbers
@@ -91,6 +93,7 @@ groups_of (number ∷ numbers) = groups_from (record { number = number; first = 
 abbrev pub events_of : List ViewedEvent → Group → List ViewedEvent
 events_of events group = take group.count (drop group.first events)
 
+-- the task of a group
 abbrev pub task_at : View → List ℕ → Option ℕ → Group → Task
 task_at view times fault group = task_of view times fault group.number (events_of view.events group)
 

@@ -1,4 +1,4 @@
--- What has the fault is among what is shown.
+-- The thing that has the fault is among those that are shown.
 use Rattle.std.proofs.Common.{◌≡◌, ◌≤◌, ◌<◌, ℕ, suc, zero, ◌+◌, ◌-◌, Bool, true, false, cond, List, [], ◌∷◌, length, take, drop, min, refl, sym, ap, ◌∙◌, Option, Some, None, arith}
 use Rattle.std.specs.Prelude.{nat_lt, not, ◌||◌, unwrap_or}
 use Rattle.std.specs.List.{list_any, position, position_or_len}

@@ -20,6 +20,7 @@ abbrev pub place_from : (x : ℕ) → List Stop → (millis : ℕ) → ℕ
 place_from x [] millis = x
 place_from x (stop ∷ stops) millis = if nat_lt millis stop.millis then x else place_from stop.x stops millis
 
+-- where a time stands, among all stops
 unfoldable pub place_of : List Stop → (millis : ℕ) → ℕ
 place_of stops millis = place_from left stops millis
 
@@ -65,6 +66,7 @@ steps_from steps before [] = steps
 steps_from steps before (time ∷ times) =
     steps_from (if time == before then steps else min (steps + 1) 18446744073709551615) time times
 
+-- how many of all times differ from the one before
 abbrev pub steps_of : List ℕ → ℕ
 steps_of times = steps_from 0 (first_of times) times
 
@@ -74,6 +76,7 @@ whole_from longest whole before [] = whole
 whole_from longest whole before (time ∷ times) =
     whole_from longest (min (whole + min (time - before) longest) 18446744073709551615) time times
 
+-- the length of the steps between all times, each counted as the longest at most
 abbrev pub whole_of : List ℕ → (longest : ℕ) → ℕ
 whole_of times longest = whole_from longest 0 (first_of times) times
 
@@ -81,6 +84,7 @@ whole_of times longest = whole_from longest 0 (first_of times) times
 abbrev pub shorter : List ℕ → (longest : ℕ) → ℕ
 shorter times longest = if nat_le longest (whole_of times longest / 2) then longest else longest / 2
 
+-- the longest step after up to so many halvings
 unfoldable pub shortened : List ℕ → (halvings longest : ℕ) → ℕ
 shortened times zero longest = longest
 shortened times (suc halvings) longest = shorter times (shortened times halvings longest)
@@ -122,8 +126,8 @@ steps_to steps step = min (steps + min step 1) 18446744073709551615
 abbrev pub length_to : (longest before step : ℕ) → ℕ
 length_to longest before step = min (before + min step longest) 18446744073709551615
 
--- where a time stands to which so many of all steps lead, with so much of the whole length: each step gets an equal
--- share of 250 units, and a share by its length of 380 units; the last time stands at the right end
+-- where a time stands after so many of all steps, with the length `far` of the whole length: each step gets the same
+-- share of 250 units, and a share of 380 units in proportion to its length; the last time stands at the right end
 abbrev pub place_after : (all whole last steps far millis : ℕ) → ℕ
 place_after all whole last steps far millis =
     if millis == last then right else left + share 250 steps all + share 380 far whole
@@ -135,7 +139,7 @@ next_place all whole longest last steps far before x millis =
     if millis == before then x
     else max (place_after all whole last (steps_to steps step) (length_to longest far step) millis) x
 
--- each stop stands where the steps up to it lead, from a time, its place and the steps up to it on
+-- each stop stands where the steps up to it lead; `steps`, `far`, `millis` and `x` are those of the stop before
 unfoldable pub Places : (all whole longest last steps far millis x : ℕ) → List Stop → Type 0
 Places all whole longest last steps far millis x [] = Unit {0}
 Places all whole longest last steps far millis x (stop ∷ stops) =

@@ -267,8 +267,9 @@ struct Way {
     free: u64,
 }
 
-/// Returns where a time stands to which so many steps lead. Each step gets an equal share of one
-/// room and a share by its length of another. The last time stands at the right end.
+/// Returns where a time stands after so many steps of this total length. Each step gets the same
+/// share of `EVEN` units, and a share of `SCALED` units in proportion to its length. The last time
+/// stands at the right end.
 fn place_after(steps: u64, length: u64, millis: u64, scale: Scale) -> u64
     ensures { result ≡ place_after scale.steps scale.whole scale.last steps length millis }
 {

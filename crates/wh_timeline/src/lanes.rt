@@ -46,7 +46,7 @@ pub(crate) fn hit_class(hit: bool) -> &'static str
     if hit { " hit" } else { "" }
 }
 
-/// Returns the time from one event to another; no time if the other is earlier.
+/// Returns how long it took from one event to another; 0 if the second is earlier.
 pub fn took(from: Moment, to: Moment) -> Span
     ensures { result.0 ≡ to.millis - from.millis }
 {

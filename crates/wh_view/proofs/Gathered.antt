@@ -1,4 +1,4 @@
--- Events are gone over one by one.
+-- Events are gathered one by one.
 use Rattle.std.proofs.Common.{◌≡◌, ℕ, ◌+◌, ◌<◌, ◌≤◌, Bool, true, false, cond, List, [], ◌∷◌, ◌++◌, length, get_or, drop, add-one, refl, sym, ap, ◌∙◌, append_assoc, append-nil, drop_of_length-le}
 use Rattle.std.proofs.Math.Seq.{drop-cons}
 use Rattle.wh_view.specs.declared.view.ViewedEvent.{ViewedEvent}

@@ -1,4 +1,4 @@
--- Where the reader reads each member, so does the view.
+-- If the reader accepts a history, its view has the same bodies and no fault.
 use Rattle.std.proofs.Common.{◌≡◌, ℕ, ◌+◌, Bool, true, false, cond, List, [], ◌∷◌, refl, sym, ap, subst, ◌∙◌, Option, Some, None, Result, Ok, Err}
 use Rattle.std.specs.Prelude.{map, nat_lt, length}
 use Rattle.serde_json.specs.Data.{Data}

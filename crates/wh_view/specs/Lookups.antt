@@ -37,9 +37,11 @@ abbrev pub type_of_kind : Option EventKind → List ℕ
 type_of_kind None = []
 type_of_kind (Some kind) = type_in kind
 
+-- the id under which an event opens a thing, or the name of a signal or a marker; empty if it has none
 abbrev pub event_id : ViewedEvent → List ℕ
 event_id event = id_of_kind event.read.kind
 
+-- the type that an event names, or the name of the signal that it sends; empty if it has none
 abbrev pub event_type : ViewedEvent → List ℕ
 event_type event = type_of_kind event.read.kind
 

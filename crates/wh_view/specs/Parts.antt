@@ -48,6 +48,7 @@ abbrev pub commanded_kind : Option EventKind → Bool
 commanded_kind None = false
 commanded_kind (Some kind) = is_commanded_class (class_of kind)
 
+-- an event of a view records a command
 unfoldable pub is_commanded : ViewedEvent → Bool
 is_commanded event = commanded_kind event.read.kind
 
@@ -56,6 +57,7 @@ abbrev pub completing_kind : Option EventKind → Bool
 completing_kind None = false
 completing_kind (Some kind) = is_task_completed_kind kind
 
+-- an event of a view completes a workflow task
 unfoldable pub completes_task : ViewedEvent → Bool
 completes_task event = completing_kind event.read.kind
 
@@ -79,6 +81,7 @@ abbrev pub word_by : Option EventKind → Word
 word_by None = words.Other
 word_by (Some kind) = word_of_kind kind
 
+-- how an event of a view concerns its workflow
 unfoldable pub word_of : ViewedEvent → Word
 word_of event = word_by event.read.kind
 

@@ -1,4 +1,4 @@
--- The front of a text is shown once each of its first 80 characters is.
+-- The front of a text is written when each of its first 80 characters is.
 use Rattle.std.proofs.Common.{◌≡◌, ◌∙◌, ℕ, List, [], ◌∷◌, sym, take, map, refl, ap}
 use Rattle.std.specs.List.{flat_map}
 use Rattle.std.specs.Str.{chars}

@@ -1,4 +1,4 @@
--- The first event with a number is sought one by one.
+-- The first event with a number is looked for one by one.
 use Rattle.std.proofs.Common.{◌≡◌, ℕ, ◌+◌, ◌<◌, ◌≤◌, true, false, cond, List, [], ◌∷◌, length, get_or, drop, add-one, refl, sym, ap, ◌∙◌, Option, Some, None, drop_of_length-le}
 use Rattle.std.proofs.Math.Seq.{drop-cons}
 use Rattle.wh_view.specs.declared.view.ViewedEvent.{ViewedEvent}

@@ -30,6 +30,7 @@ side_word words.Gives = codes "gives"
 side_word words.Told = codes "told"
 side_word words.Other = codes "other"
 
+-- how an event of a view concerns the worker, in a word
 abbrev pub side_of : ViewedEvent → List ℕ
 side_of event = side_word (word_of event)
 
@@ -95,6 +96,7 @@ counts_object events tasks things =
     codes "{\"events\":" ++ (decimal events ++ (codes ",\"tasks\":" ++ (decimal tasks
     ++ (codes ",\"things\":" ++ (decimal things ++ codes "}\n")))))
 
+-- the object with the counts of a view
 abbrev pub head_object : View → List ℕ
 head_object view = counts_object (length view.events) (completed_count view.events) (length view.things)
 
@@ -110,10 +112,12 @@ kind_object view count event =
     ++ (codes "\"" ++ (marker_member (event_id event) ++ (codes ",\"events\":" ++ (decimal count
     ++ (codes ",\"place\":" ++ (decimal event.place ++ codes "}\n")))))))))
 
+-- that object, if there is a first event
 abbrev pub kind_object_at : View → (count : ℕ) → Option ViewedEvent → List ℕ
 kind_object_at view count None = []
 kind_object_at view count (Some event) = kind_object view count event
 
+-- the object of a kind that is not supported
 abbrev pub unsupported_object : View → UnsupportedKind → List ℕ
 unsupported_object view kind = kind_object_at view kind.count (slice_get view.events kind.first)
 

@@ -85,6 +85,7 @@ quiet_kind (Some WorkflowTaskScheduled) = true
 quiet_kind (Some WorkflowTaskStarted) = true
 quiet_kind _ = false
 
+-- the event has no line
 abbrev pub is_quiet : ViewedEvent → Bool
 is_quiet event = quiet_kind event.read.kind
 
@@ -123,10 +124,12 @@ kind_line view count event =
     mark_words view event ++ (codes ": " ++ (kind_name event ++ (codes ", " ++ (decimal count
     ++ (codes " events, first " ++ (number_text event ++ 10 ∷ []))))))
 
+-- that line, if there is a first event
 abbrev pub kind_line_at : View → (count : ℕ) → Option ViewedEvent → List ℕ
 kind_line_at view count None = []
 kind_line_at view count (Some event) = kind_line view count event
 
+-- the line of a kind that is not supported
 abbrev pub unsupported_line : View → UnsupportedKind → List ℕ
 unsupported_line view kind = kind_line_at view kind.count (slice_get view.events kind.first)
 

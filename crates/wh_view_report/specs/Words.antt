@@ -15,6 +15,7 @@ abbrev pub numbered : Option ℕ → ℕ → List ℕ
 numbered (Some number) place = codes "(event " ++ (decimal number ++ codes ")")
 numbered None place = codes "(place " ++ (decimal place ++ codes ")")
 
+-- the number of an event, or its place if it has no number
 abbrev pub number_text : ViewedEvent → List ℕ
 number_text event = numbered event.read.number event.place
 
@@ -23,6 +24,7 @@ abbrev pub labelled : List ℕ → Option ViewedEvent → List ℕ
 labelled label None = []
 labelled label (Some event) = label ++ number_text event
 
+-- a label and a reference to the event at an index; nothing if there is none
 abbrev pub reference_text : List ℕ → View → Option ℕ → List ℕ
 reference_text label view index = labelled label (option_and_then (slice_get view.events) index)
 
@@ -41,6 +43,7 @@ linked view event (Some thing) =
     ++ (reference_text (codes ", to be canceled ") view thing.cancelling ++ ended_text view event.place thing.ended)
     else reference_text (codes ", opened ") view (Some thing.opened)
 
+-- how an event is linked with its thing
 abbrev pub link_text : View → ViewedEvent → List ℕ
 link_text view event = linked view event (thing_of view event)
 
@@ -64,6 +67,7 @@ abbrev pub marked : Option ReadFault → Bool → List ℕ
 marked (Some fault) lacks = fault_words fault
 marked None lacks = if lacks then codes "opened by no event" else []
 
+-- what is wrong with an event of a view; empty if nothing is
 abbrev pub mark_words : View → ViewedEvent → List ℕ
 mark_words view event = marked event.read.fault (lacks_thing view event)
 
@@ -78,5 +82,6 @@ start_by task words.Gives = codes "  gives "
 start_by task words.Told = codes "  told "
 start_by task words.Other = codes "  has "
 
+-- how an event of a view concerns its workflow, before its type
 abbrev pub start_text : View → ViewedEvent → List ℕ
 start_text view event = start_by (task_of view event) (word_of event)

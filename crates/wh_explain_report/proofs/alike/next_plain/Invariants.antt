@@ -2,7 +2,7 @@ use Rattle.std.proofs.Common.{◌≡◌, ◌-◌, ◌≤◌, length, drop}
 use Rattle.wh_explain_report.specs.Alike.{plain}
 use Rattle.wh_explain_report.proofs.alike.next_plain.Given as goal
 
--- only digits were passed over
+-- only digits were skipped
 abbrev pub invariant-loop-at : goal.invariant-loop-at
 invariant-loop-at l = (l.at ≤ length l.text) × (plain (drop l.at l.text) ≡ plain (drop l.from l.text))
 
