@@ -21,7 +21,7 @@ both false b first second = first
 one_quote : (byte : ℕ) (rest : List ℕ) → bytes_eq (take 1 (byte ∷ rest)) (codes "\"") ≡ true → byte ≡ 34
 one_quote byte rest is = let same : take 1 (byte ∷ rest) ≡ codes "\"" = (bytes_eq-Decides (take 1 (byte ∷ rest)) (codes "\"")).0 is in cc
 
--- what stands after a quotation mark
+-- the bytes after a quotation mark
 prefix_is : (json inner : List ℕ) → after_quote json ≡ Some inner → json ≡ 34 ∷ inner
 prefix_is [] inner is = cc
 prefix_is (byte ∷ rest) inner is = by_test (bytes_eq (take 1 (byte ∷ rest)) (codes "\"")) refl is
@@ -34,7 +34,7 @@ prefix_is (byte ∷ rest) inner is = by_test (bytes_eq (take 1 (byte ∷ rest)) 
 prefix_gives : (inner : List ℕ) → after_quote (34 ∷ inner) ≡ Some inner
 prefix_gives inner = refl
 
--- what stands before a quotation mark at the end
+-- the bytes before a quotation mark at the end
 suffix_is : (bytes inner : List ℕ) → before_quote bytes ≡ Some inner → bytes ≡ inner ++ 34 ∷ []
 suffix_is bytes inner is = by_test (bytes_eq (drop (length bytes - 1) bytes) (codes "\"")) refl is
   where
@@ -57,7 +57,7 @@ suffix_gives inner =
     subst (λ one. bytes_eq one (codes "\"") ≡ true) (sym last) refl in
     ap (λ test. if test then Some (take (length bytes - 1) bytes) else None) quote ∙ ap (λ one. Some one) front
 
--- what stands between quotation marks
+-- the bytes between two quotation marks
 quoted_is : (json inner : List ℕ) → quoted json ≡ Some inner → json ≡ string_of inner
 quoted_is json inner is = by_front (after_quote json) refl is
   where

@@ -21,7 +21,7 @@ pub both_of : (a b : Bool) → ◌≡◌ {A = Bool} (elim a [ true ↦ b | false
 both_of true b is = (refl, is)
 both_of false b is = cc
 
--- each of two lists passes where the whole does
+-- each of two lists passes if the joined list does
 pub each_append : (test : Config → Bool) (first second : List Config) → each test (first ++ second) ≡ true
     → (each test first ≡ true) × (each test second ≡ true)
 each_append test [] second pass = (refl, pass)

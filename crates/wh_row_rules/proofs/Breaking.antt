@@ -43,7 +43,7 @@ none_left number (suc more) row = refl
 plus_one : (n : ℕ) → n + 1 ≡ suc n
 plus_one n = omega arith
 
--- the rows from a place on, where one more stands before them
+-- the rows from a place on, if one more comes before them
 opened : (rows : List Row) (before i : ℕ) (earlier row : Row) → i < before → i < length rows → earlier ≡ get_or rows i earlier
     → hidden_from (suc i) (before - i) (drop i rows) row
     ≡ (elim (hides earlier row) [ true ↦ Some (HiddenBy (suc i)) | false ↦ hidden_from (suc (suc i)) (before - suc i) (drop (suc i) rows) row ])
@@ -70,7 +70,7 @@ hides_one rows before i earlier row below within is it_hides =
     ∙ hit (hides earlier row) (suc i) (hidden_from (suc (suc i)) (before - suc i) (drop (suc i) rows) row) it_hides
     ∙ ap (λ next. Some (HiddenBy next)) (sym (plus_one i))
 
--- none hides where no row is left
+-- no row hides it if no row is left
 pub hides_none : (rows : List Row) (number more i : ℕ) (row : Row) → length rows ≤ i → hidden_from number more (drop i rows) row ≡ None
 hides_none rows number more i row past =
     ap (λ rest. hidden_from number more rest row) (drop_of_length-le rows past) ∙ none_left number more row

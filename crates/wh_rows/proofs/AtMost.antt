@@ -102,7 +102,7 @@ count_both kind (command ∷ rest) second =
     let later : count_kind kind (rest ++ second) ≡ count_kind kind rest + count_kind kind second = count_both kind rest second in
     omega (arith, later)
 
--- a condition that follows from others holds where they do
+-- a condition that follows from others holds if they do
 pub implied_holds : (one : Condition) (counter : Counter) (bound : ℕ) (counts : Counts)
     → implies one (conditions.Below counter bound) ≡ true → holds one counts ≡ true
     → holds (conditions.Below counter bound) counts ≡ true
@@ -191,7 +191,7 @@ all_grow (one ∷ rest) counter bounds state job within kept =
     let later = all_grow rest counter bounds (after_one one bounds state job) job (one_within one bounds state job within) parts.1 in
     omega (arith, first, later)
 
--- an effect that raises some counter, and effects behind it that do what `later` says
+-- an effect that raises some counter, before effects that do what `later` says
 up_rises : (other counter : Counter) (rest : List Effect) (bounds : Counts) (state : RowsState) (job : Job)
     → IsWithin bounds state.counts → count_of counter state.counts < count_of counter bounds → resets counter rest ≡ false
     → raises counter (effects.Up other ∷ rest) ≡ true
@@ -228,7 +228,7 @@ up_rises other counter rest bounds state job within below kept up later =
         subst (λ number. number < count_of counter (after_effects rest bounds next job).counts) stays
         (later (subst (λ number. number < count_of counter bounds) (sym stays) below) rest_up)
 
--- effects that raise the counter, where that is below its bound, leave a greater number
+-- effects that raise the counter leave a greater number, if it is below its bound
 all_rise : (all : List Effect) (counter : Counter) (bounds : Counts) (state : RowsState) (job : Job) → IsWithin bounds state.counts
     → count_of counter state.counts < count_of counter bounds → resets counter all ≡ false → raises counter all ≡ true
     → count_of counter state.counts < count_of counter (after_effects all bounds state job).counts

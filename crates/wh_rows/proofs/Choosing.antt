@@ -20,7 +20,7 @@ other_side : (test : Bool) (one other : Option Row) → not test ≡ true → (i
 other_side true one other fails = cc
 other_side false one other fails = refl
 
--- a row that fits is the first one behind rows that do not
+-- a row that fits, after rows that do not, is the first one that fits
 first_found : (earlier : List Row) (row : Row) (later : List Row) (state : RowsState) (job : Job)
     → none_fits earlier state job ≡ true → fits row state job ≡ true
     → row_for (earlier ++ row ∷ later) state job ≡ Some row
@@ -31,7 +31,7 @@ first_found (one ∷ rest) row later state job none fit =
     (first_of (not (fits one state job)) (none_fits rest state job) none)
     ∙ first_found rest row later state job (second_of (not (fits one state job)) (none_fits rest state job) none) fit
 
--- where none fits, none is found
+-- if none fits, none is found
 none_found : (rows : List Row) (state : RowsState) (job : Job) → none_fits rows state job ≡ true
     → row_for rows state job ≡ None
 unfolding row_for

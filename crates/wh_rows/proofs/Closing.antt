@@ -14,7 +14,7 @@ use Rattle.wh_rows.specs.Rules.{asks, ends_well, table_fault}
 use Rattle.wh_rows.specs.Lawful.{first_of, second_of, row_ends_well, of_row}
 use Rattle.wh_rows.specs.Laws.{is_closing, one_closes, after_all, ClosesForGood, LastCommandCloses}
 
--- a command closes the run where its row says so
+-- a command closes the run exactly if its template does
 pub closes_alike : (one : CommandTemplate) (state : RowsState) (job : Job) → is_closing (command_of one state job) ≡ closes one
 closes_alike (templates.StartActivity _ _ _) state job = refl
 closes_alike (templates.CancelActivity _) state job = refl
@@ -87,7 +87,7 @@ closes_for_good table state job later last closing =
     (none_counts table left last
     (stay table (after table state job) later (ends table (row_for table.rows now job) now job closing)))
 
--- a command that closes the run stands last among those of a row that ends well
+-- a command that closes the run is the last one of a row that ends well
 last_closes : (gives : List CommandTemplate) (state : RowsState) (job : Job) (earlier : List Command) (command : Command)
     (later : List Command) → ends_well gives ≡ true → commands_of gives state job ≡ earlier ++ command ∷ later
     → is_closing command ≡ true → later ≡ []

@@ -85,7 +85,7 @@ flags (one ∷ rest) counter bounds state job some =
     flags rest counter bounds (after_one one bounds state job) job some
     ∙ ap (flag_after counter rest) (flag_one one counter bounds state job some)
 
--- a condition that follows from others holds where they do
+-- a condition that follows from others holds if they do
 pub least_holds : (one : Condition) (counter : Counter) (least : ℕ) (counts : Counts)
     → implies one (conditions.AtLeast counter least) ≡ true → holds one counts ≡ true → least ≤ count_of counter counts
 least_holds (conditions.AtLeast other number) counter least counts follow hold =
@@ -160,7 +160,7 @@ row_then first second ways (one ∷ rest) state job owed behind later is good =
     (λ now. is_followed first second ways now (commands_of rest state job ++ later))
     (λ now known. row_then first second ways rest state job now behind later known good) is)
 
--- where the flag is kept, the run ends, or the flag says what is owed
+-- if the flag is kept, the run ends, or the flag says whether a command is owed
 kept : (ends flag : Bool) (owes : Option Bool) (P : Type 0) → keeps_flag ends flag owes ≡ true
     → ((behind : Bool) → owes ≡ Some behind → ends ≡ true → P)
     → ((behind : Bool) → owes ≡ Some behind → flag ≡ behind → P) → P
@@ -243,7 +243,7 @@ jobs_good table first second ways counter (job ∷ later) state tracked =
     (first_of (leb 1 (count_of counter table.bounds)) (rows_follow first second ways counter table.rows) tracked)
     (second_of (leb 1 (count_of counter table.bounds)) (rows_follow first second ways counter table.rows) tracked))
 
--- nothing is owed where a run begins
+-- nothing is owed at the beginning of a run
 no_flag : (table : Definition) (counter : Counter) → flag_of counter (initial table) ≡ false
 no_flag table counters.A = refl
 no_flag table counters.B = refl

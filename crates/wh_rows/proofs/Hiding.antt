@@ -134,7 +134,7 @@ without [] later behind state job fails = rw fails refl
 without (row ∷ rest) later behind state job fails =
     ap (λ found. if fits row state job then Some row else found) (without rest later behind state job fails)
 
--- so do they where it fits no more often than an earlier one
+-- rows give the same without a row that fits no more often than an earlier one
 behind_earlier : (fit : Bool) (earlier : Row) (one other : Option Row) → (fit ≡ false → one ≡ other)
     → (if fit then Some earlier else one) ≡ (if fit then Some earlier else other)
 behind_earlier true earlier one other same = refl

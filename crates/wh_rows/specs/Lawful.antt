@@ -53,7 +53,7 @@ no_markers (one ∷ rest) state job =
     both (not (is_marker (command_of one state job))) (records_none (commands_of rest state job))
     (no_marker one state job) (no_markers rest state job)
 
--- the command asks where the row says so
+-- a command asks for a version exactly if its template does
 asks_alike : (one : CommandTemplate) (state : RowsState) (job : Job) → is_ask (command_of one state job) ≡ asks one
 asks_alike (templates.StartActivity _ _ _) state job = refl
 asks_alike (templates.CancelActivity _) state job = refl
@@ -92,7 +92,7 @@ pub none_broken : (number : ℕ) (rule : Option Rule) → in_row number rule ≡
 none_broken number None none = refl
 none_broken number (Some rule) none = cc
 
--- where a row breaks no rule, no command but its last one asks or closes the run
+-- if a row breaks no rule, only its last command may ask for a version or close the run
 pub row_ends_well : (table : Definition) (before : ℕ) (row : Row) → row_rule table before row ≡ None
     → ends_well row.gives ≡ true
 row_ends_well table before row none =

@@ -107,7 +107,7 @@ is_led_to name (row ∷ rows) =
 abbrev pub is_reached : List ℕ → List ℕ → List Row → Bool
 is_reached first name rows = bytes_eq name (codes "any") || (bytes_eq name first || is_led_to name rows)
 
--- each job that the second pattern is for is one that the first is for
+-- each job that the second pattern matches, the first one matches too
 abbrev pub covers : JobPattern → JobPattern → Bool
 covers patterns.Start patterns.Start = true
 covers (patterns.Signal name) (patterns.Signal other) = bytes_eq name other

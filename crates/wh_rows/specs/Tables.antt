@@ -86,7 +86,7 @@ module _ {T C G E : Type 0} where
   }
 
 module _ {T C G E : Type 0} where
-  -- rows, each so
+  -- rows, with texts as bytes and their lists as lists
   abbrev pub rows_by : (T → List ℕ) → (C → List Condition) → (G → List (CommandTemplateOf T)) → (E → List Effect)
       → List (RowOf T C G E) → List Row
   rows_by bytes conditions gives effects rows = map (row_by bytes conditions gives effects) rows

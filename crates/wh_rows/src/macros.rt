@@ -1,8 +1,9 @@
 //! The macro that writes rows, one a line.
 
-/// Builds the rows of a table, each `state: job, if [conditions] => [commands], do [effects] =>
-/// state;`. Omit `if` and `do` if there is nothing to write there, and the last `=> state` if the
-/// row closes the run or stays in its state.
+/// Builds the rows of a table. Each row is
+/// `state: job, if [conditions] => [commands], do [effects] => state;`.
+/// Omit `if` and `do` if there is nothing to write there, and the last `=> state` if the row closes
+/// the run or stays in its state.
 ///
 /// An activity with retries is two rows; the first one applies while attempts are left:
 ///

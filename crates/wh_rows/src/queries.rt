@@ -18,8 +18,9 @@ fn state_json(alloc: Global, state: &RowsState) -> Result<String, OutOfMemory>
 }
 
 /// Answers a query of a run that follows a table. The query type `state` returns the name of the
-/// run's state as a JSON string (RFC 8259); for a closed run, the state in which it closed. Every
-/// other type fails as an unknown one. `OutOfMemory` if there is no memory for the result.
+/// run's state as a JSON string (RFC 8259); for a closed run, the state after the row that closed
+/// it. Every other type fails as an unknown one. `OutOfMemory` if there is no memory for the
+/// result.
 pub fn row_query(
     alloc: Global,
     state: &RowsState,

@@ -126,7 +126,7 @@ pub struct RowOf<T, C, G, E> {
     pub gives: G,
     /// The effects, in their order.
     pub effects: E,
-    /// The state after it, or `same`. Ignored if the row closes the run.
+    /// The state after it, or `same`. If the row closes the run, only the query `state` shows it.
     pub next: T,
 }
 

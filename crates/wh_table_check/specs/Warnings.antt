@@ -1,4 +1,4 @@
--- Warnings for what in a table without a fault may not be meant that way.
+-- Warnings: what the author of a table without a fault may not have meant.
 use Rattle.std.specs.Prelude.{ℕ, ◌+◌, Bool, true, false, not, ◌&&◌, ◌||◌, List, [], ◌∷◌, ◌++◌, take, bytes_eq, codes, Option, Some, None, if◌then◌else◌}
 use Rattle.std.specs.List.{flat_map}
 use Rattle.wh_rows.specs.declared.row.JobPattern.TheVariants as patterns

@@ -80,7 +80,7 @@ pub struct Checked {
     pub rows: usize,
     /// The faults of the table. Reading it stops at the first one.
     pub faults: Items<Finding>,
-    /// The warnings: what may not be meant that way. There are none if the table breaks a rule.
+    /// The warnings: what the author may not have meant. There are none if the table breaks a rule.
     pub warnings: Items<Finding>,
     /// The further findings; none if the table breaks a rule.
     pub more: More,

@@ -1,4 +1,4 @@
-//! Warns of what in a table without a fault may not be meant that way.
+//! Warns of what the author of a table without a fault may not have meant.
 ghost use Rattle.std.specs.Prelude.{◌≡◌, ◌++◌, ◌≤◌, ◌<◌, length, option_map, option_to_list, IfOk, OnOk};
 ghost use Rattle.std.specs.List.{flat_map};
 ghost use Rattle.wh_table_check.specs.Warnings.{ends_activity, fires, is_of_child, awaits, is_awaited, opened, unawaited};
