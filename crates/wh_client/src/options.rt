@@ -14,7 +14,7 @@ pub struct LiveOptions {
     /// The options of the commands of workflows, by the names in the commands.
     pub policies: Policies,
     /// How many seconds a task waits in the sticky queue; `None` without a cache, and if only one
-    /// worker serves workflows, since that queue is polled by others.
+    /// worker serves workflows, since that one does not poll the sticky queue.
     pub sticky: Option<u32>,
     /// Whether a line is logged for each answered task.
     pub verbose: bool,

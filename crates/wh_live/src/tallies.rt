@@ -13,7 +13,7 @@ use wh_tasks::SourceFault;
 pub struct Tally {
     /// Polls that got a result or an error.
     pub polls: u64,
-    /// Polls that returned no task.
+    /// Polls that got an empty response.
     pub empty: u64,
     /// Answers whose task was over.
     pub not_found: u64,
