@@ -269,11 +269,12 @@ pub(crate) fn write_tasks<O: Write>(tasks: &[ExplainedTask], writer: &mut O) -> 
 /// with one line feed, and each name is shown as in that report.
 ///
 /// If tasks are selected, those are written. The tasks around an event are the first that starts at
-/// that event or after it, the two before it and the two after it. If nothing is selected and no
-/// task has a fault, all tasks are written, but of adjacent tasks that are alike except for numbers
-/// and times only the first. If nothing is selected and the last task has a fault, that task is
-/// written, and before it the last four that are about the same activities, timers, child workflows
-/// and changes. A line says how many tasks are left out or alike.
+/// that event or after it, the two before it and the two after it. If nothing is selected and the
+/// history has no fault, all tasks are written, but of adjacent tasks that are alike except for
+/// numbers and times only the first. If nothing is selected and the history has a fault, the last
+/// task is written, which has the fault, and before it the last four that are about the same
+/// activities, timers, child workflows and changes. A line says how many tasks are left out or
+/// alike.
 ///
 /// After an error some of the text may have been written.
 #[tactic(auto, unfolding(crate::specs::Explanations::explanation_text))]
