@@ -38,16 +38,16 @@ fn timed_page(alloc: Global, view: &View, times: &[u64], said: Said) -> Result<P
 
 /// Makes the page of a run from the view of its history and from what is said of it.
 ///
-/// Its title, verdict, difference and first note come from `said`, and its fault is the event at the
-/// place in `said`. Each thing of the view has a lane, in the order of the view: with the id and the
-/// type of the event that opened it, the moments of the events that opened, started and ended it,
-/// the outcome by the event that ended it, and the attempt of the event that started it. Adjacent
-/// events that belong to one task are one task of the page. Each of them has a line, except
-/// `WorkflowTaskScheduled` and `WorkflowTaskStarted`; the sides of the lines separate activation
-/// jobs, commands, and what else is recorded. The event of the fault always has a line, with
-/// `Side::Fault`. An event is shown with its number, or with its place if it has no number or one
-/// that does not follow the number before. An event without a time has that of the event before.
-/// The work is proportional to the number of events.
+/// Its title, verdict, difference and first note come from `said`, and its fault is the event at
+/// the place in `said`. Each thing of the view has a lane, in the order of the view: with the id
+/// and the type of the event that opened it, the moments of the events that opened, started and
+/// ended it, the outcome by the event that ended it, and the attempt of the event that started it.
+/// Adjacent events that belong to one task are one task of the page. Each of them has a line,
+/// except `WorkflowTaskScheduled` and `WorkflowTaskStarted`; the sides of the lines separate
+/// activation jobs, commands, and what else is recorded. The event of the fault always has a line,
+/// with `Side::Fault`. An event is shown with its number, or with its place if it has no number or
+/// one that does not follow the number before. An event without a time has that of the event
+/// before. The work is proportional to the number of events.
 ///
 /// Returns `OutOfMemory` if there is no memory for the page.
 pub fn page_of(alloc: Global, view: &View, said: Said) -> Result<Page, OutOfMemory>
