@@ -21,7 +21,7 @@ use crate::act::{Act, closes, read_act};
 use crate::choosing::{Chosen, Question, choose};
 use crate::fault::ScriptFault;
 use crate::judging::{judge_cancel, opening_fault};
-use crate::sending::reduce;
+use crate::sending::sent_commands;
 use crate::standing::{Standing, standing_at};
 use crate::versions::Versions;
 use std::alloc::Global;
@@ -160,7 +160,7 @@ impl Script {
     pub fn reduced(self) -> Result<Vec<Command>, OutOfMemory>
         ensures { IfOk result (λ sent. sent.items ≡ reduced_by self.late self.issued) }
     {
-        reduce(self.alloc, self.late.as_slice(), self.issued.as_slice())
+        sent_commands(self.alloc, self.late.as_slice(), self.issued.as_slice())
     }
 
     /// Adds a valid command, and marks whether it is a late cancel. After `OutOfMemory` the script

@@ -21,7 +21,7 @@ fn is_sent(late: bool, earlier: &[Command], later: &[Command], command: &Command
 }
 
 /// Returns what is sent of the issued commands; `late` says of each whether it was a late cancel.
-pub(crate) fn reduce(
+pub(crate) fn sent_commands(
     alloc: Global,
     late: &[bool],
     issued: &[Command],

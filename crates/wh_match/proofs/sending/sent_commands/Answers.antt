@@ -1,8 +1,8 @@
 use Rattle.std.proofs.Common.{◌≡◌, ◌++◌, ◌∷◌, [], ap, ◌∙◌}
 use Rattle.wh_match.specs.Issuing.{reduced_by}
 use Rattle.wh_match.proofs.Reducing.{step_sent, step_dropped}
-use Rattle.wh_match.proofs.sending.reduce.Goals as goal
-use Rattle.wh_match.proofs.sending.reduce.Goals.{then-is_sent+in_ok-try_copy+in_ok-push, else-is_sent}
+use Rattle.wh_match.proofs.sending.sent_commands.Goals as goal
+use Rattle.wh_match.proofs.sending.sent_commands.Goals.{then-is_sent+in_ok-try_copy+in_ok-push, else-is_sent}
 
 pub loop-place-preserved : goal.loop-place-preserved
 loop-place-preserved c =
