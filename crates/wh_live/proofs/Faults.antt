@@ -19,7 +19,7 @@ causes_by_fault (Mismatch at mismatch) = (λ _. tt, λ _. refl)
 pub receipts_by_fault : ReceiptsByFault
 receipts_by_fault asked.Closed = (λ e. cc, (λ _. refl, λ _. refl))
 receipts_by_fault asked.Output = (λ e. cc, (λ e. cc, λ e. cc))
-receipts_by_fault (asked.Refused status.Canceled code message) = (λ e. cc, (λ e. cc, λ e. cc))
+receipts_by_fault (asked.Refused status.Cancelled code message) = (λ e. cc, (λ e. cc, λ e. cc))
 receipts_by_fault (asked.Refused status.InvalidArgument code message) = (λ e. cc, (λ e. cc, λ e. cc))
 receipts_by_fault (asked.Refused status.NotFound code message) = (λ e. cc, (λ e. cc, λ e. cc))
 receipts_by_fault (asked.Refused status.PermissionDenied code message) = (λ e. cc, (λ e. cc, λ e. cc))

@@ -73,7 +73,7 @@ fn reports_refusal(status: Status, message: &str) -> bool
     match status {
         Status::NotFound => false,
         Status::InvalidArgument => message != "UnhandledCommand",
-        Status::Canceled | Status::PermissionDenied | Status::Unauthenticated | Status::Other =>
+        Status::Cancelled | Status::PermissionDenied | Status::Unauthenticated | Status::Other =>
             true,
     }
 }

@@ -92,7 +92,7 @@ is_unhandled_command message = bytes_eq message (codes "UnhandledCommand")
 
 -- each refusal is reported, unless the task is over or its run had new events
 abbrev pub reports_refusal : Status → List ℕ → Bool
-reports_refusal status.Canceled message = true
+reports_refusal status.Cancelled message = true
 reports_refusal status.InvalidArgument message = not (is_unhandled_command message)
 reports_refusal status.NotFound message = false
 reports_refusal status.PermissionDenied message = true
