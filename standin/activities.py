@@ -90,7 +90,7 @@ class Activities:
 
     def try_again(self, run, activity):
         """Retries a failed activity if it may be retried, and returns whether it is."""
-        if activity.cancelled or (activity.most and activity.attempt >= activity.most):
+        if activity.canceled or (activity.most and activity.attempt >= activity.most):
             return False
         activity.attempt += 1
         activity.token = activity.beaten_at = None
@@ -123,7 +123,7 @@ class Activities:
 
     def canceled(self, peer, params):
         run, activity = self.answered(peer, params)
-        if not activity.cancelled:
+        if not activity.canceled:
             self.server.findings.blame(peer, f"the activity {activity.id} is canceled, which nobody asked for")
             raise Refused(INVALID, "no cancellation was requested")
         self.server.findings.counts["activities canceled"] += 1
@@ -168,7 +168,7 @@ class Activities:
         self.wait_for_beat(run, activity, token)
         if self.troubles.happens("beaten"):
             self.server.world.bring_forward(run)
-        if not activity.cancelled:
+        if not activity.canceled:
             return {}
         self.server.findings.counts["cancels heard"] += 1
         return {"cancelRequested": True}

@@ -62,7 +62,7 @@ class Check:
         activity = self.run.activities.get(scheduled)
         if activity is None and not has_held_end(self.run, scheduled):
             return f"no activity is open that the event {scheduled} scheduled"
-        return "the activity is cancelled already" if activity and activity.cancelled else ""
+        return "the activity is canceled already" if activity and activity.canceled else ""
 
     def start_timer(self, attributes):
         name = attributes["timerId"]
@@ -146,8 +146,8 @@ def closes(commands):
 def left_held(run, commands):
     """Returns what is held back and not removed by the cancellation of a timer."""
     kinds = [command_in(command)[:2] for command in commands]
-    cancelled = {attributes["timerId"] for kind, attributes in kinds if kind == "CANCEL_TIMER"} - set(run.timers)
-    return [one for one in run.held if one[0] != "TimerFired" or one[1]["timerId"] not in cancelled]
+    canceled = {attributes["timerId"] for kind, attributes in kinds if kind == "CANCEL_TIMER"} - set(run.timers)
+    return [one for one in run.held if one[0] != "TimerFired" or one[1]["timerId"] not in canceled]
 
 
 class Effects:
@@ -173,7 +173,7 @@ class Effects:
         activity = self.run.activities.get(scheduled)
         if activity is None:
             return
-        activity.cancelled, activity.cancel_requested = True, number
+        activity.canceled, activity.cancel_requested = True, number
         if activity.started_at is None:
             del self.run.activities[scheduled]
             self.run.append("ActivityTaskCanceled", {"scheduledEventId": str(scheduled)})

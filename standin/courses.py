@@ -111,7 +111,7 @@ class Activation:
         self.program, self.versions = course.program, course.versions
         self.open = {(one.kind, one.name): one for one in course.things.values() if one.is_open}
         self.late = course.ended[: course.ends_before]
-        self.issued, self.opened, self.cancelled, self.is_closed = [], {}, set(), False
+        self.issued, self.opened, self.canceled, self.is_closed = [], {}, set(), False
 
     def run(self, jobs):
         """Returns the commands that are sent. Raises a Fault if one of them is invalid."""
@@ -142,7 +142,7 @@ class Activation:
         self.issued.append(command)
 
     def start(self, thing, command):
-        is_open = thing in self.open and not (thing[0] == "timer" and thing in self.cancelled)
+        is_open = thing in self.open and not (thing[0] == "timer" and thing in self.canceled)
         if thing in self.opened:
             raise Fault("IdInUse" if self.opened[thing] is not None else "IdReused")
         if is_open:
@@ -165,9 +165,9 @@ class Activation:
             if thing not in self.late:
                 raise Fault("NotOpen")
             return self.issued.append(None)
-        if thing in self.cancelled or self.open[thing].is_cancelling:
+        if thing in self.canceled or self.open[thing].is_cancelling:
             raise Fault("NotOpen" if thing[0] == "timer" else "AlreadyCancelling")
-        self.cancelled.add(thing)
+        self.canceled.add(thing)
         self.issued.append((kind, self.open[thing].number if thing[0] == "activity" else thing[1]))
 
     def ask(self, change, least, greatest):

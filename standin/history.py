@@ -59,7 +59,7 @@ class Activity:
         self.token = None
         self.started_at = None
         self.started = None
-        self.cancelled = False
+        self.canceled = False
         # The number of the event that requests its cancellation, the details of its last heartbeat, and when that came.
         self.cancel_requested = 0
         self.details = self.beaten_at = None
@@ -107,7 +107,7 @@ class Run:
         self.sticky = None
         self.before = 0
         self.activities, self.timers, self.due, self.children = {}, {}, {}, {}
-        self.is_cancelled = False
+        self.is_canceled = False
         started = {
             "workflowType": {"name": kind},
             "taskQueue": {"name": queue, "kind": "TASK_QUEUE_KIND_NORMAL"},

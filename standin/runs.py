@@ -40,8 +40,8 @@ class Runs:
             run.come_in("WorkflowExecutionSignaled", left_out({"signalName": name, "input": input}))
 
     def request_cancel(self, run):
-        if run.closed is None and not run.is_cancelled:
-            run.is_cancelled = True
+        if run.closed is None and not run.is_canceled:
+            run.is_canceled = True
             run.come_in("WorkflowExecutionCancelRequested", {"cause": "asked"})
 
     def update(self, run):

@@ -23,7 +23,7 @@ KINDS = {
     "late": (0.30, "the event of an activity's start is written at once, and not only with that of its end"),
     "speculative": (0.50, "an update gives a run a task whose events are not written"),
     "strangers": (0.03, "a run of a type that the workers have no code for"),
-    "outside": (0.10, "a run is terminated, times out or is asked to be cancelled"),
+    "outside": (0.10, "a run is terminated, times out or is asked to be canceled"),
     "busy": (0.03, "an answer or a call for a page gets code 8 and is not taken, so that it is tried again (gRPC alone)"),
     "dead": (0.01, "a second in which a connection goes dead: nothing goes through, and nobody closes it (gRPC alone)"),
     "away": (0.05, "a second after which the server is away for some (gRPC alone)"),

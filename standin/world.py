@@ -176,7 +176,7 @@ class World:
 
     def activity_end(self, activity, end):
         """Returns the event of the end of an activity."""
-        if activity.cancelled and self.dice.random() < 0.7:
+        if activity.canceled and self.dice.random() < 0.7:
             return "ActivityTaskCanceled", {}
         if end == "Completed":
             result = activity.input if activity.input else payloads(activity.kind)

@@ -445,7 +445,7 @@ def options():
     parser.add_argument("--bridge", default=BRIDGE, help="another bridge")
     parser.add_argument("--queries", action="store_true", help="asks each run three times, with the workers at work, again and after the end")
     parser.add_argument("--keep", help="a folder for the histories")
-    parser.add_argument("--seed", type=int, default=1, help="which runs are signaled and asked to be cancelled (1)")
+    parser.add_argument("--seed", type=int, default=1, help="which runs are signaled and asked to be canceled (1)")
     parser.add_argument("--tls", action="store_true", help="as for the bridge, as are the following")
     for name in BRIDGE_OPTIONS:
         parser.add_argument(name, metavar="KEY" if name == "--api-key" else "NAME" if name.endswith("-name") else "FILE")

@@ -192,11 +192,11 @@ class History:
                 "Timer": lambda: {"timerId": words[0]},
                 "Child": lambda: {"workflowId": words[0], "workflowType": {"name": words[1]}},
             }[thing[0]]()
-            self.open[thing] = {"number": self.write(KINDS[kind], attributes), "started": None, "cancelled": False}
+            self.open[thing] = {"number": self.write(KINDS[kind], attributes), "started": None, "canceled": False}
         elif kind in ("CancelActivity", "CancelTimer", "CancelChild"):
             thing = self.open.get((kind[6:], words[0]))
             # (what a task starts and cancels at once is not sent at all, so no such history is made)
-            if thing is None or thing["cancelled"] or thing["number"] > self.completed:
+            if thing is None or thing["canceled"] or thing["number"] > self.completed:
                 return False
             names = {"Activity": "scheduledEventId", "Timer": "startedEventId"}
             attributes = {names.get(kind[6:], "initiatedEventId"): str(thing["number"])}
@@ -204,7 +204,7 @@ class History:
                 attributes = {"workflowExecution": {"workflowId": words[0]}}
             if kind == "CancelTimer":
                 del self.open[("Timer", words[0])]
-            thing["cancelled"] = True
+            thing["canceled"] = True
             self.write(KINDS[kind], attributes | ({"timerId": words[0]} if kind == "CancelTimer" else {}))
         elif kind == "SignalExternal":
             self.write(KINDS[kind], {"workflowExecution": {"workflowId": words[0]}, "signalName": words[1]})

@@ -40,7 +40,7 @@ fn start(rt: &impl Abort, alloc: Global, input: Items<Payload>) -> Job {
 }
 
 /// The job of the charge that completed.
-fn charged(rt: &impl Abort, alloc: Global) -> Job {
+fn charge_completed(rt: &impl Abort, alloc: Global) -> Job {
     Job::Activity {
         id: text(rt, alloc, "charge"),
         end: ActivityEnd::Completed(no_payloads(alloc)),
@@ -100,7 +100,7 @@ fn charges(rt: &impl Abort, alloc: Global, input: Items<Payload>) -> OrderState 
 /// An order whose card was charged is held for a day.
 fn holds(rt: &impl Abort, alloc: Global, input: Items<Payload>) -> OrderState {
     let mut state = charges(rt, alloc, input);
-    let given = step(rt, alloc, &mut state, charged(rt, alloc));
+    let given = step(rt, alloc, &mut state, charge_completed(rt, alloc));
     assert!(rt;
         matches!(given.as_slice(), [Command::StartTimer { id, seconds: 86_400 }] if id.get() == "hold")
     );

@@ -403,7 +403,7 @@ pub(crate) fn settle(
     }
     match receipt {
         Receipt::NoMemory => Err(SourceFault::OutOfMemory),
-        Receipt::Lost => Err(journal.tally.failed(true)),
-        _ => Err(journal.tally.failed(false)),
+        Receipt::Lost => Err(journal.tally.count_failure(true)),
+        _ => Err(journal.tally.count_failure(false)),
     }
 }

@@ -104,7 +104,7 @@ fn unfetched<L: Connection>(
     ensures failures { FailsOnly {A = Unit {0}} (Err result) journal.old.tally.failures journal.new.tally.failures }
 {
     let is_fault = settle_unread(client, current, fault);
-    journal.tally.failed(is_fault)
+    journal.tally.count_failure(is_fault)
 }
 
 /// Fetches the history of a run, as a source does when asked for it. If the history is malformed

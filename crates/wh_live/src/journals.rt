@@ -60,7 +60,7 @@ impl Journal {
     }
 
     /// Counts a failed poll, reports it and waits. Returns what the source reports to its worker.
-    fn failed<L: Connection, T>(
+    fn end_failed_poll<L: Connection, T>(
         &mut self,
         connection: &L,
         fault: &AskFault,
@@ -81,7 +81,7 @@ impl Journal {
             return Ok(Polled::Nothing);
         }
         self.ended = true;
-        Err(self.tally.failed(true))
+        Err(self.tally.count_failure(true))
     }
 
     /// Counts a poll. Returns what the source reports to its worker.
@@ -101,7 +101,7 @@ impl Journal {
                 self.tally.polled(matches!(&brought, Brought::Empty));
                 Ok(polled_of(brought))
             }
-            Err(fault) => self.failed(connection, &fault),
+            Err(fault) => self.end_failed_poll(connection, &fault),
         }
     }
 }

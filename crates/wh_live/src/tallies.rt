@@ -79,7 +79,7 @@ impl Tally {
     }
 
     /// Counts a failed call, and returns the error of the source.
-    pub(crate) fn failed(&mut self, is_fault: bool) -> SourceFault
+    pub(crate) fn count_failure(&mut self, is_fault: bool) -> SourceFault
         ensures counted { self.new ≡ with_failure is_fault self.old }
         ensures failures { FailsOnly {A = Unit {0}} (Err result) self.old.failures self.new.failures }
     {
